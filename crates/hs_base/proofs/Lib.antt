@@ -1,0 +1,3 @@
+pub mod LateralsLemmas
+pub mod NodeSetLemmas
+pub mod RankLemmas

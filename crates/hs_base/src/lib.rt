@@ -1,0 +1,23 @@
+//! The ground that every crate of Hindsight stands on: ids, ranks, fates and settings, lists whose
+//! room contracts can see, and the traits of the outside world with their in-memory forms.
+#![tactic(auto)]
+
+mod ids;
+mod laterals;
+mod list;
+mod memory;
+mod node_set;
+mod outside;
+mod rank;
+mod settings;
+mod told;
+
+pub use ids::{ClientId, Failed, GroupId, Memory, NodeId, Rank, RecordId, TraceId, TriggerId};
+pub use laterals::Laterals;
+pub use list::{Bytes, List};
+pub use memory::{MemorySink, MemorySource};
+pub use node_set::NodeSet;
+pub use outside::{Gate, OpenGate, Sink, Source};
+pub use rank::rank_of;
+pub use settings::{AutoRule, Settings, TriggerRule};
+pub use told::{Ask, Crumb, Fate, Group, Told, Trigger, Why};
