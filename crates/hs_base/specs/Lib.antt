@@ -5,3 +5,7 @@ pub mod NodeSets
 pub mod Ranks
 pub mod Outside
 pub mod InMemory
+pub mod Text
+pub mod Plain
+pub mod Records
+pub mod Pages

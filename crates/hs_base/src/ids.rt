@@ -1,8 +1,22 @@
 //! Names of traces, nodes, clients, records, triggers and groups.
 
+use std::alloc::{AllocError, AllocFailed};
+
 /// Want of memory.
 #[derive(Clone, Copy, Debug, PartialEq, Eq)]
 pub struct Memory;
+
+impl From<AllocError> for Memory {
+    fn from(_error: AllocError) -> Memory {
+        Memory
+    }
+}
+
+impl<T: Drop> From<AllocFailed<T>> for Memory {
+    fn from(_error: AllocFailed<T>) -> Memory {
+        Memory
+    }
+}
 
 /// A read or a write that failed. The object that failed counts it (`docs/RULES.md`, "The outside").
 #[derive(Clone, Copy, Debug, PartialEq, Eq)]
