@@ -9,3 +9,4 @@ pub mod Text
 pub mod Plain
 pub mod Records
 pub mod Pages
+pub mod LineFaults

@@ -10,6 +10,7 @@ mod node_set;
 mod outside;
 mod rank;
 mod settings;
+pub mod text;
 mod told;
 
 pub use ids::{ClientId, Failed, GroupId, Memory, NodeId, Rank, RecordId, TraceId, TriggerId};
