@@ -2,7 +2,7 @@
 
 ghost use Rattle.std.specs.Prelude.{◌≡◌, ◌≢◌, ◌<◌, ◌≤◌, ◌∷◌, [], ◌++◌, length, Some, None, IfOk, IfSome, IfNone, IsTrue, if◌then◌else◌};
 ghost use Rattle.std.specs.List.{All};
-ghost use Rattle.hs_base.specs.Text.{words_of, number_of, hex_of, is_hex_digit, hex_digit_of, is_payload, payload_of};
+ghost use Rattle.hs_base.specs.Text.{has_bad_byte, has_bad_spaces, words_of, number_of, hex_of, is_hex_digit, hex_digit_of, is_payload, payload_of};
 ghost use Rattle.hs_base.specs.LineFaults.{line_fault_of};
 
 use crate::ids::Memory;
@@ -29,17 +29,31 @@ pub fn split_line(text: &[u8]) -> Option<(&[u8], &[u8])>
     Some((&text[..end], &text[end + 1..]))
 }
 
+/// Whether a line has a byte that does not print.
+fn has_bad_byte(line: &[u8]) -> bool
+    ensures { result ≡ has_bad_byte line.now }
+{
+    line.iter().any(|byte| *byte < b' ' || b'~' < *byte)
+}
+
+/// Whether a line has an empty word.
+fn has_bad_spaces(line: &[u8]) -> bool
+    ensures { result ≡ has_bad_spaces line.now }
+{
+    line.split(|byte| *byte == b' ').any(|word| word.is_empty())
+}
+
 /// What is wrong with a line, a byte before spaces.
 pub fn line_fault(line: &[u8]) -> Option<LineFault>
     ensures { result ≡ line_fault_of line.now }
 {
-    if line.iter().any(|byte| *byte < 32 || 126 < *byte) {
-        return Some(LineFault::Byte);
+    if has_bad_byte(line) {
+        Some(LineFault::Byte)
+    } else if has_bad_spaces(line) {
+        Some(LineFault::Spaces)
+    } else {
+        None
     }
-    if line.split(|byte| *byte == b' ').any(|word| word.is_empty()) {
-        return Some(LineFault::Spaces);
-    }
-    None
 }
 
 /// How many words a line has: one more than it has spaces.
@@ -65,10 +79,14 @@ pub fn split_word(line: &[u8]) -> (&[u8], Option<&[u8]>)
 pub fn number(word: &[u8]) -> Option<u64>
     ensures { result ≡ number_of word.now }
 {
-    match word {
-        [] | [b'+', ..] | [b'0', _, ..] => None,
-        _ => std::str::from_utf8(word).ok()?.parse().ok(),
+    let first = *word.first()?;
+    if !first.is_ascii_digit() {
+        return None;
     }
+    if first == b'0' && word.len() != 1 {
+        return None;
+    }
+    std::str::from_utf8(word).ok()?.parse().ok()
 }
 
 /// What a digit of lower-case hexadecimal stands for.
