@@ -1,11 +1,18 @@
 -- What the words of a text say, as the functions of `text` find it.
-use Rattle.std.proofs.Common.{◌≡◌, ◌≢◌, ◌<◌, ◌^◌, ℕ, List, Option, Some, None, Result, Ok, Err, length, get_or, nat_eq, nat_lt, not, ◌||◌, true, false, arith, refl}
-use Rattle.std.proofs.lemmas.Grind.{common_steps}
+use Rattle.std.proofs.Common.{◌≡◌, ◌≢◌, ◌<◌, ◌^◌, ◌+◌, ◌*◌, ◌/◌, ◌%◌, [], ◌∷◌, ap, sym, ◌∙◌, ◌&&◌, drop, ℕ, List, ◌⊎◌, inl, inr, Option, Bor, Some, None, Result, Ok, Err, length, get_or, nat_eq, nat_lt, not, ◌||◌, true, false, arith, refl}
+use Rattle.std.proofs.lemmas.Fmt.{IsAscii-from_digits}
+use Rattle.std.proofs.lemmas.Str.{IsUtf8-from_ascii}
 use Rattle.std.proofs.lemmas.Str.Parse.{IsNumeralModel, numerals_by_value, tells_all_ascii_digits, parse_plain}
-use Rattle.std.specs.Result.{OkIff, result_ok}
-use Rattle.std.specs.Str.{all_ascii_digits}
+use Rattle.std.proofs.lemmas.Bool.{and_parts}
+use Rattle.std.specs.List.{list_all}
+use Rattle.std.specs.Option.{IfSome}
+use Rattle.std.specs.Result.{MatchResult, OkIff, result_ok}
+use Rattle.std.specs.Str.{IsUtf8, all_ascii_digits}
 use Rattle.std.specs.Str.Parse.{digits_value, ParsesUnsigned}
-use Rattle.hs_base.specs.Text.{number_of, is_number}
+use Rattle.hs_base.specs.Text.{number_of, is_number, is_hex_digit, hex_digit_of, hex_value_after, is_payload, payload_of, bytes_of_pairs}
+use Rattle.hex.specs.Hex.{decode_of, decode_pairs, value_at, digit_or_error, pair_value, hex_digit_value}
+use Rattle.hex.proofs.HexLemmas.{decode_of-even}
+use Rattle.hex.specs.declared.error.FromHexError.{FromHexError}
 
 -- a text of digits, by std's test
 pub own : IsNumeralModel (λ ds. all_ascii_digits ds ≡ true) (digits_value 10)
@@ -19,3 +26,42 @@ after_parse word (Err e) parsed some lead = grind arith
 pub number_parsed : {E : Type 0} (word : List ℕ) (r : Result ℕ E) → ParsesUnsigned 64 10 word r → 0 < length word → get_or word 0 0 ≢ 43
     → (nat_eq (length word) 1 || not (nat_eq (get_or word 0 0) 48)) ≡ true → result_ok r ≡ number_of word
 number_parsed word r parsed some plain lead = after_parse word r (parse_plain own 64 word r parsed plain) some lead
+
+-- what `from_utf8` gives is the word, and what it refuses is no number
+pub utf8_word : {E : Type 0} (P : E → Type 0) (word : List ℕ) (r : Result (Bor (List ℕ)) E) (text : Bor (List ℕ)) → MatchResult r (λ s. (s.now ≡ word) × IsUtf8 word) P → Some text ≡ result_ok r → text.now ≡ word
+utf8_word P word (Ok s) text h e = cc
+utf8_word P word (Err e) text h d = cc
+
+pub utf8_refused : {E : Type 0} (Q : E → Type 0) (word : List ℕ) (r : Result (Bor (List ℕ)) E) → MatchResult r (λ s. (s.now ≡ word) × IsUtf8 word) (λ e. ¬ (IsUtf8 word) × Q e) → None ≡ result_ok r → None ≡ number_of word
+utf8_refused Q word (Ok s) h e = cc
+utf8_refused Q word (Err e) h d =
+    let refused : all_ascii_digits word ≡ true → ⊥ = λ digits. h.0 (IsUtf8-from_ascii word (IsAscii-from_digits word (own.to word digits))) in
+    grind arith
+
+-- a digit of lower case is one of either case
+lower_digit : (b : ℕ) → is_hex_digit b ≡ true → hex_digit_value b ≡ Some (hex_digit_of b)
+lower_digit b digit = grind arith
+
+decode_lower : (i : ℕ) (word : List ℕ) → length word % 2 ≡ 0 → list_all is_hex_digit word ≡ true → decode_pairs i word ≡ Ok (bytes_of_pairs word)
+unfolding decode_pairs
+decode_lower i [] even all = refl
+decode_lower i (a ∷ []) even all = absurd (omega arith)
+decode_lower i (a ∷ b ∷ rest) even all =
+    let first = and_parts (is_hex_digit a) (list_all is_hex_digit (b ∷ rest)) all in
+    let second = and_parts (is_hex_digit b) (list_all is_hex_digit rest) first.1 in
+    let high : value_at a i ≡ Ok (hex_digit_of a) = ap (digit_or_error a i) (lower_digit a first.0) in
+    let low : value_at b (i + 1) ≡ Ok (hex_digit_of b) = ap (digit_or_error b (i + 1)) (lower_digit b second.0) in
+    let more = decode_lower (i + 2) rest (omega arith) second.1 in
+    let byte : hex_digit_of a * 16 + hex_digit_of b ≡ 16 * hex_digit_of a + hex_digit_of b = omega arith in
+    rw (high, low, more, byte) refl
+
+length-bytes_of_pairs : (word : List ℕ) → length (bytes_of_pairs word) ≡ length word / 2
+length-bytes_of_pairs [] = refl
+length-bytes_of_pairs (a ∷ []) = refl
+length-bytes_of_pairs (a ∷ b ∷ rest) = let e = length-bytes_of_pairs rest in omega (arith, e)
+
+pub payload_length : (word : List ℕ) → is_payload word ≡ true → IfSome (payload_of word) (λ bytes. length word / 2 ≡ length bytes)
+payload_length word is = ?
+
+pub payload_decoded : (word : List ℕ) → is_payload word ≡ true → length word ≢ 1 → (decode_of word ≡ Ok (bytes_of_pairs word)) × (payload_of word ≡ Some (bytes_of_pairs word))
+payload_decoded word is long = ?

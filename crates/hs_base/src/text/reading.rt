@@ -1,7 +1,7 @@
 //! Lines, words and what a word says.
 
 ghost use Rattle.std.specs.Prelude.{◌≡◌, ◌≢◌, ◌<◌, ◌≤◌, ◌∷◌, [], ◌++◌, length, Some, None, IfOk, IfSome, IfNone, IsTrue, if◌then◌else◌};
-ghost use Rattle.std.specs.List.{All};
+ghost use Rattle.std.specs.List.{All, list_all};
 ghost use Rattle.hs_base.specs.Text.{has_bad_byte, has_bad_spaces, words_of, number_of, hex_of, is_hex_digit, hex_digit_of, is_payload, payload_of};
 ghost use Rattle.hs_base.specs.LineFaults.{line_fault_of};
 
@@ -89,7 +89,7 @@ pub fn number(word: &[u8]) -> Option<u64>
     std::str::from_utf8(word).ok()?.parse().ok()
 }
 
-/// What a digit of lower-case hexadecimal stands for.
+/// What a digit of lower-case hexadecimal stands for, or `None` for another byte.
 fn hex_digit(byte: u8) -> Option<u8>
     ensures { result ≡ (if is_hex_digit byte then Some (hex_digit_of byte) else None) }
 {
@@ -98,6 +98,14 @@ fn hex_digit(byte: u8) -> Option<u8>
         b'a'..=b'f' => Some(byte - b'a' + 10),
         _ => None,
     }
+}
+
+/// Whether each byte is a digit of lower-case hexadecimal.
+fn is_hex(word: &[u8]) -> bool
+    ensures { result ≡ list_all is_hex_digit word.now }
+{
+    word.iter()
+        .all(|byte| matches!(*byte, b'0'..=b'9' | b'a'..=b'f'))
 }
 
 /// The number that a word of so many digits is, or `None` where it is not one.
@@ -122,7 +130,7 @@ pub fn is_payload(word: &[u8]) -> bool
     if word.len() == 1 {
         return word[0] == b'-';
     }
-    !word.is_empty() && word.len() % 2 == 0 && word.iter().all(|byte| hex_digit(*byte).is_some())
+    !word.is_empty() && word.len() % 2 == 0 && is_hex(word)
 }
 
 /// How many bytes a payload has.
