@@ -1,6 +1,9 @@
 -- What the words of a text say, as the functions of `text` find it.
-use Rattle.std.proofs.Common.{◌≡◌, ◌≢◌, ◌<◌, ◌^◌, ◌+◌, ◌*◌, ◌/◌, ◌%◌, [], ◌∷◌, ap, sym, ◌∙◌, ◌&&◌, drop, ℕ, List, ◌⊎◌, inl, inr, Option, Bor, Some, None, Result, Ok, Err, length, get_or, nat_eq, nat_lt, not, ◌||◌, true, false, arith, refl}
+use Rattle.std.proofs.Common.{◌≡◌, ◌≢◌, ◌<◌, ◌^◌, ◌+◌, ◌*◌, ◌/◌, ◌%◌, [], ◌∷◌, ap, sym, ◌∙◌, drop, ℕ, zero, suc, ◌++◌, append_assoc, set, take, ◌-◌, ◌≤◌, if◌then◌else◌, List, Bor, Some, None, Result, Ok, Err, length, get_or, nat_eq, not, ◌||◌, true, arith, refl}
+use Rattle.std.proofs.Math.Nat.{pow-le-pow_right, pow-suc}
 use Rattle.std.proofs.lemmas.Fmt.{IsAscii-from_digits}
+use Rattle.std.proofs.lemmas.List.{drop-set, length-take-le}
+use Rattle.std.proofs.Math.Seq.{take-set-lt}
 use Rattle.std.proofs.lemmas.Str.{IsUtf8-from_ascii}
 use Rattle.std.proofs.lemmas.Str.Parse.{IsNumeralModel, numerals_by_value, tells_all_ascii_digits, parse_plain}
 use Rattle.std.proofs.lemmas.Bool.{and_parts}
@@ -9,8 +12,8 @@ use Rattle.std.specs.Option.{IfSome}
 use Rattle.std.specs.Result.{MatchResult, OkIff, result_ok}
 use Rattle.std.specs.Str.{IsUtf8, all_ascii_digits}
 use Rattle.std.specs.Str.Parse.{digits_value, ParsesUnsigned}
-use Rattle.hs_base.specs.Text.{number_of, is_number, is_hex_digit, hex_digit_of, hex_value_after, is_payload, payload_of, bytes_of_pairs}
-use Rattle.hex.specs.Hex.{decode_of, decode_pairs, value_at, digit_or_error, pair_value, hex_digit_value}
+use Rattle.hs_base.specs.Text.{hex_text, number_of, is_hex_digit, hex_digit_of, is_payload, payload_of, bytes_of_pairs}
+use Rattle.hex.specs.Hex.{lower_digits, decode_of, decode_pairs, value_at, digit_or_error, hex_digit_value}
 use Rattle.hex.proofs.HexLemmas.{decode_of-even}
 use Rattle.hex.specs.declared.error.FromHexError.{FromHexError}
 
@@ -61,7 +64,52 @@ length-bytes_of_pairs (a ∷ []) = refl
 length-bytes_of_pairs (a ∷ b ∷ rest) = let e = length-bytes_of_pairs rest in omega (arith, e)
 
 pub payload_length : (word : List ℕ) → is_payload word ≡ true → IfSome (payload_of word) (λ bytes. length word / 2 ≡ length bytes)
-payload_length word is = ?
+payload_length word is =
+    let e = length-bytes_of_pairs word in
+    grind arith
 
 pub payload_decoded : (word : List ℕ) → is_payload word ≡ true → length word ≢ 1 → (decode_of word ≡ Ok (bytes_of_pairs word)) × (payload_of word ≡ Some (bytes_of_pairs word))
-payload_decoded word is long = ?
+payload_decoded word is long =
+    let even : length word % 2 ≡ 0 = grind arith in
+    let all : list_all is_hex_digit word ≡ true = grind arith in
+    (decode_of-even word even ∙ decode_lower 0 word even all, grind arith)
+
+pub decoded_bytes : (word bytes : List ℕ) → is_payload word ≡ true → length word ≢ 1 → decode_of word ≡ Ok bytes → payload_of word ≡ Some bytes
+decoded_bytes word bytes is long decoded =
+    let d = payload_decoded word is long in
+    cc
+
+pub decoded_error : (word : List ℕ) (e : FromHexError) → is_payload word ≡ true → length word ≢ 1 → decode_of word ≡ Err e → ⊥
+decoded_error word e is long refused =
+    let d = payload_decoded word is long in
+    cc
+
+pub digit_small : (b digit : ℕ) → Some digit ≡ (if is_hex_digit b then Some (hex_digit_of b) else None) → digit < 16
+digit_small b digit is = grind arith
+
+-- one more digit fits 128 bits
+pub hex_room : (n i : ℕ) → n < 16 ^ i → i < 32 → 16 * n + 15 < 2 ^ 128
+hex_room n i small within =
+    let most : 16 ^ suc i ≤ 16 ^ 32 = pow-le-pow_right {n = 16} (omega arith) {i = suc i} {j = 32} (omega arith) in
+    omega (arith, pow-suc 16 i, most)
+
+-- a digit written in front of those that stand behind it
+pub digit_in_front : (text : List ℕ) (place digits digit : ℕ) → 0 < place → place ≤ digits → digits ≤ length text → drop (place - 1) (take digits (set text (place - 1) digit)) ≡ digit ∷ drop place (take digits text)
+digit_in_front text zero digits digit some below fits = absurd (omega arith)
+digit_in_front text (suc place) digits digit some below fits =
+    let inside : place < digits = omega arith in
+    let short : place < length (take digits text) = omega (arith, length-take-le digits text fits) in
+    let same : suc place - 1 ≡ place = omega arith in
+    let next : place + 1 ≡ suc place = omega arith in
+    rw (same, take-set-lt digits text place digit inside, drop-set (take digits text) place digit short, next) refl
+
+pub hex_step : (whole text : List ℕ) (rest place digits : ℕ) → 0 < place → place ≤ digits → digits ≤ length text → whole ≡ hex_text place rest ++ drop place (take digits text)
+    → whole ≡ hex_text (place - 1) (rest / 16) ++ drop (place - 1) (take digits (set text (place - 1) (get_or lower_digits (rest % 16) 0)))
+hex_step whole text rest zero digits some below fits so_far = absurd (omega arith)
+hex_step whole text rest (suc place) digits some below fits so_far =
+    let digit = get_or lower_digits (rest % 16) 0 in
+    let front = digit_in_front text (suc place) digits digit some below fits in
+    let same : suc place - 1 ≡ place = omega arith in
+    so_far ∙ append_assoc (hex_text place (rest / 16)) (digit ∷ []) (drop (suc place) (take digits text))
+    ∙ ap (λ n. hex_text n (rest / 16) ++ (digit ∷ drop (suc place) (take digits text))) (sym same)
+    ∙ ap (λ tail. hex_text (suc place - 1) (rest / 16) ++ tail) (sym front)

@@ -151,7 +151,9 @@ pub fn decode_payload(alloc: Global, word: &[u8]) -> Result<Bytes, Memory>
     }
     match hex::decode(alloc, word) {
         Ok(bytes) => Ok(List::from_vec(bytes)),
-        Err(FromHexError::OutOfMemory) => Err(Memory),
-        Err(_) => unreachable!(),
+        Err(error) => match error {
+            FromHexError::OutOfMemory => Err(Memory),
+            _ => unreachable!(),
+        },
     }
 }

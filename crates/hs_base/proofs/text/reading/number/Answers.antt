@@ -1,5 +1,4 @@
-use Rattle.std.proofs.Common.{◌≡◌, ◌<◌, ◌≢◌, ◌||◌, true, not, nat_eq, length, get_or, subst, sym, ◌∙◌, arith}
-use Rattle.std.proofs.lemmas.Str.Parse.{IsNumeralModel}
+use Rattle.std.proofs.Common.{◌≡◌, ◌<◌, ◌≢◌, ◌||◌, true, not, nat_eq, length, get_or, ◌∙◌, arith}
 use Rattle.hs_base.proofs.TextLemmas.{number_parsed, utf8_word, utf8_refused}
 use Rattle.hs_base.proofs.text.reading.number.Goals as goal
 

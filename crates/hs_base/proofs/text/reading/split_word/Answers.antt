@@ -1,12 +1,10 @@
-use Rattle.std.proofs.Common.{◌≡◌, ◌+◌, ◌-◌, ◌<◌, ◌≤◌, ◌∷◌, [], ℕ, suc, add-one, length-drop, List, Option, Some, None, length, take, drop, get_or, nat_eq, nat_lt, cond, true, false, rules, arith, refl, sym, ap, ◌∙◌}
-use Rattle.std.proofs.lemmas.Bool.{cases_lt}
-use Rattle.std.proofs.lemmas.Grind.{common_steps}
+use Rattle.std.proofs.Common.{◌≡◌, ◌+◌, ◌-◌, ◌<◌, ◌≤◌, ◌∷◌, [], ℕ, length-drop, List, Some, None, length, take, drop, nat_eq, nat_lt, cond, rules, arith, sym, ap, ◌∙◌}
 use Rattle.std.proofs.lemmas.Iterator.{YieldsList-from_slice}
 use Rattle.std.proofs.lemmas.Iterator.Search.{position_from_yields_List}
 use Rattle.std.proofs.lemmas.List.{take_all}
 use Rattle.std.proofs.lemmas.List.Splits.{slice_split_first, slice_split_none}
 use Rattle.std.proofs.lemmas.List.Sums.{fails_before_first}
-use Rattle.std.specs.List.{position_or_len, All}
+use Rattle.std.specs.List.{position_or_len}
 use borrow.Author.Tests.{tests}
 use Rattle.hs_base.specs.Text.{words_of}
 use Rattle.hs_base.proofs.text.reading.split_word.Goals as goal

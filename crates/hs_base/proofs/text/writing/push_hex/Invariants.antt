@@ -1,4 +1,4 @@
-use Rattle.std.proofs.Common.{◌≡◌, ◌≤◌, ◌-◌, ◌++◌, length, take, drop}
+use Rattle.std.proofs.Common.{◌≡◌, ◌++◌, length, take, drop}
 use Rattle.hs_base.specs.Text.{hex_text}
 use Rattle.hs_base.proofs.text.writing.push_hex.Given as goal
 
