@@ -12,14 +12,11 @@ use Rattle.std.specs.Option.{IfSome}
 use Rattle.std.specs.Result.{MatchResult, OkIff, result_ok}
 use Rattle.std.specs.Str.{IsUtf8, all_ascii_digits}
 use Rattle.std.specs.Str.Parse.{digits_value, ParsesUnsigned}
+use Rattle.hs_base.specs.TextLaws.{numerals, lower_digit}
 use Rattle.hs_base.specs.Text.{hex_text, number_of, is_hex_digit, hex_digit_of, is_payload, payload_of, bytes_of_pairs}
 use Rattle.hex.specs.Hex.{lower_digits, decode_of, decode_pairs, value_at, digit_or_error, hex_digit_value}
 use Rattle.hex.proofs.HexLemmas.{decode_of-even}
 use Rattle.hex.specs.declared.error.FromHexError.{FromHexError}
-
--- a text of digits, by std's test
-pub own : IsNumeralModel (λ ds. all_ascii_digits ds ≡ true) (digits_value 10)
-own = numerals_by_value _ tells_all_ascii_digits
 
 after_parse : {E : Type 0} (word : List ℕ) (r : Result ℕ E) → OkIff r ((all_ascii_digits word ≡ true) × (0 < length word) × (digits_value 10 word < 2 ^ 64)) (digits_value 10 word)
     → 0 < length word → (nat_eq (length word) 1 || not (nat_eq (get_or word 0 0) 48)) ≡ true → result_ok r ≡ number_of word
@@ -28,7 +25,7 @@ after_parse word (Err e) parsed some lead = grind arith
 
 pub number_parsed : {E : Type 0} (word : List ℕ) (r : Result ℕ E) → ParsesUnsigned 64 10 word r → 0 < length word → get_or word 0 0 ≢ 43
     → (nat_eq (length word) 1 || not (nat_eq (get_or word 0 0) 48)) ≡ true → result_ok r ≡ number_of word
-number_parsed word r parsed some plain lead = after_parse word r (parse_plain own 64 word r parsed plain) some lead
+number_parsed word r parsed some plain lead = after_parse word r (parse_plain numerals 64 word r parsed plain) some lead
 
 -- what `from_utf8` gives is the word, and what it refuses is no number
 pub utf8_word : {E : Type 0} (P : E → Type 0) (word : List ℕ) (r : Result (Bor (List ℕ)) E) (text : Bor (List ℕ)) → MatchResult r (λ s. (s.now ≡ word) × IsUtf8 word) P → Some text ≡ result_ok r → text.now ≡ word
@@ -38,12 +35,8 @@ utf8_word P word (Err e) text h d = cc
 pub utf8_refused : {E : Type 0} (Q : E → Type 0) (word : List ℕ) (r : Result (Bor (List ℕ)) E) → MatchResult r (λ s. (s.now ≡ word) × IsUtf8 word) (λ e. ¬ (IsUtf8 word) × Q e) → None ≡ result_ok r → None ≡ number_of word
 utf8_refused Q word (Ok s) h e = cc
 utf8_refused Q word (Err e) h d =
-    let refused : all_ascii_digits word ≡ true → ⊥ = λ digits. h.0 (IsUtf8-from_ascii word (IsAscii-from_digits word (own.to word digits))) in
+    let refused : all_ascii_digits word ≡ true → ⊥ = λ digits. h.0 (IsUtf8-from_ascii word (IsAscii-from_digits word (numerals.to word digits))) in
     grind arith
-
--- a digit of lower case is one of either case
-lower_digit : (b : ℕ) → is_hex_digit b ≡ true → hex_digit_value b ≡ Some (hex_digit_of b)
-lower_digit b digit = grind arith
 
 decode_lower : (i : ℕ) (word : List ℕ) → length word % 2 ≡ 0 → list_all is_hex_digit word ≡ true → decode_pairs i word ≡ Ok (bytes_of_pairs word)
 unfolding decode_pairs

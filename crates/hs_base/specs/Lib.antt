@@ -10,3 +10,4 @@ pub mod Plain
 pub mod Records
 pub mod Pages
 pub mod LineFaults
+pub mod TextLaws
