@@ -1,6 +1,6 @@
 -- What the words of a text promise: each number, trace and payload has one text, and a text stands for one of them.
 -- The words of a line are the words that it was made of. Crates above cite these theorems.
-use Rattle.std.proofs.Common.{◌≡◌, ◌≢◌, ◌<◌, ◌≤◌, ◌+◌, ◌*◌, ◌/◌, ◌%◌, ◌^◌, ◌&&◌, ◌||◌, not, nat_eq, nat_lt, nat_le, ℕ, zero, suc, zero-add, Bool, true, false, List, [], ◌∷◌, ◌++◌, length, get_or, take, length-append, if◌then◌else◌, Option, Some, None, arith, refl, sym, ap, ◌∙◌}
+use Rattle.std.proofs.Common.{◌≡◌, ◌<◌, ◌+◌, ◌*◌, ◌/◌, ◌%◌, ◌^◌, ◌&&◌, ◌||◌, not, nat_eq, nat_lt, nat_le, ℕ, zero, suc, zero-add, Bool, true, false, List, [], ◌∷◌, ◌++◌, length, get_or, take, length-append, if◌then◌else◌, Some, None, arith, refl, sym, ap, ◌∙◌}
 use Rattle.std.specs.Prelude.{decimal}
 use borrow.Author.Tests.{ne_eqb}
 use Rattle.std.specs.List.{list_all, list_any, All}
@@ -22,7 +22,7 @@ use Rattle.std.specs.List.{range_with_len}
 use Rattle.hex.specs.Hex.{encode_with, encode_lower, lower_digits, hex_digit_value}
 use Rattle.hex.proofs.HexLemmas.{length-encode_with, IsDigits-lower_digits}
 use Rattle.hs_base.specs.LineFaults.{line_fault_of}
-use Rattle.hs_base.specs.Text.{has_bad_byte, has_bad_spaces, words_of, line_of, number_of, hex_of, hex_text, hex_value_after, is_hex_digit, hex_digit_of, payload_of, payload_text, bytes_of_pairs, is_payload}
+use Rattle.hs_base.specs.Text.{has_bad_byte, has_bad_spaces, words_of, line_of, number_of, hex_of, hex_text, hex_value_after, is_hex_digit, hex_digit_of, payload_of, payload_text, bytes_of_pairs}
 
 -- whether a word has bytes that print, and no space
 abbrev pub is_word : List ℕ → Bool
