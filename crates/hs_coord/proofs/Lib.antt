@@ -1,0 +1,4 @@
+pub mod BitLemmas
+pub mod FollowingLemmas
+pub mod StandingLemmas
+pub mod OrderlyLemmas

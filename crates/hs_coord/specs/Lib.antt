@@ -1,0 +1,4 @@
+pub mod Following
+pub mod Orderly
+pub mod Standing
+pub mod Answers
