@@ -40,7 +40,7 @@ has_crumb-push group messages m node =
     list_any-append (λ (x : Message). is_of group x && has_node x.told.crumbs node) messages (m ∷ [])
     ∙ ap (λ b. has_crumb group messages node || b) (or_false (is_of group m && has_node m.told.crumbs node))
 
-append_nil : {X : Type 0} (xs : List X) → xs ++ [] ≡ xs
+pub append_nil : {X : Type 0} (xs : List X) → xs ++ [] ≡ xs
 append_nil [] = refl
 append_nil (x ∷ xs) = ap (λ l. x ∷ l) (append_nil xs)
 

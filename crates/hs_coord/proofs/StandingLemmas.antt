@@ -1,6 +1,8 @@
 -- What the coordinator keeps still stands for its messages after one more.
-use Rattle.std.proofs.Common.{◌≡◌, ℕ, Bool, true, false, not, ◌||◌, ◌&&◌, List, [], ◌∷◌, ◌++◌, Option, Some, None, unwrap_or, refl, sym, ap, subst, ◌∙◌, true≢false, find, cond, map, nat_eq, eq-eqb}
-use Rattle.std.specs.Map.{lookup}
+use Rattle.std.proofs.Common.{◌≡◌, ℕ, Bool, true, false, not, ◌||◌, ◌&&◌, List, [], ◌∷◌, ◌++◌, Option, Some, None, unwrap_or, refl, sym, ap, subst, ◌∙◌, true≢false, find, cond, map, nat_eq, eq-eqb, IsSome}
+use Rattle.std.specs.Cmp.{IsEquivalence}
+use Rattle.std.specs.List.{IsDistinct}
+use Rattle.std.specs.Map.{lookup, keys_of}
 use Rattle.std.specs.Option.{option_map_or}
 use Rattle.std.proofs.lemmas.Bool.{cases_Bool, and_parts, and_from, eqb-true, false_from_ne_true}
 use Rattle.hs_base.specs.declared.ids.NodeId.{NodeId}
@@ -10,6 +12,7 @@ use Rattle.hs_base.specs.NodeSets.{has_node}
 use Rattle.hs_coord.specs.declared.asks.Asks.{Asks}
 use Rattle.hs_coord.specs.declared.followed.Followed.{Followed}
 use Rattle.hs_coord.specs.Following.{Message, Messages, same_group, is_of, has_crumb, has_ask, is_asked, is_first_sender, is_answer, is_answer_from, is_answered, first_of, AreAsks}
+use Rattle.hs_coord.specs.Answers.{IsAskedSet}
 use Rattle.hs_coord.specs.Standing.{Standing, IsFollowed, StandsFor, HasTaken}
 use Rattle.hs_coord.proofs.BitLemmas.{asked_bit, ask_bit, waiting_bit}
 use Rattle.hs_coord.proofs.FollowingLemmas.{first_stays, first_now, first_of_other, has_crumb-push, is_answered-push, unanswered, no_message_no_crumb}
@@ -25,6 +28,17 @@ same_group-true a b e =
 same_group_sym : (a b : GroupId) → same_group a b ≡ false → same_group b a ≡ false
 same_group_sym a b e =
     false_from_ne_true (same_group b a) (λ t. let p : b ≡ a = same_group-true b a t in true≢false (sym (subst (λ (c : GroupId). same_group c b ≡ true) p (same_group-refl b)) ∙ e))
+
+pub same_group_laws : IsEquivalence same_group
+same_group_laws = record {
+  refl = same_group-refl;
+  symm = λ a b. symm a b (same_group a b) refl;
+  congr = λ a b d e. ap (λ (x : GroupId). same_group x d) (same_group-true a b e);
+}
+  where
+    symm : (a b : GroupId) (r : Bool) → same_group a b ≡ r → same_group a b ≡ same_group b a
+    symm a b true e = e ∙ sym (subst (λ (x : GroupId). same_group x a ≡ true) (same_group-true a b e) (same_group-refl a))
+    symm a b false e = e ∙ sym (same_group_sym a b e)
 
 -- an entry before the first message of its group
 pub record Begins (m : Message) (entry : Followed) : Type 0 where
@@ -53,7 +67,7 @@ record IsMet (messages : Messages) (m first : Message) (entry : Followed) : Type
   pub stays : find (is_of (group_of m)) (messages ++ m ∷ []) ≡ Some first
   pub first_is : first_of messages m ≡ first
 
-first_bit : (group : GroupId) (messages : Messages) (first : Message) → find (is_of group) messages ≡ Some first → (n : ℕ) → is_first_sender group messages n ≡ nat_eq n first.node.0
+pub first_bit : (group : GroupId) (messages : Messages) (first : Message) → find (is_of group) messages ≡ Some first → (n : ℕ) → is_first_sender group messages n ≡ nat_eq n first.node.0
 first_bit group messages first is n = ap (λ o. option_map_or (λ (x : Message). nat_eq n x.node.0) o false) is
 
 module _ (messages : Messages) (m : Message) where
@@ -172,6 +186,9 @@ module _ (group : GroupId) (messages : Messages) (m : Message) (other : is_of gr
       has_crumb-push group messages m n ∙ ap (λ b. has_crumb group messages n || (b && has_node m.told.crumbs n)) other
       ∙ or_false (has_crumb group messages n)
 
+  pub asked_else : (n : ℕ) → is_asked group (messages ++ m ∷ []) n ≡ is_asked group messages n
+  asked_else n = ap (λ b. b || has_crumb group (messages ++ m ∷ []) n) (first_else n) ∙ ap (λ b. is_first_sender group messages n || b) (crumb_else n)
+
   answered_else : (n : ℕ) → is_answered group (messages ++ m ∷ []) n ≡ is_answered group messages n
   answered_else n =
       is_answered-push group messages m n
@@ -186,7 +203,7 @@ module _ (group : GroupId) (messages : Messages) (m : Message) (other : is_of gr
     is_first = first_of_other group messages m other ∙ f.is_first;
     group_is = f.group_is;
     laterals_are = f.laterals_are;
-    asked = λ n. f.asked n ∙ sym (ap (λ b. b || has_crumb group (messages ++ m ∷ []) n) (first_else n) ∙ ap (λ b. is_first_sender group messages n || b) (crumb_else n));
+    asked = λ n. f.asked n ∙ sym (asked_else n);
     waiting = λ n.
         f.waiting n
         ∙ sym (ap (λ b. (b && not (is_first_sender group (messages ++ m ∷ []) n)) && not (is_answered group (messages ++ m ∷ []) n)) (crumb_else n)
@@ -219,3 +236,14 @@ module _ (old : Standing) (messages : Messages) (m : Message) (begun next : Foll
   pub asked_for : (asks : Asks) → asks.ask ≡ next.ask → asks.to ≡ fresh → AreAsks messages m asks
   asked_for asks ask to =
       let w = met messages m begun _ (h.groups (group_of m)) b in asks_are messages m w.0 _ next fresh w.1 t asks ask to
+
+-- what an entry says of its group
+pub asked_some : (standing : Standing) (messages : Messages) (group : GroupId) (entry : Followed) → HasTaken standing messages → Some entry ≡ lookup (same_group group) standing.groups
+    → IsAskedSet group messages (Some entry.asked)
+asked_some standing messages group entry h is =
+    let f : IsFollowed group messages entry = subst (StandsFor group messages) (sym is) (h.groups group) in
+    (subst IsSome (sym f.is_first) refl, f.asked)
+
+-- and what no entry says
+pub asked_none : (standing : Standing) (messages : Messages) (group : GroupId) → HasTaken standing messages → None ≡ lookup (same_group group) standing.groups → IsAskedSet group messages None
+asked_none standing messages group h is = subst (StandsFor group messages) (sym is) (h.groups group)
