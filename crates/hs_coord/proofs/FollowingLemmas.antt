@@ -78,6 +78,7 @@ no_message_no_crumb group (x ∷ messages) node none =
   where
     none_is_not_some : {y : Message} → Some y ≡ None → ⊥
     none_is_not_some h = cc
+
     by : (b : Bool) → is_of group x ≡ b → (is_of group x ≡ false → has_crumb group messages node ≡ false) → has_crumb group (x ∷ messages) node ≡ false
     by true e rest = absurd (none_is_not_some (sym (ap (λ b. cond b (Some x) (find (is_of group) messages)) e) ∙ none))
     by false e rest = ap (λ b. b && has_node x.told.crumbs node || has_crumb group messages node) e ∙ rest e

@@ -26,6 +26,7 @@ module _ (standing : Standing) (messages : Messages) (h : HasTaken standing mess
       answered true true a e = refl
       answered true false a e = absurd (true≢false (sym e))
       answered false done a e = absurd (true≢false (sym a))
+
       by : (kept : Option Followed) → StandsFor group messages kept → IfSome kept (λ e. (n : ℕ) → has_node e.waiting n ≡ false) → is_answered group messages node ≡ true
       by None none q = absurd (true≢false (sym ask ∙ ap (λ b. b && not (is_first_sender group messages node)) (no_message_no_crumb group messages node none)))
       by (Some entry) f q = answered (has_ask group messages node) (is_answered group messages node) ask (sym (q node) ∙ f.waiting node)

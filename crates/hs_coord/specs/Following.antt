@@ -2,7 +2,7 @@
 -- A group's asked set has the node that told its first message and each node to which a crumb of its messages leads. Each node
 -- that joins it by a crumb gets one ask, with the group and the laterals of the first message, and the first `Answer` of the
 -- group that this node tells after the ask answers it.
-use Rattle.std.specs.Prelude.{◌≡◌, ℕ, Bool, true, false, not, ◌&&◌, ◌||◌, ◌==◌, List, [], ◌∷◌, ◌++◌, find, unwrap_or}
+use Rattle.std.specs.Prelude.{◌≡◌, ℕ, Bool, true, false, not, ◌&&◌, ◌||◌, ◌==◌, List, [], ◌∷◌, ◌++◌, find, filter, unwrap_or, refl, ◌+◌}
 use Rattle.std.specs.List.{list_any}
 use Rattle.std.specs.Option.{option_map_or}
 use Rattle.hs_base.specs.declared.ids.NodeId.{NodeId}
@@ -82,3 +82,75 @@ is_answered group messages node = is_answered_after group node [] messages
 -- every ask of every group was answered
 abbrev pub IsSettled : Messages → Type 0
 IsSettled messages = (group : GroupId) (node : ℕ) → has_ask group messages node ≡ true → is_answered group messages node ≡ true
+
+-- Four nodes. Node 0 admits a trigger, and its crumb leads to node 1. Node 1 answers with a crumb to node 2, and node 2 with one to
+-- node 0. A set of one node n is the number 2 ^ n.
+row_group : GroupId
+row_group = record { node = 0; number = 7 }
+
+row_told : ℕ → ℕ → Why → Message
+row_told node crumbs why = record {
+  node = record { 0 = node };
+  told = record {
+    group = record { id = record { node = 0; number = 7 }; trigger = record { 0 = 1 }; lead = record { 0 = 100 + node } };
+    laterals = record { 0 = 200 + node } ∷ [];
+    crumbs = record { 0 = crumbs };
+    why = why;
+  };
+}
+
+row : Messages
+row = row_told 0 2 Fired ∷ row_told 1 4 Answer ∷ row_told 2 1 Answer ∷ []
+
+-- which of the four nodes pass a test
+row_nodes : (ℕ → Bool) → List ℕ
+row_nodes test = filter test (0 ∷ 1 ∷ 2 ∷ 3 ∷ [])
+
+-- the nodes that the next message leads to
+row_fresh : Messages → Message → List ℕ
+row_fresh before m = row_nodes (λ n. has_ask row_group (before ++ m ∷ []) n && not (has_ask row_group before n))
+
+node_1_is_asked : row_fresh [] (row_told 0 2 Fired) ≡ 1 ∷ []
+unfolding row_fresh row_nodes row_told row_group
+node_1_is_asked = refl
+
+node_2_is_asked : row_fresh (row_told 0 2 Fired ∷ []) (row_told 1 4 Answer) ≡ 2 ∷ []
+unfolding row_fresh row_nodes row_told row_group
+node_2_is_asked = refl
+
+-- node 0 told the first message
+nobody_is_asked : row_fresh (row_told 0 2 Fired ∷ row_told 1 4 Answer ∷ []) (row_told 2 1 Answer) ≡ []
+unfolding row_fresh row_nodes row_told row_group
+nobody_is_asked = refl
+
+three_nodes_are_asked : row_nodes (is_asked row_group row) ≡ 0 ∷ 1 ∷ 2 ∷ []
+unfolding row row_nodes row_told row_group
+three_nodes_are_asked = refl
+
+-- both asks were answered, and before the last message one was not
+two_asks_are_answered : (row_nodes (has_ask row_group row) ≡ 1 ∷ 2 ∷ []) × (row_nodes (is_answered row_group row) ≡ 1 ∷ 2 ∷ [])
+unfolding row row_nodes row_told row_group
+two_asks_are_answered = (refl, refl)
+
+one_ask_waits : row_nodes (is_answered row_group (row_told 0 2 Fired ∷ row_told 1 4 Answer ∷ [])) ≡ 1 ∷ []
+unfolding row_nodes row_told row_group
+one_ask_waits = refl
+
+-- a `Late` answers nothing, and an `Answer` no ask that comes after it
+a_late_is_no_answer : row_nodes (is_answered row_group (row_told 0 2 Fired ∷ row_told 1 4 Late ∷ [])) ≡ []
+unfolding row_nodes row_told row_group
+a_late_is_no_answer = refl
+
+an_early_answer_is_none : row_nodes (is_answered row_group (row_told 0 0 Fired ∷ row_told 1 0 Answer ∷ row_told 0 2 Late ∷ [])) ≡ []
+unfolding row_nodes row_told row_group
+an_early_answer_is_none = refl
+
+-- the asks of a later message carry the lead and the laterals of the first
+the_first_message_is_carried : (first_of (row_told 0 2 Fired ∷ []) (row_told 1 4 Answer)).told.laterals ≡ record { 0 = 200 } ∷ []
+unfolding row_told
+the_first_message_is_carried = refl
+
+-- another group's messages say nothing of this one
+no_message_of_another_group : row_nodes (is_asked (record { node = 1; number = 7 }) row) ≡ []
+unfolding row row_nodes row_told
+no_message_of_another_group = refl

@@ -89,7 +89,9 @@ impl Coordinator {
         ensures { (messages : Messages) → HasTaken self.now messages
             → (IsTrue result ↔ IsSettled messages) }
     {
-        self.groups.iter().all(|(_, followed)| followed.waiting.is_empty())
+        self.groups
+            .iter()
+            .all(|(_, followed)| followed.waiting.is_empty())
     }
 
     /// The nodes that told the messages, in their order.

@@ -49,7 +49,7 @@ impl Followed {
             ≡ (has_node self.old.asked n || has_node told.now.crumbs n) }
         ensures waiting { (n : ℕ) → has_node self.new.waiting n
             ≡ ((has_node self.old.waiting n && not (n == node.0 && is_answer told.now.why))
-                || has_node result n) }
+            || has_node result n) }
         ensures ask { self.new.ask ≡ self.old.ask }
     {
         let fresh = difference(told.crumbs, self.asked);

@@ -1,9 +1,9 @@
 //! What asked sets are.
 
-ghost use Rattle.std.specs.Prelude.{◌≡◌, ℕ, Bool, true, };
+ghost use Rattle.std.specs.Prelude.{◌≡◌, ℕ, Bool, true};
 ghost use Rattle.std.specs.List.{list_any};
 ghost use Rattle.hs_base.specs.declared.ids.GroupId.{GroupId};
-ghost use Rattle.hs_coord.specs.Following.{Messages, is_of, is_asked};
+ghost use Rattle.hs_coord.specs.Following.{Messages, is_of, is_asked, has_ask, is_answer_from, is_answered};
 ghost use Rattle.hs_coord.specs.Orderly.{IsOrderly, IsClosed};
 
 /// A law, which does nothing: where the messages of a group are orderly and there is one, the
@@ -16,5 +16,12 @@ pub fn asked_set_is_least()
     ensures least { (group : GroupId) (messages : Messages) (set : ℕ → Bool)
         → IsOrderly group messages → IsClosed group messages set
         → (node : ℕ) → is_asked group messages node ≡ true → set node ≡ true }
-{
-}
+{}
+
+/// A law, which does nothing: where the messages of a group are orderly, a node's ask was answered
+/// exactly where one of them is an `Answer` from the node.
+pub fn answers_follow_asks()
+    ensures { (group : GroupId) (messages : Messages) → IsOrderly group messages
+        → (node : ℕ) → has_ask group messages node ≡ true
+        → is_answered group messages node ≡ list_any (is_answer_from group node) messages }
+{}

@@ -6,7 +6,9 @@ mod asks;
 mod coordinator;
 mod followed;
 mod law;
+#[cfg(test)]
+mod tests;
 
 pub use asks::Asks;
 pub use coordinator::Coordinator;
-pub use law::asked_set_is_least;
+pub use law::{answers_follow_asks, asked_set_is_least};
