@@ -1,5 +1,5 @@
 -- The asked set of an orderly group is the least closed set.
-use Rattle.std.proofs.Common.{◌≡◌, ℕ, ◌<◌, Bool, true, false, not, ◌||◌, ◌&&◌, List, [], ◌∷◌, ◌++◌, Option, Some, None, MatchOption, All, find, cond, length, get_or, nat_eq, eq-eqb, refl, sym, ap, subst, ◌∙◌, ⊎_elim, append_assoc, true≢false}
+use Rattle.std.proofs.Common.{◌≡◌, ℕ, Bool, true, false, not, ◌||◌, ◌&&◌, List, [], ◌∷◌, ◌++◌, Option, Some, None, MatchOption, All, find, cond, get_or, nat_eq, eq-eqb, refl, sym, ap, subst, ◌∙◌, ⊎_elim, append_assoc, true≢false}
 use Rattle.std.specs.List.{list_any}
 use Rattle.std.proofs.lemmas.List.Folds.{list_any_at, find-append}
 use Rattle.std.specs.Option.{option_map_or, option_or}

@@ -1,5 +1,5 @@
 -- Every ask was answered exactly where no entry has a node that waits.
-use Rattle.std.proofs.Common.{◌≡◌, ℕ, Bool, true, false, not, ◌&&◌, List, Option, Some, None, All, IfSome, slice_get, refl, sym, ap, subst, ◌∙◌, true≢false, find, MatchBool, ◌↔◌, ◌<◌, length, get_or, ◌≤◌, ⊎_elim, arith}
+use Rattle.std.proofs.Common.{◌≡◌, ℕ, Bool, true, false, not, ◌&&◌, Option, Some, None, All, IfSome, slice_get, refl, sym, ap, subst, ◌∙◌, true≢false, MatchBool, ◌↔◌, ◌<◌, length, get_or, ◌≤◌, ⊎_elim, arith}
 use Rattle.std.specs.List.{IsDistinct, AllWithin, HoldsAt}
 use Rattle.std.proofs.lemmas.List.Elements.{All-from_all_within}
 use Rattle.std.specs.Map.{lookup, keys_of}
@@ -8,7 +8,7 @@ use Rattle.std.proofs.lemmas.Map.Entries.{All-lookup, lookup_from_place}
 use Rattle.hs_base.specs.declared.ids.GroupId.{GroupId}
 use Rattle.hs_base.specs.NodeSets.{has_node}
 use Rattle.hs_coord.specs.declared.followed.Followed.{Followed}
-use Rattle.hs_coord.specs.Following.{Message, Messages, same_group, is_of, has_ask, is_answered, is_first_sender, IsSettled}
+use Rattle.hs_coord.specs.Following.{Messages, same_group, has_ask, is_answered, is_first_sender, IsSettled}
 use Rattle.hs_coord.specs.Standing.{Standing, IsFollowed, StandsFor, HasTaken}
 use Rattle.hs_coord.proofs.FollowingLemmas.{no_message_no_crumb}
 use Rattle.hs_coord.proofs.StandingLemmas.{same_group_laws}

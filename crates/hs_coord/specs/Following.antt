@@ -7,7 +7,6 @@ use Rattle.std.specs.List.{list_any}
 use Rattle.std.specs.Option.{option_map_or}
 use Rattle.hs_base.specs.declared.ids.NodeId.{NodeId}
 use Rattle.hs_base.specs.declared.ids.GroupId.{GroupId}
-use Rattle.hs_base.specs.declared.told.Ask.{Ask}
 use Rattle.hs_base.specs.declared.told.Told.{Told}
 use Rattle.hs_base.specs.declared.told.Why.{Why}
 use Rattle.hs_base.specs.declared.told.Why.TheVariants.{Fired, Answer, Late}

@@ -1,6 +1,6 @@
 -- Where the messages of a group are orderly, its asked set is what following the crumbs from its admitting node reaches: the
 -- least set that has this node and, with each node, the nodes to which the crumbs of the group's messages from that node lead.
-use Rattle.std.specs.Prelude.{◌≡◌, ℕ, Bool, true, List, ◌∷◌, ◌++◌, find, MatchOption, All}
+use Rattle.std.specs.Prelude.{◌≡◌, ℕ, Bool, true, ◌∷◌, ◌++◌, find, MatchOption, All}
 use Rattle.hs_base.specs.declared.ids.GroupId.{GroupId}
 use Rattle.hs_base.specs.NodeSets.{has_node}
 use Rattle.hs_coord.specs.Following.{Message, Messages, is_of, is_asked}

@@ -1,4 +1,4 @@
-use Rattle.std.proofs.Common.{◌∙◌, sym, subst, rules, tests}
+use Rattle.std.proofs.Common.{sym, subst, rules, tests}
 use Rattle.std.proofs.lemmas.Iterator.Consumers.{YieldsList-from_rest}
 use Rattle.std.proofs.lemmas.Iterator.{cases_from_all}
 use Rattle.hs_coord.specs.Standing.{Standing, HasTaken}
