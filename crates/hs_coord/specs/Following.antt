@@ -52,12 +52,16 @@ has_ask group messages node = has_crumb group messages node && not (is_first_sen
 abbrev pub first_of : Messages → Message → Message
 first_of before m = unwrap_or (find (is_of m.told.group.id) before) m
 
--- The asks that a message leads to, after the messages before it: of its group's first message, to each node that has an ask
--- now and had none before.
+-- whether a message leads to an ask of the node, after the messages before it: the node has one now and had none before
+abbrev pub is_newly_asked : Messages → Message → ℕ → Bool
+is_newly_asked before m node =
+    has_ask m.told.group.id (before ++ m ∷ []) node && not (has_ask m.told.group.id before node)
+
+-- The asks that a message leads to, after the messages before it: of its group's first message, to each node that is newly asked.
 pub record AreAsks (before : Messages) (m : Message) (asks : Asks) : Type 0 where
   pub group : asks.ask.group ≡ (first_of before m).told.group
   pub laterals : asks.ask.laterals ≡ (first_of before m).told.laterals
-  pub to : (node : ℕ) → has_node asks.to node ≡ (has_ask m.told.group.id (before ++ m ∷ []) node && not (has_ask m.told.group.id before node))
+  pub to : (node : ℕ) → has_node asks.to node ≡ is_newly_asked before m node
 
 abbrev pub is_answer : Why → Bool
 is_answer Fired = false
@@ -84,11 +88,11 @@ IsSettled messages = (group : GroupId) (node : ℕ) → has_ask group messages n
 
 -- Four nodes. Node 0 admits a trigger, and its crumb leads to node 1. Node 1 answers with a crumb to node 2, and node 2 with one to
 -- node 0. A set of one node n is the number 2 ^ n.
-row_group : GroupId
-row_group = record { node = 0; number = 7 }
+sample_group : GroupId
+sample_group = record { node = 0; number = 7 }
 
-row_told : ℕ → ℕ → Why → Message
-row_told node crumbs why = record {
+sample : ℕ → ℕ → Why → Message
+sample node crumbs why = record {
   node = record { 0 = node };
   told = record {
     group = record { id = record { node = 0; number = 7 }; trigger = record { 0 = 1 }; lead = record { 0 = 100 + node } };
@@ -98,58 +102,67 @@ row_told node crumbs why = record {
   };
 }
 
-row : Messages
-row = row_told 0 2 Fired ∷ row_told 1 4 Answer ∷ row_told 2 1 Answer ∷ []
+round_trip : Messages
+round_trip = sample 0 2 Fired ∷ sample 1 4 Answer ∷ sample 2 1 Answer ∷ []
 
 -- which of the four nodes pass a test
-row_nodes : (ℕ → Bool) → List ℕ
-row_nodes test = filter test (0 ∷ 1 ∷ 2 ∷ 3 ∷ [])
+nodes_where : (ℕ → Bool) → List ℕ
+nodes_where test = filter test (0 ∷ 1 ∷ 2 ∷ 3 ∷ [])
 
 -- the nodes that the next message leads to
-row_fresh : Messages → Message → List ℕ
-row_fresh before m = row_nodes (λ n. has_ask row_group (before ++ m ∷ []) n && not (has_ask row_group before n))
+fresh_nodes : Messages → Message → List ℕ
+fresh_nodes before m = nodes_where (is_newly_asked before m)
 
-node_1_is_asked : row_fresh [] (row_told 0 2 Fired) ≡ 1 ∷ []
-unfolding row_fresh row_nodes row_told row_group
+node_1_is_asked : fresh_nodes [] (sample 0 2 Fired) ≡ 1 ∷ []
+unfolding fresh_nodes nodes_where sample
 node_1_is_asked = refl
 
-node_2_is_asked : row_fresh (row_told 0 2 Fired ∷ []) (row_told 1 4 Answer) ≡ 2 ∷ []
-unfolding row_fresh row_nodes row_told row_group
+node_2_is_asked : fresh_nodes (sample 0 2 Fired ∷ []) (sample 1 4 Answer) ≡ 2 ∷ []
+unfolding fresh_nodes nodes_where sample
 node_2_is_asked = refl
 
 -- node 0 told the first message
-nobody_is_asked : row_fresh (row_told 0 2 Fired ∷ row_told 1 4 Answer ∷ []) (row_told 2 1 Answer) ≡ []
-unfolding row_fresh row_nodes row_told row_group
+nobody_is_asked : fresh_nodes (sample 0 2 Fired ∷ sample 1 4 Answer ∷ []) (sample 2 1 Answer) ≡ []
+unfolding fresh_nodes nodes_where sample
 nobody_is_asked = refl
 
-three_nodes_are_asked : row_nodes (is_asked row_group row) ≡ 0 ∷ 1 ∷ 2 ∷ []
-unfolding row row_nodes row_told row_group
+-- nor is the sender for its own crumb, nor a node that was asked before
+the_sender_is_not_asked : fresh_nodes [] (sample 0 3 Fired) ≡ 1 ∷ []
+unfolding fresh_nodes nodes_where sample
+the_sender_is_not_asked = refl
+
+a_node_is_asked_once : fresh_nodes (sample 0 2 Fired ∷ []) (sample 0 6 Late) ≡ 2 ∷ []
+unfolding fresh_nodes nodes_where sample
+a_node_is_asked_once = refl
+
+three_nodes_are_asked : nodes_where (is_asked sample_group round_trip) ≡ 0 ∷ 1 ∷ 2 ∷ []
+unfolding round_trip nodes_where sample sample_group
 three_nodes_are_asked = refl
 
 -- both asks were answered, and before the last message one was not
-two_asks_are_answered : (row_nodes (has_ask row_group row) ≡ 1 ∷ 2 ∷ []) × (row_nodes (is_answered row_group row) ≡ 1 ∷ 2 ∷ [])
-unfolding row row_nodes row_told row_group
+two_asks_are_answered : (nodes_where (has_ask sample_group round_trip) ≡ 1 ∷ 2 ∷ []) × (nodes_where (is_answered sample_group round_trip) ≡ 1 ∷ 2 ∷ [])
+unfolding round_trip nodes_where sample sample_group
 two_asks_are_answered = (refl, refl)
 
-one_ask_waits : row_nodes (is_answered row_group (row_told 0 2 Fired ∷ row_told 1 4 Answer ∷ [])) ≡ 1 ∷ []
-unfolding row_nodes row_told row_group
+one_ask_waits : nodes_where (is_answered sample_group (sample 0 2 Fired ∷ sample 1 4 Answer ∷ [])) ≡ 1 ∷ []
+unfolding nodes_where sample sample_group
 one_ask_waits = refl
 
 -- a `Late` answers nothing, and an `Answer` no ask that comes after it
-a_late_is_no_answer : row_nodes (is_answered row_group (row_told 0 2 Fired ∷ row_told 1 4 Late ∷ [])) ≡ []
-unfolding row_nodes row_told row_group
+a_late_is_no_answer : nodes_where (is_answered sample_group (sample 0 2 Fired ∷ sample 1 4 Late ∷ [])) ≡ []
+unfolding nodes_where sample sample_group
 a_late_is_no_answer = refl
 
-an_early_answer_is_none : row_nodes (is_answered row_group (row_told 0 0 Fired ∷ row_told 1 0 Answer ∷ row_told 0 2 Late ∷ [])) ≡ []
-unfolding row_nodes row_told row_group
+an_early_answer_is_none : nodes_where (is_answered sample_group (sample 0 0 Fired ∷ sample 1 0 Answer ∷ sample 0 2 Late ∷ [])) ≡ []
+unfolding nodes_where sample sample_group
 an_early_answer_is_none = refl
 
 -- the asks of a later message carry the lead and the laterals of the first
-the_first_message_is_carried : (first_of (row_told 0 2 Fired ∷ []) (row_told 1 4 Answer)).told.laterals ≡ record { 0 = 200 } ∷ []
-unfolding row_told
+the_first_message_is_carried : (first_of (sample 0 2 Fired ∷ []) (sample 1 4 Answer)).told.laterals ≡ record { 0 = 200 } ∷ []
+unfolding sample
 the_first_message_is_carried = refl
 
 -- another group's messages say nothing of this one
-no_message_of_another_group : row_nodes (is_asked (record { node = 1; number = 7 }) row) ≡ []
-unfolding row row_nodes row_told
+no_message_of_another_group : nodes_where (is_asked (record { node = 1; number = 7 }) round_trip) ≡ []
+unfolding round_trip nodes_where sample
 no_message_of_another_group = refl

@@ -59,7 +59,8 @@ impl Coordinator {
         ensures asks { IfOk result (λ asks. (messages : Messages) → HasTaken self.old messages
             → AreAsks messages (message node told) asks) }
         ensures nodes { OnOk result (self.new.nodes ≡ self.old.nodes) }
-        ensures below { IfOk result (λ asks. (n : ℕ) → has_node asks.to n ≡ true → n < self.old.nodes) }
+        ensures below { IfOk result (λ asks. (n : ℕ) → has_node asks.to n ≡ true
+            → n < self.old.nodes) }
         ensures memory { OnErr result (self.new ≡ self.old) }
     {
         self.log.reserve(1)?;
