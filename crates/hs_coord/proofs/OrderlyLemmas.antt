@@ -1,5 +1,5 @@
 -- The asked set of an orderly group is the least closed set.
-use Rattle.std.proofs.Common.{◌≡◌, ℕ, Bool, true, false, not, ◌||◌, ◌&&◌, List, [], ◌∷◌, ◌++◌, Option, Some, None, MatchOption, All, find, cond, get_or, nat_eq, eq-eqb, refl, sym, ap, subst, ◌∙◌, ⊎_elim, append_assoc, true≢false}
+use Rattle.std.proofs.Common.{◌≡◌, ℕ, Bool, true, false, not, ◌||◌, ◌&&◌, List, [], ◌∷◌, ◌++◌, Option, Some, None, All, find, cond, get_or, nat_eq, eq-eqb, refl, sym, ap, subst, ◌∙◌, ⊎_elim, append_assoc, true≢false}
 use Rattle.std.specs.List.{list_any}
 use Rattle.std.proofs.lemmas.List.Folds.{list_any_at, find-append}
 use Rattle.std.specs.Option.{option_map_or, option_or}
@@ -53,7 +53,8 @@ beginning group (x ∷ messages) e =
 pub closed : (group : GroupId) (messages : Messages) → IsOrderly group messages → list_any (is_of group) messages ≡ true → IsClosed group messages (is_asked group messages)
 closed group messages orderly there =
     let b = beginning group messages there in
-    let sender : b.first.node.0 ≡ group.node = subst (λ o. MatchOption o (b.first.node.0 ≡ group.node) (λ (_ : Message). is_asked group b.before b.first.node.0 ≡ true)) b.none (orderly b.before b.later b.first b.split b.own) in
+    let sender : b.first.node.0 ≡ group.node =
+    eqb-true b.first.node.0 group.node (sym (ap (λ o. option_map_or (λ (first : Message). is_asked group b.before b.first.node.0) o (nat_eq b.first.node.0 group.node)) b.none) ∙ orderly b.before b.later b.first b.split b.own) in
     record {
       admitting = or_left (is_first_sender group messages group.node) (has_crumb group messages group.node) (first_bit group messages b.first b.is_first group.node ∙ eq-eqb group.node b.first.node.0 (sym sender));
       crumbs = λ k d within own known node crumb.
@@ -73,8 +74,8 @@ module _ (group : GroupId) (set : ℕ → Bool) where
     sender_in : is_of group m ≡ true → set m.node.0 ≡ true
     sender_in own = by (find (is_of group) before) (orderly before later m refl own)
       where
-        by : (o : Option Message) → MatchOption o (m.node.0 ≡ group.node) (λ _. is_asked group before m.node.0 ≡ true) → set m.node.0 ≡ true
-        by None e = ap set e ∙ closes.admitting
+        by : (o : Option Message) → option_map_or (λ (first : Message). is_asked group before m.node.0) o (nat_eq m.node.0 group.node) ≡ true → set m.node.0 ≡ true
+        by None e = ap set (eqb-true m.node.0 group.node e) ∙ closes.admitting
         by (Some x) e = has m.node.0 e
 
     first_in : is_of group m ≡ true → (node : ℕ) → is_first_sender group (before ++ m ∷ []) node ≡ true → set node ≡ true
@@ -143,7 +144,7 @@ module _ (group : GroupId) (node : ℕ) where
           find-append (is_of group) before (m ∷ later) ∙ ap (λ o. option_or o (find (is_of group) (m ∷ later))) none
           ∙ ap (λ b. cond b (Some m) (find (is_of group) later)) own
 
-      by : (o : Option Message) → find (is_of group) before ≡ o → MatchOption o (m.node.0 ≡ group.node) (λ _. is_asked group before m.node.0 ≡ true) → has_ask group before node ≡ true
+      by : (o : Option Message) → find (is_of group) before ≡ o → option_map_or (λ (first : Message). is_asked group before m.node.0) o (nat_eq m.node.0 group.node) ≡ true → has_ask group before node ≡ true
       by None none e = absurd (true≢false (sym (first_bit group (before ++ m ∷ later) m (first none) node ∙ same) ∙ other))
       by (Some x) is e =
           let early : is_first_sender group before node ≡ false = not_first group before (m ∷ later) node other in

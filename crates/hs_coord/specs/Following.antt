@@ -2,35 +2,16 @@
 -- A group's asked set has the node that told its first message and each node to which a crumb of its messages leads. Each node
 -- that joins it by a crumb gets one ask, with the group and the laterals of the first message, and the first `Answer` of the
 -- group that this node tells after the ask answers it.
-use Rattle.std.specs.Prelude.{◌≡◌, ℕ, Bool, true, false, not, ◌&&◌, ◌||◌, ◌==◌, List, [], ◌∷◌, ◌++◌, find, filter, unwrap_or, refl, ◌+◌}
+use Rattle.std.specs.Prelude.{◌≡◌, ℕ, Bool, true, false, not, ◌&&◌, ◌||◌, ◌==◌, List, [], ◌∷◌, ◌++◌, find, unwrap_or, refl}
 use Rattle.std.specs.List.{list_any}
 use Rattle.std.specs.Option.{option_map_or}
-use Rattle.hs_base.specs.declared.ids.NodeId.{NodeId}
+pub use Rattle.hs_coord.specs.Messages.{Message, Messages, message, same_group, is_of}
+use Rattle.hs_coord.specs.Messages.{sample, sample_group, nodes_where}
 use Rattle.hs_base.specs.declared.ids.GroupId.{GroupId}
-use Rattle.hs_base.specs.declared.told.Told.{Told}
 use Rattle.hs_base.specs.declared.told.Why.{Why}
 use Rattle.hs_base.specs.declared.told.Why.TheVariants.{Fired, Answer, Late}
 use Rattle.hs_base.specs.NodeSets.{has_node}
 use Rattle.hs_coord.specs.declared.asks.Asks.{Asks}
-
--- a message: the node that told it, and what it told
-pub record Message : Type 0 where
-  pub node : NodeId
-  pub told : Told
-
-abbrev pub Messages : Type 0
-Messages = List Message
-
-abbrev pub message : NodeId → Told → Message
-message node told = record { node = node; told = told }
-
--- whether two ids name one group
-abbrev pub same_group : GroupId → GroupId → Bool
-same_group a b = a.node == b.node && a.number == b.number
-
--- whether a message is of the group
-abbrev pub is_of : GroupId → Message → Bool
-is_of group m = same_group group m.told.group.id
 
 -- whether the node told the group's first message
 abbrev pub is_first_sender : GroupId → Messages → ℕ → Bool
@@ -86,83 +67,60 @@ is_answered group messages node = is_answered_after group node [] messages
 abbrev pub IsSettled : Messages → Type 0
 IsSettled messages = (group : GroupId) (node : ℕ) → has_ask group messages node ≡ true → is_answered group messages node ≡ true
 
--- Four nodes. Node 0 admits a trigger, and its crumb leads to node 1. Node 1 answers with a crumb to node 2, and node 2 with one to
--- node 0. A set of one node n is the number 2 ^ n.
-sample_group : GroupId
-sample_group = record { node = 0; number = 7 }
-
-sample : ℕ → ℕ → Why → Message
-sample node crumbs why = record {
-  node = record { 0 = node };
-  told = record {
-    group = record { id = record { node = 0; number = 7 }; trigger = record { 0 = 1 }; lead = record { 0 = 100 + node } };
-    laterals = record { 0 = 200 + node } ∷ [];
-    crumbs = record { 0 = crumbs };
-    why = why;
-  };
-}
-
+-- Node 0 admits a trigger, and its crumb leads to node 1. Node 1 answers with a crumb to node 2, and node 2 with one to node 0.
 round_trip : Messages
 round_trip = sample 0 2 Fired ∷ sample 1 4 Answer ∷ sample 2 1 Answer ∷ []
-
--- which of the four nodes pass a test
-nodes_where : (ℕ → Bool) → List ℕ
-nodes_where test = filter test (0 ∷ 1 ∷ 2 ∷ 3 ∷ [])
 
 -- the nodes that the next message leads to
 fresh_nodes : Messages → Message → List ℕ
 fresh_nodes before m = nodes_where (is_newly_asked before m)
 
 node_1_is_asked : fresh_nodes [] (sample 0 2 Fired) ≡ 1 ∷ []
-unfolding fresh_nodes nodes_where sample
+unfolding fresh_nodes
 node_1_is_asked = refl
 
 node_2_is_asked : fresh_nodes (sample 0 2 Fired ∷ []) (sample 1 4 Answer) ≡ 2 ∷ []
-unfolding fresh_nodes nodes_where sample
+unfolding fresh_nodes
 node_2_is_asked = refl
 
 -- node 0 told the first message
 nobody_is_asked : fresh_nodes (sample 0 2 Fired ∷ sample 1 4 Answer ∷ []) (sample 2 1 Answer) ≡ []
-unfolding fresh_nodes nodes_where sample
+unfolding fresh_nodes
 nobody_is_asked = refl
 
 -- nor is the sender for its own crumb, nor a node that was asked before
 the_sender_is_not_asked : fresh_nodes [] (sample 0 3 Fired) ≡ 1 ∷ []
-unfolding fresh_nodes nodes_where sample
+unfolding fresh_nodes
 the_sender_is_not_asked = refl
 
 a_node_is_asked_once : fresh_nodes (sample 0 2 Fired ∷ []) (sample 0 6 Late) ≡ 2 ∷ []
-unfolding fresh_nodes nodes_where sample
+unfolding fresh_nodes
 a_node_is_asked_once = refl
 
 three_nodes_are_asked : nodes_where (is_asked sample_group round_trip) ≡ 0 ∷ 1 ∷ 2 ∷ []
-unfolding round_trip nodes_where sample sample_group
+unfolding round_trip
 three_nodes_are_asked = refl
 
 -- both asks were answered, and before the last message one was not
 two_asks_are_answered : (nodes_where (has_ask sample_group round_trip) ≡ 1 ∷ 2 ∷ []) × (nodes_where (is_answered sample_group round_trip) ≡ 1 ∷ 2 ∷ [])
-unfolding round_trip nodes_where sample sample_group
+unfolding round_trip
 two_asks_are_answered = (refl, refl)
 
 one_ask_waits : nodes_where (is_answered sample_group (sample 0 2 Fired ∷ sample 1 4 Answer ∷ [])) ≡ 1 ∷ []
-unfolding nodes_where sample sample_group
 one_ask_waits = refl
 
 -- a `Late` answers nothing, and an `Answer` no ask that comes after it
 a_late_is_no_answer : nodes_where (is_answered sample_group (sample 0 2 Fired ∷ sample 1 4 Late ∷ [])) ≡ []
-unfolding nodes_where sample sample_group
 a_late_is_no_answer = refl
 
 an_early_answer_is_none : nodes_where (is_answered sample_group (sample 0 0 Fired ∷ sample 1 0 Answer ∷ sample 0 2 Late ∷ [])) ≡ []
-unfolding nodes_where sample sample_group
 an_early_answer_is_none = refl
 
 -- the asks of a later message carry the lead and the laterals of the first
 the_first_message_is_carried : (first_of (sample 0 2 Fired ∷ []) (sample 1 4 Answer)).told.laterals ≡ record { 0 = 200 } ∷ []
-unfolding sample
 the_first_message_is_carried = refl
 
 -- another group's messages say nothing of this one
 no_message_of_another_group : nodes_where (is_asked (record { node = 1; number = 7 }) round_trip) ≡ []
-unfolding round_trip nodes_where sample
+unfolding round_trip
 no_message_of_another_group = refl

@@ -1,3 +1,4 @@
+pub mod Messages
 pub mod Following
 pub mod Orderly
 pub mod Standing
