@@ -1,0 +1,59 @@
+-- Every ask was answered exactly where no entry has a node that waits.
+use Rattle.std.proofs.Common.{◌≡◌, ℕ, Bool, true, false, not, ◌&&◌, Option, Some, None, All, IfSome, slice_get, refl, sym, ap, subst, ◌∙◌, true≢false, MatchBool, ◌↔◌, ◌<◌, length, get_or, ◌≤◌, ⊎_elim, arith}
+use Rattle.std.specs.List.{IsDistinct, AllWithin, HoldsAt}
+use Rattle.std.proofs.lemmas.List.Elements.{All-from_all_within}
+use Rattle.std.specs.Map.{lookup, keys_of}
+use Rattle.std.proofs.lemmas.Option.{slice_get_cases}
+use Rattle.std.proofs.lemmas.Map.Entries.{All-lookup, lookup_from_place}
+use Rattle.hs_base.specs.declared.ids.GroupId.{GroupId}
+use Rattle.hs_base.specs.NodeSets.{has_node}
+use Rattle.hs_coord.specs.declared.followed.Followed.{Followed}
+use Rattle.hs_coord.specs.Following.{Messages, same_group, has_ask, is_answered, is_first_sender, IsSettled}
+use Rattle.hs_coord.specs.Standing.{Standing, IsFollowed, StandsFor, HasTaken}
+use Rattle.hs_coord.proofs.FollowingLemmas.{no_message_no_crumb}
+use Rattle.hs_coord.proofs.StandingLemmas.{same_group_laws}
+
+-- no node waits
+abbrev pub IsQuiet : GroupId × Followed → Type 0
+IsQuiet p = (node : ℕ) → has_node p.1.waiting node ≡ false
+
+module _ (standing : Standing) (messages : Messages) (h : HasTaken standing messages) where
+  pub settled_if_quiet : All IsQuiet standing.groups → IsSettled messages
+  settled_if_quiet quiet group node ask =
+      by (lookup (same_group group) standing.groups) (h.groups group) (All-lookup (λ (e : Followed). (n : ℕ) → has_node e.waiting n ≡ false) (same_group group) standing.groups quiet)
+    where
+      answered : (asked done : Bool) → asked ≡ true → false ≡ (asked && not done) → done ≡ true
+      answered true true a e = refl
+      answered true false a e = absurd (true≢false (sym e))
+      answered false done a e = absurd (true≢false (sym a))
+
+      by : (kept : Option Followed) → StandsFor group messages kept → IfSome kept (λ e. (n : ℕ) → has_node e.waiting n ≡ false) → is_answered group messages node ≡ true
+      by None none q = absurd (true≢false (sym ask ∙ ap (λ b. b && not (is_first_sender group messages node)) (no_message_no_crumb group messages node none)))
+      by (Some entry) f q = answered (has_ask group messages node) (is_answered group messages node) ask (sym (q node) ∙ f.waiting node)
+
+  pub quiet_if_settled : IsDistinct same_group (keys_of standing.groups) → IsSettled messages → (i : ℕ) (p : GroupId × Followed) → slice_get standing.groups i ≡ Some p → IsQuiet p
+  quiet_if_settled distinct settled i p at node =
+      let f : IsFollowed p.0 messages p.1 = subst (StandsFor p.0 messages) (lookup_from_place same_group_laws standing.groups i p.0 p.1 distinct at) (h.groups p.0) in
+      f.waiting node ∙ quiet (has_ask p.0 messages node) (is_answered p.0 messages node) (settled p.0 node)
+    where
+      quiet : (asked done : Bool) → (asked ≡ true → done ≡ true) → (asked && not done) ≡ false
+      quiet true true a = refl
+      quiet true false a = absurd (true≢false (sym (a refl)))
+      quiet false done a = refl
+
+-- what a walk over the entries answers, where no two are of one group
+pub settled_by_walk : (standing : Standing) (messages : Messages) → HasTaken standing messages → IsDistinct same_group (keys_of standing.groups) → (r : Bool)
+    → MatchBool r (AllWithin IsQuiet standing.groups 0 (length standing.groups)) ((k : ℕ) × (k < length standing.groups) × HoldsAt (λ p. IsQuiet p → ⊥) standing.groups k)
+    → (r ≡ true) ↔ IsSettled messages
+settled_by_walk standing messages h distinct true quiet = (λ _. settled_if_quiet standing messages h (All-from_all_within IsQuiet standing.groups quiet), λ _. refl)
+settled_by_walk standing messages h distinct false found = (
+  λ e. absurd (true≢false (sym e)),
+  λ settled. absurd (found.2 (at found.0 found.1).0 (quiet_if_settled standing messages h distinct settled found.0 _ (at found.0 found.1).1)),
+)
+  where
+    at : (k : ℕ) → k < length standing.groups → (d : GroupId × Followed) × (slice_get standing.groups k ≡ Some (get_or standing.groups k d))
+    at k within =
+        ⊎_elim
+        (λ (w : (x : GroupId × Followed) × (k < length standing.groups) × (slice_get standing.groups k ≡ Some x) × (get_or standing.groups k x ≡ x)). (w.0, w.2 ∙ ap Some (sym w.3)))
+        (λ (past : (length standing.groups ≤ k) × (slice_get standing.groups k ≡ None)). absurd (omega arith))
+        (slice_get_cases standing.groups k).1

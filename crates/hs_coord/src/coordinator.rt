@@ -1,0 +1,105 @@
+//! The coordinator.
+
+ghost use Rattle.std.specs.Prelude.{◌≡◌, ℕ, ◌<◌, ◌≤◌, ◌↔◌, true, [], ◌∷◌, ◌++◌, IsTrue, IfOk, OnOk, OnErr, map};
+ghost use Rattle.hs_base.specs.NodeSets.{has_node};
+ghost use Rattle.hs_coord.specs.Following.{Messages, message, AreAsks, IsSettled};
+ghost use Rattle.hs_coord.specs.Standing.{HasTaken};
+ghost use Rattle.hs_coord.specs.Answers.{IsAskedSet};
+
+use crate::asks::Asks;
+use crate::followed::Followed;
+use hs_base::{GroupId, List, Memory, NodeId, NodeSet, Told};
+use indexmap::IndexMap;
+use std::alloc::Global;
+use std::marker::Model;
+
+/// Follows the crumbs of each group over the messages that it takes (`docs/RULES.md`, "The
+/// coordinator"). Contracts speak of the list of the messages that it has taken.
+#[derive(Drop)]
+pub struct Coordinator {
+    nodes: u16,
+    log: List<NodeId>,
+    groups: IndexMap<GroupId, Followed>,
+}
+
+impl Model for Coordinator {
+    ghost use Rattle.std.specs.Prelude.{◌≤◌};
+    ghost use Rattle.hs_coord.specs.Standing.{Standing};
+
+    ghost Value = { Standing };
+
+    ghost view = { λ a. record { nodes = a.nodes; log = a.log.items; groups = a.groups.entries } };
+
+    ghost invariant = { λ a. a.nodes ≤ 16 };
+}
+
+impl Coordinator {
+    /// A coordinator of nodes 0 to `nodes` - 1, at most 16, that has taken no message.
+    pub fn make(alloc: Global, nodes: u16) -> Result<Coordinator, Memory>
+        requires { nodes ≤ 16 }
+        ensures taken { IfOk result (λ coordinator. HasTaken coordinator []) }
+        ensures nodes { IfOk result (λ coordinator. coordinator.nodes ≡ nodes) }
+    {
+        Ok(Coordinator {
+            nodes,
+            log: List::new(alloc),
+            groups: IndexMap::new(alloc),
+        })
+    }
+
+    /// Takes a message of a node, and answers what the node's crumbs lead to. After `Memory` the
+    /// coordinator is as it was.
+    pub fn step(&mut self, node: NodeId, told: Told) -> Result<Asks, Memory>
+        requires node { node.0 < self.old.nodes }
+        requires crumbs { (n : ℕ) → has_node told.crumbs n ≡ true → n < self.old.nodes }
+
+        // The message joins those that were taken, and leads to the asks that are said there.
+        ensures taken { OnOk result ((messages : Messages) → HasTaken self.old messages
+            → HasTaken self.new (messages ++ message node told ∷ [])) }
+        ensures asks { IfOk result (λ asks. (messages : Messages) → HasTaken self.old messages
+            → AreAsks messages (message node told) asks) }
+        ensures nodes { OnOk result (self.new.nodes ≡ self.old.nodes) }
+        ensures below { IfOk result (λ asks. (n : ℕ) → has_node asks.to n ≡ true
+            → n < self.old.nodes) }
+        ensures memory { OnErr result (self.new ≡ self.old) }
+    {
+        self.log.reserve(1)?;
+        let Ok(entry) = self.groups.entry(told.group.id) else {
+            return Err(Memory);
+        };
+        let followed = entry.or_insert(Followed::begin(node, &told));
+        let to = followed.take(node, &told);
+        let ask = followed.ask;
+        self.log.push(node);
+        Ok(Asks { ask, to })
+    }
+
+    /// A group's asked set, or `None` where no message was of the group.
+    pub fn asked(&self, group: GroupId) -> Option<NodeSet>
+        ensures { (messages : Messages) → HasTaken self.now messages
+            → IsAskedSet group messages result }
+    {
+        match self.groups.get(&group) {
+            Some(followed) => Some(followed.asked),
+            None => None,
+        }
+    }
+
+    /// Whether every ask was answered.
+    pub fn settled(&self) -> bool
+        ensures { (messages : Messages) → HasTaken self.now messages
+            → (IsTrue result ↔ IsSettled messages) }
+    {
+        self.groups
+            .iter()
+            .all(|(_, followed)| followed.waiting.is_empty())
+    }
+
+    /// The nodes that told the messages, in their order.
+    pub fn log(&self) -> &List<NodeId>
+        ensures { (messages : Messages) → HasTaken self.now messages
+            → result.now.items ≡ map (λ m. m.node) messages }
+    {
+        &self.log
+    }
+}

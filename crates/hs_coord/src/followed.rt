@@ -1,0 +1,64 @@
+//! One group, as the coordinator follows it.
+
+ghost use Rattle.std.specs.Prelude.{◌≡◌, ℕ, ◌<◌, ◌&&◌, ◌||◌, ◌==◌, not, false};
+ghost use Rattle.hs_base.specs.NodeSets.{has_node};
+ghost use Rattle.hs_coord.specs.Following.{is_answer};
+
+use hs_base::{Ask, NodeId, NodeSet, Told, Why};
+
+/// A group with its first message's ask, its asked set, and the nodes whose ask has no answer yet.
+#[derive(Drop)]
+pub struct Followed {
+    pub ask: Ask,
+    pub asked: NodeSet,
+    pub waiting: NodeSet,
+}
+
+/// The nodes that are in the first set and not in the second.
+fn difference(left: NodeSet, right: NodeSet) -> NodeSet
+    ensures { (n : ℕ) → has_node result n ≡ (has_node left n && not (has_node right n)) }
+{
+    left.without(right)
+}
+
+impl Followed {
+    /// A group whose first message a node is about to tell. The node counts as asked.
+    pub fn begin(node: NodeId, told: &Told) -> Followed
+        requires { node.0 < 16 }
+        ensures group { result.ask.group ≡ told.now.group }
+        ensures laterals { result.ask.laterals ≡ told.now.laterals }
+        ensures asked { (n : ℕ) → has_node result.asked n ≡ (n == node.0) }
+        ensures waiting { (n : ℕ) → has_node result.waiting n ≡ false }
+    {
+        Followed {
+            ask: Ask {
+                group: told.group,
+                laterals: told.laterals,
+            },
+            asked: NodeSet::only(node),
+            waiting: NodeSet::none(),
+        }
+    }
+
+    /// Takes a message of the group from a node, and answers the nodes that it leads to first.
+    pub fn take(&mut self, node: NodeId, told: &Told) -> NodeSet
+        requires { node.0 < 16 }
+        ensures fresh { (n : ℕ) → has_node result n
+            ≡ (has_node told.now.crumbs n && not (has_node self.old.asked n)) }
+        ensures asked { (n : ℕ) → has_node self.new.asked n
+            ≡ (has_node self.old.asked n || has_node told.now.crumbs n) }
+        ensures waiting { (n : ℕ) → has_node self.new.waiting n
+            ≡ ((has_node self.old.waiting n && not (n == node.0 && is_answer told.now.why))
+            || has_node result n) }
+        ensures ask { self.new.ask ≡ self.old.ask }
+    {
+        let fresh = difference(told.crumbs, self.asked);
+        let answered = match told.why {
+            Why::Answer => NodeSet::only(node),
+            Why::Fired | Why::Late => NodeSet::none(),
+        };
+        self.asked = self.asked.union(told.crumbs);
+        self.waiting = difference(self.waiting, answered).union(fresh);
+        fresh
+    }
+}

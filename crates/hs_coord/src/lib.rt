@@ -1,0 +1,14 @@
+//! The coordinator: it follows the breadcrumbs of each group from node to node, and asks each node
+//! that they lead to once (`docs/RULES.md`, "The coordinator").
+#![tactic(auto)]
+
+mod asks;
+mod coordinator;
+mod followed;
+mod law;
+#[cfg(test)]
+mod tests;
+
+pub use asks::Asks;
+pub use coordinator::Coordinator;
+pub use law::{answers_follow_asks, asked_set_is_least};
