@@ -1,0 +1,1 @@
+//! Turns over two queues of equal items.
