@@ -32,13 +32,14 @@ pub record AreRules (rules : List TriggerRule) : Type 0 where
 -- what every scheduler keeps
 pub record IsSchedule (s : Schedule) : Type 0 where
   pub rising : AllPairs (λ (a b : Share). a.trigger.0 < b.trigger.0) s.shares
+  pub ids : All (λ share. IsId share.trigger.0) s.shares
   pub weights : All (λ share. IsWeight share.weight) s.shares
   pub size : IsSize s.size
   pub deficits : All (λ share. share.deficit < s.size) s.shares
 
 -- the shares of these rules before the first turn
-abbrev pub first_shares : List TriggerRule → List Share
-first_shares rules = map (λ rule. record { trigger = rule.id; weight = rule.weight; deficit = 0 }) rules
+abbrev pub shares_of : List TriggerRule → List Share
+shares_of rules = map (λ rule. record { trigger = rule.id; weight = rule.weight; deficit = 0 }) rules
 
 -- an id's share, where it is declared
 abbrev pub share_of : Schedule → ℕ → Option Share

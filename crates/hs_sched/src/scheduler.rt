@@ -1,15 +1,16 @@
 //! The fair turn over queues (`docs/RULES.md`, "The fair turn").
 
-ghost use Rattle.std.specs.Prelude.{◌≡◌, ◌≢◌, ◌+◌, ◌*◌, ◌<◌, ◌≤◌, ℕ, All, map, drop, replicate, IfOk, IsSome, IsTrue};
+ghost use Rattle.std.specs.Prelude.{◌≡◌, ◌≢◌, ◌+◌, ◌*◌, ◌<◌, ◌≤◌, ℕ, ◌==◌, All, drop, find, replicate, IfOk, IsSome};
+ghost use Rattle.std.specs.Option.{option_copied};
 ghost use Rattle.hs_sched.specs.Visits.{count_within, rest_within};
-ghost use Rattle.hs_sched.specs.Turns.{AreRules, IsSize, first_shares, share_of, deficit_of, after_turn, left_after, sent_ids};
+ghost use Rattle.hs_sched.specs.Turns.{AreRules, IsSize, shares_of, share_of, deficit_of, after_turn, left_after, sent_ids};
 ghost use Rattle.hs_sched.specs.Sending.{SendsEach, CostAtMost};
 ghost use Rattle.hs_sched.specs.Fairness.{IsFairVisit};
 
 use crate::queues::Queues;
 use crate::share::Share;
 use hs_base::{List, Memory, TriggerId, TriggerRule};
-use std::alloc::Global;
+use std::alloc::{AllocError, Global};
 use std::marker::Model;
 
 /// Shares what is sent among the trigger ids by their weights. Contracts see the share of each id, in
@@ -35,14 +36,9 @@ impl Scheduler {
     pub fn make(alloc: Global, triggers: &List<TriggerRule>, size: u32) -> Result<Scheduler, Memory>
         requires rules { AreRules triggers.now.items }
         requires size { IsSize size }
-        ensures { IfOk result (λ s. s ≡ record { shares = first_shares triggers.now.items; size = size }) }
+        ensures { IfOk result (λ s. s ≡ record { shares = shares_of triggers.now.items; size = size }) }
     {
-        let shares = triggers.as_slice().iter().map(|rule| Share {
-            trigger: rule.id,
-            weight: rule.weight,
-            deficit: 0,
-        });
-        match shares.collect(alloc) {
+        match first_shares(alloc, triggers.as_slice()) {
             Ok(shares) => Ok(Scheduler { shares, size }),
             Err(_) => Err(Memory),
         }
@@ -77,11 +73,30 @@ impl Scheduler {
         ensures value { result ≡ deficit_of self.now trigger.0 }
         ensures bound { result < self.now.size }
     {
-        match self.shares.iter().find(|share| share.trigger == trigger) {
+        match find_share(&self.shares, trigger) {
             Some(share) => share.deficit,
             None => unreachable!(),
         }
     }
+}
+
+/// The shares of these rules, whose deficits are 0.
+fn first_shares(alloc: Global, rules: &[TriggerRule]) -> Result<Vec<Share>, AllocError>
+    ensures { IfOk result (λ shares. shares.items ≡ shares_of rules.now) }
+{
+    let shares = rules.iter().map(|rule| Share {
+        trigger: rule.id,
+        weight: rule.weight,
+        deficit: 0,
+    });
+    shares.collect(alloc)
+}
+
+/// The share of a trigger id, or `None` where there is none.
+fn find_share(shares: &[Share], trigger: TriggerId) -> Option<&Share>
+    ensures { option_copied result ≡ find (λ share. share.trigger.0 == trigger.0) shares.now }
+{
+    shares.iter().find(|share| share.trigger == trigger)
 }
 
 /// Sends what waits for a trigger id, in order, while the budget lasts. Answers the deficit that is
