@@ -1,5 +1,5 @@
 -- A turn under way: the ids visited so far, and what that leaves.
-use Rattle.std.proofs.Common.{cond, ◌≡◌, ◌≢◌, ℕ, suc, ◌+◌, ◌*◌, ◌^◌, ◌<◌, ◌≤◌, Bool, true, false, List, [], ◌∷◌, ◌++◌, length, take, drop, get_or, set, replicate, map, find, flat_map, All, AllPairs, Option, Some, None, refl, sym, ap, ◌∙◌, arith, subst, nat_eq, ◌==◌, eq-eqb, ⊎_elim, append-nil, eqb}
+use Rattle.std.proofs.Common.{cond, ◌≡◌, ◌≢◌, ℕ, suc, ◌+◌, ◌*◌, ◌^◌, ◌<◌, ◌≤◌, Bool, true, false, List, [], ◌∷◌, ◌++◌, length, take, drop, get_or, set, replicate, map, find, flat_map, All, AllPairs, Option, option_map, Some, None, refl, sym, ap, ◌∙◌, arith, subst, nat_eq, ◌==◌, eq-eqb, ⊎_elim, append-nil, eqb}
 use Rattle.std.specs.Option.{option_or, option_map_or}
 use Rattle.std.proofs.Math.Nat.{mul-le-mul_left}
 use Rattle.std.proofs.lemmas.Bool.{cases_eq}
@@ -7,7 +7,7 @@ use Rattle.std.proofs.lemmas.List.Elements.{All-head, All-tail, All-take, All-ge
 use Rattle.std.proofs.lemmas.List.{take_more, drop_more, map_more, take_all, drop_all, set_at, length-map, length-take-le, append_assoc, get_or-take, get_or_at, get_or-map, take_at}
 use Rattle.std.proofs.lemmas.List.Folds.{find-append}
 use Rattle.std.proofs.lemmas.Grind.{flat_map-append}
-use borrow.Author.Tests.{ne_eqb}
+use borrow.Author.Tests.{ne_eqb, eqb-true}
 use Rattle.hs_base.specs.declared.settings.TriggerRule.{TriggerRule}
 use Rattle.hs_sched.specs.declared.share.Share.{Share}
 use Rattle.hs_sched.specs.Visits.{count_within, rest_within, budget_of, count_sent, visited}
@@ -205,3 +205,16 @@ find_has P p (y ∷ ys) x all e = found (p y) (λ rest. find_has P p ys x (All-t
   found : (b : Bool) → (find p ys ≡ Some x → P x) → cond b (Some y) (find p ys) ≡ Some x → P x
   found true later e = let same : y ≡ x = cc in subst P same (All-head P y ys all)
   found false later e = later e
+
+-- a look-up after the visits
+pub find-served :
+  (size : ℕ) (waiting : ℕ → List ℕ) (id : ℕ) (xs : List Share)
+  → find (has_id id) (map (served size waiting) xs) ≡ option_map (λ share. visited size share (waiting id)) (find (has_id id) xs)
+find-served size waiting id [] = refl
+find-served size waiting id (y ∷ ys) = here (has_id id y) refl (find-served size waiting id ys)
+  where
+  here :
+    (b : Bool) → has_id id y ≡ b → find (has_id id) (map (served size waiting) ys) ≡ option_map (λ share. visited size share (waiting id)) (find (has_id id) ys)
+    → cond b (Some (served size waiting y)) (find (has_id id) (map (served size waiting) ys)) ≡ option_map (λ share. visited size share (waiting id)) (cond b (Some y) (find (has_id id) ys))
+  here true same rest = ap (λ k. Some (visited size y (waiting k))) (eqb-true y.trigger.0 id same)
+  here false same rest = rest

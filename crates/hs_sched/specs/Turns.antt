@@ -1,7 +1,7 @@
 -- A turn visits each declared trigger id once, in rising order. What waits for an id is a list of costs, the next one
 -- first; a turn sends the front of it and leaves the rest, and the lists of ids that are not declared. Examples stand
 -- in TurnExamples.
-use Rattle.std.specs.Prelude.{ℕ, ◌<◌, ◌≤◌, List, ◌++◌, map, drop, replicate, find, flat_map, All, AllPairs, Option, ◌==◌}
+use Rattle.std.specs.Prelude.{ℕ, ◌<◌, ◌≤◌, List, ◌++◌, map, drop, replicate, find, flat_map, All, AllPairs, Option, option_map, ◌==◌}
 use Rattle.std.specs.Option.{option_map_or}
 use Rattle.hs_base.specs.declared.settings.TriggerRule.{TriggerRule}
 use Rattle.hs_sched.specs.declared.share.Share.{Share}
@@ -52,6 +52,10 @@ deficit_of s id = option_map_or (λ share. share.deficit) (share_of s id) 0
 -- the schedule after a turn over what waits
 abbrev pub after_turn : Schedule → (ℕ → List ℕ) → Schedule
 after_turn s waiting = record { shares = map (λ share. visited s.size share (waiting share.trigger.0)) s.shares; size = s.size }
+
+-- an id's share after a turn, where it is declared
+abbrev pub visited_of : Schedule → (ℕ → List ℕ) → ℕ → Option Share
+visited_of s waiting id = option_map (λ share. visited s.size share (waiting id)) (share_of s id)
 
 -- how many items a turn sends for an id: none where it is not declared
 abbrev pub sent_for : Schedule → (ℕ → List ℕ) → ℕ → ℕ

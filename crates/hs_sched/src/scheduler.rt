@@ -3,7 +3,7 @@
 ghost use Rattle.std.specs.Prelude.{◌≡◌, ◌≢◌, ◌+◌, ◌*◌, ◌<◌, ◌≤◌, ℕ, ◌==◌, All, drop, find, replicate, IfOk, IsSome};
 ghost use Rattle.std.specs.Option.{option_copied};
 ghost use Rattle.hs_sched.specs.Visits.{count_within, rest_within};
-ghost use Rattle.hs_sched.specs.Turns.{AreRules, IsSize, shares_of, share_of, deficit_of, after_turn, left_after, sent_ids};
+ghost use Rattle.hs_sched.specs.Turns.{AreRules, IsSize, shares_of, share_of, deficit_of, visited_of, after_turn, left_after, sent_ids};
 ghost use Rattle.hs_sched.specs.Sending.{SendsEach, CostAtMost};
 ghost use Rattle.hs_sched.specs.Fairness.{IsFairVisit};
 
@@ -32,11 +32,14 @@ impl Model for Scheduler {
 }
 
 impl Scheduler {
+    ghost use Rattle.hs_sched.specs.Turns.{IsSchedule};
+
     /// A scheduler for these trigger ids, whose deficits are 0. The size of a page is in bytes.
     pub fn make(alloc: Global, triggers: &List<TriggerRule>, size: u32) -> Result<Scheduler, Memory>
         requires rules { AreRules triggers.now.items }
         requires size { IsSize size }
-        ensures { IfOk result (λ s. s ≡ record { shares = shares_of triggers.now.items; size = size }) }
+        ensures fresh { IfOk result (λ s. s ≡ record { shares = shares_of triggers.now.items; size = size }) }
+        ensures schedule { IfOk result IsSchedule }
     {
         match first_shares(alloc, triggers.as_slice()) {
             Ok(shares) => Ok(Scheduler { shares, size }),
@@ -49,6 +52,7 @@ impl Scheduler {
         requires { CostAtMost self.old.size (Q.costs queues.old) }
         // The new deficits, and nothing else of the scheduler changes.
         ensures deficits { self.new ≡ after_turn self.old (Q.costs queues.old) }
+        ensures by_id { (id : ℕ) → share_of self.new id ≡ visited_of self.old (Q.costs queues.old) id }
 
         // What was sent left the front of its queue; the rest, and other queues, are as they were.
         ensures left { (id : ℕ) → Q.costs queues.new id ≡ left_after self.old (Q.costs queues.old) id }
@@ -58,7 +62,7 @@ impl Scheduler {
 
         // What these mean for each id.
         ensures visits { All (λ share. IsFairVisit self.old.size share (Q.costs queues.old share.trigger.0)) self.old.shares }
-        ensures bound { All (λ share. share.deficit < self.new.size) self.new.shares }
+        ensures schedule { IsSchedule self.new }
     {
         let size = u64::from(self.size);
         for share in self.shares.iter_mut() {

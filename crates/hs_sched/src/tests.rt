@@ -38,3 +38,17 @@ impl Queues for Waiting {
         }
     }
 }
+
+#[test]
+fn turns_share_by_weight(rt: HostRuntime) -> Result<(), Fail> {
+    let mut rules = List::with_room(rt.alloc(), 2)?;
+    for (id, weight) in [(1, 2), (2, 1)] {
+        rules.append(TriggerRule {
+            id: TriggerId(id),
+            weight,
+            burst: 1,
+            rate: 1,
+        })?;
+    }
+    Ok(())
+}

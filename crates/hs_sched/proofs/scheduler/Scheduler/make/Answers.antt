@@ -9,3 +9,6 @@ invariant_of-result c =
     let rules : c.as_slice.result.now ≡ c.args.triggers.now.items = c.as_slice.ensures in
     let shares : c.in-Ok.shares.items ≡ shares_of c.args.triggers.now.items = c.in-Ok.ensures ∙ ap shares_of rules in
     subst (λ (xs : List Share). IsSchedule (record { shares = xs; size = c.args.size })) (sym shares) (IsSchedule-first c.args.triggers.now.items c.args.size c.requires.rules c.requires.size)
+
+pub returns-in-Ok-clause-schedule : goal.returns-in-Ok-clause-schedule
+returns-in-Ok-clause-schedule c = invariant_of-result c

@@ -1,8 +1,8 @@
-use Rattle.std.proofs.Common.{◌≡◌, ◌+◌, ◌*◌, ◌<◌, ◌≤◌, ℕ, List, ◌++◌, length, take, drop, get_or, map, sym, ap, ◌∙◌, subst, arith}
+use Rattle.std.proofs.Common.{◌≡◌, ◌+◌, ◌*◌, ◌<◌, ◌≤◌, ℕ, List, ◌++◌, length, ◌==◌, find, take, drop, get_or, map, sym, ap, ◌∙◌, subst, arith}
 use Rattle.hs_sched.specs.declared.share.Share.{Share}
 use Rattle.hs_sched.specs.Turns.{Schedule, IsSchedule, IsWeight, after_turn}
 use Rattle.hs_sched.specs.Visits.{budget_of}
-use Rattle.hs_sched.proofs.TurnLemmas.{served, served_step, served-at, finished, all_fair, IsSchedule-after, budget_fits}
+use Rattle.hs_sched.proofs.TurnLemmas.{served, served_step, served-at, finished, find-served, all_fair, IsSchedule-after, budget_fits}
 use Rattle.hs_sched.proofs.scheduler.Scheduler.turn.Goals as goal
 
 abbrev no_share : Share
@@ -55,5 +55,15 @@ invariant_of-self g c =
 pub returns-clause-visits : goal.returns-clause-visits
 returns-clause-visits g c = all_fair c.args.self.now (g.Q.Queues.costs c.args.queues.now) (subst IsSchedule c.self.view_is c.self.invariant) c.requires
 
-pub returns-clause-bound : goal.returns-clause-bound
-returns-clause-bound g c = (invariant_of-self g c).deficits
+pub returns-clause-schedule : goal.returns-clause-schedule
+returns-clause-schedule g c = invariant_of-self g c
+
+pub returns-clause-by_id : goal.returns-clause-by_id
+returns-clause-by_id g c =
+    let s = c.args.self.now in
+    let waiting = g.Q.Queues.costs c.args.queues.now in
+    let whole : c.self.inside.shares.len ≡ length s.shares = omega (arith, ap length (ap (λ (t : Schedule). t.shares) c.self.view_is), c.self.inside.shares.ok.0) in
+    let after =
+    finished (served s.size waiting) s.shares c.loop-share.share-items c.self.inside.shares.items c.loop-share.share-index c.self.inside.shares.len whole
+    (omega (arith, whole, ap length c.deref_mut-share-items.ensures.value, c.self.inside.shares.ok.0)) c.loop-share.invariant.items in
+    λ id. ap (find (λ (share : Share). share.trigger.0 == id)) after ∙ find-served s.size waiting id s.shares
