@@ -1,16 +1,16 @@
 -- A visit over costs that are at most the size is fair, and so are many.
 use Rattle.std.proofs.lemmas.Bool.{cases_eq}
-use Rattle.std.proofs.Common.{⊎_elim, ◌≡◌, ℕ, suc, ◌+◌, ◌-◌, ◌*◌, ◌<◌, ◌≤◌, List, [], ◌∷◌, length, take, get_or, sum, All, sym, ap, ◌∙◌, arith, rules}
+use Rattle.std.proofs.Common.{⊎_elim, ◌≡◌, ℕ, suc, ◌+◌, ◌-◌, ◌*◌, ◌<◌, ◌≤◌, List, [], ◌∷◌, length, take, get_or, sum, All, arith}
 use Rattle.std.proofs.lemmas.List.Elements.{All-get_or}
 use Rattle.std.proofs.lemmas.List.Sums.{sum_by_more}
 use Rattle.hs_sched.specs.declared.share.Share.{Share}
-use Rattle.hs_sched.specs.Visits.{budget_of, count_within, bytes_within, rest_within, count_sent, bytes_sent, visited}
+use Rattle.hs_sched.specs.Visits.{budget_of, count_within, bytes_within, rest_within, bytes_sent, visited}
 use Rattle.hs_sched.specs.Fairness.{IsFairVisit, bytes_over, EachLeaves}
-use Rattle.hs_sched.proofs.PrefixLemmas.{IsLongest, longest_within, rest_emptied, rest_left}
+use Rattle.hs_sched.proofs.PrefixLemmas.{longest_within, rest_emptied, rest_left}
 
 -- what is left of a budget is less than the item that it does not pay for
 rest_is_less :
-  (size budget : ℕ) (costs : List ℕ) → All (λ cost. cost ≤ size) costs → count_within budget costs < length costs → budget - bytes_within budget costs < size
+    (size budget : ℕ) (costs : List ℕ) → All (λ cost. cost ≤ size) costs → count_within budget costs < length costs → budget - bytes_within budget costs < size
 rest_is_less size budget costs cheap left =
     let n = count_within budget costs in
     let beyond : budget < 0 + sum (take (n + 1) costs) = (longest_within budget costs).longest (n + 1) (omega arith) (omega arith) in
@@ -24,8 +24,8 @@ rest_is_bound size budget costs cheap some =
     ⊎_elim
     (λ (e : count_within budget costs ≡ length costs). omega (arith, rest_emptied budget costs e))
     (λ (ne : count_within budget costs ≡ length costs → ⊥).
-        let left : count_within budget costs < length costs = omega (arith, (longest_within budget costs).front) in
-        omega (arith, rest_left budget costs left, rest_is_less size budget costs cheap left))
+    let left : count_within budget costs < length costs = omega (arith, (longest_within budget costs).front) in
+    omega (arith, rest_left budget costs left, rest_is_less size budget costs cheap left))
     (cases_eq (count_within budget costs) (length costs))
 
 pub fair_visit : (size : ℕ) (share : Share) (waiting : List ℕ) → All (λ cost. cost ≤ size) waiting → share.deficit < size → IsFairVisit size share waiting
@@ -56,11 +56,11 @@ paid_up size share (waiting ∷ later) small leaves =
     let balance : bytes_sent size share waiting + (visited size share waiting).deficit ≡ share.deficit + share.weight * size = visit.balance leaves.1 in
     record { last = rest.last; small = rest.small; adds_up = adds-step (length later) (share.weight * size) _ _ _ _ _ rest.adds_up balance }
   where
-  adds-step :
-    (n per first more last d e : ℕ) → more + last ≡ d + n * per → first + d ≡ e + per → first + more + last ≡ e + suc n * per
-  adds-step n per first more last d e later now = omega arith
+    adds-step :
+        (n per first more last d e : ℕ) → more + last ≡ d + n * per → first + d ≡ e + per → first + more + last ≡ e + suc n * per
+    adds-step n per first more last d e later now = omega arith
 
 pub visits_fair :
-  (size : ℕ) (share : Share) (waits : List (List ℕ)) → share.deficit < size → EachLeaves size share waits
-  → (bytes_over size share waits < length waits * (share.weight * size) + size) × (length waits * (share.weight * size) < bytes_over size share waits + size)
+    (size : ℕ) (share : Share) (waits : List (List ℕ)) → share.deficit < size → EachLeaves size share waits
+    → (bytes_over size share waits < length waits * (share.weight * size) + size) × (length waits * (share.weight * size) < bytes_over size share waits + size)
 visits_fair size share waits small leaves = let p = paid_up size share waits small leaves in (omega (arith, p.adds_up, p.small), omega (arith, p.adds_up, p.small))

@@ -1,9 +1,9 @@
 -- The prefix that a budget pays for is the longest one, and nothing else is.
 use borrow.Author.Tests.{ne_eqb}
-use Rattle.std.proofs.Common.{eq-eqb, ⊎_elim, ◌≡◌, ℕ, zero, suc, ◌+◌, ◌-◌, ◌<◌, ◌≤◌, Bool, true, false, cond, nat_le, List, [], ◌∷◌, length, take, drop, get_or, sum, All, refl, sym, ap, ◌∙◌, arith, subst, one-add, add-one, add-zero, zero-add}
-use Rattle.std.specs.List.{prefix_len, fold}
-use Rattle.std.proofs.lemmas.List.{take-take, length-take-le}
-use Rattle.std.proofs.lemmas.List.Sums.{sum_by-cons, sum_by_more, sum_by-take-le}
+use Rattle.std.proofs.Common.{eq-eqb, ⊎_elim, ◌≡◌, ℕ, zero, suc, ◌+◌, ◌-◌, ◌<◌, ◌≤◌, Bool, true, false, cond, nat_le, List, [], ◌∷◌, length, take, sum, refl, arith, subst, one-add}
+use Rattle.std.specs.List.{prefix_len}
+use Rattle.std.proofs.lemmas.List.{take-take}
+use Rattle.std.proofs.lemmas.List.Sums.{sum_by-cons, sum_by-take-le}
 use Rattle.std.proofs.lemmas.Bool.{cases_lt}
 use Rattle.std.proofs.lemmas.Bool.Decides.{nat_tests}
 use Rattle.hs_sched.specs.Visits.{running_totals, count_within, bytes_within, rest_within}
@@ -27,9 +27,9 @@ longest-pays budget spent c cs n pays more =
       longest = λ m below bound. longest-at m below bound;
     }
   where
-  longest-at : (m : ℕ) → suc n < m → m ≤ length (c ∷ cs) → budget < spent + sum (take m (c ∷ cs))
-  longest-at zero below bound = absurd (omega arith)
-  longest-at (suc m) below bound = omega (arith, more.longest m (omega arith) (omega arith), sum-cons c (take m cs))
+    longest-at : (m : ℕ) → suc n < m → m ≤ length (c ∷ cs) → budget < spent + sum (take m (c ∷ cs))
+    longest-at zero below bound = absurd (omega arith)
+    longest-at (suc m) below bound = omega (arith, more.longest m (omega arith) (omega arith), sum-cons c (take m cs))
 
 longest-stops : (budget spent c : ℕ) (cs : List ℕ) → budget < spent + c → IsLongest budget spent (c ∷ cs) 0
 longest-stops budget spent c cs stops =
@@ -39,9 +39,9 @@ longest-stops budget spent c cs stops =
       longest = λ m below bound. longest-at m below bound;
     }
   where
-  longest-at : (m : ℕ) → 0 < m → m ≤ length (c ∷ cs) → budget < spent + sum (take m (c ∷ cs))
-  longest-at zero below bound = absurd (omega arith)
-  longest-at (suc m) below bound = omega (arith, sum-cons c (take m cs))
+    longest-at : (m : ℕ) → 0 < m → m ≤ length (c ∷ cs) → budget < spent + sum (take m (c ∷ cs))
+    longest-at zero below bound = absurd (omega arith)
+    longest-at (suc m) below bound = omega (arith, sum-cons c (take m cs))
 
 longest-step : (budget spent c : ℕ) (cs : List ℕ) (n : ℕ) (b : Bool) → nat_le (spent + c) budget ≡ b → IsLongest budget (spent + c) cs n → IsLongest budget spent (c ∷ cs) (cond b (1 + n) 0)
 longest-step budget spent c cs n true e more = rw one-add (longest-pays budget spent c cs n (grind (arith, nat_tests)) more)
@@ -73,17 +73,17 @@ not_shorter : (budget : ℕ) (costs : List ℕ) (n : ℕ) → (n < length costs 
 not_shorter budget costs n stops =
     ⊎_elim
     (λ (less : n < count_within budget costs).
-        let count = count_within budget costs in
-        let longest = longest_within budget costs in
-        let paid : 0 + sum (take count costs) ≤ budget = longest.within (omega arith) in
-        let past : budget < sum (take (n + 1) costs) = stops (omega (arith, longest.front)) in
-        absurd (omega (arith, sum-take-mono costs (n + 1) count (omega arith))))
+    let count = count_within budget costs in
+    let longest = longest_within budget costs in
+    let paid : 0 + sum (take count costs) ≤ budget = longest.within (omega arith) in
+    let past : budget < sum (take (n + 1) costs) = stops (omega (arith, longest.front)) in
+    absurd (omega (arith, sum-take-mono costs (n + 1) count (omega arith))))
     (λ (more : count_within budget costs ≤ n). more)
     (cases_lt n (count_within budget costs))
 
 pub count_within_is :
-  (budget : ℕ) (costs : List ℕ) (n : ℕ) → n ≤ length costs → sum (take n costs) ≤ budget
-  → (n < length costs → budget < sum (take (n + 1) costs)) → count_within budget costs ≡ n
+    (budget : ℕ) (costs : List ℕ) (n : ℕ) → n ≤ length costs → sum (take n costs) ≤ budget
+    → (n < length costs → budget < sum (take (n + 1) costs)) → count_within budget costs ≡ n
 count_within_is budget costs n front within stops = omega (arith, not_longer budget costs n front within, not_shorter budget costs n stops)
 
 -- the deficit that a visit leaves

@@ -1,6 +1,6 @@
 -- A visit under way: what it has sent so far, and what that leaves.
-use Rattle.std.proofs.Common.{add-zero, ◌≡◌, ◌≢◌, ℕ, suc, ◌+◌, ◌-◌, ◌<◌, ◌≤◌, List, [], ◌∷◌, ◌++◌, length, take, drop, get_or, replicate, sum, Some, None, refl, sym, ap, ◌∙◌, arith, subst, slice_get, Option}
-use Rattle.std.proofs.lemmas.List.{length-drop, drop-drop, get_or-drop, replicate_more, drop_all, length-take-le}
+use Rattle.std.proofs.Common.{add-zero, ◌≡◌, ◌≢◌, ℕ, ◌+◌, ◌-◌, ◌<◌, ◌≤◌, List, [], ◌∷◌, ◌++◌, length, take, drop, get_or, replicate, sum, Some, None, refl, sym, ap, ◌∙◌, arith, subst, slice_get}
+use Rattle.std.proofs.lemmas.List.{length-drop, drop-drop, get_or-drop, replicate_more}
 use Rattle.std.proofs.lemmas.List.Sums.{sum_by_more}
 use Rattle.hs_sched.specs.Visits.{count_within, bytes_within, rest_within}
 use Rattle.hs_sched.specs.Sending.{SendsEach}
@@ -8,7 +8,7 @@ use Rattle.hs_sched.proofs.PrefixLemmas.{count_within_is, rest_emptied, rest_lef
 
 -- sends follow sends
 pub SendsEach-append :
-  {Q : Type 0} (sends : Q → ℕ → Q → Type 0) (a b c : Q) (xs ys : List ℕ) → SendsEach sends a xs b → SendsEach sends b ys c → SendsEach sends a (xs ++ ys) c
+    {Q : Type 0} (sends : Q → ℕ → Q → Type 0) (a b c : Q) (xs ys : List ℕ) → SendsEach sends a xs b → SendsEach sends b ys c → SendsEach sends a (xs ++ ys) c
 SendsEach-append sends a b c [] ys before after = subst (λ q. SendsEach sends q ys c) before after
 SendsEach-append sends a b c (x ∷ xs) ys before after = (before.0, before.1, SendsEach-append sends before.0 b c xs ys before.2 after)
 
@@ -36,9 +36,9 @@ module _ {Q : Type 0} (costs : Q → ℕ → List ℕ) (sends : Q → ℕ → Q 
       record { sent = 0; front = omega arith; rest = refl; paid = omega arith; others = λ other ne. refl; steps = refl }
 
   pub underway_more :
-    (id budget left cost : ℕ) (old now next : Q) → IsUnderway id budget left old now → slice_get (costs now id) 0 ≡ Some cost → cost ≤ left
-    → costs next id ≡ drop 1 (costs now id) → ((other : ℕ) → other ≢ id → costs next other ≡ costs now other) → sends now id next
-    → IsUnderway id budget (left - cost) old next
+      (id budget left cost : ℕ) (old now next : Q) → IsUnderway id budget left old now → slice_get (costs now id) 0 ≡ Some cost → cost ≤ left
+      → costs next id ≡ drop 1 (costs now id) → ((other : ℕ) → other ≢ id → costs next other ≡ costs now other) → sends now id next
+      → IsUnderway id budget (left - cost) old next
   underway_more id budget left cost old now next u first pays taken others step =
       let waits = first_left (costs now id) cost first in
       let within : u.sent < length (costs old id) = omega (arith, ap length u.rest, length-drop u.sent (costs old id), waits.0) in
@@ -61,8 +61,8 @@ module _ {Q : Type 0} (costs : Q → ℕ → List ℕ) (sends : Q → ℕ → Q 
     pub order : SendsEach sends old (replicate (count_within budget (costs old id)) id) now
 
   over :
-    (id budget left deficit : ℕ) (old now : Q) (u : IsUnderway id budget left old now) → count_within budget (costs old id) ≡ u.sent
-    → deficit ≡ rest_within budget (costs old id) → IsOver id budget deficit old now
+      (id budget left deficit : ℕ) (old now : Q) (u : IsUnderway id budget left old now) → count_within budget (costs old id) ≡ u.sent
+      → deficit ≡ rest_within budget (costs old id) → IsOver id budget deficit old now
   over id budget left deficit old now u count value =
       record {
         value = value;
@@ -72,15 +72,15 @@ module _ {Q : Type 0} (costs : Q → ℕ → List ℕ) (sends : Q → ℕ → Q 
       }
 
   pub over_emptied :
-    (id budget left : ℕ) (old now : Q) → IsUnderway id budget left old now → slice_get (costs now id) 0 ≡ None → IsOver id budget 0 old now
+      (id budget left : ℕ) (old now : Q) → IsUnderway id budget left old now → slice_get (costs now id) 0 ≡ None → IsOver id budget 0 old now
   over_emptied id budget left old now u none =
       let all : u.sent ≡ length (costs old id) = omega (arith, none_left (costs now id) none, ap length u.rest, length-drop u.sent (costs old id), u.front) in
       let count : count_within budget (costs old id) ≡ u.sent = count_within_is budget (costs old id) u.sent u.front (omega (arith, u.paid)) (λ h. absurd (omega arith)) in
       over id budget left 0 old now u count (sym (rest_emptied budget (costs old id) (count ∙ all)))
 
   pub over_spent :
-    (id budget left cost : ℕ) (old now : Q) → IsUnderway id budget left old now → slice_get (costs now id) 0 ≡ Some cost → left < cost
-    → IsOver id budget left old now
+      (id budget left cost : ℕ) (old now : Q) → IsUnderway id budget left old now → slice_get (costs now id) 0 ≡ Some cost → left < cost
+      → IsOver id budget left old now
   over_spent id budget left cost old now u first stops =
       let waits = first_left (costs now id) cost first in
       let within : u.sent < length (costs old id) = omega (arith, ap length u.rest, length-drop u.sent (costs old id), waits.0) in

@@ -11,7 +11,7 @@ pub record IsFairVisit (size : ℕ) (share : Share) (waiting : List ℕ) : Type 
   pub within : bytes_sent size share waiting ≤ budget_of size share
   pub longest : (n : ℕ) → count_sent size share waiting < n → n ≤ length waiting → budget_of size share < sum (take n waiting)
   pub balance :
-    count_sent size share waiting < length waiting → bytes_sent size share waiting + (visited size share waiting).deficit ≡ share.deficit + share.weight * size
+      count_sent size share waiting < length waiting → bytes_sent size share waiting + (visited size share waiting).deficit ≡ share.deficit + share.weight * size
   pub emptied : count_sent size share waiting ≡ length waiting → (visited size share waiting).deficit ≡ 0
   pub bound : (visited size share waiting).deficit < size
 

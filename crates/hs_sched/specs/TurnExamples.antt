@@ -1,8 +1,7 @@
 -- Three turns over two ids that items of 44 bytes wait for, six of weight 2 and three of weight 1, with pages of 64
 -- bytes; and the corners of a visit.
-use Rattle.std.specs.Prelude.{◌≡◌, ℕ, List, [], ◌∷◌, replicate, if◌then◌else◌, ◌==◌, Option, None, refl}
-use Rattle.hs_sched.specs.declared.share.Share.{Share}
-use Rattle.hs_sched.specs.Visits.{running_totals, count_within, rest_within, visited}
+use Rattle.std.specs.Prelude.{◌≡◌, ℕ, List, [], ◌∷◌, replicate, if◌then◌else◌, ◌==◌, None, refl}
+use Rattle.hs_sched.specs.Visits.{running_totals, count_within, rest_within}
 use Rattle.hs_sched.specs.Turns.{Schedule, share_of, deficit_of, after_turn, sent_for, left_after, sent_ids}
 
 -- ids 1 and 2 with these deficits

@@ -7,5 +7,4 @@ ghost use Rattle.hs_sched.specs.Fairness.{VisitsAreFair};
 /// a page.
 pub fn visits_are_fair()
     ensures { VisitsAreFair }
-{
-}
+{}

@@ -1,4 +1,4 @@
-use Rattle.std.proofs.Common.{◌≡◌, ◌<◌, ◌≤◌, ℕ, Option, Some, None, slice_get, sym, ap, ◌∙◌, arith}
+use Rattle.std.proofs.Common.{◌≡◌, Some, None, slice_get, sym, ap, ◌∙◌, arith}
 use Rattle.hs_sched.proofs.VisitLemmas.{underway_more, over_emptied, over_spent}
 use Rattle.hs_sched.proofs.scheduler.visit.Goals as goal
 

@@ -1,6 +1,6 @@
-use Rattle.std.proofs.Common.{◌≡◌, ◌+◌, ◌*◌, ◌<◌, ◌≤◌, ℕ, List, ◌++◌, length, ◌==◌, find, take, drop, get_or, map, sym, ap, ◌∙◌, subst, arith}
+use Rattle.std.proofs.Common.{◌≡◌, ◌+◌, ◌*◌, ◌<◌, ◌≤◌, ℕ, List, length, ◌==◌, find, get_or, sym, ap, ◌∙◌, subst, arith}
 use Rattle.hs_sched.specs.declared.share.Share.{Share}
-use Rattle.hs_sched.specs.Turns.{Schedule, IsSchedule, IsWeight, after_turn}
+use Rattle.hs_sched.specs.Turns.{Schedule, IsSchedule, IsWeight}
 use Rattle.hs_sched.specs.Visits.{budget_of}
 use Rattle.hs_sched.proofs.TurnLemmas.{served, served_step, served-at, finished, find-served, all_fair, IsSchedule-after, budget_fits}
 use Rattle.hs_sched.proofs.scheduler.Scheduler.turn.Goals as goal
