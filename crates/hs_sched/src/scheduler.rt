@@ -38,7 +38,8 @@ impl Scheduler {
     pub fn make(alloc: Global, triggers: &List<TriggerRule>, size: u32) -> Result<Scheduler, Memory>
         requires rules { AreRules triggers.now.items }
         requires size { IsSize size }
-        ensures fresh { IfOk result (λ s. s ≡ record { shares = shares_of triggers.now.items; size = size }) }
+        ensures fresh { IfOk result
+            (λ s. s ≡ record { shares = shares_of triggers.now.items; size = size }) }
         ensures schedule { IfOk result IsSchedule }
     {
         match first_shares(alloc, triggers.as_slice()) {
@@ -52,16 +53,21 @@ impl Scheduler {
         requires { CostAtMost self.old.size (Q.costs queues.old) }
         // The new deficits, and nothing else of the scheduler changes.
         ensures deficits { self.new ≡ after_turn self.old (Q.costs queues.old) }
-        ensures by_id { (id : ℕ) → share_of self.new id ≡ visited_of self.old (Q.costs queues.old) id }
+        ensures by_id { (id : ℕ) →
+            share_of self.new id ≡ visited_of self.old (Q.costs queues.old) id }
 
         // What was sent left the front of its queue; the rest, and other queues, are as they were.
-        ensures left { (id : ℕ) → Q.costs queues.new id ≡ left_after self.old (Q.costs queues.old) id }
+        ensures left { (id : ℕ) →
+            Q.costs queues.new id ≡ left_after self.old (Q.costs queues.old) id }
 
         // The sends, one after another: all of an id before the next one's.
-        ensures order { SendsEach Q.sends queues.old (sent_ids self.old (Q.costs queues.old)) queues.new }
+        ensures order { SendsEach Q.sends queues.old
+            (sent_ids self.old (Q.costs queues.old)) queues.new }
 
         // What these mean for each id.
-        ensures visits { All (λ share. IsFairVisit self.old.size share (Q.costs queues.old share.trigger.0)) self.old.shares }
+        ensures visits { All
+            (λ share. IsFairVisit self.old.size share (Q.costs queues.old share.trigger.0))
+            self.old.shares }
         ensures schedule { IsSchedule self.new }
     {
         let size = u64::from(self.size);
@@ -111,7 +117,8 @@ fn visit<Q: Queues>(queues: &mut Q, trigger: TriggerId, budget: u64) -> u64
         ≡ drop (count_within budget (Q.costs queues.old trigger.0)) (Q.costs queues.old trigger.0) }
     ensures others { (id : ℕ) → id ≢ trigger.0 → Q.costs queues.new id ≡ Q.costs queues.old id }
     ensures order { SendsEach Q.sends queues.old
-        (replicate (count_within budget (Q.costs queues.old trigger.0)) trigger.0) queues.new }
+        (replicate (count_within budget (Q.costs queues.old trigger.0)) trigger.0)
+        queues.new }
 {
     let mut left = budget;
     while let Some(cost) = queues.next_cost(trigger) {

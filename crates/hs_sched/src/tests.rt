@@ -20,7 +20,8 @@ struct Waiting {
 }
 
 impl Queues for Waiting {
-    ghost costs = { λ s id. if id == 1 then replicate s.one 44 else (if id == 2 then replicate s.two 44 else []) };
+    ghost costs = { λ s id. if id == 1 then replicate s.one 44
+        else (if id == 2 then replicate s.two 44 else []) };
 
     ghost sends = { λ s id t. t.one + t.two + 1 ≡ s.one + s.two };
 
