@@ -1,0 +1,4 @@
+pub mod PrefixLemmas
+pub mod FairnessLemmas
+pub mod VisitLemmas
+pub mod TurnLemmas

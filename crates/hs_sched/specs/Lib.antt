@@ -1,0 +1,5 @@
+pub mod Visits
+pub mod Turns
+pub mod TurnExamples
+pub mod Sending
+pub mod Fairness

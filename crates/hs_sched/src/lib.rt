@@ -1,0 +1,14 @@
+//! Fair reporting by weight: in each turn the trigger ids send what waits for them, each within a
+//! budget that grows with its weight.
+#![tactic(auto)]
+
+mod fairness;
+mod queues;
+mod scheduler;
+mod share;
+#[cfg(test)]
+mod tests;
+
+pub use fairness::visits_are_fair;
+pub use queues::Queues;
+pub use scheduler::Scheduler;
