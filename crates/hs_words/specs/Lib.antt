@@ -1,0 +1,6 @@
+pub mod Pages
+pub mod Chunks
+pub mod Buffers
+pub mod Reading
+pub mod Pools
+pub mod PoolHistory

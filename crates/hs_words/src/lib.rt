@@ -1,0 +1,13 @@
+//! The bytes of Hindsight: pages, the recycled chunks that they are written into, and the leases that say
+//! who may write a chunk.
+#![tactic(auto)]
+
+mod chunk;
+mod laws;
+mod layout;
+mod page;
+mod token;
+
+pub use chunk::{Added, Chunk, Stock};
+pub use page::{Header, Page, PageFault, Point};
+pub use token::{Drawn, Given, Held, Tally, Token};
