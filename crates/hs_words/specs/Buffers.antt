@@ -5,7 +5,7 @@ use Rattle.std.specs.Option.{option_map}
 use Rattle.std.specs.List.{AllByRecursion}
 use Rattle.std.specs.Int.{w16, w64, from_be_bytes}
 use Rattle.hs_words.specs.declared.page.Header.{Header}
-use Rattle.hs_words.specs.declared.chunk.Writing.{Writing}
+use Rattle.hs_words.specs.declared.layout.Writing.{Writing}
 use Rattle.hs_words.specs.declared.chunk.Chunk.TheInside.{Inside}
 use Rattle.hs_words.specs.Pages.{Piece, Sheet, FitsHeader, FitsPiece, used_by, page_bytes}
 use Rattle.hs_words.specs.Chunks.{Contents}

@@ -1,12 +1,12 @@
 -- What contracts see of a chunk: its number, its size, and the page that stands in it, if it was started. The
 -- page has the pieces that were added, in order. A clear chunk has no page.
-use Rattle.std.specs.Prelude.{◌≡◌, ℕ, ◌+◌, ◌<◌, ◌≤◌, List, [], ◌∷◌, ◌++◌, map, Option, Some, None}
+use Rattle.std.specs.Prelude.{◌≡◌, ℕ, ◌+◌, ◌<◌, ◌≤◌, List, map, Option, Some, None}
 use Rattle.std.specs.Option.{option_map, option_map_or}
 use Rattle.std.specs.List.{range_with_len}
 use Rattle.hs_words.specs.declared.page.Header.{Header}
 use Rattle.hs_words.specs.declared.chunk.Added.{Added}
 use Rattle.hs_words.specs.declared.chunk.Added.TheVariants as answers
-use Rattle.hs_words.specs.Pages.{Piece, Sheet, cost_of, used_by}
+use Rattle.hs_words.specs.Pages.{Piece, Sheet, with_piece, cost_of, used_by}
 
 pub record Contents : Type 0 where
   pub number : ℕ
@@ -36,12 +36,11 @@ used_of sheet = used_by sheet.pieces
 abbrev pub used_in : Contents → ℕ
 used_in chunk = option_map_or used_of chunk.page 0
 
--- A started chunk's page, with a piece more at its end.
-abbrev pub with_piece : Contents → Piece → Contents
-with_piece chunk piece =
-    record chunk { page = option_map (λ (sheet : Sheet). record { header = sheet.header; pieces = sheet.pieces ++ piece ∷ [] }) chunk.page }
+-- the chunk with this page
+abbrev pub with_page : Contents → Option Sheet → Contents
+with_page chunk page = record { number = chunk.number; size = chunk.size; page = page }
 
 -- A piece is added exactly where its cost and the used bytes do not exceed the size; else nothing changes.
 abbrev pub Adds : Contents → Piece → Added → Contents → Type 0
-Adds old piece answers.Added new = (used_in old + cost_of piece ≤ old.size) × (new ≡ with_piece old piece)
+Adds old piece answers.Added new = (used_in old + cost_of piece ≤ old.size) × (new ≡ with_page old (option_map (λ sheet. with_piece sheet piece) old.page))
 Adds old piece answers.NoRoom new = (old.size < used_in old + cost_of piece) × (new ≡ old)

@@ -33,6 +33,10 @@ cost_of piece = 10 + length piece.payload
 abbrev pub used_by : List Piece → ℕ
 used_by pieces = 24 + sum_by cost_of pieces
 
+-- the page with a piece more at its end
+abbrev pub with_piece : Sheet → Piece → Sheet
+with_piece sheet piece = record { header = sheet.header; pieces = sheet.pieces ++ piece ∷ [] }
+
 -- a piece on a page: the length of its payload, its moment, its payload
 unfoldable pub piece_bytes : Piece → List ℕ
 piece_bytes piece = to_be_bytes w16 (length piece.payload) ++ to_be_bytes w64 piece.moment ++ piece.payload

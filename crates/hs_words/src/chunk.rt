@@ -2,21 +2,13 @@
 
 ghost use Rattle.std.specs.Prelude.{◌≡◌, ◌+◌, ◌<◌, ◌≤◌, ◌^◌, ◌↔◌, ◌++◌, ◌∷◌, [], length, IfOk, Some, None, IfSome, IsSome, IsNone, IsTrue};
 ghost use Rattle.hs_words.specs.Pages.{FitsHeader, IsPage, used_by, page_bytes};
-ghost use Rattle.hs_words.specs.Chunks.{clear_chunks, header_in, used_in, Adds};
+ghost use Rattle.hs_words.specs.Chunks.{clear_chunks, header_in, used_in, with_page, Adds};
 
-use crate::layout::{write_counts, write_header, write_piece};
+use crate::layout::{extend_page, start_page, Writing};
 use crate::page::Header;
 use hs_base::{List, Memory};
 use std::alloc::Global;
 use std::marker::Model;
-
-/// How far the page in a chunk has come.
-#[derive(Clone, Copy)]
-pub struct Writing {
-    header: Header,
-    count: u16,
-    used: u16,
-}
 
 /// A buffer of fixed size with a number of its own, into which a page is written.
 #[derive(Drop)]
@@ -77,15 +69,9 @@ impl Chunk {
     /// Starts a page with this header and no piece.
     pub fn start(&mut self, header: Header)
         requires { self.old.page ≡ None }
-        ensures { self.new ≡ record self.old { page = Some (record { header = header; pieces = [] }) } }
+        ensures { self.new ≡ with_page self.old (Some (record { header = header; pieces = [] })) }
     {
-        write_header(&mut self.bytes, &header);
-        write_counts(&mut self.bytes[28..], 0, 24);
-        self.page = Some(Writing {
-            header,
-            count: 0,
-            used: 24,
-        });
+        self.page = Some(start_page(&mut self.bytes, header));
     }
 
     /// Adds a piece at the end of the page, where there is room for it. Takes no memory, and copies the
@@ -97,19 +83,10 @@ impl Chunk {
         let Some(page) = self.page else {
             unreachable!()
         };
-        let used = usize::from(page.used);
-        let cost = 10 + payload.len();
-        if self.bytes.len() - 8 - used < cost {
+        if self.bytes.len() - 8 - usize::from(page.used) < 10 + payload.len() {
             return Added::NoRoom;
         }
-        let page = Writing {
-            header: page.header,
-            count: page.count + 1,
-            used: (used + cost) as u16,
-        };
-        write_piece(&mut self.bytes[used + 8..], moment, payload);
-        write_counts(&mut self.bytes[28..], page.count, page.used);
-        self.page = Some(page);
+        self.page = Some(extend_page(&mut self.bytes, page, moment, payload));
         Added::Added
     }
 
@@ -128,7 +105,7 @@ impl Chunk {
 
     /// Clears the chunk. Its number and its size stay.
     pub fn clear(&mut self)
-        ensures { self.new ≡ record self.old { page = None } }
+        ensures { self.new ≡ with_page self.old None }
     {
         self.page = None;
     }

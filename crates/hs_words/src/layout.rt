@@ -1,25 +1,42 @@
 //! A page's parts, written into a buffer.
 
-ghost use Rattle.std.specs.Prelude.{◌≡◌, ◌+◌, ◌-◌, ◌<◌, ◌≤◌, ◌^◌, ◌++◌, length, take, drop};
-ghost use Rattle.hs_words.specs.Pages.{header_bytes, counts_bytes, piece_bytes};
+ghost use Rattle.std.specs.Prelude.{◌≡◌, ◌+◌, ◌<◌, ◌≤◌, ◌^◌, [], ◌++◌, length, drop};
+ghost use Rattle.hs_words.specs.Pages.{FitsHeader, header_bytes, counts_bytes, piece_bytes, with_piece};
+ghost use Rattle.hs_words.specs.Buffers.{sheet_in, Holds};
 
 use crate::page::Header;
 use byteorder::{BigEndian, ByteOrder};
+use hs_base::{ClientId, TraceId};
+
+/// How far the page in a buffer has come.
+#[derive(Clone, Copy)]
+pub struct Writing {
+    pub(crate) header: Header,
+    pub(crate) count: u16,
+    pub(crate) used: u16,
+}
 
 /// Writes a header's fields at the front of the buffer.
-pub(crate) fn write_header(buffer: &mut [u8], header: &Header)
+fn write_header(buffer: &mut [u8], header: Header)
     requires { 28 ≤ length buffer.old }
-    ensures { buffer.new ≡ header_bytes header.now ++ drop 28 buffer.old }
+    ensures bytes { buffer.new ≡ header_bytes header ++ drop 28 buffer.old }
+    ensures fits { FitsHeader header }
 {
-    BigEndian::write_u128(buffer, header.trace.0);
-    BigEndian::write_u16(&mut buffer[16..], header.client.node);
-    BigEndian::write_u16(&mut buffer[18..], header.client.number);
-    BigEndian::write_u32(&mut buffer[20..], header.page);
-    BigEndian::write_u32(&mut buffer[24..], header.first);
+    let Header {
+        trace: TraceId(trace),
+        client: ClientId { node, number },
+        page,
+        first,
+    } = header;
+    BigEndian::write_u128(buffer, trace);
+    BigEndian::write_u16(&mut buffer[16..], node);
+    BigEndian::write_u16(&mut buffer[18..], number);
+    BigEndian::write_u32(&mut buffer[20..], page);
+    BigEndian::write_u32(&mut buffer[24..], first);
 }
 
 /// Writes the count of pieces and the used bytes at the front of the buffer.
-pub(crate) fn write_counts(buffer: &mut [u8], count: u16, used: u16)
+fn write_counts(buffer: &mut [u8], count: u16, used: u16)
     requires { 4 ≤ length buffer.old }
     ensures { buffer.new ≡ counts_bytes count used ++ drop 4 buffer.old }
 {
@@ -28,7 +45,7 @@ pub(crate) fn write_counts(buffer: &mut [u8], count: u16, used: u16)
 }
 
 /// Writes a piece at the front of the buffer.
-pub(crate) fn write_piece(buffer: &mut [u8], moment: u64, payload: &[u8])
+fn write_piece(buffer: &mut [u8], moment: u64, payload: &[u8])
     requires few { length payload.now < 2 ^ 16 }
     requires room { 10 + length payload.now ≤ length buffer.old }
     ensures { buffer.new ≡ piece_bytes (record { moment = moment; payload = payload.now }) ++ drop (10 + length payload.now) buffer.old }
@@ -36,4 +53,45 @@ pub(crate) fn write_piece(buffer: &mut [u8], moment: u64, payload: &[u8])
     BigEndian::write_u16(buffer, payload.len() as u16);
     BigEndian::write_u64(&mut buffer[2..], moment);
     buffer[10..10 + payload.len()].copy_from_slice(payload);
+}
+
+/// Writes a page without pieces.
+pub(crate) fn start_page(buffer: &mut [u8], header: Header) -> Writing
+    requires { 32 ≤ length buffer.old }
+    ensures len { length buffer.new ≡ length buffer.old }
+    ensures holds { Holds buffer.new result }
+    ensures sheet { sheet_in buffer.new result ≡ record { header = header; pieces = [] } }
+{
+    write_header(buffer, header);
+    write_counts(&mut buffer[28..], 0, 24);
+    Writing {
+        header,
+        count: 0,
+        used: 24,
+    }
+}
+
+/// Writes a piece behind the page, and counts it.
+pub(crate) fn extend_page(
+    buffer: &mut [u8],
+    page: Writing,
+    moment: u64,
+    payload: &[u8],
+) -> Writing
+    requires holds { Holds buffer.old page }
+    requires room { page.used + 8 + (10 + length payload.now) ≤ length buffer.old }
+    requires small { length buffer.old ≤ 32776 }
+    ensures len { length buffer.new ≡ length buffer.old }
+    ensures holds { Holds buffer.new result }
+    ensures sheet { sheet_in buffer.new result ≡ with_piece (sheet_in buffer.old page) (record { moment = moment; payload = payload.now }) }
+{
+    let at = usize::from(page.used) + 8;
+    let page = Writing {
+        header: page.header,
+        count: page.count + 1,
+        used: page.used + (10 + payload.len() as u16),
+    };
+    write_piece(&mut buffer[at..], moment, payload);
+    write_counts(&mut buffer[28..], page.count, page.used);
+    page
 }

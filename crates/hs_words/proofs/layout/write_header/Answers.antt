@@ -4,11 +4,11 @@ use Rattle.hs_words.specs.Pages.{header_bytes}
 use Rattle.hs_words.proofs.Parts.{put_next}
 use Rattle.hs_words.proofs.layout.write_header.Goals as goal
 
-pub returns : goal.returns
+pub returns-clause-bytes : goal.returns-clause-bytes
 unfolding header_bytes
-returns c =
+returns-clause-bytes c =
     let old = c.args.buffer.now in
-    let h = c.args.header.now in
+    let h = c.args.header in
     let trace = to_be_bytes w128 h.trace.0 in
     let node = to_be_bytes w16 h.client.node in
     let number = to_be_bytes w16 h.client.number in
