@@ -6,7 +6,7 @@ use Rattle.std.proofs.lemmas.List.{take_at, drop_at, length-append, append-nil}
 use Rattle.std.proofs.lemmas.List.Sums.{sum_by-cons, sum_by-append}
 use Rattle.std.proofs.lemmas.List.Concat.{flat_map-append}
 use Rattle.hs_words.specs.declared.page.Header.{Header}
-use Rattle.hs_words.specs.declared.layout.Writing.{Writing}
+use Rattle.hs_words.specs.declared.layout.Front.{Front}
 use Rattle.hs_words.specs.Pages.{Piece, Sheet, with_piece, FitsHeader, FitsPiece, cost_of, used_by, header_bytes, counts_bytes, piece_bytes, pieces_bytes, page_bytes}
 use Rattle.hs_words.specs.Buffers.{pieces_in, sheet_in, Holds}
 use Rattle.hs_words.proofs.Numbers.{again_16, again_64}
@@ -60,21 +60,20 @@ length-pieces_in zero bytes = refl
 length-pieces_in (suc count) bytes = ap suc (length-pieces_in count _)
 
 -- the first piece is read again, and then the others
-first_piece : (piece : Piece) (count : ℕ) (rest : List ℕ) → FitsPiece piece → length piece.payload < 2 ^ 16 → pieces_in (suc count) (piece_bytes piece ++ rest) ≡ piece ∷ pieces_in count rest
+first_piece : (piece : Piece) (count : ℕ) (rest : List ℕ) → FitsPiece piece → pieces_in (suc count) (piece_bytes piece ++ rest) ≡ piece ∷ pieces_in count rest
 unfolding pieces_in piece_bytes
-first_piece piece count rest fits short =
-    let len = again_16 (length piece.payload) short in
+first_piece piece count rest fits =
+    let len = again_16 (length piece.payload) fits.len in
     let moment = again_64 piece.moment fits.moment in
     rw (len, moment, take_at piece.payload rest (length piece.payload) refl, drop_at piece.payload rest (length piece.payload) refl) refl
 
-pub pieces_again : (pieces : List Piece) (rest : List ℕ) → AllByRecursion FitsPiece pieces → sum_by cost_of pieces < 2 ^ 16 → pieces_in (length pieces) (pieces_bytes pieces ++ rest) ≡ pieces
+pub pieces_again : (pieces : List Piece) (rest : List ℕ) → AllByRecursion FitsPiece pieces → pieces_in (length pieces) (pieces_bytes pieces ++ rest) ≡ pieces
 unfolding pieces_in
-pieces_again [] rest fits few = refl
-pieces_again (piece ∷ pieces) rest fits few =
-    let sums = sum_by-cons cost_of piece pieces in
+pieces_again [] rest fits = refl
+pieces_again (piece ∷ pieces) rest fits =
     ap (pieces_in (suc (length pieces))) (append_assoc (piece_bytes piece) (pieces_bytes pieces) rest)
-    ∙ first_piece piece (length pieces) (pieces_bytes pieces ++ rest) fits.0 (omega (arith, sums))
-    ∙ ap (λ (ps : List Piece). piece ∷ ps) (pieces_again pieces rest fits.1 (omega (arith, sums)))
+    ∙ first_piece piece (length pieces) (pieces_bytes pieces ++ rest) fits.0
+    ∙ ap (λ (ps : List Piece). piece ∷ ps) (pieces_again pieces rest fits.1)
 
 -- what stands behind a page's header
 pub behind_header : (sheet : Sheet) (rest : List ℕ) → drop 32 (page_bytes sheet ++ rest) ≡ pieces_bytes sheet.pieces ++ rest
@@ -86,13 +85,13 @@ behind_header sheet rest =
     ∙ drop_at (h ++ counts) (pieces ++ rest) 32 (omega (arith, length-append h counts, length-header_bytes sheet.header, length-counts_bytes (length sheet.pieces) (used_by sheet.pieces)))
 
 -- A buffer that begins with a page's bytes holds that page.
-pub holds_page : (h : Header) (pieces : List Piece) (count used : ℕ) (bytes rest : List ℕ) → FitsHeader h → AllByRecursion FitsPiece pieces → count ≡ length pieces → used ≡ used_by pieces → used < 2 ^ 16
+pub holds_page : (h : Header) (pieces : List Piece) (count used : ℕ) (bytes rest : List ℕ) → FitsHeader h → AllByRecursion FitsPiece pieces → count ≡ length pieces → used ≡ used_by pieces
     → bytes ≡ page_bytes (record { header = h; pieces = pieces }) ++ rest
     → Holds bytes (record { header = h; count = count; used = used }) × (sheet_in bytes (record { header = h; count = count; used = used }) ≡ record { header = h; pieces = pieces })
-holds_page h pieces count used bytes rest fits_header fits count_is used_is few bytes_are =
+holds_page h pieces count used bytes rest fits_header fits count_is used_is bytes_are =
     let sheet : Sheet = record { header = h; pieces = pieces } in
     let read : pieces_in count (drop 32 bytes) ≡ pieces =
-    ap (λ n. pieces_in n (drop 32 bytes)) count_is ∙ ap (pieces_in (length pieces)) (ap (drop 32) bytes_are ∙ behind_header sheet rest) ∙ pieces_again pieces rest fits (omega arith) in
+    ap (λ n. pieces_in n (drop 32 bytes)) count_is ∙ ap (pieces_in (length pieces)) (ap (drop 32) bytes_are ∙ behind_header sheet rest) ∙ pieces_again pieces rest fits in
     let long : length (page_bytes sheet) ≡ used + 8 = omega (arith, length-page_bytes sheet) in
     let spelled : take (used + 8) bytes ≡ page_bytes sheet = ap (take (used + 8)) bytes_are ∙ take_at (page_bytes sheet) rest (used + 8) long in
     let back = sym read in
@@ -135,12 +134,12 @@ longer_page sheet piece count used rest count_is used_is =
     ∙ sym (append_assoc (h ++ counts_bytes (length pieces) (used_by pieces)) (pieces_bytes pieces) rest)
 
 -- a piece written behind a page, and then the counts anew
-pub extends : (page : Writing) (piece : Piece) (old first last : List ℕ) (at : ℕ) → Holds old page → FitsPiece piece → page.used + cost_of piece < 2 ^ 16 → at ≡ page.used + 8
+pub extends : (page : Front) (piece : Piece) (old first last : List ℕ) (at : ℕ) → Holds old page → FitsPiece piece → at ≡ page.used + 8
     → first ≡ take at old ++ (piece_bytes piece ++ drop (at + cost_of piece) old)
     → last ≡ take 28 first ++ (counts_bytes (page.count + 1) (page.used + cost_of piece) ++ drop 32 first)
     → Holds last (record { header = page.header; count = page.count + 1; used = page.used + cost_of piece })
     × (sheet_in last (record { header = page.header; count = page.count + 1; used = page.used + cost_of piece }) ≡ with_piece (sheet_in old page) piece)
-extends page piece old first last at holds fits few at_is first_is last_is =
+extends page piece old first last at holds fits at_is first_is last_is =
     let sheet = sheet_in old page in
     let h = header_bytes sheet.header in
     let counts = counts_bytes (length sheet.pieces) (used_by sheet.pieces) in
@@ -158,4 +157,4 @@ extends page piece old first last at holds fits few at_is first_is last_is =
     let last_are : last ≡ page_bytes (with_piece sheet piece) ++ rest =
     last_is ∙ ap (λ xs. xs ++ (counts_bytes count used ++ drop 32 first)) head ∙ ap (λ xs. h ++ (counts_bytes count used ++ xs)) tail ∙ longer_page sheet piece count used rest many costs in
     holds_page page.header (sheet.pieces ++ piece ∷ []) count used last rest holds.header (all-push FitsPiece sheet.pieces piece holds.pieces fits)
-    (omega (arith, length-append sheet.pieces (piece ∷ []))) (costs ∙ sym (used_by-push sheet.pieces piece)) few last_are
+    (omega (arith, length-append sheet.pieces (piece ∷ []))) (costs ∙ sym (used_by-push sheet.pieces piece)) last_are

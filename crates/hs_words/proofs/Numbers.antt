@@ -1,9 +1,9 @@
 -- Numbers as big-endian bytes: what is read is what was written, at each width.
-use Rattle.std.proofs.Common.{◌≡◌, ℕ, zero, suc, ◌+◌, ◌-◌, ◌*◌, ◌/◌, ◌%◌, ◌^◌, ◌<◌, ◌≤◌, List, [], ◌∷◌, ◌++◌, length, get_or, refl, sym, ap, ◌∙◌, arith}
+use Rattle.std.proofs.Common.{◌≡◌, ℕ, zero, suc, ◌+◌, ◌-◌, ◌*◌, ◌/◌, ◌%◌, ◌^◌, ◌<◌, ◌≤◌, List, [], ◌∷◌, ◌++◌, length, get_or, take, drop, refl, sym, ap, ◌∙◌, arith}
 use Rattle.std.specs.List.{AllByRecursion}
 use Rattle.std.specs.Int.{Width, w16, w32, w64, w128, byte_len, byte_at, bytes_high_first, to_be_bytes, from_be_bytes}
 use Rattle.std.proofs.lemmas.Nat.{div-mul-add, pow-add}
-use Rattle.std.proofs.lemmas.List.{append-nil}
+use Rattle.std.proofs.lemmas.List.{length-take-le, take-append-drop}
 use Rattle.std.proofs.Math.Nat.{mul-add-div_right, mul-add-mod_self_right, mod-eq_of_lt, mul_assoc, one-le-pow, div-one, pow-suc, pow-succ'}
 use Rattle.byteorder.specs.Endian.{big_from}
 use Rattle.byteorder.specs.Numbers.{big_from-cons, big_from-lt, big_number-reads_back}
@@ -99,3 +99,22 @@ back_64 xs len fits = ap (to_be_bytes w64) (of_64 xs) ∙ high_first_of_big 8 xs
 
 pub back_128 : (xs : List ℕ) → length xs ≡ 16 → IsBytes xs → to_be_bytes w128 (from_be_bytes w128 xs) ≡ xs
 back_128 xs len fits = ap (to_be_bytes w128) (of_128 xs) ∙ high_first_of_big 16 xs len fits
+
+-- ---- a number at the front of bytes
+
+pub IsBytes-take : (n : ℕ) (xs : List ℕ) → IsBytes xs → IsBytes (take n xs)
+IsBytes-take zero xs fits i = omega arith
+IsBytes-take (suc n) [] fits i = omega arith
+IsBytes-take (suc n) (x ∷ xs) fits zero = fits 0
+IsBytes-take (suc n) (x ∷ xs) fits (suc i) = IsBytes-take n xs (IsBytes-rest x xs fits) i
+
+pub number_front : (w : Width) (k : ℕ) (bytes field rest : List ℕ) (n : ℕ) → ((xs : List ℕ) → length xs ≡ k → IsBytes xs → to_be_bytes w (from_be_bytes w xs) ≡ xs) → IsBytes bytes
+    → field ≡ take k bytes → rest ≡ drop k bytes → length rest + k ≡ length bytes → n ≡ from_be_bytes w field → bytes ≡ to_be_bytes w n ++ rest
+number_front w k bytes field rest n back fits field_is rest_is long n_is =
+    let whole : length (take k bytes) ≡ k = length-take-le k bytes (omega (arith, long)) in
+    let written : to_be_bytes w n ≡ take k bytes = ap (to_be_bytes w) (n_is ∙ ap (from_be_bytes w) field_is) ∙ back (take k bytes) whole (IsBytes-take k bytes fits) in
+    sym (take-append-drop k bytes) ∙ ap (λ xs. xs ++ drop k bytes) (sym written) ∙ ap (λ xs. to_be_bytes w n ++ xs) (sym rest_is)
+
+pub IsBytes-behind : (xs ys : List ℕ) → IsBytes (xs ++ ys) → IsBytes ys
+IsBytes-behind [] ys fits i = fits i
+IsBytes-behind (x ∷ xs) ys fits i = IsBytes-behind xs ys (IsBytes-rest x (xs ++ ys) fits) i

@@ -5,7 +5,7 @@ use Rattle.std.specs.Option.{option_map}
 use Rattle.std.specs.List.{AllByRecursion}
 use Rattle.std.specs.Int.{w16, w64, from_be_bytes}
 use Rattle.hs_words.specs.declared.page.Header.{Header}
-use Rattle.hs_words.specs.declared.layout.Writing.{Writing}
+use Rattle.hs_words.specs.declared.layout.Front.{Front}
 use Rattle.hs_words.specs.declared.chunk.Chunk.TheInside.{Inside}
 use Rattle.hs_words.specs.Pages.{Piece, Sheet, FitsHeader, FitsPiece, used_by, page_bytes}
 use Rattle.hs_words.specs.Chunks.{Contents}
@@ -19,14 +19,14 @@ pieces_in (suc count) bytes =
     record { moment = from_be_bytes w64 (take 8 (drop 2 bytes)); payload = take len rest } ∷ pieces_in count (drop len rest)
 
 -- the page that stands in a buffer
-abbrev pub sheet_in : List ℕ → Writing → Sheet
+abbrev pub sheet_in : List ℕ → Front → Sheet
 sheet_in bytes page = record { header = page.header; pieces = pieces_in page.count (drop 32 bytes) }
 
 abbrev pub contents_of : Inside → Contents
 contents_of a = record { number = a.number; size = length a.bytes.items - 8; page = option_map (sheet_in a.bytes.items) a.page }
 
 -- The buffer begins with the page's bytes, which it has room for.
-pub record Holds (bytes : List ℕ) (page : Writing) : Type 0 where
+pub record Holds (bytes : List ℕ) (page : Front) : Type 0 where
   pub header : FitsHeader page.header
   pub pieces : AllByRecursion FitsPiece (sheet_in bytes page).pieces
   pub used : page.used ≡ used_by (sheet_in bytes page).pieces

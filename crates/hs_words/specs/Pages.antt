@@ -67,9 +67,10 @@ pub record FitsHeader (h : Header) : Type 0 where
   pub page : h.page < 2 ^ 32
   pub first : h.first < 2 ^ 32
 
--- A piece whose moment fits its field, and whose payload is bytes.
+-- A piece whose moment and whose payload's length fit their fields, and whose payload is bytes.
 pub record FitsPiece (piece : Piece) : Type 0 where
   pub moment : piece.moment < 2 ^ 64
+  pub len : length piece.payload < 2 ^ 16
   pub payload : AllByRecursion (λ byte. byte < 256) piece.payload
 
 -- What has a spelling: the numbers fit their fields, the used bytes fit theirs, and there is a piece.

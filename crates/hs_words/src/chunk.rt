@@ -4,7 +4,7 @@ ghost use Rattle.std.specs.Prelude.{◌≡◌, ◌+◌, ◌<◌, ◌≤◌, ◌^
 ghost use Rattle.hs_words.specs.Pages.{FitsHeader, IsPage, used_by, page_bytes};
 ghost use Rattle.hs_words.specs.Chunks.{clear_chunks, header_in, used_in, with_page, Adds};
 
-use crate::layout::{extend_page, start_page, Writing};
+use crate::layout::{extend_page, start_page, Front};
 use crate::page::Header;
 use hs_base::{List, Memory};
 use std::alloc::Global;
@@ -14,7 +14,7 @@ use std::marker::Model;
 #[derive(Drop)]
 pub struct Chunk {
     number: u32,
-    page: Option<Writing>,
+    page: Option<Front>,
     bytes: Vec<u8>,
 }
 

@@ -8,9 +8,9 @@ use crate::page::Header;
 use byteorder::{BigEndian, ByteOrder};
 use hs_base::{ClientId, TraceId};
 
-/// How far the page in a buffer has come.
+/// The front of a page: its header, how many pieces there are, and the used bytes.
 #[derive(Clone, Copy)]
-pub struct Writing {
+pub struct Front {
     pub(crate) header: Header,
     pub(crate) count: u16,
     pub(crate) used: u16,
@@ -56,7 +56,7 @@ fn write_piece(buffer: &mut [u8], moment: u64, payload: &[u8])
 }
 
 /// Writes a page without pieces.
-pub(crate) fn start_page(buffer: &mut [u8], header: Header) -> Writing
+pub(crate) fn start_page(buffer: &mut [u8], header: Header) -> Front
     requires { 32 ≤ length buffer.old }
     ensures len { length buffer.new ≡ length buffer.old }
     ensures holds { Holds buffer.new result }
@@ -64,7 +64,7 @@ pub(crate) fn start_page(buffer: &mut [u8], header: Header) -> Writing
 {
     write_header(buffer, header);
     write_counts(&mut buffer[28..], 0, 24);
-    Writing {
+    Front {
         header,
         count: 0,
         used: 24,
@@ -74,10 +74,10 @@ pub(crate) fn start_page(buffer: &mut [u8], header: Header) -> Writing
 /// Writes a piece behind the page, and counts it.
 pub(crate) fn extend_page(
     buffer: &mut [u8],
-    page: Writing,
+    page: Front,
     moment: u64,
     payload: &[u8],
-) -> Writing
+) -> Front
     requires holds { Holds buffer.old page }
     requires room { page.used + 8 + (10 + length payload.now) ≤ length buffer.old }
     requires small { length buffer.old ≤ 32776 }
@@ -86,7 +86,7 @@ pub(crate) fn extend_page(
     ensures sheet { sheet_in buffer.new result ≡ with_piece (sheet_in buffer.old page) (record { moment = moment; payload = payload.now }) }
 {
     let at = usize::from(page.used) + 8;
-    let page = Writing {
+    let page = Front {
         header: page.header,
         count: page.count + 1,
         used: page.used + (10 + payload.len() as u16),

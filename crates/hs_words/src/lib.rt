@@ -6,8 +6,10 @@ mod chunk;
 mod laws;
 mod layout;
 mod page;
+mod reading;
 mod token;
 
 pub use chunk::{Added, Chunk, Stock};
 pub use page::{Header, Page, PageFault, Point};
+pub use reading::read_page;
 pub use token::{Drawn, Given, Held, Tally, Token};

@@ -1,4 +1,4 @@
-use Rattle.std.proofs.Common.{◌≡◌, ◌-◌, ◌++◌, List, ℕ, [], length, take, drop, refl, ◌∙◌, lit<}
+use Rattle.std.proofs.Common.{◌≡◌, ◌-◌, ◌++◌, List, ℕ, [], length, take, drop, refl, ◌∙◌}
 use Rattle.hs_words.specs.declared.page.Header.{Header}
 use Rattle.hs_words.specs.Pages.{FitsHeader, header_bytes, counts_bytes, page_bytes}
 use Rattle.hs_words.specs.Buffers.{sheet_in, Holds}
@@ -11,7 +11,7 @@ starts : (h : Header) (old first ys : List ℕ) → FitsHeader h → first ≡ h
     → Holds (put_mid 28 (length first - 28) first ys) (record { header = h; count = 0; used = 24 })
     × (sheet_in (put_mid 28 (length first - 28) first ys) (record { header = h; count = 0; used = 24 }) ≡ record { header = h; pieces = [] })
 starts h old first ys fits first_is ys_is =
-    holds_page h [] 0 24 _ (drop 32 old) fits tt refl refl (lit< tt)
+    holds_page h [] 0 24 _ (drop 32 old) fits tt refl refl
     (put_next (header_bytes h) (counts_bytes 0 24) old first ys 28 4 (length-header_bytes h) first_is ys_is ∙ empty_page h (drop 32 old))
 
 pub returns-clause-holds : goal.returns-clause-holds
