@@ -4,11 +4,12 @@ use Rattle.std.specs.List.{AllByRecursion}
 use Rattle.std.specs.Int.{w16, w32, w64, w128, to_be_bytes, from_be_bytes}
 use Rattle.std.proofs.lemmas.List.{take_at, drop_at, length-append, append-nil, nil_from_length}
 use Rattle.hs_words.specs.Pages.{Piece, Sheet, FitsHeader, FitsPiece, IsPage, cost_of, used_by, header_bytes, counts_bytes, piece_bytes, pieces_bytes, page_bytes}
+use Rattle.hs_words.specs.declared.page.Header.{Header}
 use Rattle.hs_words.specs.declared.page.PageFault.{PageFault}
 use Rattle.hs_words.specs.declared.page.PageFault.TheVariants.{Short, Used, Count, Memory}
-use Rattle.hs_words.specs.Reading.{BeginsWithPiece, HasPieces, HasNoPiece, LacksPieces}
+use Rattle.hs_words.specs.Reading.{BeginsWithPiece, HasPieces, HasNoPiece, LacksPieces, Spells, count_field, used_field}
 use Rattle.hs_words.proofs.Numbers.{again_16, again_32, again_64, again_128}
-use Rattle.hs_words.proofs.Layouts.{length-piece_bytes}
+use Rattle.hs_words.proofs.Layouts.{length-piece_bytes, costs_at_least}
 
 -- numbers with the same bytes are the same
 same_16 : (m n : ℕ) → m < 2 ^ 16 → n < 2 ^ 16 → to_be_bytes w16 m ≡ to_be_bytes w16 n → m ≡ n
@@ -104,3 +105,74 @@ too_many count bytes rest ps fits all some read (qs, fits', many, spelled) =
     let none : b.more ≡ [] = nil_from_length b.more (omega (arith, many, all, ap length b.parts, length-append ps b.more)) in
     let rest_is : rest ≡ [] = b.rest_is ∙ ap (λ (ps : List Piece). pieces_bytes ps) none in
     absurd (omega (arith, some, ap length rest_is))
+
+-- ---- whole pages
+
+trace_field : (h : Header) (x : List ℕ) → take 16 (header_bytes h ++ x) ≡ to_be_bytes w128 h.trace.0
+unfolding header_bytes
+trace_field h x = refl
+
+node_field : (h : Header) (x : List ℕ) → take 2 (drop 16 (header_bytes h ++ x)) ≡ to_be_bytes w16 h.client.node
+unfolding header_bytes
+node_field h x = refl
+
+client_field : (h : Header) (x : List ℕ) → take 2 (drop 18 (header_bytes h ++ x)) ≡ to_be_bytes w16 h.client.number
+unfolding header_bytes
+client_field h x = refl
+
+page_field : (h : Header) (x : List ℕ) → take 4 (drop 20 (header_bytes h ++ x)) ≡ to_be_bytes w32 h.page
+unfolding header_bytes
+page_field h x = refl
+
+first_field : (h : Header) (x : List ℕ) → take 4 (drop 24 (header_bytes h ++ x)) ≡ to_be_bytes w32 h.first
+unfolding header_bytes
+first_field h x = refl
+
+pub header_same : (h k : Header) (x y : List ℕ) → FitsHeader h → FitsHeader k → header_bytes h ++ x ≡ header_bytes k ++ y → h ≡ k
+header_same h k x y fits fits' same =
+    let trace : h.trace.0 ≡ k.trace.0 = same_128 _ _ fits.trace fits'.trace (sym (trace_field h x) ∙ ap (take 16) same ∙ trace_field k y) in
+    let node : h.client.node ≡ k.client.node = same_16 _ _ fits.node fits'.node (sym (node_field h x) ∙ ap (λ xs. take 2 (drop 16 xs)) same ∙ node_field k y) in
+    let client : h.client.number ≡ k.client.number = same_16 _ _ fits.client fits'.client (sym (client_field h x) ∙ ap (λ xs. take 2 (drop 18 xs)) same ∙ client_field k y) in
+    let page : h.page ≡ k.page = same_32 _ _ fits.page fits'.page (sym (page_field h x) ∙ ap (λ xs. take 4 (drop 20 xs)) same ∙ page_field k y) in
+    let first : h.first ≡ k.first = same_32 _ _ fits.first fits'.first (sym (first_field h x) ∙ ap (λ xs. take 4 (drop 24 xs)) same ∙ first_field k y) in
+    λ i. record { trace = record { 0 = trace i }; client = record { node = node i; number = client i }; page = page i; first = first i }
+
+-- what the counts say, and what stands behind them
+pub record Fields (bytes rest : List ℕ) (count used : ℕ) : Type 0 where
+  pub count_is : count_field bytes ≡ count
+  pub used_is : used_field bytes ≡ used
+  pub rest_is : drop 32 bytes ≡ rest
+  pub long : length bytes ≡ 32 + length rest
+
+pub fields_of : (h : Header) (count used : ℕ) (bytes rest : List ℕ) → bytes ≡ header_bytes h ++ counts_bytes count used ++ rest → count < 2 ^ 16 → used < 2 ^ 16 → Fields bytes rest count used
+unfolding header_bytes counts_bytes
+fields_of h count used bytes rest bytes_are few small =
+    record {
+      count_is = ap count_field bytes_are ∙ omega arith;
+      used_is = ap used_field bytes_are ∙ omega arith;
+      rest_is = ap (drop 32) bytes_are;
+      long = ap length bytes_are ∙ omega arith;
+    }
+
+pub count_small : (sheet : Sheet) → IsPage sheet → length sheet.pieces < 2 ^ 16
+count_small sheet valid = omega (arith, costs_at_least sheet.pieces, valid.used)
+
+pub fields_of_page : (sheet : Sheet) (bytes : List ℕ) → Spells sheet bytes → Fields bytes (pieces_bytes sheet.pieces) (length sheet.pieces) (used_by sheet.pieces)
+fields_of_page sheet bytes spells =
+    fields_of sheet.header (length sheet.pieces) (used_by sheet.pieces) bytes (pieces_bytes sheet.pieces) spells.bytes_are (count_small sheet spells.valid) spells.valid.used
+
+-- No two pages have the same bytes.
+pub page_same : (p q : Sheet) → IsPage p → IsPage q → page_bytes p ≡ page_bytes q → p ≡ q
+page_same p q valid valid' same =
+    let here = fields_of_page p (page_bytes p) (record { valid = valid; bytes_are = refl }) in
+    let there = fields_of_page q (page_bytes p) (record { valid = valid'; bytes_are = same }) in
+    let grouped : header_bytes p.header ++ (counts_bytes (length p.pieces) (used_by p.pieces) ++ pieces_bytes p.pieces) ≡ header_bytes q.header ++ (counts_bytes (length q.pieces) (used_by q.pieces) ++ pieces_bytes q.pieces) =
+    sym (append_assoc (header_bytes p.header) (counts_bytes (length p.pieces) (used_by p.pieces)) (pieces_bytes p.pieces)) ∙ same
+    ∙ append_assoc (header_bytes q.header) (counts_bytes (length q.pieces) (used_by q.pieces)) (pieces_bytes q.pieces) in
+    let header : p.header ≡ q.header = header_same p.header q.header _ _ valid.header valid'.header grouped in
+    let many : length p.pieces ≡ length q.pieces = sym here.count_is ∙ there.count_is in
+    let spelled : pieces_bytes p.pieces ++ [] ≡ pieces_bytes q.pieces = append-nil (pieces_bytes p.pieces) ∙ sym here.rest_is ∙ there.rest_is in
+    let b = pieces_begin p.pieces q.pieces [] valid.pieces valid'.pieces (omega (arith, many)) spelled in
+    let none : b.more ≡ [] = nil_from_length b.more (omega (arith, many, ap length b.parts, length-append p.pieces b.more)) in
+    let pieces : q.pieces ≡ p.pieces = b.parts ∙ ap (λ (ps : List Piece). p.pieces ++ ps) none ∙ append-nil p.pieces in
+    λ i. record { header = header i; pieces = sym pieces i }
