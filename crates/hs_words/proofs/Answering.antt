@@ -1,14 +1,14 @@
 -- What reading may answer, from what the steps found.
 use Rattle.std.proofs.Common.{◌≡◌, ℕ, zero, suc, ◌+◌, ◌^◌, ◌<◌, ◌≤◌, List, ◌++◌, length, drop, Result, Ok, Err, refl, sym, ap, ◌∙◌, arith, inl, inr}
 use Rattle.std.specs.List.{AllByRecursion}
-use Rattle.std.specs.Prelude.{MatchResult, ◌↔◌}
+use Rattle.std.specs.Prelude.{◌↔◌}
 use Rattle.std.proofs.lemmas.Result.{MatchResult-at_err}
 use Rattle.hs_words.specs.declared.page.Header.{Header}
 use Rattle.hs_words.specs.declared.page.Page.{Page}
 use Rattle.hs_words.specs.declared.page.PageFault.{PageFault}
 use Rattle.hs_words.specs.declared.page.PageFault.TheVariants.{Short, Used, Count, Memory}
 use Rattle.hs_words.specs.Pages.{Piece, Sheet, FitsHeader, FitsPiece, IsPage, used_by, header_bytes, counts_bytes, pieces_bytes, page_bytes, sheet_of}
-use Rattle.hs_words.specs.Reading.{HasPieces, HasFault, LacksPieces, Spells, Gives, IsFault, count_field, used_field}
+use Rattle.hs_words.specs.Reading.{HasPieces, Answers, HasFault, LacksPieces, Spells, Gives, IsFault, count_field, used_field}
 use Rattle.hs_words.proofs.Layouts.{length-pieces_bytes, length-page_bytes}
 use Rattle.hs_words.proofs.Readings.{Fields, fields_of_page, page_same}
 
@@ -36,20 +36,24 @@ page_count sheet bytes spells fault =
 
 -- ---- the clauses
 
-pub answers : (bytes : List ℕ) (r : Result Page PageFault) → Found bytes r → MatchResult r (λ page. Spells (sheet_of page) bytes) (HasFault bytes)
+pub answers : (bytes : List ℕ) (r : Result Page PageFault) → Found bytes r → Answers bytes r
 answers bytes (Ok found_page) found = found
 answers bytes (Err Short) found = found
 answers bytes (Err Used) found = found
 answers bytes (Err Count) found = found
 answers bytes (Err Memory) found = tt
 
-pub page : (bytes : List ℕ) (r : Result Page PageFault) → Found bytes r → (sheet : Sheet) → Spells sheet bytes → Gives sheet r
-page bytes (Ok found_page) found sheet spells =
+-- a page is read from its bytes
+pub gives : (bytes : List ℕ) (r : Result Page PageFault) → Answers bytes r → (sheet : Sheet) → Spells sheet bytes → Gives sheet r
+gives bytes (Ok found_page) found sheet spells =
     page_same (sheet_of found_page) sheet found.valid spells.valid (sym found.bytes_are ∙ spells.bytes_are)
-page bytes (Err Short) found sheet spells = absurd (omega (arith, found, page_is_long sheet bytes spells))
-page bytes (Err Used) found sheet spells = absurd (found.used (page_used sheet bytes spells))
-page bytes (Err Count) found sheet spells = absurd (page_count sheet bytes spells found)
-page bytes (Err Memory) found sheet spells = refl
+gives bytes (Err Short) found sheet spells = absurd (omega (arith, found, page_is_long sheet bytes spells))
+gives bytes (Err Used) found sheet spells = absurd (found.used (page_used sheet bytes spells))
+gives bytes (Err Count) found sheet spells = absurd (page_count sheet bytes spells found)
+gives bytes (Err Memory) found sheet spells = refl
+
+pub page : (bytes : List ℕ) (r : Result Page PageFault) → Found bytes r → (sheet : Sheet) → Spells sheet bytes → Gives sheet r
+page bytes r found = gives bytes r (answers bytes r found)
 
 short_comes : (bytes : List ℕ) (r : Result Page PageFault) → Found bytes r → HasFault bytes Short → r ≡ Err Short
 short_comes bytes (Ok found_page) found short = absurd (omega (arith, short, page_is_long (sheet_of found_page) bytes found))

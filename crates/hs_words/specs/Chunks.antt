@@ -1,6 +1,6 @@
 -- What contracts see of a chunk: its number, its size, and the page that stands in it, if it was started. The
 -- page has the pieces that were added, in order. A clear chunk has no page.
-use Rattle.std.specs.Prelude.{◌≡◌, ℕ, ◌+◌, ◌<◌, ◌≤◌, List, map, Option, Some, None}
+use Rattle.std.specs.Prelude.{◌≡◌, ℕ, ◌+◌, ◌<◌, ◌≤◌, List, [], ◌∷◌, map, Option, Some, None}
 use Rattle.std.specs.Option.{option_map, option_map_or}
 use Rattle.std.specs.List.{range_with_len}
 use Rattle.hs_words.specs.declared.page.Header.{Header}
@@ -44,3 +44,12 @@ with_page chunk page = record { number = chunk.number; size = chunk.size; page =
 abbrev pub Adds : Contents → Piece → Added → Contents → Type 0
 Adds old piece answers.Added new = (used_in old + cost_of piece ≤ old.size) × (new ≡ with_page old (option_map (λ sheet. with_piece sheet piece) old.page))
 Adds old piece answers.NoRoom new = (old.size < used_in old + cost_of piece) × (new ≡ old)
+
+-- The pieces are added one after another, each where there is room.
+abbrev pub Fills : Contents → List Piece → Contents → Type 0
+Fills old [] new = new ≡ old
+Fills old (piece ∷ pieces) new = (middle : Contents) × Adds old piece answers.Added middle × Fills middle pieces new
+
+-- A page that was started in the old chunk and filled with the pieces stands in the new one.
+abbrev pub Writes : Contents → Header → List Piece → Contents → Type 0
+Writes old header pieces new = Fills (with_page old (Some (record { header = header; pieces = [] }))) pieces new

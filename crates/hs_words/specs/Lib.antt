@@ -4,3 +4,4 @@ pub mod Buffers
 pub mod Reading
 pub mod Pools
 pub mod PoolHistory
+pub mod PoolAnswers

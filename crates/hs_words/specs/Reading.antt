@@ -1,6 +1,6 @@
 -- What reading bytes as a page answers: the page that they spell, or why they spell none. The reasons exclude
 -- each other and the page, so there is one answer to all bytes, but that memory may be refused.
-use Rattle.std.specs.Prelude.{◌≡◌, ◌≢◌, ℕ, ◌+◌, ◌*◌, ◌<◌, ◌≤◌, List, ◌++◌, length, drop, slice_index, Result, Ok, Err, ◌⊎◌}
+use Rattle.std.specs.Prelude.{◌≡◌, ◌≢◌, ℕ, ◌+◌, ◌*◌, ◌<◌, ◌≤◌, List, ◌++◌, length, drop, slice_index, Result, Ok, Err, MatchResult, ◌⊎◌}
 use Rattle.std.specs.List.{AllByRecursion}
 use Rattle.hs_words.specs.declared.page.Page.{Page}
 use Rattle.hs_words.specs.declared.page.PageFault.{PageFault}
@@ -40,6 +40,10 @@ HasFault bytes Memory = Unit {0}
 pub record Spells (sheet : Sheet) (bytes : List ℕ) : Type 0 where
   pub valid : IsPage sheet
   pub bytes_are : bytes ≡ page_bytes sheet
+
+-- what reading the bytes may answer
+abbrev pub Answers : List ℕ → Result Page PageFault → Type 0
+Answers bytes result = MatchResult result (λ page. Spells (sheet_of page) bytes) (HasFault bytes)
 
 -- the answer is this page, unless memory is refused
 abbrev pub Gives : Sheet → Result Page PageFault → Type 0

@@ -1,10 +1,10 @@
 //! Bytes, read as a page.
 
-ghost use Rattle.std.specs.Prelude.{◌≡◌, ℕ, ◌+◌, ◌<◌, ◌≤◌, ◌^◌, ◌++◌, length, map, Err, IfOk, IfErr, MatchResult, IfSome, IfNone, ◌↔◌};
+ghost use Rattle.std.specs.Prelude.{◌≡◌, ℕ, ◌+◌, ◌<◌, ◌≤◌, ◌^◌, ◌++◌, length, map, Err, IfOk, IfErr, IfSome, IfNone, ◌↔◌};
 ghost use Rattle.std.specs.List.{AllByRecursion};
 ghost use Rattle.std.specs.Int.{w16, w32, w64, w128, to_be_bytes};
-ghost use Rattle.hs_words.specs.Pages.{Sheet, FitsHeader, FitsPiece, header_bytes, counts_bytes, piece_of, piece_bytes, pieces_bytes, sheet_of};
-ghost use Rattle.hs_words.specs.Reading.{BeginsWithPiece, HasNoPiece, LacksPieces, Spells, HasFault, Gives, IsFault};
+ghost use Rattle.hs_words.specs.Pages.{Sheet, FitsHeader, FitsPiece, header_bytes, counts_bytes, piece_of, piece_bytes, pieces_bytes};
+ghost use Rattle.hs_words.specs.Reading.{BeginsWithPiece, HasNoPiece, LacksPieces, Spells, Answers, HasFault, Gives, IsFault};
 
 use crate::layout::Front;
 use crate::page::{Header, Page, PageFault, Point};
@@ -116,7 +116,7 @@ fn read_pieces(alloc: Global, count: u16, bytes: &[u8]) -> Result<List<Point>, P
 /// The page that the bytes are. One pass; each payload is copied once, and after `Memory` nothing is kept.
 pub fn read_page(alloc: Global, bytes: &[u8]) -> Result<Page, PageFault>
     // What is read is spelled by the bytes, and where they have a fault it is the one that is answered.
-    ensures answers { MatchResult result (λ page. Spells (sheet_of page) bytes.now) (HasFault bytes.now) }
+    ensures answers { Answers bytes.now result }
 
     // A page is read from its bytes, unless memory is refused.
     ensures page { (sheet : Sheet) → Spells sheet bytes.now → Gives sheet result }
