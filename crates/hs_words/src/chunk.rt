@@ -95,6 +95,7 @@ impl Chunk {
     pub fn bytes(&self) -> &[u8]
         requires { IsSome self.now.page }
         ensures spelled { IfSome self.now.page (λ sheet. result.now ≡ page_bytes sheet) }
+        ensures len { length result.now ≡ used_in self.now + 8 }
         ensures valid { IfSome self.now.page (λ sheet. 0 < length sheet.pieces → IsPage sheet) }
     {
         let Some(page) = self.page else {
