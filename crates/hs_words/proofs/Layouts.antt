@@ -94,8 +94,7 @@ holds_page h pieces count used bytes rest fits_header fits count_is used_is byte
     ap (λ n. pieces_in n (drop 32 bytes)) count_is ∙ ap (pieces_in (length pieces)) (ap (drop 32) bytes_are ∙ behind_header sheet rest) ∙ pieces_again pieces rest fits in
     let long : length (page_bytes sheet) ≡ used + 8 = omega (arith, length-page_bytes sheet) in
     let spelled : take (used + 8) bytes ≡ page_bytes sheet = ap (take (used + 8)) bytes_are ∙ take_at (page_bytes sheet) rest (used + 8) long in
-    let back = sym read in
-    (
+    let back = sym read in (
       record {
         header = fits_header;
         pieces = subst (λ (ps : List Piece). AllByRecursion FitsPiece ps) back fits;

@@ -4,7 +4,7 @@ ghost use Rattle.std.specs.Prelude.{◌≡◌, ◌+◌, ◌<◌, ◌≤◌, ◌^
 ghost use Rattle.hs_words.specs.Pages.{FitsHeader, IsPage, used_by, page_bytes};
 ghost use Rattle.hs_words.specs.Chunks.{clear_chunks, header_in, used_in, with_page, Adds};
 
-use crate::layout::{extend_page, start_page, Front};
+use crate::layout::{Front, extend_page, start_page};
 use crate::page::Header;
 use hs_base::{List, Memory};
 use std::alloc::Global;

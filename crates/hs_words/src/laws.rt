@@ -12,13 +12,11 @@ ghost use Rattle.hs_words.specs.Reading.{Answers, Gives};
 /// No two pages have the same bytes.
 pub fn pages_have_bytes_of_their_own()
     ensures { (a b : Sheet) → IsPage a → IsPage b → page_bytes a ≡ page_bytes b → a ≡ b }
-{
-}
+{}
 
 /// What was written into a chunk and has a piece is read again as what was added, unless memory is refused.
 pub fn what_was_added_is_read()
     ensures { (old new : Contents) (header : Header) (pieces : List Piece) (answer : Result Page Fault)
         → old.size ≤ 32768 → FitsHeader header → AllByRecursion FitsPiece pieces → pieces ≢ [] → Writes old header pieces new
         → IfSome new.page (λ sheet. Answers (page_bytes sheet) answer → Gives (record { header = header; pieces = pieces }) answer) }
-{
-}
+{}

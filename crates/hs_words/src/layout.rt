@@ -72,12 +72,7 @@ pub(crate) fn start_page(buffer: &mut [u8], header: Header) -> Front
 }
 
 /// Writes a piece behind the page, and counts it.
-pub(crate) fn extend_page(
-    buffer: &mut [u8],
-    page: Front,
-    moment: u64,
-    payload: &[u8],
-) -> Front
+pub(crate) fn extend_page(buffer: &mut [u8], page: Front, moment: u64, payload: &[u8]) -> Front
     requires holds { Holds buffer.old page }
     requires room { page.used + 8 + (10 + length payload.now) ≤ length buffer.old }
     requires small { length buffer.old ≤ 32776 }

@@ -62,7 +62,14 @@ fn read_front(bytes: &[u8]) -> Option<(Front, &[u8])>
         page,
         first,
     };
-    Some((Front { header, count, used }, rest))
+    Some((
+        Front {
+            header,
+            count,
+            used,
+        },
+        rest,
+    ))
 }
 
 /// The moment and the payload of the piece at the front of the bytes, and the bytes behind it, or `None`

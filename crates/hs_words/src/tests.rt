@@ -1,4 +1,4 @@
-ghost use Rattle.std.specs.Prelude.{◌≡◌, ◌≤◌, None, IfOk};
+ghost use Rattle.std.specs.Prelude.{◌≡◌};
 
 use super::*;
 use hs_base::{ClientId, TraceId};
@@ -7,8 +7,8 @@ use std::test::Fail;
 
 /// Trace 1, node 0, client 0, page 0, first record 0; one piece at moment 5 with the payload aa.
 const EXAMPLE: [u8; 43] = [
-    0, 0, 0, 0, 0, 0, 0, 0, 0, 0, 0, 0, 0, 0, 0, 1, 0, 0, 0, 0, 0, 0, 0, 0, 0, 0, 0, 0, 0, 1, 0, 35, 0,
-    1, 0, 0, 0, 0, 0, 0, 0, 5, 0xaa,
+    0, 0, 0, 0, 0, 0, 0, 0, 0, 0, 0, 0, 0, 0, 0, 1, 0, 0, 0, 0, 0, 0, 0, 0, 0, 0, 0, 0, 0, 1, 0,
+    35, 0, 1, 0, 0, 0, 0, 0, 0, 0, 5, 0xaa,
 ];
 
 /// The same page before a piece was added.
@@ -25,14 +25,29 @@ fn example_header() -> Header {
     }
 }
 
-/// The one chunk of a stock.
-fn one_chunk(alloc: Global, size: u32) -> Result<Chunk, Fail>
-    requires least { 64 ≤ size }
-    requires most { size ≤ 32768 }
-    ensures { IfOk result (λ chunk. chunk.page ≡ None) }
-{
-    let mut chunks = Stock::make(alloc, 1, size).ok().ok_or("memory")?;
+fn one_chunk(alloc: Global) -> Result<Chunk, Fail> {
+    let mut chunks = Stock::make(alloc, 1, 64).ok().ok_or("memory")?;
     Ok(chunks.pop().ok_or("a chunk was made")?)
+}
+
+/// Starts a clear chunk, and says whether it was clear.
+fn start(chunk: &mut Chunk, header: Header) -> bool {
+    let is_clear = chunk.header().is_none();
+    if is_clear {
+        chunk.start(header);
+    }
+    is_clear
+}
+
+/// Adds to a started chunk.
+fn add(chunk: &mut Chunk, moment: u64, payload: &[u8]) -> Option<Added> {
+    chunk.header()?;
+    Some(chunk.add(moment, payload))
+}
+
+/// Whether a chunk is started and has these bytes.
+fn has_bytes(chunk: &Chunk, want: &[u8]) -> bool {
+    chunk.header().is_some() && chunk.bytes() == want
 }
 
 #[test]
@@ -41,27 +56,24 @@ fn stock_numbers_its_chunks(rt: HostRuntime) -> Result<(), Fail> {
     assert_eq!(rt; chunks.len(), 3);
     for (number, chunk) in chunks.as_slice().iter().enumerate() {
         assert_eq!(rt; chunk.number() as usize, number);
-        assert!(rt; chunk.header().is_none());
-        assert_eq!(rt; chunk.used(), 0);
     }
     Ok(())
 }
 
 #[test]
 fn example_page_is_written(rt: HostRuntime) -> Result<(), Fail> {
-    let mut chunk = one_chunk(rt.alloc(), 64)?;
-    chunk.start(example_header());
-    assert_eq!(rt; chunk.bytes(), EMPTY.as_slice());
-    assert_eq!(rt; chunk.add(5, &[0xaa]), Added::Added);
-    assert_eq!(rt; chunk.bytes(), EXAMPLE.as_slice());
-    assert_eq!(rt; (chunk.number(), chunk.used()), (0, 35));
-    assert_eq!(rt; chunk.header(), Some(example_header()));
-    assert_eq!(rt; chunk.add(6, &[0; 30]), Added::NoRoom);
-    assert_eq!(rt; chunk.bytes(), EXAMPLE.as_slice());
-    assert_eq!(rt; chunk.add(6, &[0; 19]), Added::Added);
+    let mut chunk = one_chunk(rt.alloc())?;
+    assert!(rt; start(&mut chunk, example_header()));
+    assert!(rt; has_bytes(&chunk, &EMPTY));
+    assert_eq!(rt; add(&mut chunk, 5, &[0xaa]), Some(Added::Added));
+    assert!(rt; has_bytes(&chunk, &EXAMPLE));
+    assert_eq!(rt; chunk.used(), 35);
+    assert_eq!(rt; add(&mut chunk, 6, &EXAMPLE[..20]), Some(Added::NoRoom));
+    assert!(rt; has_bytes(&chunk, &EXAMPLE));
+    assert_eq!(rt; add(&mut chunk, 6, &EXAMPLE[..19]), Some(Added::Added));
     assert_eq!(rt; chunk.used(), 64);
+    assert_eq!(rt; chunk.header(), Some(example_header()));
     chunk.clear();
-    assert_eq!(rt; (chunk.number(), chunk.used()), (0, 0));
     assert_eq!(rt; chunk.header(), None);
     Ok(())
 }
@@ -80,30 +92,35 @@ fn example_page_is_read(rt: HostRuntime) -> Result<(), Fail> {
     Ok(())
 }
 
+/// The example page with one byte changed and cut to a length, and what reading it answers.
+const NO_PAGES: [(usize, usize, u8, PageFault); 7] = [
+    (31, 0, 0, PageFault::Short),
+    (42, 0, 0, PageFault::Used),
+    (43, 31, 36, PageFault::Used),
+    (43, 29, 2, PageFault::Count),
+    (43, 29, 0, PageFault::Count),
+    (43, 33, 2, PageFault::Count),
+    (43, 33, 0, PageFault::Count),
+];
+
+fn fault_of(
+    alloc: Global,
+    mut page: [u8; 43],
+    len: usize,
+    place: usize,
+    byte: u8,
+) -> Option<PageFault> {
+    if let Some(changed) = page.get_mut(place) {
+        *changed = byte;
+    }
+    read_page(alloc, page.get(..len)?).err()
+}
+
 #[test]
 fn bytes_that_are_no_page(rt: HostRuntime) {
-    let mut two_pieces = EXAMPLE;
-    two_pieces[29] = 2;
-    let mut no_piece = EXAMPLE;
-    no_piece[29] = 0;
-    let mut long_payload = EXAMPLE;
-    long_payload[33] = 2;
-    let mut behind = [0; 44];
-    behind[..43].copy_from_slice(&EXAMPLE);
-    let mut counted = behind;
-    counted[31] = 36;
-    let cases: [(&[u8], PageFault); 8] = [
-        (&EXAMPLE[..31], PageFault::Short),
-        (&EXAMPLE[..42], PageFault::Used),
-        (&behind, PageFault::Used),
-        (&two_pieces, PageFault::Count),
-        (&no_piece, PageFault::Count),
-        (&long_payload, PageFault::Count),
-        (&counted, PageFault::Count),
-        (&EMPTY, PageFault::Count),
-    ];
-    for (bytes, want) in cases {
-        assert_eq!(rt; read_page(rt.alloc(), bytes).err(), Some(want), "at {bytes:?}");
+    for (len, place, byte, want) in NO_PAGES {
+        let fault = fault_of(rt.alloc(), EXAMPLE, len, place, byte);
+        assert_eq!(rt; fault, Some(want), "{len} bytes, {byte} at {place}");
     }
 }
 
@@ -119,7 +136,7 @@ fn drawn_number<L: Token>(held: Held<L>) -> u32
 
 #[test]
 fn empty_token_fits(rt: HostRuntime) -> Result<(), Fail> {
-    let chunk = one_chunk(rt.alloc(), 64)?;
+    let chunk = one_chunk(rt.alloc())?;
     assert_eq!(rt; drawn_number(Held { chunk, lease: () }), 0);
     Ok(())
 }

@@ -18,8 +18,8 @@ returns-in_err-moment-clause-none c =
 pub returns-in_err-payload-clause-none : goal.returns-in_err-payload-clause-none
 returns-in_err-payload-clause-none c =
     rw c.from_residual-in_err-payload.ensures (
-      cut_off c.args.bytes.now c.in_ok-len.rest.now c.in_ok-moment.rest.now c.in_ok-len.len c.in_ok-moment.moment c.in_ok-len.ensures.some.1 c.in_ok-len.ensures.some.0 c.in_ok-moment.ensures.some.0
-      (omega (arith, c.in_err-payload.ensures.cases, c.from.ensures))
+    cut_off c.args.bytes.now c.in_ok-len.rest.now c.in_ok-moment.rest.now c.in_ok-len.len c.in_ok-moment.moment c.in_ok-len.ensures.some.1 c.in_ok-len.ensures.some.0 c.in_ok-moment.ensures.some.0
+    (omega (arith, c.in_err-payload.ensures.cases, c.from.ensures))
     )
 
 -- the fields before a payload of that length
