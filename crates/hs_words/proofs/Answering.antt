@@ -1,5 +1,5 @@
 -- What reading may answer, from what the steps found.
-use Rattle.std.proofs.Common.{◌≡◌, ℕ, zero, suc, ◌+◌, ◌^◌, ◌<◌, ◌≤◌, List, ◌++◌, length, drop, Result, Ok, Err, refl, sym, ap, ◌∙◌, arith, inl, inr}
+use Rattle.std.proofs.Common.{◌≡◌, ℕ, zero, suc, ◌+◌, ◌^◌, ◌<◌, ◌≤◌, List, ◌++◌, length, Result, Ok, Err, refl, sym, ap, ◌∙◌, arith, inl, inr}
 use Rattle.std.specs.List.{AllByRecursion}
 use Rattle.std.specs.Prelude.{◌↔◌}
 use Rattle.std.proofs.lemmas.Result.{MatchResult-at_err}
@@ -7,8 +7,8 @@ use Rattle.hs_words.specs.declared.page.Header.{Header}
 use Rattle.hs_words.specs.declared.page.Page.{Page}
 use Rattle.hs_words.specs.declared.page.PageFault.{PageFault}
 use Rattle.hs_words.specs.declared.page.PageFault.TheVariants.{Short, Used, Count, Memory}
-use Rattle.hs_words.specs.Pages.{Piece, Sheet, FitsHeader, FitsPiece, IsPage, used_by, header_bytes, counts_bytes, pieces_bytes, page_bytes, sheet_of}
-use Rattle.hs_words.specs.Reading.{HasPieces, Answers, HasFault, LacksPieces, Spells, Gives, IsFault, count_field, used_field}
+use Rattle.hs_words.specs.Pages.{Piece, Sheet, FitsHeader, FitsPiece, used_by, header_bytes, counts_bytes, pieces_bytes, sheet_of}
+use Rattle.hs_words.specs.Reading.{Answers, HasFault, LacksPieces, Spells, Gives, IsFault, used_field}
 use Rattle.hs_words.proofs.Layouts.{length-pieces_bytes, length-page_bytes}
 use Rattle.hs_words.proofs.Readings.{Fields, fields_of_page, page_same}
 

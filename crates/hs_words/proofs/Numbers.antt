@@ -1,10 +1,10 @@
 -- Numbers as big-endian bytes: what is read is what was written, at each width.
 use Rattle.std.proofs.Common.{◌≡◌, ℕ, zero, suc, ◌+◌, ◌-◌, ◌*◌, ◌/◌, ◌%◌, ◌^◌, ◌<◌, ◌≤◌, List, [], ◌∷◌, ◌++◌, length, get_or, take, drop, refl, sym, ap, ◌∙◌, arith}
 use Rattle.std.specs.List.{AllByRecursion}
-use Rattle.std.specs.Int.{Width, w16, w32, w64, w128, byte_len, byte_at, bytes_high_first, to_be_bytes, from_be_bytes}
+use Rattle.std.specs.Int.{Width, w16, w32, w64, w128, byte_at, bytes_high_first, to_be_bytes, from_be_bytes}
 use Rattle.std.proofs.lemmas.Nat.{div-mul-add, pow-add}
 use Rattle.std.proofs.lemmas.List.{length-take-le, take-append-drop}
-use Rattle.std.proofs.Math.Nat.{mul-add-div_right, mul-add-mod_self_right, mod-eq_of_lt, mul_assoc, one-le-pow, div-one, pow-suc, pow-succ'}
+use Rattle.std.proofs.Math.Nat.{mul-add-div_right, mul-add-mod_self_right, mod-eq_of_lt, one-le-pow, div-one, pow-suc}
 use Rattle.byteorder.specs.Endian.{big_from}
 use Rattle.byteorder.specs.Numbers.{big_from-cons, big_from-lt, big_number-reads_back}
 

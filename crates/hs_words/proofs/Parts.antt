@@ -1,6 +1,6 @@
 -- What a buffer has after a write to a part of it.
-use Rattle.std.proofs.Common.{◌≡◌, ℕ, ◌+◌, ◌-◌, ◌≤◌, List, [], ◌++◌, length, take, drop, refl, sym, ap, ◌∙◌, append_assoc, arith}
-use Rattle.std.proofs.lemmas.List.{take_at, drop_at, drop-drop, length-append, length-drop, append-nil, take_all, drop_all}
+use Rattle.std.proofs.Common.{◌≡◌, ℕ, ◌+◌, ◌-◌, List, [], ◌++◌, length, take, drop, ap, ◌∙◌, arith}
+use Rattle.std.proofs.lemmas.List.{take_at, drop_at, drop-drop, length-drop, append-nil, take_all, drop_all}
 use borrow.Rule.Slice.PartMut.{put_mid}
 
 -- a write from place a to the end, of what is new and then what stood behind it

@@ -1,10 +1,9 @@
 -- The layout of a page. A page is a header and the pieces behind it, each with its moment and its payload; its
 -- bytes are the spelling of it, with every number big-endian. The used bytes are 24 and the cost of each piece,
 -- so the page has 8 bytes more than its used bytes.
-use Rattle.std.specs.Prelude.{◌≡◌, ℕ, ◌+◌, ◌<◌, ◌^◌, List, [], ◌∷◌, ◌++◌, length, map, sum_by, All, refl}
+use Rattle.std.specs.Prelude.{◌≡◌, ℕ, ◌+◌, ◌<◌, ◌^◌, List, [], ◌∷◌, ◌++◌, length, map, sum_by, refl}
 use Rattle.std.specs.List.{flat_map, AllByRecursion}
 use Rattle.std.specs.Int.{w16, w32, w64, w128, to_be_bytes}
-use Rattle.hs_base.specs.Listing.{Listing}
 use Rattle.hs_words.specs.declared.page.Header.{Header}
 use Rattle.hs_words.specs.declared.page.Point.{Point}
 use Rattle.hs_words.specs.declared.page.Page.{Page}

@@ -1,7 +1,7 @@
 -- The history of a pool with the buffers 0 to n - 1. Its events are draws that got a buffer, draws that found
 -- the queue empty, gives and misses; each event is allowed or not by what came before it. The stamp of an event
 -- is its place in the history, from 0.
-use Rattle.std.specs.Prelude.{◌≡◌, ℕ, zero, ◌+◌, ◌<◌, Bool, true, false, ◌==◌, List, [], ◌∷◌, ◌++◌, drop, reverse, slice_get, count_by, Some, refl}
+use Rattle.std.specs.Prelude.{◌≡◌, ℕ, zero, ◌<◌, Bool, true, false, ◌==◌, List, [], ◌∷◌, ◌++◌, drop, reverse, slice_get, count_by, Some, refl}
 use Rattle.std.specs.List.{range_with_len}
 use Rattle.std.proofs.Common.{lit<, arith}
 

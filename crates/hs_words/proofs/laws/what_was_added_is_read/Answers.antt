@@ -1,10 +1,8 @@
-use Rattle.std.proofs.Common.{◌≡◌, ◌≢◌, ℕ, ◌+◌, ◌<◌, ◌≤◌, List, [], ◌∷◌, ◌++◌, length, Some, refl, sym, ap, subst, ◌∙◌, append_assoc, arith}
-use Rattle.std.specs.Prelude.{IfSome}
+use Rattle.std.proofs.Common.{◌≡◌, ◌≢◌, ◌<◌, ◌≤◌, List, [], ◌∷◌, ◌++◌, length, Some, refl, sym, ap, subst, ◌∙◌, append_assoc, arith}
 use Rattle.std.proofs.lemmas.List.{append-nil}
 use Rattle.hs_words.specs.declared.page.Header.{Header}
 use Rattle.hs_words.specs.Pages.{Piece, Sheet, IsPage, used_by, page_bytes}
 use Rattle.hs_words.specs.Chunks.{Contents, with_page, Fills}
-use Rattle.hs_words.specs.Reading.{Answers, Gives}
 use Rattle.hs_words.proofs.Layouts.{used_by-push}
 use Rattle.hs_words.proofs.Answering.{gives}
 use Rattle.hs_words.proofs.laws.what_was_added_is_read.Goals as goal

@@ -1,5 +1,5 @@
 use Rattle.std.specs.Int.{w16, w32, w128, to_be_bytes}
-use Rattle.std.proofs.Common.{◌≡◌, ◌++◌, List, ℕ, drop, refl}
+use Rattle.std.proofs.Common.{◌++◌, refl}
 use Rattle.hs_words.specs.Pages.{header_bytes}
 use Rattle.hs_words.proofs.Parts.{put_next}
 use Rattle.hs_words.proofs.layout.write_header.Goals as goal

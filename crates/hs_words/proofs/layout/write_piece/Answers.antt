@@ -1,5 +1,5 @@
 use Rattle.std.specs.Int.{w16, w64, to_be_bytes}
-use Rattle.std.proofs.Common.{◌≡◌, ◌+◌, ◌-◌, ◌++◌, List, ℕ, length, drop, refl, ap, ◌∙◌, append_assoc, arith}
+use Rattle.std.proofs.Common.{◌≡◌, ◌+◌, ◌-◌, ◌++◌, List, ℕ, length, drop, refl, ap, ◌∙◌, arith}
 use Rattle.hs_words.specs.Pages.{piece_bytes}
 use Rattle.hs_words.proofs.Parts.{put_next, put_part}
 use Rattle.hs_words.proofs.layout.write_piece.Goals as goal

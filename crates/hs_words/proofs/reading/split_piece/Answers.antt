@@ -1,7 +1,7 @@
-use Rattle.std.proofs.Common.{◌≡◌, ◌+◌, ◌^◌, ◌<◌, ◌++◌, List, ℕ, length, take, drop, refl, sym, ap, subst, ◌∙◌, arith}
+use Rattle.std.proofs.Common.{◌≡◌, ◌++◌, List, ℕ, length, take, sym, ap, subst, ◌∙◌, arith}
 use Rattle.std.specs.Int.{w16, w64, to_be_bytes}
-use Rattle.std.proofs.lemmas.List.{length-take-le, take-append-drop}
-use Rattle.hs_words.specs.Pages.{FitsPiece, piece_bytes}
+use Rattle.std.proofs.lemmas.List.{take-append-drop}
+use Rattle.hs_words.specs.Pages.{piece_bytes}
 use Rattle.hs_words.proofs.Numbers.{IsBytes, IsBytes-all, IsBytes-take, IsBytes-behind}
 use Rattle.hs_words.proofs.Readings.{too_short, cut_off, fields_are_piece}
 use Rattle.hs_words.proofs.reading.split_piece.Goals as goal

@@ -1,4 +1,4 @@
-use Rattle.std.proofs.Common.{◌≡◌, ◌≤◌, List}
+use Rattle.std.proofs.Common.{◌≡◌, ◌≤◌}
 use Rattle.hs_words.specs.Chunks.{clear_chunks}
 use Rattle.hs_words.proofs.chunk.Stock.make.Given as goal
 
