@@ -28,8 +28,8 @@ header_of sheet = sheet.header
 abbrev pub header_in : Contents → Option Header
 header_in chunk = option_map header_of chunk.page
 
--- the used bytes, or 0 where the chunk is clear
-abbrev used_of : Sheet → ℕ
+-- the used bytes of a page
+abbrev pub used_of : Sheet → ℕ
 used_of sheet = used_by sheet.pieces
 
 -- the used bytes, or 0 where the chunk is clear

@@ -1,7 +1,7 @@
 //! Chunks: the recycled buffers that pages are written into.
 
-ghost use Rattle.std.specs.Prelude.{◌≡◌, ◌+◌, ◌<◌, ◌≤◌, ◌^◌, ◌↔◌, ◌++◌, ◌∷◌, [], length, IfOk, Some, None, IfSome, IsSome, IsNone, IsTrue};
-ghost use Rattle.hs_words.specs.Pages.{FitsHeader, IsPage, used_by, page_bytes};
+ghost use Rattle.std.specs.Prelude.{◌≡◌, ◌+◌, ◌<◌, ◌≤◌, [], length, IfOk, IfSome, IsSome};
+ghost use Rattle.hs_words.specs.Pages.{IsPage, page_bytes};
 ghost use Rattle.hs_words.specs.Chunks.{clear_chunks, header_in, used_in, with_page, Adds};
 
 use crate::layout::{Front, extend_page, start_page};
@@ -74,8 +74,8 @@ impl Chunk {
         self.page = Some(start_page(&mut self.bytes, header));
     }
 
-    /// Adds a piece at the end of the page, where there is room for it. Takes no memory, and copies the
-    /// payload once.
+    /// Adds a piece at the end of the page, where there is room for it (`docs/FORMATS.md`, "The page"). Takes no
+    /// memory, and copies the payload once.
     pub fn add(&mut self, moment: u64, payload: &[u8]) -> Added
         requires { IsSome self.old.page }
         ensures { Adds self.old (record { moment = moment; payload = payload.now }) result self.new }

@@ -1,6 +1,6 @@
 //! Laws of pages. Each is the contract of a function that does nothing.
 
-ghost use Rattle.std.specs.Prelude.{◌≡◌, ◌≤◌, List, ◌≢◌, [], None, Result, IfSome};
+ghost use Rattle.std.specs.Prelude.{◌≡◌, ◌≤◌, ◌≢◌, List, [], Result, IfSome};
 ghost use Rattle.std.specs.List.{AllByRecursion};
 ghost use Rattle.hs_words.specs.declared.page.Header.{Header};
 ghost use Rattle.hs_words.specs.declared.page.Page.{Page};

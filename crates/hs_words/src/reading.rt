@@ -1,6 +1,6 @@
 //! Bytes, read as a page.
 
-ghost use Rattle.std.specs.Prelude.{◌≡◌, ℕ, ◌+◌, ◌<◌, ◌≤◌, ◌^◌, ◌++◌, length, map, Err, IfOk, IfErr, IfSome, IfNone, ◌↔◌};
+ghost use Rattle.std.specs.Prelude.{◌≡◌, ◌<◌, ◌^◌, ◌↔◌, ◌++◌, length, map, IfOk, IfErr, IfSome, IfNone};
 ghost use Rattle.std.specs.List.{AllByRecursion};
 ghost use Rattle.std.specs.Int.{w16, w32, w64, w128, to_be_bytes};
 ghost use Rattle.hs_words.specs.Pages.{Sheet, FitsHeader, FitsPiece, header_bytes, counts_bytes, piece_of, piece_bytes, pieces_bytes};
@@ -120,7 +120,7 @@ fn read_pieces(alloc: Global, count: u16, bytes: &[u8]) -> Result<List<Point>, P
     Ok(points)
 }
 
-/// The page that the bytes are. One pass; each payload is copied once, and after `Memory` nothing is kept.
+/// The page that the bytes are (`docs/FORMATS.md`, "The page"). One pass; each payload is copied once, and after `Memory` nothing is kept.
 pub fn read_page(alloc: Global, bytes: &[u8]) -> Result<Page, PageFault>
     // What is read is spelled by the bytes, and where they have a fault it is the one that is answered.
     ensures answers { Answers bytes.now result }

@@ -1,6 +1,6 @@
 //! Tokens, which say who may write a chunk, and what draws and gives answer.
 
-ghost use Rattle.std.specs.Prelude.{◌≡◌, ℕ, Bool, true, Option, None, IsTrue};
+ghost use Rattle.std.specs.Prelude.{ℕ, Bool, true, Option, None, IsTrue};
 ghost use Rattle.hs_words.specs.Pools.{PoolName};
 
 use crate::chunk::Chunk;
