@@ -1,0 +1,7 @@
+pub mod Pages
+pub mod Chunks
+pub mod Buffers
+pub mod Reading
+pub mod Pools
+pub mod PoolHistory
+pub mod PoolAnswers

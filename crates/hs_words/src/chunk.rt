@@ -1,0 +1,141 @@
+//! Chunks: the recycled buffers that pages are written into.
+
+ghost use Rattle.std.specs.Prelude.{◌≡◌, ◌+◌, ◌<◌, ◌≤◌, [], length, IfOk, IfSome, IsSome};
+ghost use Rattle.hs_words.specs.Pages.{IsPage, page_bytes};
+ghost use Rattle.hs_words.specs.Chunks.{clear_chunks, header_in, used_in, with_page, Adds};
+
+use crate::layout::{Front, extend_page, start_page};
+use crate::page::Header;
+use hs_base::{List, Memory};
+use std::alloc::Global;
+use std::marker::Model;
+
+/// A buffer of fixed size with a number of its own, into which a page is written.
+#[derive(Drop)]
+pub struct Chunk {
+    number: u32,
+    page: Option<Front>,
+    bytes: Vec<u8>,
+}
+
+impl Model for Chunk {
+    ghost use Rattle.hs_words.specs.Chunks.{Contents};
+
+    ghost Value = { Contents };
+
+    ghost use Rattle.hs_words.specs.Buffers.{contents_of, IsInOrder};
+
+    ghost view = { contents_of };
+
+    ghost invariant = { IsInOrder };
+}
+
+/// Whether a piece was added.
+#[derive(Clone, Copy, Debug, PartialEq, Eq)]
+pub enum Added {
+    Added,
+    NoRoom,
+}
+
+impl Chunk {
+    /// The chunk's number.
+    pub fn number(&self) -> u32
+        ensures { result ≡ self.now.number }
+    {
+        self.number
+    }
+
+    /// The used bytes of the page, which has 8 bytes more; 0 where the chunk is clear.
+    pub fn used(&self) -> u32
+        ensures value { result ≡ used_in self.now }
+        ensures bound { result ≤ self.now.size }
+    {
+        match self.page {
+            Some(page) => u32::from(page.used),
+            None => 0,
+        }
+    }
+
+    /// The header, or `None` where the chunk is clear.
+    pub fn header(&self) -> Option<Header>
+        ensures { result ≡ header_in self.now }
+    {
+        match self.page {
+            Some(page) => Some(page.header),
+            None => None,
+        }
+    }
+
+    /// Starts a page with this header and no piece.
+    pub fn start(&mut self, header: Header)
+        requires { self.old.page ≡ None }
+        ensures { self.new ≡ with_page self.old (Some (record { header = header; pieces = [] })) }
+    {
+        self.page = Some(start_page(&mut self.bytes, header));
+    }
+
+    /// Adds a piece at the end of the page, where there is room for it (`docs/FORMATS.md`, "The page"). Takes no
+    /// memory, and copies the payload once.
+    pub fn add(&mut self, moment: u64, payload: &[u8]) -> Added
+        requires { IsSome self.old.page }
+        ensures { Adds self.old (record { moment = moment; payload = payload.now }) result self.new }
+    {
+        let Some(page) = self.page else {
+            unreachable!()
+        };
+        if self.bytes.len() - 8 - usize::from(page.used) < 10 + payload.len() {
+            return Added::NoRoom;
+        }
+        self.page = Some(extend_page(&mut self.bytes, page, moment, payload));
+        Added::Added
+    }
+
+    /// The page's bytes: its header and the pieces that were added. Where none was added these are the header
+    /// alone, with count 0, and no page.
+    pub fn bytes(&self) -> &[u8]
+        requires { IsSome self.now.page }
+        ensures spelled { IfSome self.now.page (λ sheet. result.now ≡ page_bytes sheet) }
+        ensures len { length result.now ≡ used_in self.now + 8 }
+        ensures valid { IfSome self.now.page (λ sheet. 0 < length sheet.pieces → IsPage sheet) }
+    {
+        let Some(page) = self.page else {
+            unreachable!()
+        };
+        &self.bytes[..usize::from(page.used) + 8]
+    }
+
+    /// Clears the chunk. Its number and its size stay.
+    pub fn clear(&mut self)
+        ensures { self.new ≡ with_page self.old None }
+    {
+        self.page = None;
+    }
+}
+
+/// The maker of chunks. There is no other.
+pub struct Stock;
+
+impl Stock {
+    /// So many clear chunks of one size, numbered from 0. Each takes its size and 8 bytes of memory, once and
+    /// for all.
+    pub fn make(alloc: Global, count: u32, size: u32) -> Result<List<Chunk>, Memory>
+        requires some { 1 ≤ count }
+        requires few { count ≤ 1024 }
+        requires least { 64 ≤ size }
+        requires most { size ≤ 32768 }
+        ensures { IfOk result (λ chunks. chunks.items ≡ clear_chunks count size) }
+    {
+        let mut chunks = List::with_room(alloc, count as usize)?;
+        for number in 0..count {
+            let Ok(bytes) = vec![in alloc; 0; size as usize + 8] else {
+                return Err(Memory);
+            };
+            chunks.push(Chunk {
+                number,
+                page: None,
+                bytes,
+            });
+        }
+        Ok(chunks)
+    }
+}

@@ -1,0 +1,22 @@
+//! Laws of pages. Each is the contract of a function that does nothing.
+
+ghost use Rattle.std.specs.Prelude.{◌≡◌, ◌≤◌, ◌≢◌, List, [], Result, IfSome};
+ghost use Rattle.std.specs.List.{AllByRecursion};
+ghost use Rattle.hs_words.specs.declared.page.Header.{Header};
+ghost use Rattle.hs_words.specs.declared.page.Page.{Page};
+ghost use Rattle.hs_words.specs.declared.page.PageFault.{PageFault as Fault};
+ghost use Rattle.hs_words.specs.Pages.{Piece, Sheet, FitsHeader, FitsPiece, IsPage, page_bytes};
+ghost use Rattle.hs_words.specs.Chunks.{Contents, Writes};
+ghost use Rattle.hs_words.specs.Reading.{Answers, Gives};
+
+/// No two pages have the same bytes.
+pub fn pages_have_bytes_of_their_own()
+    ensures { (a b : Sheet) → IsPage a → IsPage b → page_bytes a ≡ page_bytes b → a ≡ b }
+{}
+
+/// What was written into a chunk and has a piece is read again as what was added, unless memory is refused.
+pub fn what_was_added_is_read()
+    ensures { (old new : Contents) (header : Header) (pieces : List Piece) (answer : Result Page Fault)
+        → old.size ≤ 32768 → FitsHeader header → AllByRecursion FitsPiece pieces → pieces ≢ [] → Writes old header pieces new
+        → IfSome new.page (λ sheet. Answers (page_bytes sheet) answer → Gives (record { header = header; pieces = pieces }) answer) }
+{}

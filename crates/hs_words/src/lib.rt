@@ -1,0 +1,19 @@
+//! The bytes of Hindsight: pages, the recycled chunks that they are written into, and the leases that say
+//! who may write a chunk.
+#![tactic(auto)]
+
+mod chunk;
+mod laws;
+mod layout;
+mod page;
+mod reading;
+mod token;
+
+pub use chunk::{Added, Chunk, Stock};
+pub use laws::{pages_have_bytes_of_their_own, what_was_added_is_read};
+pub use page::{Header, Page, PageFault, Point};
+pub use reading::read_page;
+pub use token::{Drawn, Given, Held, Tally, Token};
+
+#[cfg(test)]
+mod tests;
