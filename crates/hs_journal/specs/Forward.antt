@@ -1,0 +1,202 @@
+-- A line at a time, forward: what is read so far, and what the next line makes of it or why it is refused. The reader's
+-- own functions are stated by these. That they agree with the look back over the earlier lines is proved apart.
+use Rattle.std.specs.Prelude.{◌≡◌, ℕ, ◌==◌, ◌<◌, ◌≤◌, Bool, true, false, not, List, [], ◌∷◌, ◌++◌, length, map, drop, Option, Some, None, Result, Ok, Err, ⊤, codes, refl}
+use Rattle.std.specs.Borrow.{Bor}
+use Rattle.hs_base.specs.Text.{words_of, has_bad_byte, has_bad_spaces, number_of}
+use Rattle.hs_base.specs.declared.ids.NodeId.{NodeId}
+use Rattle.hs_journal.specs.declared.journal.Draw.{Draw}
+use Rattle.hs_journal.specs.declared.journal.Draw.TheVariants as draws
+use Rattle.hs_journal.specs.declared.journal.Step.{Step}
+use Rattle.hs_journal.specs.declared.journal.Step.TheVariants as steps
+use Rattle.hs_journal.specs.declared.refusal.JournalReason.{JournalReason}
+use Rattle.hs_journal.specs.declared.refusal.JournalReason.TheVariants as reasons
+use Rattle.hs_journal.specs.declared.stop.Stop.{Stop}
+use Rattle.hs_journal.specs.declared.stop.Stop.TheVariants as stops
+use Rattle.hs_journal.specs.declared.word.Keyword.{Keyword}
+use Rattle.hs_journal.specs.declared.word.Keyword.TheVariants as keywords
+use Rattle.hs_journal.specs.declared.place.Place.{Place}
+use Rattle.hs_journal.specs.declared.place.Place.TheVariants as places
+use Rattle.hs_journal.specs.declared.line.Numbers.{Numbers}
+use Rattle.hs_journal.specs.declared.reader.Reader.{Reader}
+use Rattle.hs_journal.specs.Views.{PlainJournal}
+use Rattle.hs_journal.specs.Statements.{number_count, keyword_of}
+use Rattle.hs_journal.specs.LookBack.{Past}
+use Rattle.hs_journal.specs.Faults.{is_in_draws, is_in_logs, may_stand, is_out_of_range, is_out_of_order}
+
+infixl 10 ◌>>=◌
+abbrev pub ◌>>=◌ : {A B : Type 0} → Result A JournalReason → (A → Result B JournalReason) → Result B JournalReason
+(Ok x) >>= f = f x
+(Err e) >>= f = Err e
+
+-- What a function returned, seen by view, is what reading gives, unless memory ran out.
+abbrev pub Stops : {Y : Type 0} → Stop → Result Y JournalReason → Type 0
+Stops stops.Memory read = Unit {0}
+Stops (stops.Fault reason) read = read ≡ Err reason
+
+abbrev pub Gives : {X Y : Type 0} → (X → Y) → Result X Stop → Result Y JournalReason → Type 0
+Gives view (Ok x) read = read ≡ Ok (view x)
+Gives view (Err stop) read = Stops stop read
+
+abbrev pub unless : {A : Type 0} → Bool → JournalReason → Result A JournalReason → Result A JournalReason
+unless true reason next = Err reason
+unless false reason next = next
+
+-- ---- numbers
+
+-- the words behind the first
+abbrev pub words_behind : List ℕ → List (List ℕ)
+words_behind line = drop 1 (words_of line)
+
+-- the words of what is left of a line
+abbrev pub words_left : Option (Bor (List ℕ)) → List (List ℕ)
+words_left None = []
+words_left (Some rest) = words_of rest.now
+
+-- the value of a word, or Number where it is none
+abbrev pub number_or : Option ℕ → Result ℕ JournalReason
+number_or None = Err reasons.Number
+number_or (Some n) = Ok n
+
+-- the number that the next word is, and the words behind it; 0 where no word is left
+abbrev pub next_number : List (List ℕ) → Result (ℕ × List (List ℕ)) JournalReason
+next_number [] = Ok (0, [])
+next_number (word ∷ words) = number_or (number_of word) >>= λ n. Ok (n, words)
+
+unfoldable pub three_numbers : List (List ℕ) → Result Numbers JournalReason
+three_numbers words = do
+  first ← next_number words
+  second ← next_number first.1
+  third ← next_number second.1
+  Ok (record { first = first.0; second = second.0; third = third.0 })
+
+-- ---- what is read so far
+
+-- the lists of draws and the logs include the last one, which goes on
+pub record Draft : Type 0 where
+  pub place : Place
+  pub nodes : ℕ
+  pub clients : ℕ
+  pub draws : List (List Draw)
+  pub logs : List (List Step)
+  pub told : List NodeId
+
+-- before the first line
+abbrev pub fresh : Draft
+fresh = record { place = places.Start; nodes = 0; clients = 0; draws = []; logs = []; told = [] }
+
+-- the lists with one that goes on
+abbrev pub with_current : {A : Type 0} → Bool → List A → A → List A
+with_current true finished current = finished ++ current ∷ []
+with_current false finished current = finished
+
+-- a reader's draft
+abbrev pub draft_of : Reader → Draft
+draft_of r =
+    record {
+      place = r.place;
+      nodes = r.nodes;
+      clients = r.clients;
+      draws = with_current (is_in_draws r.place) (map (λ drawn. drawn.items) r.draws.items) r.current_draws.items;
+      logs = with_current (is_in_logs r.place) (map (λ log. log.items) r.logs.items) r.current_log.items;
+      told = r.told.items;
+    }
+
+-- what the faults ask of it
+abbrev pub past_of : Draft → Past
+past_of d = record { place = d.place; nodes = d.nodes; clients = d.clients; draws = length d.draws; logs = length d.logs }
+
+-- the last list with one more item
+abbrev pub onto_last : {A : Type 0} → List (List A) → A → List (List A)
+onto_last [] x = []
+onto_last (xs ∷ []) x = (xs ++ x ∷ []) ∷ []
+onto_last (xs ∷ ys ∷ more) x = xs ∷ onto_last (ys ∷ more) x
+
+abbrev pub with_draw : Draft → Draw → Draft
+with_draw d draw = record d { draws = onto_last d.draws draw }
+
+abbrev pub with_step : Draft → Step → Draft
+with_step d step = record d { logs = onto_last d.logs step }
+
+-- the draft at a place, with a list begun where lists stand there
+abbrev pub entered : Draft → Place → Draft
+entered d place =
+    record d { place = place; draws = with_current (is_in_draws place) d.draws []; logs = with_current (is_in_logs place) d.logs [] }
+
+-- the draft after a line of this word and these numbers
+abbrev pub after : Draft → Keyword → Numbers → Draft
+after d keywords.Journal n = record d { place = places.Head; nodes = n.second; clients = n.third }
+after d keywords.Draws n = record d { place = places.Draws; draws = d.draws ++ [] ∷ [] }
+after d keywords.Got n = with_draw d (draws.Got n.first n.second)
+after d keywords.Empty n = with_draw d (draws.Empty n.first)
+after d keywords.Log n = record d { place = places.Logs; logs = d.logs ++ [] ∷ [] }
+after d keywords.Chunk n = with_step d (steps.Chunk n.first)
+after d keywords.Crumb n = with_step d (steps.Crumb n.first)
+after d keywords.Trigger n = with_step d (steps.Trigger n.first)
+after d keywords.Ask n = with_step d steps.Ask
+after d keywords.Turn n = with_step d steps.Turn
+after d keywords.Given n = with_step d (steps.Given n.first)
+after d keywords.Missed n = with_step d (steps.Missed n.first)
+after d keywords.Unread n = with_step d steps.Unread
+after d keywords.Coordinator n = record d { place = places.Order }
+after d keywords.Told n = record d { told = d.told ++ record { 0 = n.first } ∷ [] }
+after d keywords.End n = record d { place = places.Ended }
+
+-- ---- what the next line makes of it
+
+abbrev pub statement_step : Draft → Keyword → Numbers → Result Draft JournalReason
+statement_step d keyword n =
+    unless (is_out_of_range (past_of d) keyword n) reasons.Range (unless (is_out_of_order (past_of d) keyword n) reasons.Order (Ok (after d keyword n)))
+
+abbrev pub keyword_step : Draft → Keyword → List (List ℕ) → Result Draft JournalReason
+keyword_step d keyword words =
+    unless (not (may_stand (past_of d) keyword)) reasons.Word
+    (unless (not (length words == number_count keyword)) reasons.Count (three_numbers words >>= statement_step d keyword))
+
+abbrev pub place_step : Draft → Option Keyword → List (List ℕ) → Result Draft JournalReason
+place_step d None words = Err reasons.Word
+place_step d (Some keyword) words = keyword_step d keyword words
+
+abbrev pub words_step : Draft → List (List ℕ) → Result Draft JournalReason
+words_step d [] = Err reasons.Word
+words_step d (word ∷ words) = place_step d (keyword_of word) words
+
+unfoldable pub line_step : Draft → List ℕ → Result Draft JournalReason
+line_step d line = unless (has_bad_byte line) reasons.Byte (unless (has_bad_spaces line) reasons.Spaces (words_step d (words_of line)))
+
+-- the journal of a draft whose text has ended
+abbrev pub journal_drafted : Draft → PlainJournal
+journal_drafted d = record { nodes = d.nodes; clients = d.clients; draws = d.draws; logs = d.logs; told = d.told }
+
+-- at each place but the first, there is a client
+abbrev pub HasClients : Place → ℕ → Type 0
+HasClients places.Start clients = ⊤
+HasClients places.Head clients = 0 < clients
+HasClients places.Draws clients = 0 < clients
+HasClients places.Logs clients = 0 < clients
+HasClients places.Order clients = 0 < clients
+HasClients places.Ended clients = 0 < clients
+
+-- what bounds the numbers of a draft whose lines had no fault
+pub record IsSound (d : Draft) : Type 0 where
+  pub nodes : d.nodes ≤ 16
+  pub clients : d.clients ≤ 16
+  pub some : HasClients d.place d.clients
+  pub draws : length d.draws ≤ 256
+  pub logs : length d.logs ≤ 16
+
+-- worked examples
+numbers_taken : (three_numbers (codes "7" ∷ codes "8" ∷ []) ≡ Ok (record { first = 7; second = 8; third = 0 })) × (three_numbers (codes "7" ∷ codes "x" ∷ []) ≡ Err reasons.Number)
+unfolding three_numbers
+numbers_taken = (refl, refl)
+
+abbrev two_clients : Draft
+two_clients = record { place = places.Head; nodes = 1; clients = 2; draws = []; logs = []; told = [] }
+
+head_taken : line_step fresh (codes "journal 1 1 2") ≡ Ok two_clients
+unfolding line_step three_numbers keyword_of
+head_taken = refl
+
+draws_taken : ((line_step two_clients (codes "draws 0 0") >>= λ d. line_step d (codes "got 3 0")) ≡ Ok (record two_clients { place = places.Draws; draws = (draws.Got 3 0 ∷ []) ∷ [] }))
+    × (line_step two_clients (codes "draws 0 1") ≡ Err reasons.Order)
+unfolding line_step three_numbers keyword_of
+draws_taken = (refl, refl)

@@ -1,0 +1,9 @@
+pub mod Views
+pub mod Statements
+pub mod Grammar
+pub mod LookBack
+pub mod Faults
+pub mod FaultExamples
+pub mod Forward
+pub mod Laws
+pub mod Books

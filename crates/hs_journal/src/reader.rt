@@ -1,0 +1,324 @@
+//! A journal as far as it has been read, and what each line makes of it.
+
+ghost use Rattle.std.specs.Prelude.{◌≡◌, ◌<◌, ◌≤◌, ◌∷◌, ◌++◌, [], true, false, map, length, OnOk, IfOk};
+ghost use Rattle.hs_journal.specs.Faults.{all_clients, may_stand, is_out_of_range, is_out_of_order, is_in_draws, is_in_logs, is_ended};
+ghost use Rattle.hs_journal.specs.Forward.{Gives, IsSound, draft_of, past_of, after, fresh, entered, with_draw, with_step, line_step, journal_drafted};
+ghost use Rattle.hs_journal.specs.declared.place.Place.TheVariants.{Start};
+ghost use Rattle.hs_journal.specs.declared.word.Keyword.TheVariants.{Journal as JournalWord};
+ghost use Rattle.hs_journal.specs.Views.{journal_of};
+
+use crate::journal::{Draw, Journal, Step};
+use crate::line::{Numbers, numbers_in};
+use crate::place::Place;
+use crate::refusal::JournalReason;
+use crate::stop::Stop;
+use crate::word::{Keyword, keyword_in};
+use hs_base::text::{LineFault, count_words, line_fault, split_word};
+use hs_base::{List, Memory, NodeId};
+use std::alloc::Global;
+
+/// The most buffers of a node.
+const BUFFERS: u64 = 1024;
+
+/// The most nodes, and the most clients of a node.
+const MOST: u64 = 16;
+
+/// What the lines so far say.
+#[derive(Drop)]
+pub struct Reader {
+    alloc: Global,
+    place: Place,
+    nodes: u16,
+    clients: u16,
+    draws: List<List<Draw>>,
+    current_draws: List<Draw>,
+    logs: List<List<Step>>,
+    current_log: List<Step>,
+    told: List<NodeId>,
+}
+
+impl Reader {
+    /// Nothing read yet.
+    pub fn new(alloc: Global) -> Reader
+        ensures { draft_of result ≡ fresh }
+    {
+        Reader {
+            alloc,
+            place: Place::Start,
+            nodes: 0,
+            clients: 0,
+            draws: List::new(alloc),
+            current_draws: List::new(alloc),
+            logs: List::new(alloc),
+            current_log: List::new(alloc),
+            told: List::new(alloc),
+        }
+    }
+
+    /// How many clients the journal has.
+    fn all_clients(&self) -> u64
+        requires { IsSound (draft_of self.now) }
+        ensures { result ≡ all_clients (past_of (draft_of self.now)) }
+    {
+        u64::from(self.nodes) * u64::from(self.clients)
+    }
+
+    /// How many clients' draws have begun.
+    fn begun_draws(&self) -> u64
+        requires { IsSound (draft_of self.now) }
+        ensures { result ≡ length (draft_of self.now).draws }
+    {
+        let finished = self.draws.len() as u64;
+        match self.place {
+            Place::Draws => finished + 1,
+            _ => finished,
+        }
+    }
+
+    /// How many nodes' logs have begun.
+    fn begun_logs(&self) -> u64
+        requires { IsSound (draft_of self.now) }
+        ensures { result ≡ length (draft_of self.now).logs }
+    {
+        let finished = self.logs.len() as u64;
+        match self.place {
+            Place::Logs => finished + 1,
+            _ => finished,
+        }
+    }
+
+    /// Whether a line that begins with this word may stand here.
+    fn may_stand(&self, keyword: Keyword) -> bool
+        requires { IsSound (draft_of self.now) }
+        ensures { result ≡ may_stand (past_of (draft_of self.now)) keyword }
+    {
+        match keyword {
+            Keyword::Journal => matches!(self.place, Place::Start),
+            Keyword::Draws => match self.place {
+                Place::Head => true,
+                Place::Draws => self.begun_draws() < self.all_clients(),
+                _ => false,
+            },
+            Keyword::Got | Keyword::Empty => matches!(self.place, Place::Draws),
+            Keyword::Log => match self.place {
+                Place::Draws => self.all_clients() <= self.begun_draws(),
+                Place::Logs => self.begun_logs() < u64::from(self.nodes),
+                _ => false,
+            },
+            Keyword::Chunk
+            | Keyword::Crumb
+            | Keyword::Trigger
+            | Keyword::Ask
+            | Keyword::Turn
+            | Keyword::Given
+            | Keyword::Missed
+            | Keyword::Unread => matches!(self.place, Place::Logs),
+            Keyword::Coordinator => match self.place {
+                Place::Logs => u64::from(self.nodes) <= self.begun_logs(),
+                _ => false,
+            },
+            Keyword::Told | Keyword::End => matches!(self.place, Place::Order),
+        }
+    }
+
+    /// Whether a number is outside its range.
+    fn is_out_of_range(&self, keyword: Keyword, numbers: Numbers) -> bool
+        ensures { result ≡ is_out_of_range (past_of (draft_of self.now)) keyword numbers }
+    {
+        let Numbers {
+            first,
+            second,
+            third,
+        } = numbers;
+        match keyword {
+            Keyword::Journal => {
+                first != 1 || (second < 1 || MOST < second) || (third < 1 || MOST < third)
+            }
+            Keyword::Got => BUFFERS <= first,
+            Keyword::Chunk | Keyword::Crumb | Keyword::Trigger => u64::from(self.clients) <= first,
+            Keyword::Told => u64::from(self.nodes) <= first,
+            _ => false,
+        }
+    }
+
+    /// Whether the draws or the log are not those of the next client or node.
+    fn is_out_of_order(&self, keyword: Keyword, numbers: Numbers) -> bool
+        requires sound { IsSound (draft_of self.now) }
+        requires stands { may_stand (past_of (draft_of self.now)) keyword ≡ true }
+        ensures { result ≡ is_out_of_order (past_of (draft_of self.now)) keyword numbers }
+    {
+        match keyword {
+            Keyword::Draws => {
+                let begun = self.begun_draws();
+                let clients = u64::from(self.clients);
+                numbers.first != begun / clients || numbers.second != begun % clients
+            }
+            Keyword::Log => numbers.first != self.begun_logs(),
+            _ => false,
+        }
+    }
+
+    /// Takes the list that goes on, where one does, to those before it.
+    #[tactic(auto, using(crate::proofs::Drafts::map_push))]
+    fn close(&mut self) -> Result<(), Memory>
+        ensures draws { OnOk result (map (λ drawn. drawn.items) self.new.draws.items ≡ (draft_of self.old).draws) }
+        ensures logs { OnOk result (map (λ log. log.items) self.new.logs.items ≡ (draft_of self.old).logs) }
+        ensures nodes { self.new.nodes ≡ self.old.nodes }
+        ensures clients { self.new.clients ≡ self.old.clients }
+        ensures told { self.new.told.items ≡ self.old.told.items }
+    {
+        match self.place {
+            Place::Draws => {
+                let current = std::mem::replace(&mut self.current_draws, List::new(self.alloc));
+                self.draws.append(current)
+            }
+            Place::Logs => {
+                let current = std::mem::replace(&mut self.current_log, List::new(self.alloc));
+                self.logs.append(current)
+            }
+            _ => Ok(()),
+        }
+    }
+
+    /// Goes on to a place, where no draws or steps were read yet.
+    fn enter(&mut self, place: Place) -> Result<(), Memory>
+        ensures { OnOk result (draft_of self.new ≡ entered (draft_of self.old) place) }
+    {
+        self.close()?;
+        self.current_draws = List::new(self.alloc);
+        self.current_log = List::new(self.alloc);
+        self.place = place;
+        Ok(())
+    }
+
+    /// Takes the numbers of the first line.
+    fn begin(&mut self, numbers: Numbers)
+        requires nodes { numbers.second ≤ 16 }
+        requires clients { numbers.third ≤ 16 }
+        requires start { self.old.place ≡ Start }
+        ensures { draft_of self.new ≡ after (draft_of self.old) JournalWord numbers }
+    {
+        self.nodes = numbers.second as u16;
+        self.clients = numbers.third as u16;
+        self.place = Place::Head;
+    }
+
+    /// Adds a draw of the client that is read.
+    #[tactic(auto, using(crate::proofs::Drafts::onto_current))]
+    fn add_draw(&mut self, draw: Draw) -> Result<(), Memory>
+        requires { is_in_draws self.old.place ≡ true }
+        ensures { OnOk result (draft_of self.new ≡ with_draw (draft_of self.old) draw) }
+    {
+        self.current_draws.append(draw)
+    }
+
+    /// Adds a step of the agent that is read.
+    #[tactic(auto, using(crate::proofs::Drafts::onto_current))]
+    fn add_step(&mut self, step: Step) -> Result<(), Memory>
+        requires { is_in_logs self.old.place ≡ true }
+        ensures { OnOk result (draft_of self.new ≡ with_step (draft_of self.old) step) }
+    {
+        self.current_log.append(step)
+    }
+
+    /// Takes a line of this word and these numbers, which has no fault.
+    fn take(&mut self, keyword: Keyword, numbers: Numbers) -> Result<(), Memory>
+        requires sound { IsSound (draft_of self.old) }
+        requires stands { may_stand (past_of (draft_of self.old)) keyword ≡ true }
+        requires within { is_out_of_range (past_of (draft_of self.old)) keyword numbers ≡ false }
+        ensures { OnOk result (draft_of self.new ≡ after (draft_of self.old) keyword numbers) }
+    {
+        let first = numbers.first;
+        match keyword {
+            Keyword::Journal => {
+                self.begin(numbers);
+                Ok(())
+            }
+            Keyword::Draws => self.enter(Place::Draws),
+            Keyword::Got => self.add_draw(Draw::Got {
+                buffer: first as u32,
+                stamp: numbers.second,
+            }),
+            Keyword::Empty => self.add_draw(Draw::Empty { stamp: first }),
+            Keyword::Log => self.enter(Place::Logs),
+            Keyword::Chunk => self.add_step(Step::Chunk {
+                client: first as u16,
+            }),
+            Keyword::Crumb => self.add_step(Step::Crumb {
+                client: first as u16,
+            }),
+            Keyword::Trigger => self.add_step(Step::Trigger {
+                client: first as u16,
+            }),
+            Keyword::Ask => self.add_step(Step::Ask),
+            Keyword::Turn => self.add_step(Step::Turn),
+            Keyword::Given => self.add_step(Step::Given { stamp: first }),
+            Keyword::Missed => self.add_step(Step::Missed { stamp: first }),
+            Keyword::Unread => self.add_step(Step::Unread),
+            Keyword::Coordinator => self.enter(Place::Order),
+            Keyword::Told => self.told.append(NodeId(first as u16)),
+            Keyword::End => self.enter(Place::Ended),
+        }
+    }
+
+    /// Takes the next line.
+    #[tactic(auto, unfolding(crate::specs::Forward::line_step))]
+    pub fn read_line(&mut self, line: &[u8]) -> Result<(), Stop>
+        requires { IsSound (draft_of self.old) }
+        ensures { Gives (λ _. draft_of self.new) result (line_step (draft_of self.old) line.now) }
+    {
+        match line_fault(line) {
+            Some(LineFault::Byte) => return Err(Stop::Fault(JournalReason::Byte)),
+            Some(LineFault::Spaces) => return Err(Stop::Fault(JournalReason::Spaces)),
+            None => {}
+        }
+        let (word, _) = split_word(line);
+        let Some(keyword) = keyword_in(word) else {
+            return Err(Stop::Fault(JournalReason::Word));
+        };
+        if !self.may_stand(keyword) {
+            return Err(Stop::Fault(JournalReason::Word));
+        }
+        if count_words(line) != keyword.number_count() + 1 {
+            return Err(Stop::Fault(JournalReason::Count));
+        }
+        let numbers = numbers_in(line)?;
+        if self.is_out_of_range(keyword, numbers) {
+            return Err(Stop::Fault(JournalReason::Range));
+        }
+        if self.is_out_of_order(keyword, numbers) {
+            return Err(Stop::Fault(JournalReason::Order));
+        }
+        self.take(keyword, numbers)?;
+        Ok(())
+    }
+
+    /// Whether the last line was read.
+    pub fn is_ended(&self) -> bool
+        ensures { result ≡ is_ended (draft_of self.now).place }
+    {
+        matches!(self.place, Place::Ended)
+    }
+
+    /// The journal of the text that has ended.
+    pub fn into_journal(self) -> Journal
+        requires { is_ended (draft_of self).place ≡ true }
+        ensures { journal_of result ≡ journal_drafted (draft_of self) }
+    {
+        let Reader {
+            nodes,
+            clients,
+            draws,
+            logs,
+            told,
+            ..
+        } = self;
+        Journal {
+            nodes,
+            clients,
+            draws,
+            logs,
+            told,
+        }
+    }
+}

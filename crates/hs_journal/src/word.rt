@@ -1,0 +1,113 @@
+//! The first words of lines.
+
+ghost use Rattle.std.specs.Prelude.{◌≡◌};
+ghost use Rattle.std.specs.List.{find};
+ghost use Rattle.std.specs.Str.{bytes_eq};
+ghost use Rattle.hs_journal.specs.Statements.{keyword_of, keyword_text, number_count};
+
+/// The first word of a line.
+#[derive(Clone, Copy, Debug, PartialEq, Eq)]
+pub enum Keyword {
+    Journal,
+    Draws,
+    Got,
+    Empty,
+    Log,
+    Chunk,
+    Crumb,
+    Trigger,
+    Ask,
+    Turn,
+    Given,
+    Missed,
+    Unread,
+    Coordinator,
+    Told,
+    End,
+}
+
+/// The words that a line may begin with.
+const KEYWORDS: [Keyword; 16] = [
+    Keyword::Got,
+    Keyword::Empty,
+    Keyword::Chunk,
+    Keyword::Crumb,
+    Keyword::Trigger,
+    Keyword::Ask,
+    Keyword::Turn,
+    Keyword::Given,
+    Keyword::Missed,
+    Keyword::Unread,
+    Keyword::Told,
+    Keyword::Draws,
+    Keyword::Log,
+    Keyword::Journal,
+    Keyword::Coordinator,
+    Keyword::End,
+];
+
+impl Keyword {
+    /// The word.
+    pub fn text(self) -> &'static [u8]
+        ensures { result.now ≡ keyword_text self }
+    {
+        match self {
+            Keyword::Journal => b"journal",
+            Keyword::Draws => b"draws",
+            Keyword::Got => b"got",
+            Keyword::Empty => b"empty",
+            Keyword::Log => b"log",
+            Keyword::Chunk => b"chunk",
+            Keyword::Crumb => b"crumb",
+            Keyword::Trigger => b"trigger",
+            Keyword::Ask => b"ask",
+            Keyword::Turn => b"turn",
+            Keyword::Given => b"given",
+            Keyword::Missed => b"missed",
+            Keyword::Unread => b"unread",
+            Keyword::Coordinator => b"coordinator",
+            Keyword::Told => b"told",
+            Keyword::End => b"end",
+        }
+    }
+
+    /// How many numbers stand behind it.
+    pub fn number_count(self) -> usize
+        ensures { result ≡ number_count self }
+    {
+        match self {
+            Keyword::Journal => 3,
+            Keyword::Draws | Keyword::Got => 2,
+            Keyword::Empty
+            | Keyword::Log
+            | Keyword::Chunk
+            | Keyword::Crumb
+            | Keyword::Trigger
+            | Keyword::Given
+            | Keyword::Missed
+            | Keyword::Told => 1,
+            Keyword::Ask | Keyword::Turn | Keyword::Unread | Keyword::Coordinator | Keyword::End =>
+                0,
+        }
+    }
+}
+
+/// Which of these words a word is.
+fn find_keyword(word: &[u8], keywords: &[Keyword]) -> Option<Keyword>
+    ensures { result ≡ find (λ keyword. bytes_eq word.now (keyword_text keyword)) keywords.now }
+{
+    for keyword in keywords {
+        if word == keyword.text() {
+            return Some(*keyword);
+        }
+    }
+    None
+}
+
+/// Which word that a line may begin with a word is.
+#[tactic(auto, unfolding(crate::specs::Statements::keyword_of))]
+pub fn keyword_in(word: &[u8]) -> Option<Keyword>
+    ensures { result ≡ keyword_of word.now }
+{
+    find_keyword(word, &KEYWORDS)
+}
