@@ -1,0 +1,14 @@
+pub mod Words
+pub mod Numbers
+pub mod Exact
+pub mod LookedBack
+pub mod Spelled
+pub mod Clear
+pub mod Sound
+pub mod Taken
+pub mod Runs
+pub mod Shape
+pub mod Valid
+pub mod Whole
+pub mod Faultless
+pub mod Reading

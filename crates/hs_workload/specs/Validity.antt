@@ -1,0 +1,64 @@
+-- Which workloads have a text, and when a text reads as a workload: it is that workload's text.
+use Rattle.std.specs.Prelude.{◌≡◌, ℕ, ◌+◌, ◌*◌, ◌^◌, ◌<◌, ◌≤◌, List, [], ◌∷◌, length, Bool, true, false, ⊤}
+use Rattle.std.specs.List.{All, AllByRecursion}
+use Rattle.hs_base.specs.Text.{trace_digits}
+use Rattle.hs_base.specs.Plain.{Operation, Begin, Point, Crumb, End, Fire, Sample, PlainWorkload}
+use Rattle.hs_workload.specs.Grammar.{workload_text}
+use Rattle.hs_workload.specs.LookBack.{operation_pieces}
+
+abbrev pub Within : ℕ → ℕ → ℕ → Type 0
+Within least most number = (least ≤ number) × (number ≤ most)
+
+-- an operation that has words
+abbrev pub HasWords : ℕ → Operation → Type 0
+HasWords version (Begin trace) = trace.0 < 16 ^ trace_digits version
+HasWords version (Point moment payload) = (moment < 2 ^ 64) × (length payload ≤ 65535) × All (λ b. b < 256) payload
+HasWords version End = ⊤
+HasWords version (Crumb node) = ⊥
+HasWords version (Fire trigger) = ⊥
+HasWords version (Sample moment auto value) = ⊥
+
+-- From a client's start or within a trace, a trace is begun where none is open, points stand and it is ended where one
+-- is open, and none is open at the end.
+abbrev pub AreBracketed : Bool → List Operation → Type 0
+AreBracketed is_open [] = is_open ≡ false
+AreBracketed is_open (Begin trace ∷ operations) = (is_open ≡ false) × AreBracketed true operations
+AreBracketed is_open (End ∷ operations) = (is_open ≡ true) × AreBracketed false operations
+AreBracketed is_open (Point moment payload ∷ operations) = (is_open ≡ true) × AreBracketed is_open operations
+AreBracketed is_open (Crumb node ∷ operations) = (is_open ≡ true) × AreBracketed is_open operations
+AreBracketed is_open (Fire trigger ∷ operations) = AreBracketed is_open operations
+AreBracketed is_open (Sample moment auto value ∷ operations) = (is_open ≡ true) × AreBracketed is_open operations
+
+pub record IsClient (version : ℕ) (operations : List Operation) : Type 0 where
+  pub words : AllByRecursion (HasWords version) operations
+  pub bracketed : AreBracketed false operations
+
+-- the operations, a point counted once for each of its pieces
+abbrev pub client_pieces : ℕ → List Operation → ℕ
+client_pieces size [] = 0
+client_pieces size (operation ∷ operations) = operation_pieces size operation + client_pieces size operations
+
+abbrev pub workload_pieces : ℕ → List (List Operation) → ℕ
+workload_pieces size [] = 0
+workload_pieces size (operations ∷ more) = client_pieces size operations + workload_pieces size more
+
+pub record IsValid (W : PlainWorkload) : Type 0 where
+  pub version : Within 1 2 W.version
+  pub nodes : Within 1 1 W.settings.nodes
+  pub clients : Within 1 1 W.settings.clients
+  pub buffers : Within 1 1024 W.settings.buffers
+  pub size : Within 64 32768 W.settings.size
+  pub threshold : Within W.settings.buffers 1024 W.settings.threshold
+  pub traces : Within W.settings.buffers 65536 W.settings.traces
+  pub pins : Within 0 1024 W.settings.pins
+  pub stride : Within 1 64 W.settings.stride
+  pub triggers : W.settings.triggers ≡ []
+  pub autos : W.settings.autos ≡ []
+  pub count : length W.clients ≡ W.settings.nodes * W.settings.clients
+  pub each : AllByRecursion (IsClient W.version) W.clients
+  pub few : workload_pieces W.settings.size W.clients ≤ 262144
+
+-- the text reads as the workload
+pub record Reads (text : List ℕ) (W : PlainWorkload) : Type 0 where
+  pub valid : IsValid W
+  pub spelled : text ≡ workload_text W

@@ -1,0 +1,18 @@
+//! The workload text: its grammar, and the reader that names the first bad line and its first reason
+//! (`docs/FORMATS.md`, "The workload").
+#![tactic(auto)]
+
+mod draft;
+mod laws;
+mod operation;
+mod reader;
+mod refusal;
+mod stop;
+#[cfg(test)]
+mod tests;
+mod word;
+
+pub use laws::{faultless_texts_read, one_workload_a_text};
+pub use operation::{Op, Workload};
+pub use reader::read_workload;
+pub use refusal::{ReadError, Reason, Refusal};

@@ -1,0 +1,51 @@
+//! Why a text is no workload.
+
+/// What is wrong with a line (`docs/FORMATS.md`, "Refusals"). The reasons stand in the order in which
+/// they are asked.
+#[derive(Clone, Copy, Debug, PartialEq, Eq)]
+pub enum Reason {
+    /// The text ends within this line, or where it would begin.
+    Truncated,
+    /// A byte does not print.
+    Byte,
+    /// The line is empty, begins or ends with a space, or has two spaces together.
+    Spaces,
+    /// The first word may not stand here.
+    Word,
+    /// There are too few or too many words.
+    Count,
+    /// A word in the place of a number is none.
+    Number,
+    /// A word in the place of a trace or of a payload is none.
+    Hex,
+    /// A number is outside its range, or a payload is too long.
+    Range,
+    /// A client is not the next one.
+    Order,
+    /// What is named was not declared.
+    Unknown,
+    /// A trace is begun while one is open.
+    Open,
+    /// A trace is needed and none is open.
+    NoTrace,
+    /// A client ends while a trace is open.
+    StillOpen,
+    /// The operations so far are too many.
+    TooMany,
+}
+
+/// The first bad line, from 1, and the first reason that it has.
+#[derive(Clone, Copy, Debug, PartialEq, Eq)]
+pub struct Refusal {
+    pub line: u32,
+    pub reason: Reason,
+}
+
+/// Why there is no workload.
+#[derive(Clone, Copy, Debug, PartialEq, Eq)]
+pub enum ReadError {
+    /// The text is no workload.
+    Refused(Refusal),
+    /// Memory ran out.
+    Memory,
+}
