@@ -1,0 +1,10 @@
+pub mod Placed
+pub mod Placing
+pub mod RecordPlaced
+pub mod GrowthLemmas
+pub mod Walk
+pub mod ClientEntries
+pub mod LoopLemmas
+pub mod FirstClient
+pub mod OutcomeLemmas
+pub mod Examples

@@ -1,0 +1,13 @@
+//! The replay of a workload on one thread, and the text of its outcome.
+#![tactic(auto)]
+
+mod client;
+mod ledger;
+mod one_client;
+mod outcome;
+#[cfg(test)]
+mod tests;
+
+pub use ledger::{Entry, Ledger, Outcome, Totals};
+pub use one_client::replay;
+pub use outcome::{Form, write_outcome};
