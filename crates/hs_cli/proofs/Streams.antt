@@ -1,0 +1,43 @@
+-- What a source lost, what a sink gained and what a counter counted, over several calls.
+use Rattle.std.proofs.Common.{◌≡◌, ℕ, ◌≤◌, List, [], ◌++◌, Option, Some, None, IfSome, ◌↔◌, inl, inr, refl, sym, ap, ◌∙◌, arith, append_assoc}
+use Rattle.std.proofs.lemmas.List.{append-nil}
+use Rattle.hs_base.specs.Outside.{Rose, Loses, Gains}
+
+pub Gains-nil : (a : Option (List ℕ)) → Gains a a []
+Gains-nil None = refl
+Gains-nil (Some xs) = sym (append-nil xs)
+
+pub Gains-trans : (a b c : Option (List ℕ)) (x y : List ℕ) → Gains a b x → Gains b c y → Gains a c (x ++ y)
+Gains-trans None None c x y p q = q
+Gains-trans None (Some bs) c x y p q = cc
+Gains-trans (Some as') None c x y p q = absurd p
+Gains-trans (Some as') (Some bs) None x y p q = absurd q
+Gains-trans (Some as') (Some bs) (Some cs) x y p q = q ∙ ap (λ zs. zs ++ y) p ∙ append_assoc as' x y
+
+pub Loses-nil : (a : Option (List ℕ)) → Loses a a []
+Loses-nil None = refl
+Loses-nil (Some xs) = refl
+
+pub Loses-trans : (a b c : Option (List ℕ)) (x y : List ℕ) → Loses a b x → Loses b c y → Loses a c (x ++ y)
+Loses-trans None None c x y p q = q
+Loses-trans None (Some bs) c x y p q = cc
+Loses-trans (Some as') None c x y p q = absurd p
+Loses-trans (Some as') (Some bs) None x y p q = absurd q
+Loses-trans (Some as') (Some bs) (Some cs) x y p q = p ∙ ap (λ zs. x ++ zs) q ∙ sym (append_assoc x y cs)
+
+-- a count that rose in a later call rose since an earlier moment
+pub Rose-since : (before mid after : ℕ) → before ≤ mid → Rose mid after → Rose before after
+Rose-since before mid after le (inl p) = inl (omega arith)
+Rose-since before mid after le (inr p) = inr p
+
+-- a read that gave nothing at the end of the known bytes left nothing
+pub nothing_left : (old new : Option (List ℕ)) (bytes : List ℕ) → bytes ≡ [] → IfSome old (λ known. known ≡ []) → Loses old new bytes → IfSome new (λ rest. rest ≡ [])
+nothing_left None None bytes none end lost = tt
+nothing_left None (Some rest) bytes none end lost = cc
+nothing_left (Some known) None bytes none end lost = absurd lost
+nothing_left (Some known) (Some rest) bytes none end lost = sym (lost ∙ ap (λ front. front ++ rest) none) ∙ end
+
+-- a read that gave nothing stood at the end of the known bytes
+pub ended : (old : Option (List ℕ)) (count : ℕ) → count ≡ 0 → IfSome old (λ bytes. (count ≡ 0) ↔ (bytes ≡ [])) → IfSome old (λ bytes. bytes ≡ [])
+ended None count zero end = tt
+ended (Some bytes) count zero end = end.0 zero

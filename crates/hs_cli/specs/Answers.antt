@@ -1,0 +1,9 @@
+-- What is due for a whole input.
+use Rattle.std.specs.Prelude.{ℕ, List}
+use Rattle.hs_cli.specs.Endings.{IsReplayed, IsRefused}
+use Rattle.hs_cli.specs.declared.answer.Answer.{Answer}
+use Rattle.hs_cli.specs.declared.answer.Answer.TheVariants.{Outcome, Refusal}
+
+abbrev pub IsAnswer : List ℕ → Answer → Type 0
+IsAnswer input (Outcome text) = IsReplayed input text.items
+IsAnswer input (Refusal text) = IsRefused input text.items

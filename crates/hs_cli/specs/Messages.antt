@@ -1,0 +1,40 @@
+-- The words that are a command, and the texts that are written in place of an output.
+use Rattle.std.specs.Prelude.{◌≡◌, ℕ, List, [], ◌∷◌, ◌++◌, codes, decimal, refl}
+use Rattle.std.specs.Fmt.{digits}
+use Rattle.hs_base.specs.Text.{line_of, text_of}
+use Rattle.hs_workload.specs.declared.refusal.Reason.{Reason}
+use Rattle.hs_workload.specs.declared.refusal.Reason.TheVariants.{Truncated, Byte, Spaces, Word, Count, Number, Hex, Range, Order, Unknown, Open, NoTrace, StillOpen, TooMany}
+
+-- The one word that is a command.
+abbrev pub IsCommand : List (List ℕ) → Type 0
+IsCommand words = words ≡ codes "replay" ∷ []
+
+abbrev pub usage_text : List ℕ
+usage_text = text_of (codes "usage: hindsight replay [--json] | run [--json] | run --watch | make SEED SIZE | drill SEED SIZE | convert | check | compare H B" ∷ [])
+
+abbrev pub too_long_text : List ℕ
+too_long_text = text_of (codes "refused input longer than 16777216 bytes" ∷ [])
+
+abbrev pub reason_text : Reason → List ℕ
+reason_text Truncated = codes "Truncated"
+reason_text Byte = codes "Byte"
+reason_text Spaces = codes "Spaces"
+reason_text Word = codes "Word"
+reason_text Count = codes "Count"
+reason_text Number = codes "Number"
+reason_text Hex = codes "Hex"
+reason_text Range = codes "Range"
+reason_text Order = codes "Order"
+reason_text Unknown = codes "Unknown"
+reason_text Open = codes "Open"
+reason_text NoTrace = codes "NoTrace"
+reason_text StillOpen = codes "StillOpen"
+reason_text TooMany = codes "TooMany"
+
+-- what is written of an input whose first bad line is this one, for this reason
+abbrev pub refusal_text : ℕ → Reason → List ℕ
+refusal_text line reason = text_of (line_of (codes "refused" ∷ codes "line" ∷ decimal line ∷ reason_text reason ∷ []) ∷ [])
+
+refused_line_11 : refusal_text 11 NoTrace ≡ codes "refused line 11 NoTrace" ++ 10 ∷ []
+unfolding digits
+refused_line_11 = refl

@@ -1,0 +1,11 @@
+//! The top call: all of the program over a handed-in source, sink and gate.
+#![tactic(auto)]
+
+mod answer;
+mod reading;
+mod status;
+mod top;
+mod writing;
+
+pub use status::Status;
+pub use top::hindsight;

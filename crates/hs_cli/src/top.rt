@@ -1,0 +1,128 @@
+//! The top call.
+
+ghost use Rattle.std.specs.Prelude.{◌≡◌, ◌≤◌, ◌⊎◌, ℕ, List, map, length, string_bytes, Some, ◌↔◌, IsTrue};
+ghost use Rattle.hs_base.specs.Outside.{Rose, Gains};
+ghost use Rattle.hs_base.specs.Plain.{PlainWorkload};
+ghost use Rattle.hs_workload.specs.Validity.{Reads};
+ghost use Rattle.hs_cli.specs.Input.{input_limit};
+ghost use Rattle.hs_cli.specs.Messages.{IsCommand, usage_text, too_long_text};
+ghost use Rattle.hs_cli.specs.Written.{GainsFront};
+ghost use Rattle.hs_cli.specs.Endings.{Ends, Wrote, WroteFront};
+
+use crate::answer::{Answer, answer_to};
+use crate::reading::{Input, read_all};
+use crate::status::Status;
+use crate::writing::write_all;
+use hs_base::{Gate, Sink, Source};
+use std::alloc::Global;
+use std::marker::Sync;
+use std::thread::Threads;
+
+/// What is written where the words are no command.
+const USAGE: &[u8] =
+    b"usage: hindsight replay [--json] | run [--json] | run --watch | make SEED SIZE | drill SEED SIZE | convert | check | compare H B\n";
+
+/// What is written of an input that is too long.
+const TOO_LONG: &[u8] = b"refused input longer than 16777216 bytes\n";
+
+/// Whether the words are a command: the one word `replay`.
+fn is_command(words: &[String]) -> bool
+    ensures { IsTrue result ↔ IsCommand (map (λ word. string_bytes word) words.now) }
+{
+    match words {
+        [word] => word.as_str() == "replay",
+        _ => false,
+    }
+}
+
+/// Writes a text, and answers the status that goes with it, or `WriteFault`.
+fn finish<K: Sink>(sink: &mut K, text: &[u8], status: Status) -> Status
+    ensures { (result ≡ status × Gains (K.written sink.old) (K.written sink.new) text.now)
+        ⊎ (result ≡ Status.WriteFault × Rose (K.faults sink.old) (K.faults sink.new) × GainsFront (K.written sink.old) (K.written sink.new) text.now) }
+{
+    match write_all(sink, text) {
+        Ok(()) => status,
+        Err(_) => Status::WriteFault,
+    }
+}
+
+/// What the call does, with its answer as one fact.
+fn call<S: Source, K: Sink>(alloc: Global, words: &[String], source: &mut S, sink: &mut K) -> Status
+    ensures { Ends (map (λ word. string_bytes word) words.now) (S.left source.old) (S.left source.new) (K.written sink.old) (K.written sink.new)
+        (S.faults source.old) (S.faults source.new) (K.faults sink.old) (K.faults sink.new) result }
+{
+    if !is_command(words) {
+        return finish(sink, USAGE, Status::Usage);
+    }
+    match read_all(alloc, source) {
+        Input::Fault => Status::ReadFault,
+        Input::NoMemory => Status::Memory,
+        Input::TooLong => finish(sink, TOO_LONG, Status::TooLong),
+        Input::Whole(input) => match answer_to(alloc, &input) {
+            Ok(Answer::Outcome(text)) => finish(sink, &text, Status::Done),
+            Ok(Answer::Refusal(text)) => finish(sink, &text, Status::Refused),
+            Err(_) => Status::Memory,
+        },
+    }
+}
+
+/// Runs the command that the words name: reads its input from the source and writes its output to
+/// the sink (`docs/FORMATS.md`, "The program"). `words` has no name of a program.
+pub fn hindsight<R: Threads + Sync, S: Source, K: Sink, G: Gate>(
+    _rt: &R,
+    alloc: Global,
+    words: &[String],
+    source: &mut S,
+    sink: &mut K,
+    _gate: &G,
+) -> Status
+    // The input was read whole and is a workload, and the sink gained that workload's outcome.
+    ensures done { result ≡ Status.Done
+        → Wrote (map (λ word. string_bytes word) words.now) (S.left source.old) (S.left source.new)
+        (K.written sink.old) (K.written sink.new) Status.Done }
+
+    // The words are no command. Nothing was read, and the sink gained the usage line.
+    ensures usage { result ≡ Status.Usage
+        → Wrote (map (λ word. string_bytes word) words.now) (S.left source.old) (S.left source.new)
+        (K.written sink.old) (K.written sink.new) Status.Usage }
+
+    ensures no_command { ¬ IsCommand (map (λ word. string_bytes word) words.now)
+        → (result ≡ Status.Usage) ⊎ (result ≡ Status.WriteFault) }
+
+    // The input was read whole and is no workload, and the sink gained its first bad line and reason.
+    ensures refused { result ≡ Status.Refused
+        → Wrote (map (λ word. string_bytes word) words.now) (S.left source.old) (S.left source.new)
+        (K.written sink.old) (K.written sink.new) Status.Refused }
+
+    // The source gave one byte more than an input may have and was asked for no more, and the sink
+    // gained the text that says so.
+    ensures too_long { result ≡ Status.TooLong
+        → Wrote (map (λ word. string_bytes word) words.now) (S.left source.old) (S.left source.new)
+        (K.written sink.old) (K.written sink.new) Status.TooLong }
+
+    // The source failed in this call, and nothing was written.
+    ensures read_fault { result ≡ Status.ReadFault → Rose (S.faults source.old) (S.faults source.new) }
+    ensures read_fault_writes { result ≡ Status.ReadFault → K.written sink.new ≡ K.written sink.old }
+
+    // The sink failed in this call, and gained a front of the text that was due.
+    ensures write_fault { result ≡ Status.WriteFault → Rose (K.faults sink.old) (K.faults sink.new) }
+    ensures write_fault_writes { result ≡ Status.WriteFault
+        → WroteFront (map (λ word. string_bytes word) words.now) (S.left source.old) (S.left source.new)
+        (K.written sink.old) (K.written sink.new) }
+
+    // Want of memory comes with any command, and then nothing was written.
+    ensures memory { result ≡ Status.Memory
+        → IsCommand (map (λ word. string_bytes word) words.now) }
+    ensures memory_writes { result ≡ Status.Memory → K.written sink.new ≡ K.written sink.old }
+
+    // A command over a workload that is short enough is done where nothing fails, unless memory runs
+    // out.
+    ensures complete { (W : PlainWorkload) (input : List ℕ)
+        → IsCommand (map (λ word. string_bytes word) words.now)
+        → S.left source.old ≡ Some input → Reads input W → length input ≤ input_limit
+        → ¬ Rose (S.faults source.old) (S.faults source.new)
+        → ¬ Rose (K.faults sink.old) (K.faults sink.new)
+        → (result ≡ Status.Done) ⊎ (result ≡ Status.Memory) }
+{
+    call(alloc, words, source, sink)
+}
