@@ -1,0 +1,58 @@
+//! Calls of the program over memory.
+
+ghost use Rattle.std.specs.Prelude.{◌<◌};
+
+use hs_base::{MemorySink, MemorySource, OpenGate};
+use hs_cli::hindsight;
+use std::marker::Sync;
+use std::test::Fail;
+use std::thread::Threads;
+
+/// The example: one buffer and three records, of which the third finds the pool empty.
+pub(crate) const EXAMPLE: &str =
+    "hindsight 1\nnodes 1\nclients 1\nbuffers 1\nsize 64\nthreshold 1\ntraces 4\npins 4\nstride 8\nclient 0 0\nbegin 0000000000000001\npoint 100 00112233445566778899\npoint 101 00112233445566778899\npoint 102 00112233445566778899\nend\ndone\n";
+
+/// What the example's replay writes.
+pub(crate) const EXAMPLE_OUTPUT: &str =
+    "ledger 3\n0 0 0 0000000000000001 live\n0 0 1 0000000000000001 live\n0 0 2 0000000000000001 null 1\ntotal 3 live 2 reported 0 null 1 evicted 0 abandoned 0\ndone\n";
+
+/// How a source and a sink behave: the most bytes of a call, and the numbers of the calls that fail.
+#[derive(Clone, Copy)]
+pub(crate) struct Streams<'a> {
+    pub(crate) most: usize,
+    pub(crate) read_fails: &'a [u32],
+    pub(crate) write_fails: &'a [u32],
+}
+
+/// The status number of a call with these words, and what it wrote.
+pub(crate) fn called<R: Threads + Sync + AllocGlobal>(
+    rt: &R,
+    words: &[&str],
+    input: &[u8],
+    streams: &Streams,
+) -> Result<(u8, Vec<u8>), Fail>
+    requires { 0 < streams.now.most }
+{
+    let alloc = rt.alloc();
+    let mut texts = Vec::new(alloc);
+    for word in words {
+        texts.push(word.to_string(alloc)?)?;
+    }
+    let mut source = MemorySource::new(alloc, input, streams.most, streams.read_fails)?;
+    let mut sink = MemorySink::new(alloc, 1 << 16, streams.most, streams.write_fails)?;
+    let status = hindsight(rt, alloc, &texts, &mut source, &mut sink, &OpenGate);
+    Ok((status.number(), sink.bytes().to_vec(alloc)?))
+}
+
+/// The same of the word `replay` over streams that do not fail.
+pub(crate) fn replayed<R: Threads + Sync + AllocGlobal>(
+    rt: &R,
+    input: &[u8],
+) -> Result<(u8, Vec<u8>), Fail> {
+    let streams = Streams {
+        most: 1 << 20,
+        read_fails: &[],
+        write_fails: &[],
+    };
+    called(rt, &["replay"], input, &streams)
+}
