@@ -1,0 +1,9 @@
+pub mod Firing
+pub mod FiringExamples
+pub mod Watching
+pub mod Windows
+pub mod Ranks
+pub mod Rooms
+pub mod Autos
+pub mod Tallies
+pub mod Counts

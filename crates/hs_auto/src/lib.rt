@@ -1,0 +1,15 @@
+//! Triggers that fire by themselves: each watches the samples that its client is given, and answers
+//! for each of them whether it fires.
+#![tactic(auto)]
+
+mod auto;
+mod counted;
+mod laterals;
+mod ranked;
+mod sampled;
+mod tallies;
+#[cfg(test)]
+mod tests;
+
+pub use auto::Auto;
+pub use sampled::Sampled;

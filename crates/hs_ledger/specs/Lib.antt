@@ -1,0 +1,5 @@
+pub mod Books
+pub mod Fates
+pub mod Totals
+pub mod Making
+pub mod Sample

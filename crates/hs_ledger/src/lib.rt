@@ -1,0 +1,13 @@
+//! One fate for each record: the ledger of a run, from the books of its clients and agents
+//! (`docs/RULES.md`, "The ledger").
+#![tactic(auto)]
+
+mod book;
+mod ledger;
+mod making;
+mod standings;
+#[cfg(test)]
+mod tests;
+
+pub use ledger::{Entry, Ledger, Totals};
+pub use making::make_ledger;

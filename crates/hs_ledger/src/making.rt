@@ -1,0 +1,39 @@
+//! The ledger of a run.
+
+ghost use Rattle.std.specs.Prelude.{◌≡◌, IfOk, sum_by};
+ghost use Rattle.hs_ledger.specs.Books.{BooksFit, record_count};
+ghost use Rattle.hs_ledger.specs.Fates.{entries_of};
+ghost use Rattle.hs_ledger.specs.Totals.{totals_of, parts_of};
+
+use crate::book::add_book;
+use crate::ledger::{Ledger, Totals};
+use crate::standings::page_fates;
+use hs_base::{List, Memory};
+use hs_journal::{AgentBook, ClientBook};
+use std::alloc::Global;
+
+/// The ledger of a run whose books fit: one entry for each record, in the order of node, client and
+/// number, with the fate of its first discarded piece, or else of its first piece, and totals that
+/// count the entries (`docs/RULES.md`, "The ledger"). The one error is want of memory.
+pub fn make_ledger(
+    alloc: Global,
+    clients: &List<ClientBook>,
+    agents: &List<AgentBook>,
+) -> Result<Ledger, Memory>
+    requires { BooksFit clients.now.items agents.now.items }
+    ensures entries { IfOk result (λ ledger. ledger.entries.items ≡ entries_of clients.now.items agents.now.items) }
+    ensures totals { IfOk result (λ ledger. ledger.totals ≡ totals_of (entries_of clients.now.items agents.now.items)) }
+    ensures records { IfOk result (λ ledger. ledger.totals.records ≡ sum_by (λ book. record_count book.pages.items) clients.now.items) }
+    ensures parts { IfOk result (λ ledger. parts_of ledger.totals ≡ ledger.totals.records) }
+{
+    let fates = page_fates(alloc, agents.as_slice())?;
+    let mut entries = Vec::new(alloc);
+    for book in clients.as_slice() {
+        add_book(&mut entries, &fates, book)?;
+    }
+    let totals = Totals::of(entries.as_slice());
+    Ok(Ledger {
+        entries: List::from_vec(entries),
+        totals,
+    })
+}
