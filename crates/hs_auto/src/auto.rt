@@ -14,8 +14,8 @@ use hs_base::{AutoRule, Laterals, Memory, TraceId};
 use std::alloc::Global;
 use std::marker::Model;
 
-/// A trigger that fires by itself. Contracts see its rule, and the latest of its samples as far back
-/// as the rule looks.
+/// A trigger that fires by itself. Contracts see its rule, and the latest of its samples, as far
+/// back as the rule looks.
 #[derive(Drop)]
 pub struct Auto {
     rule: AutoRule,
@@ -144,7 +144,8 @@ fn rooms_of(rule: AutoRule) -> Rooms
 fn ranks_high(ranked: &RankedWindow, value: u64, share: u32) -> bool
     requires { ranked.now.size < 2 ^ 32 }
     ensures { result ≡ ((length ranked.now.values == ranked.now.size)
-        && reaches_share ranked.now.size share (count_by (λ earlier. nat_lt earlier value) ranked.now.values)) }
+        && reaches_share ranked.now.size share
+        (count_by (λ earlier. nat_lt earlier value) ranked.now.values)) }
 {
     ranked.is_full() && reaches(ranked.count_less(value), share, ranked.size())
 }
@@ -153,7 +154,8 @@ fn ranks_high(ranked: &RankedWindow, value: u64, share: u32) -> bool
 fn is_rare(counted: &CountedWindow, value: u64, share: u32) -> bool
     requires { counted.now.size < 2 ^ 32 }
     ensures { result ≡ ((length counted.now.values == counted.now.size)
-        && not (reaches_share counted.now.size share (count_by (λ earlier. earlier == value) counted.now.values))) }
+        && not (reaches_share counted.now.size share
+        (count_by (λ earlier. earlier == value) counted.now.values))) }
 {
     counted.is_full() && !reaches(counted.count_equal(value), share, counted.size())
 }

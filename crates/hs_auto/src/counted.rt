@@ -62,7 +62,10 @@ impl CountedWindow {
 
     /// Takes a value in. Where the window was full, its oldest value leaves.
     pub fn push(&mut self, value: u64)
-        ensures { self.new ≡ record { size = self.old.size; values = take self.old.size (value ∷ self.old.values) } }
+        ensures { self.new ≡ record {
+          size = self.old.size;
+          values = take self.old.size (value ∷ self.old.values);
+        } }
     {
         add(&mut self.tallies, value);
         if let Some(oldest) = self.arrived.push_front(value) {

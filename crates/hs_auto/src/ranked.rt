@@ -61,7 +61,10 @@ impl RankedWindow {
 
     /// Takes a value in. Where the window was full, its oldest value leaves.
     pub fn push(&mut self, value: u64)
-        ensures { self.new ≡ record { size = self.old.size; values = take self.old.size (value ∷ self.old.values) } }
+        ensures { self.new ≡ record {
+          size = self.old.size;
+          values = take self.old.size (value ∷ self.old.values);
+        } }
     {
         let place = self.sorted.partition_point(|earlier| *earlier < value);
         match self.sorted.insert(place, value) {

@@ -1,0 +1,4 @@
+pub mod Core
+pub mod Layout
+pub mod Calls
+pub mod ForTests

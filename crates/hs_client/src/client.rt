@@ -1,0 +1,251 @@
+//! The core of a client.
+
+ghost use Rattle.std.specs.Prelude.{◌≡◌, ◌+◌, ◌-◌, ◌≤◌, ◌<◌, ◌^◌, length, IfOk, false, None, IsSome, IsNone, count_by};
+ghost use Rattle.hs_client.specs.Calls.{May};
+ghost use Rattle.hs_client.specs.Core.{new_core, after_step, began, ended_step, pointed_step, supplied, closed, handed, buffer_in, buffer_of, started, piece, BeginsBy, PointsBy, EndsBy, MaySupply, HasClearChunk, is_null};
+
+use crate::answers::{Begun, Ended, Pointed};
+use hs_base::{ClientId, List, Memory, TraceId};
+use hs_journal::{ClientBook, Draw, PageNote};
+use hs_words::{Drawn, Header, Held, Token};
+use std::alloc::Global;
+use std::marker::Model;
+
+/// The bytes of a page that are no room for pieces.
+const HEADER: usize = 24;
+
+/// The bytes that a piece takes of a page beside its payload.
+const PIECE: usize = 10;
+
+/// A client's core. It has at most one page at a time, and takes all its memory when it is made.
+#[derive(Drop)]
+pub struct ClientCore<L: Token> {
+    client: ClientId,
+    size: u32,
+    calls: u32,
+    counted: u32,
+    trace: Option<TraceId>,
+    record: u32,
+    used: u32,
+    page: Option<PageNote>,
+    held: Option<Held<L>>,
+    draws: List<Draw>,
+    pages: List<PageNote>,
+    nulls: u32,
+}
+
+impl<L: Token> Model for ClientCore<L> {
+    ghost use Rattle.hs_client.specs.Core.{Core};
+
+    ghost Value = { Core L };
+
+    ghost use Rattle.hs_client.specs.Layout.{core_of, IsInOrder};
+
+    ghost view = { core_of };
+
+    ghost invariant = { IsInOrder };
+}
+
+impl<L: Token> ClientCore<L> {
+    /// A core for a client whose buffers have this size, and for so many calls that are counted.
+    pub fn make(
+        alloc: Global,
+        client: ClientId,
+        size: u32,
+        calls: u32,
+    ) -> Result<ClientCore<L>, Memory>
+        requires least { 64 ≤ size }
+        requires most { size ≤ 32768 }
+        ensures { IfOk result (λ core. core ≡ new_core client size calls) }
+    {
+        Ok(ClientCore {
+            client,
+            size,
+            calls,
+            counted: 0,
+            trace: None,
+            record: 0,
+            used: 0,
+            page: None,
+            held: None,
+            draws: List::with_room(alloc, calls as usize)?,
+            pages: List::with_room(alloc, calls as usize)?,
+            nulls: 0,
+        })
+    }
+
+    /// Opens a trace.
+    pub fn begin(&mut self, trace: TraceId) -> Begun
+        ensures answer { BeginsBy self.old result }
+        ensures after { self.new ≡ after_step self.old (began trace result) }
+        ensures may { May self.old (began trace result) }
+    {
+        if self.counted == self.calls {
+            return Begun::Spent;
+        }
+        if self.trace.is_some() {
+            return Begun::AlreadyOpen;
+        }
+        self.trace = Some(trace);
+        self.used = 0;
+        self.counted += 1;
+        Begun::Began
+    }
+
+    /// Records a piece, the last of its record unless `more` is true. Where it needs a page, the page before is
+    /// handed out: then draw, and call `supply` with the same piece.
+    pub fn piece(&mut self, moment: u64, payload: &[u8], more: bool) -> Pointed<L>
+        ensures answer { PointsBy self.old (length payload.now) result }
+        ensures after { self.new ≡ after_step self.old (pointed_step moment payload.now more result) }
+        ensures may { May self.old (pointed_step moment payload.now more result) }
+    {
+        if self.counted == self.calls {
+            return Pointed::Spent;
+        }
+        if self.trace.is_none() {
+            return Pointed::NoTrace;
+        }
+        if payload.len() + (HEADER + PIECE) > self.size as usize {
+            return Pointed::TooWide;
+        }
+        let Some(page) = self.page else {
+            return Pointed::NeedPage(None);
+        };
+        let used = self.used as usize + (PIECE + payload.len());
+        if used > self.size as usize {
+            return Pointed::NeedPage(self.close_page());
+        }
+        if let Some(held) = &mut self.held {
+            held.chunk.add(moment, payload);
+        }
+        self.page = Some(PageNote {
+            trace: page.trace,
+            first: page.first,
+            count: page.count + 1,
+        });
+        self.used = used as u32;
+        self.counted += 1;
+        if !more {
+            self.record += 1;
+        }
+        Pointed::Written
+    }
+
+    /// Records a piece that is the last of its record, or all of it.
+    pub fn point(&mut self, moment: u64, payload: &[u8]) -> Pointed<L>
+        ensures answer { PointsBy self.old (length payload.now) result }
+        ensures after { self.new ≡ after_step self.old (pointed_step moment payload.now false result) }
+        ensures may { May self.old (pointed_step moment payload.now false result) }
+    {
+        self.piece(moment, payload, false)
+    }
+
+    /// Starts the next page with what was drawn for it, and writes the piece as its first.
+    pub fn supply(&mut self, drawn: Drawn<L>, moment: u64, payload: &[u8], more: bool)
+        requires may { MaySupply self.old (length payload.now) }
+        requires clear { HasClearChunk self.old drawn }
+        ensures after { self.new ≡ after_step self.old (supplied drawn moment payload.now more) }
+        ensures may { May self.old (supplied drawn moment payload.now more) }
+    {
+        let Some(trace) = self.trace else {
+            unreachable!()
+        };
+        let header = Header {
+            trace,
+            client: self.client,
+            page: self.pages.len() as u32,
+            first: self.record,
+        };
+        match drawn {
+            Drawn::Got { held, stamp } => {
+                let buffer = held.chunk.number();
+                self.draws.push(Draw::Got { buffer, stamp });
+                self.held = Some(start_page(held, header, moment, payload));
+            }
+            Drawn::Empty { stamp } => {
+                self.draws.push(Draw::Empty { stamp });
+                self.nulls += 1;
+            }
+        }
+        self.page = Some(PageNote {
+            trace,
+            first: self.record,
+            count: 1,
+        });
+        self.used = (HEADER + PIECE + payload.len()) as u32;
+        self.counted += 1;
+        if !more {
+            self.record += 1;
+        }
+    }
+
+    /// Ends the current page, and hands out its chunk, if it has one.
+    fn close_page(&mut self) -> Option<Held<L>>
+        ensures handed { buffer_in result ≡ handed self.old }
+        ensures after { self.new ≡ closed self.old }
+    {
+        if let Some(page) = self.page {
+            self.pages.push(page);
+        }
+        self.page = None;
+        self.held.take()
+    }
+
+    /// Ends the open trace, and hands out its last chunk, if its last page has one.
+    pub fn end(&mut self) -> Ended<L>
+        ensures answer { EndsBy self.old result }
+        ensures after { self.new ≡ after_step self.old (ended_step result) }
+        ensures may { May self.old (ended_step result) }
+    {
+        if self.counted == self.calls {
+            return Ended::Spent;
+        }
+        if self.trace.is_none() {
+            return Ended::NoTrace;
+        }
+        let held = self.close_page();
+        self.trace = None;
+        self.counted += 1;
+        Ended::Ended(held)
+    }
+
+    /// The open trace, or `None` where none is open.
+    pub fn trace(&self) -> Option<TraceId>
+        ensures { result ≡ self.now.trace }
+    {
+        self.trace
+    }
+
+    /// The number of draws so far that found the pool empty.
+    pub fn nulls(&self) -> u32
+        ensures { result ≡ count_by is_null self.now.draws }
+    {
+        self.nulls
+    }
+
+    /// What the client noted.
+    pub fn finish(self) -> ClientBook
+        requires { IsNone self.trace }
+        ensures client { result.client ≡ self.client }
+        ensures draws { result.draws.items ≡ self.draws }
+        ensures pages { result.pages.items ≡ self.pages }
+    {
+        ClientBook {
+            client: self.client,
+            draws: self.draws,
+            pages: self.pages,
+        }
+    }
+}
+
+/// Starts a page in a clear chunk, with its first piece.
+fn start_page<L: Token>(held: Held<L>, header: Header, moment: u64, payload: &[u8]) -> Held<L>
+    requires clear { held.chunk.page ≡ None }
+    requires narrow { 34 + length payload.now ≤ held.chunk.size }
+    ensures { buffer_of result ≡ started header (piece moment payload.now) (buffer_of held) }
+{
+    let Held { mut chunk, lease } = held;
+    chunk.start(header);
+    chunk.add(moment, payload);
+    Held { chunk, lease }
+}
