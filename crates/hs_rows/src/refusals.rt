@@ -10,6 +10,61 @@ use std::thread::Threads;
 const HEAD: &str =
     "hindsight 1\nnodes 1\nclients 1\nbuffers 1\nsize 64\nthreshold 1\ntraces 4\npins 4\nstride 8\nclient 0 0\n";
 
+/// Lines behind the head, and the refusal.
+const LINES: [(&str, &str); 18] = [
+    ("begin 0000000000000001", "11 Truncated"),
+    ("begin\t0000000000000001\n", "11 Byte"),
+    ("\n", "11 Spaces"),
+    (" end\n", "11 Spaces"),
+    ("begin  0000000000000001\n", "11 Spaces"),
+    ("crumb 0\n", "11 Word"),
+    ("begin 0000000000000001 2\n", "11 Count"),
+    ("begin 0000000000000001\npoint 07 aa\n", "12 Number"),
+    ("begin 000000000000000A\n", "11 Hex"),
+    ("begin 00000000000000000000000000000001\n", "11 Hex"),
+    ("begin 0000000000000001\npoint 7 aaa\n", "12 Hex"),
+    (
+        "begin 0000000000000001\nbegin 0000000000000002\n",
+        "12 Open",
+    ),
+    ("point 1 aa\nzzz\n", "11 NoTrace"),
+    ("end\n", "11 NoTrace"),
+    ("begin 0000000000000001\ndone\n", "12 StillOpen"),
+    ("done\nx\n", "12 Word"),
+    ("done\n\n", "12 Spaces"),
+    ("done\nx", "12 Truncated"),
+];
+
+/// Heads, and the refusal.
+const HEADS: [(&str, &str); 11] = [
+    ("hindsight 3\n", "1 Range"),
+    ("hindsight 1\nnodes 2\n", "2 Range"),
+    ("hindsight 1\nnodes 1\nclients 2\n", "3 Range"),
+    ("hindsight 1\nnodes 1\nclients 1\nbuffers 1025\n", "4 Range"),
+    (
+        "hindsight 1\nnodes 1\nclients 1\nbuffers 2\nsize 63\n",
+        "5 Range",
+    ),
+    (
+        "hindsight 1\nnodes 1\nclients 1\nbuffers 2\nsize 64\nthreshold 1\n",
+        "6 Range",
+    ),
+    (
+        "hindsight 1\nnodes 1\nclients 1\nbuffers 2\nsize 64\nthreshold 2\ntraces 1\n",
+        "7 Range",
+    ),
+    ("hindsight 1\nclients 1\n", "2 Word"),
+    ("hindsight 1\nnodes 18446744073709551616\n", "2 Number"),
+    (
+        "hindsight 1\nnodes 1\nclients 1\nbuffers 1\nsize 64\nthreshold 1\ntraces 4\npins 4\nstride 8\nclient 0 1\n",
+        "10 Order",
+    ),
+    (
+        "hindsight 1\nnodes 1\nclients 1\nbuffers 1\nsize 64\nthreshold 1\ntraces 4\npins 4\nstride 8\ntriggerid 1 1 10 0\n",
+        "10 Word",
+    ),
+];
+
 fn assert_refused<R: Threads + Sync + AllocGlobal + Abort>(
     rt: &R,
     input: &str,
@@ -25,30 +80,7 @@ fn assert_refused<R: Threads + Sync + AllocGlobal + Abort>(
 #[test]
 fn each_reason(rt: HostRuntime) -> Result<(), Fail> {
     let alloc = rt.alloc();
-    let table = [
-        ("begin 0000000000000001", "11 Truncated"),
-        ("begin\t0000000000000001\n", "11 Byte"),
-        ("\n", "11 Spaces"),
-        (" end\n", "11 Spaces"),
-        ("begin  0000000000000001\n", "11 Spaces"),
-        ("crumb 0\n", "11 Word"),
-        ("begin 0000000000000001 2\n", "11 Count"),
-        ("begin 0000000000000001\npoint 07 aa\n", "12 Number"),
-        ("begin 000000000000000A\n", "11 Hex"),
-        ("begin 00000000000000000000000000000001\n", "11 Hex"),
-        ("begin 0000000000000001\npoint 7 aaa\n", "12 Hex"),
-        (
-            "begin 0000000000000001\nbegin 0000000000000002\n",
-            "12 Open",
-        ),
-        ("point 1 aa\nzzz\n", "11 NoTrace"),
-        ("end\n", "11 NoTrace"),
-        ("begin 0000000000000001\ndone\n", "12 StillOpen"),
-        ("done\nx\n", "12 Word"),
-        ("done\n\n", "12 Spaces"),
-        ("done\nx", "12 Truncated"),
-    ];
-    for (lines, want) in table {
+    for (lines, want) in LINES {
         let input = format!(in alloc; "{HEAD}{lines}")?;
         assert_refused(&rt, input.as_str(), want)?;
     }
@@ -57,35 +89,7 @@ fn each_reason(rt: HostRuntime) -> Result<(), Fail> {
 
 #[test]
 fn bad_heads(rt: HostRuntime) -> Result<(), Fail> {
-    let table = [
-        ("hindsight 3\n", "1 Range"),
-        ("hindsight 1\nnodes 2\n", "2 Range"),
-        ("hindsight 1\nnodes 1\nclients 2\n", "3 Range"),
-        ("hindsight 1\nnodes 1\nclients 1\nbuffers 1025\n", "4 Range"),
-        (
-            "hindsight 1\nnodes 1\nclients 1\nbuffers 2\nsize 63\n",
-            "5 Range",
-        ),
-        (
-            "hindsight 1\nnodes 1\nclients 1\nbuffers 2\nsize 64\nthreshold 1\n",
-            "6 Range",
-        ),
-        (
-            "hindsight 1\nnodes 1\nclients 1\nbuffers 2\nsize 64\nthreshold 2\ntraces 1\n",
-            "7 Range",
-        ),
-        ("hindsight 1\nclients 1\n", "2 Word"),
-        ("hindsight 1\nnodes 18446744073709551616\n", "2 Number"),
-        (
-            "hindsight 1\nnodes 1\nclients 1\nbuffers 1\nsize 64\nthreshold 1\ntraces 4\npins 4\nstride 8\nclient 0 1\n",
-            "10 Order",
-        ),
-        (
-            "hindsight 1\nnodes 1\nclients 1\nbuffers 1\nsize 64\nthreshold 1\ntraces 4\npins 4\nstride 8\ntriggerid 1 1 10 0\n",
-            "10 Word",
-        ),
-    ];
-    for (input, want) in table {
+    for (input, want) in HEADS {
         assert_refused(&rt, input, want)?;
     }
     Ok(())
