@@ -1,6 +1,6 @@
 -- A segment is cut into pages from its front: the next page is the longest run of its remaining pieces that fits a
 -- page. The pages of a client are those of its segments in order, numbered from 0.
-use Rattle.std.specs.Prelude.{◌≡◌, ℕ, zero, suc, ◌+◌, ◌-◌, ◌<◌, ◌≤◌, nat_le, List, [], ◌∷◌, ◌++◌, length, take, drop, map, if◌then◌else◌, replicate, refl}
+use Rattle.std.specs.Prelude.{◌≡◌, ℕ, zero, suc, ◌+◌, ◌-◌, nat_le, List, [], ◌∷◌, length, take, drop, map, if◌then◌else◌, replicate, refl}
 use Rattle.std.specs.List.{flat_map}
 use Rattle.hs_base.specs.declared.ids.TraceId.{TraceId}
 use Rattle.hs_base.specs.Plain.{Operation, Begin, Point, End}

@@ -1,7 +1,6 @@
 -- Workloads as plain data, without where they lie in memory: what a client does, the settings without the room of
 -- their lists, and both with the version.
 use Rattle.std.specs.Prelude.{ℕ, List}
-use Rattle.hs_base.specs.Listing.{Listing}
 use Rattle.hs_base.specs.declared.ids.TraceId.{TraceId}
 use Rattle.hs_base.specs.declared.ids.NodeId.{NodeId}
 use Rattle.hs_base.specs.declared.told.Trigger.{Trigger}

@@ -1,6 +1,6 @@
 -- The records of a client are its points, numbered from 0, each with the trace then open. A payload that is too
 -- long for one page is cut into pieces. A segment is the pieces between a begin and its end.
-use Rattle.std.specs.Prelude.{◌≡◌, ℕ, ◌+◌, ◌-◌, ◌*◌, ◌/◌, ◌<◌, ◌≤◌, max, nat_le, List, [], ◌∷◌, ◌++◌, length, take, drop, map, if◌then◌else◌, replicate, refl}
+use Rattle.std.specs.Prelude.{◌≡◌, ℕ, ◌+◌, ◌-◌, ◌*◌, ◌/◌, max, List, [], ◌∷◌, ◌++◌, length, take, drop, map, replicate, refl}
 use Rattle.std.specs.List.{range_with_len}
 use Rattle.hs_base.specs.declared.ids.TraceId.{TraceId}
 use Rattle.hs_base.specs.Plain.{Operation, Begin, Point, Crumb, End, Fire, Sample}

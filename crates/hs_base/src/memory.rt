@@ -1,6 +1,6 @@
 //! A source and a sink in memory, which fail at chosen calls.
 
-ghost use Rattle.std.specs.Prelude.{◌≡◌, ◌<◌, ◌≤◌, ◌↔◌, [], length, take, Some, IfOk, OnErr, IfSome};
+ghost use Rattle.std.specs.Prelude.{◌≡◌, ◌<◌, ◌≤◌, ◌↔◌, [], length, take, Some, IfOk, OnOk, OnErr, IfSome};
 ghost use Rattle.hs_base.specs.Outside.{Rose, Loses, Gains};
 ghost use Rattle.hs_base.specs.InMemory.{is_to_fail, read_of, write_of};
 
@@ -102,6 +102,7 @@ impl Source for MemorySource {
         ensures end { IfOk result (λ k. IfSome (Some self.old.left) (λ bytes. (k ≡ 0) ↔ (bytes ≡ []))) }
         ensures kept { OnErr result (Some self.new.left ≡ Some self.old.left) }
         ensures failed { OnErr result (Rose self.old.faults self.new.faults) }
+        ensures still { OnOk result (self.new.faults ≡ self.old.faults) }
         ensures counted { self.old.faults ≤ self.new.faults }
     {
         let fails = is_listed(&self.fails, self.calls);
@@ -162,6 +163,7 @@ impl Sink for MemorySink {
         ensures gained { IfOk result (λ k. Gains (Some self.old.written) (Some self.new.written) (take k piece.now)) }
         ensures kept { OnErr result (Some self.new.written ≡ Some self.old.written) }
         ensures failed { OnErr result (Rose self.old.faults self.new.faults) }
+        ensures still { OnOk result (self.new.faults ≡ self.old.faults) }
         ensures counted { self.old.faults ≤ self.new.faults }
     {
         let fails = is_listed(&self.fails, self.calls);

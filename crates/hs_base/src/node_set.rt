@@ -50,7 +50,7 @@ impl NodeSet {
 
     /// The nodes that are in this set and not in the other.
     pub fn without(self, other: NodeSet) -> NodeSet
-        ensures { (n : ℕ) → n < 16 → has_node result n ≡ (has_node self n && not (has_node other n)) }
+        ensures { (n : ℕ) → has_node result n ≡ (has_node self n && not (has_node other n)) }
     {
         NodeSet(self.0 & !other.0)
     }

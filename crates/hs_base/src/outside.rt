@@ -1,6 +1,6 @@
 //! The world outside: where input comes from, where output goes, and who may hold an actor up.
 
-ghost use Rattle.std.specs.Prelude.{◌≡◌, ℕ, ◌<◌, ◌≤◌, ◌↔◌, List, [], Option, length, take, IfOk, OnErr, IfSome};
+ghost use Rattle.std.specs.Prelude.{◌≡◌, ℕ, ◌<◌, ◌≤◌, ◌↔◌, List, [], Option, length, take, IfOk, OnOk, OnErr, IfSome};
 ghost use Rattle.hs_base.specs.Outside.{Rose, Loses, Gains};
 
 use crate::ids::Failed;
@@ -11,7 +11,7 @@ pub trait Source {
     /// The bytes still to come, where the source tells them.
     ghost left: { Self → Option (List ℕ) };
 
-    /// How often it has failed. The count never falls, and may stand still at 2^64 - 1.
+    /// How often it has failed: the number of its failed calls, which may stand still at 2^64 - 1.
     ghost faults: { Self → ℕ };
 
     /// Reads the next bytes into the front of `piece`, which may not be empty, and answers how many.
@@ -23,6 +23,7 @@ pub trait Source {
         ensures end { IfOk result (λ k. IfSome (left self.old) (λ bytes. (k ≡ 0) ↔ (bytes ≡ []))) }
         ensures kept { OnErr result (left self.new ≡ left self.old) }
         ensures failed { OnErr result (Rose (faults self.old) (faults self.new)) }
+        ensures still { OnOk result (faults self.new ≡ faults self.old) }
         ensures counted { faults self.old ≤ faults self.new };
 }
 
@@ -31,7 +32,7 @@ pub trait Sink {
     /// The bytes written so far, where the sink tells them.
     ghost written: { Self → Option (List ℕ) };
 
-    /// How often it has failed. The count never falls, and may stand still at 2^64 - 1.
+    /// How often it has failed: the number of its failed calls, which may stand still at 2^64 - 1.
     ghost faults: { Self → ℕ };
 
     /// Writes some bytes from the front of `piece`, which may not be empty, and answers how many, at
@@ -43,6 +44,7 @@ pub trait Sink {
         ensures gained { IfOk result (λ k. Gains (written self.old) (written self.new) (take k piece.now)) }
         ensures kept { OnErr result (written self.new ≡ written self.old) }
         ensures failed { OnErr result (Rose (faults self.old) (faults self.new)) }
+        ensures still { OnOk result (faults self.new ≡ faults self.old) }
         ensures counted { faults self.old ≤ faults self.new };
 }
 

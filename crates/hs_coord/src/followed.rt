@@ -14,13 +14,6 @@ pub struct Followed {
     pub waiting: NodeSet,
 }
 
-/// The nodes that are in the first set and not in the second.
-fn difference(left: NodeSet, right: NodeSet) -> NodeSet
-    ensures { (n : ℕ) → has_node result n ≡ (has_node left n && not (has_node right n)) }
-{
-    left.without(right)
-}
-
 impl Followed {
     /// A group whose first message a node is about to tell. The node counts as asked.
     pub fn begin(node: NodeId, told: &Told) -> Followed
@@ -52,13 +45,13 @@ impl Followed {
             || has_node result n) }
         ensures ask { self.new.ask ≡ self.old.ask }
     {
-        let fresh = difference(told.crumbs, self.asked);
+        let fresh = told.crumbs.without(self.asked);
         let answered = match told.why {
             Why::Answer => NodeSet::only(node),
             Why::Fired | Why::Late => NodeSet::none(),
         };
         self.asked = self.asked.union(told.crumbs);
-        self.waiting = difference(self.waiting, answered).union(fresh);
+        self.waiting = self.waiting.without(answered).union(fresh);
         fresh
     }
 }

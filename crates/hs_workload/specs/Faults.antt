@@ -238,7 +238,7 @@ unfolding fault_at keyword_of
 by_the_place = (refl, refl, refl, refl, refl)
 
 by_the_words : (fault_of head (codes "client 0") ≡ Some reasons.Count) × (fault_of head (codes "client 0 00") ≡ Some reasons.Number)
-    × (fault_of (codes "client 0 0" ∷ head) (codes "begin 1") ≡ Some reasons.Hex) × (fault_of opened (codes "point 1 A0") ≡ Some reasons.Hex)
+    × (fault_of (codes "client 0 0" ∷ head) (codes "begin 1") ≡ Some reasons.Hex) × (fault_of opened (codes "point 1 FF") ≡ Some reasons.Hex)
 unfolding fault_at keyword_of
 by_the_words = (refl, refl, refl, refl)
 

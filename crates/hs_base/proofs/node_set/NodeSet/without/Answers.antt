@@ -3,4 +3,4 @@ use Rattle.hs_base.proofs.NodeSetLemmas.{this_alone}
 use Rattle.hs_base.proofs.node_set.NodeSet.without.Goals as goal
 
 pub returns : goal.returns
-returns c = λ n within. this_alone c.args.self.0 c.args.other.0 n (omega arith) within
+returns c = λ n. this_alone c.args.self.0 c.args.other.0 n (omega arith) (omega arith)
