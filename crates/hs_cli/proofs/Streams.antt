@@ -1,5 +1,5 @@
 -- What a source lost, what a sink gained and what a counter counted, over several calls.
-use Rattle.std.proofs.Common.{◌≡◌, ℕ, ◌≤◌, List, [], ◌++◌, Option, Some, None, IfSome, ◌↔◌, inl, inr, refl, sym, ap, ◌∙◌, arith, append_assoc}
+use Rattle.std.proofs.Common.{◌≡◌, ℕ, List, [], ◌++◌, Option, Some, None, IfSome, ◌↔◌, inl, inr, refl, sym, ap, ◌∙◌, arith, append_assoc}
 use Rattle.std.proofs.lemmas.List.{append-nil}
 use Rattle.hs_base.specs.Outside.{Rose, Loses, Gains}
 
@@ -25,10 +25,10 @@ Loses-trans (Some as') None c x y p q = absurd p
 Loses-trans (Some as') (Some bs) None x y p q = absurd q
 Loses-trans (Some as') (Some bs) (Some cs) x y p q = p ∙ ap (λ zs. x ++ zs) q ∙ sym (append_assoc x y cs)
 
--- a count that rose in a later call rose since an earlier moment
-pub Rose-since : (before mid after : ℕ) → before ≤ mid → Rose mid after → Rose before after
-Rose-since before mid after le (inl p) = inl (omega arith)
-Rose-since before mid after le (inr p) = inr p
+-- a count that stood still and then rose
+pub Rose-since : (before mid after : ℕ) → mid ≡ before → Rose mid after → Rose before after
+Rose-since before mid after still (inl p) = inl (omega arith)
+Rose-since before mid after still (inr p) = inr p
 
 -- a read that gave nothing at the end of the known bytes left nothing
 pub nothing_left : (old new : Option (List ℕ)) (bytes : List ℕ) → bytes ≡ [] → IfSome old (λ known. known ≡ []) → Loses old new bytes → IfSome new (λ rest. rest ≡ [])

@@ -42,12 +42,16 @@ Wrote words left left' written written' status = (text : List ℕ) × IsDue word
 abbrev pub WroteFront : List (List ℕ) → Option (List ℕ) → Option (List ℕ) → Option (List ℕ) → Option (List ℕ) → Type 0
 WroteFront words left left' written written' = (status : Status) × (text : List ℕ) × IsDue words left left' status text × GainsFront written written' text
 
+-- Neither the source nor the sink failed.
+abbrev pub NoneFailed : (source source' sink sink' : ℕ) → Type 0
+NoneFailed source source' sink sink' = (source' ≡ source) × (sink' ≡ sink)
+
 -- what a status says
 abbrev pub Ends : List (List ℕ) → Option (List ℕ) → Option (List ℕ) → Option (List ℕ) → Option (List ℕ) → (source source' sink sink' : ℕ) → Status → Type 0
-Ends words left left' written written' source source' sink sink' Done = Wrote words left left' written written' Done
-Ends words left left' written written' source source' sink sink' Usage = Wrote words left left' written written' Usage
-Ends words left left' written written' source source' sink sink' Refused = Wrote words left left' written written' Refused
-Ends words left left' written written' source source' sink sink' TooLong = Wrote words left left' written written' TooLong
-Ends words left left' written written' source source' sink sink' ReadFault = IsCommand words × Rose source source' × (written' ≡ written)
-Ends words left left' written written' source source' sink sink' WriteFault = Rose sink sink' × WroteFront words left left' written written'
-Ends words left left' written written' source source' sink sink' Memory = IsCommand words × (written' ≡ written)
+Ends words left left' written written' source source' sink sink' Done = NoneFailed source source' sink sink' × Wrote words left left' written written' Done
+Ends words left left' written written' source source' sink sink' Usage = NoneFailed source source' sink sink' × Wrote words left left' written written' Usage
+Ends words left left' written written' source source' sink sink' Refused = NoneFailed source source' sink sink' × Wrote words left left' written written' Refused
+Ends words left left' written written' source source' sink sink' TooLong = NoneFailed source source' sink sink' × Wrote words left left' written written' TooLong
+Ends words left left' written written' source source' sink sink' ReadFault = IsCommand words × Rose source source' × (sink' ≡ sink) × (written' ≡ written)
+Ends words left left' written written' source source' sink sink' WriteFault = (source' ≡ source) × Rose sink sink' × WroteFront words left left' written written'
+Ends words left left' written written' source source' sink sink' Memory = NoneFailed source source' sink sink' × IsCommand words × (written' ≡ written)

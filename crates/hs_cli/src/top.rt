@@ -1,6 +1,6 @@
 //! The top call.
 
-ghost use Rattle.std.specs.Prelude.{◌≡◌, ◌≤◌, ◌⊎◌, ℕ, List, map, length, string_bytes, Some, ◌↔◌, IsTrue};
+ghost use Rattle.std.specs.Prelude.{◌≡◌, ◌<◌, ◌≤◌, ◌⊎◌, ℕ, List, map, length, string_bytes, Some, ◌↔◌, IsTrue};
 ghost use Rattle.hs_base.specs.Outside.{Rose, Gains};
 ghost use Rattle.hs_base.specs.Plain.{PlainWorkload};
 ghost use Rattle.hs_workload.specs.Validity.{Reads};
@@ -37,7 +37,7 @@ fn is_command(words: &[String]) -> bool
 
 /// Writes a text, and answers the status that goes with it, or `WriteFault`.
 fn finish<K: Sink>(sink: &mut K, text: &[u8], status: Status) -> Status
-    ensures { (result ≡ status × Gains (K.written sink.old) (K.written sink.new) text.now)
+    ensures { (result ≡ status × (K.faults sink.new ≡ K.faults sink.old) × Gains (K.written sink.old) (K.written sink.new) text.now)
         ⊎ (result ≡ Status.WriteFault × Rose (K.faults sink.old) (K.faults sink.new) × GainsFront (K.written sink.old) (K.written sink.new) text.now) }
 {
     match write_all(sink, text) {
@@ -100,9 +100,15 @@ pub fn hindsight<R: Threads + Sync, S: Source, K: Sink, G: Gate>(
         → Wrote (map (λ word. string_bytes word) words.now) (S.left source.old) (S.left source.new)
         (K.written sink.old) (K.written sink.new) Status.TooLong }
 
+    // Where the source failed in this call, it ends so.
+    ensures source_failed { S.faults source.old < S.faults source.new → result ≡ Status.ReadFault }
+
     // The source failed in this call, and nothing was written.
     ensures read_fault { result ≡ Status.ReadFault → Rose (S.faults source.old) (S.faults source.new) }
     ensures read_fault_writes { result ≡ Status.ReadFault → K.written sink.new ≡ K.written sink.old }
+
+    // Where the sink failed in this call, it ends so, whatever status was due.
+    ensures sink_failed { K.faults sink.old < K.faults sink.new → result ≡ Status.WriteFault }
 
     // The sink failed in this call, and gained a front of the text that was due.
     ensures write_fault { result ≡ Status.WriteFault → Rose (K.faults sink.old) (K.faults sink.new) }

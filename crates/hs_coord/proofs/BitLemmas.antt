@@ -1,8 +1,5 @@
 -- What a step does to one node's bits.
-use Rattle.std.proofs.Common.{◌≡◌, ℕ, ◌<◌, ◌≤◌, Bool, true, false, not, ◌||◌, ◌&&◌, nat_eq, refl, sym, ap, ◌∙◌, ⊎_elim, true≢false}
-use Rattle.std.specs.Int.{bit_at}
-use Rattle.std.proofs.lemmas.Bool.{cases_lt}
-use Rattle.std.proofs.lemmas.Nat.Bits.{bit_at_above}
+use Rattle.std.proofs.Common.{◌≡◌, Bool, true, false, not, ◌||◌, ◌&&◌, refl, true≢false}
 
 -- the node's bit of the asked set: it told the first message, a crumb led to it before, a crumb leads to it now
 pub asked_bit : (first told now : Bool) → ((first || told) || now) ≡ (first || (told || now))

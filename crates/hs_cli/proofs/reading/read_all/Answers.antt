@@ -1,4 +1,4 @@
-use Rattle.std.proofs.Common.{◌≡◌, take, sym, ap, subst, arith, List, [], ℕ}
+use Rattle.std.proofs.Common.{◌≡◌, ◌∙◌, refl, take, sym, ap, subst, arith, List, [], ℕ}
 use Rattle.std.proofs.lemmas.List.{append-nil, length-take}
 use Rattle.hs_base.specs.Outside.{Loses}
 use Rattle.hs_cli.proofs.Streams.{Loses-nil, Loses-trans, Rose-since, nothing_left, ended}
@@ -11,24 +11,27 @@ loop-text-init g c =
       lost = subst (λ (bytes : List ℕ). Loses (left c.args.source.now) (left c.args.source.now) bytes) (sym c.new-text.ensures.items) (Loses-nil (left c.args.source.now));
       within = omega (arith, c.new-text.ensures.len);
       piece = c.in-Ok.ensures;
-      counted = omega arith;
+      still = refl;
     }
 
 pub returns-in_default-read : goal.returns-in_default-read
-returns-in_default-read g c = record { read = Rose-since _ _ _ c.loop-text.invariant.counted c.in_default-read.ensures.failed }
+returns-in_default-read g c = record { read = Rose-since _ _ _ c.loop-text.invariant.still c.in_default-read.ensures.failed }
 
 pub returns-then-count-eq0 : goal.returns-then-count-eq0
 returns-then-count-eq0 g c =
     let left = g.S.Source.left in
     let none : take c.in-Ok-read.count c.read.new.piece ≡ [] = ap (λ (n : ℕ). take n c.read.new.piece) c.if-count-eq0.true in
     record {
-      read = record {
-        taken = subst (λ (bytes : List ℕ). Loses (left c.args.source.now) (left c.read.new.self) bytes) (append-nil c.loop-text.text.items)
-            (Loses-trans (left c.args.source.now) (left c.loop-text.source) (left c.read.new.self) c.loop-text.text.items [] c.loop-text.invariant.lost
-            (subst (λ (bytes : List ℕ). Loses (left c.loop-text.source) (left c.read.new.self) bytes) none c.in-Ok-read.ensures.taken));
-        end = nothing_left (left c.loop-text.source) (left c.read.new.self) (take c.in-Ok-read.count c.read.new.piece) none (ended (left c.loop-text.source) c.in-Ok-read.count c.if-count-eq0.true c.in-Ok-read.ensures.end) c.in-Ok-read.ensures.taken;
-        short = omega (arith, c.loop-text.text.ok.0, c.loop-text-test.true, c.len.ensures);
-      };
+      read = (
+        record {
+          taken = subst (λ (bytes : List ℕ). Loses (left c.args.source.now) (left c.read.new.self) bytes) (append-nil c.loop-text.text.items)
+              (Loses-trans (left c.args.source.now) (left c.loop-text.source) (left c.read.new.self) c.loop-text.text.items [] c.loop-text.invariant.lost
+              (subst (λ (bytes : List ℕ). Loses (left c.loop-text.source) (left c.read.new.self) bytes) none c.in-Ok-read.ensures.taken));
+          end = nothing_left (left c.loop-text.source) (left c.read.new.self) (take c.in-Ok-read.count c.read.new.piece) none (ended (left c.loop-text.source) c.in-Ok-read.count c.if-count-eq0.true c.in-Ok-read.ensures.end) c.in-Ok-read.ensures.taken;
+          short = omega (arith, c.loop-text.text.ok.0, c.loop-text-test.true, c.len.ensures);
+        },
+        c.in-Ok-read.ensures.still ∙ c.loop-text.invariant.still,
+      );
     }
 
 pub loop-text-preserved : goal.loop-text-preserved
@@ -51,8 +54,8 @@ loop-text-preserved g c =
             c.len-in-loop-text.ensures,
           );
       piece = c.loop-text.invariant.piece;
-      counted = omega (arith, c.loop-text.invariant.counted, c.read.ensures.counted);
+      still = c.in-Ok-read.ensures.still ∙ c.loop-text.invariant.still;
     }
 
 pub returns : goal.returns
-returns g c = record { read = (c.loop-text.text.items, record { taken = c.loop-text.invariant.lost; long = omega (arith, c.loop-text.text.ok.0, c.loop-text.invariant.within, c.loop-text-test.false, c.len.ensures) }) }
+returns g c = record { read = ((c.loop-text.text.items, record { taken = c.loop-text.invariant.lost; long = omega (arith, c.loop-text.text.ok.0, c.loop-text.invariant.within, c.loop-text-test.false, c.len.ensures) }), c.loop-text.invariant.still) }

@@ -10,7 +10,7 @@ invariant-loop-text g l =
       lost : Loses (left l.fn.source) (left l.source) l.text.items;
       within : vec_len l.text ≤ 16777216 + 1;
       piece : vec_len l.piece ≡ 65536;
-      counted : faults l.fn.source ≤ faults l.source;
+      still : faults l.source ≡ faults l.fn.source;
     }
 
 abbrev pub decreases-loop-text : goal.decreases-loop-text

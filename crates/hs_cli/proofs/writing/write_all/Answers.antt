@@ -18,7 +18,7 @@ loop-done-preserved g c =
       gained =
           subst (λ (front : List ℕ). Gains (written c.args.sink.now) (written c.write.new.self) front) joined
           (Gains-trans (written c.args.sink.now) (written c.loop-done.sink) (written c.write.new.self) (take done text) (take count (take (length text - done) (drop done text))) c.loop-done.invariant.gained c.in-Ok.ensures.gained);
-      counted = omega (arith, c.loop-done.invariant.counted, c.write.ensures.counted);
+      still = c.in-Ok.ensures.still ∙ c.loop-done.invariant.still;
     }
 
 pub returns-in-Err-clause-front : goal.returns-in-Err-clause-front

@@ -1,4 +1,4 @@
-use Rattle.std.proofs.Common.{length, take, ◌-◌, ◌≤◌}
+use Rattle.std.proofs.Common.{◌≡◌, length, take, ◌-◌, ◌≤◌}
 use Rattle.hs_base.specs.Outside.{Gains}
 use Rattle.hs_cli.proofs.writing.write_all.Given as goal
 
@@ -9,7 +9,7 @@ invariant-loop-done g l =
     record {
       within : l.done ≤ length l.text;
       gained : Gains (written l.fn.sink) (written l.sink) (take l.done l.text);
-      counted : faults l.fn.sink ≤ faults l.sink;
+      still : faults l.sink ≡ faults l.fn.sink;
     }
 
 abbrev pub decreases-loop-done : goal.decreases-loop-done
