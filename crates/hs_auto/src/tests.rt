@@ -95,3 +95,38 @@ fn each_kind_fires_by_its_rule(rt: HostRuntime) -> Result<(), Fail> {
     );
     Ok(())
 }
+
+#[test]
+fn a_full_window_takes_greater_and_lesser_values(rt: HostRuntime) -> Result<(), Fail> {
+    let percentile = AutoRule::Percentile {
+        trigger: TRIGGER,
+        window: 3,
+        share: 6000,
+    };
+    let mut auto = Auto::make(rt.alloc(), percentile)?;
+    gives(
+        &rt,
+        &mut auto,
+        &[(30, 1, QUIET), (20, 2, QUIET), (10, 3, QUIET)],
+    );
+    gives(
+        &rt,
+        &mut auto,
+        &[
+            (5, 4, QUIET),
+            (15, 5, fired_alone()),
+            (12, 6, fired_alone()),
+        ],
+    );
+    gives(
+        &rt,
+        &mut auto,
+        &[
+            (9, 7, QUIET),
+            (13, 8, fired_alone()),
+            (13, 9, fired_alone()),
+            (13, 10, QUIET),
+        ],
+    );
+    Ok(())
+}
