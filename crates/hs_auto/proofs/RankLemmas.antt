@@ -9,7 +9,7 @@ use Rattle.std.proofs.lemmas.List.Edits.{length-insert, get_or-insert_below, get
 use Rattle.std.proofs.lemmas.List.Sorted.{IsNonDecreasingBy-insert}
 use Rattle.std.proofs.lemmas.List.Sums.{sum_by-cons, sum_by_push, sum_by-insert, sum_by-remove}
 use borrow.Author.Tests.{eqb-true}
-use Rattle.hs_auto.specs.Ranks.{StandsSorted, IsRank}
+use Rattle.hs_auto.specs.Ranks.{StandsSorted, IsPlace}
 
 -- how many pass a test, where those that do stand in front
 pub count_partition : (p : ℕ → Bool) (xs : List ℕ) (i : ℕ) → i ≤ length xs → IsPartitionPoint (λ y. p y ≡ true) (λ y. p y ≡ false) xs i → count_by p xs ≡ i
@@ -42,7 +42,7 @@ pub length_sorted : (sorted values : List ℕ) → StandsSorted sorted values �
 length_sorted sorted values order = sym (count_all sorted) ∙ order.counts (λ x. true) ∙ count_all values
 
 -- a value joins at its place
-pub sorted_put : (sorted values : List ℕ) (i v : ℕ) → StandsSorted sorted values → IsRank sorted v i → StandsSorted (insert sorted i v) (v ∷ values)
+pub sorted_put : (sorted values : List ℕ) (i v : ℕ) → StandsSorted sorted values → IsPlace sorted v i → StandsSorted (insert sorted i v) (v ∷ values)
 sorted_put sorted values i v order at =
     record {
       rising =
@@ -112,7 +112,7 @@ last_is_there sorted values x order =
     counted_is_there x sorted (omega (arith, some, order.counts (λ y. y == x)))
 
 -- a value that is there stands at its place
-pub stands_at : (sorted : List ℕ) (x i : ℕ) → IsNonDecreasing sorted → Contains sorted x → IsRank sorted x i → (i < length sorted) × (get_or sorted i x ≡ x)
+pub stands_at : (sorted : List ℕ) (x i : ℕ) → IsNonDecreasing sorted → Contains sorted x → IsPlace sorted x i → (i < length sorted) × (get_or sorted i x ≡ x)
 stands_at sorted x i rising there at =
     let k : ℕ = there.0 in
     let within : k < length sorted = there.1 in
@@ -124,7 +124,7 @@ stands_at sorted x i rising there at =
     (cases_lt k i)
 
 -- a value joins, and the last one leaves
-pub sorted_exchange : (sorted values : List ℕ) (to v i x : ℕ) → StandsSorted sorted (values ++ x ∷ []) → IsRank sorted v to
+pub sorted_exchange : (sorted values : List ℕ) (to v i x : ℕ) → StandsSorted sorted (values ++ x ∷ []) → IsPlace sorted v to
     → i ≤ length sorted → get_or (insert sorted to v) i x ≡ x → StandsSorted (remove (insert sorted to v) i) (v ∷ values)
 sorted_exchange sorted values to v i x order at within here =
     sorted_drop (insert sorted to v) (v ∷ values) i x (sorted_put sorted (values ++ x ∷ []) to v order at)

@@ -12,11 +12,11 @@ pub record StandsSorted (sorted values : List ℕ) : Type 0 where
   pub rising : IsNonDecreasing sorted
   pub counts : SameCounts sorted values
 
--- as many as the rank are less than the value, and stand before those that are not
-pub record IsRank (sorted : List ℕ) (value rank : ℕ) : Type 0 where
-  pub within : rank ≤ length sorted
-  pub below : (k : ℕ) → k < rank → slice_index sorted k < value
-  pub above : (k : ℕ) → rank ≤ k → k < length sorted → value ≤ slice_index sorted k
+-- those before the place are less than the value, and those from it on are not
+pub record IsPlace (sorted : List ℕ) (value place : ℕ) : Type 0 where
+  pub within : place ≤ length sorted
+  pub below : (k : ℕ) → k < place → slice_index sorted k < value
+  pub above : (k : ℕ) → place ≤ k → k < length sorted → value ≤ slice_index sorted k
 
 pub record IsRanked (a : Inside) : Type 0 where
   pub within : length a.arrived.items ≤ a.arrived.capacity

@@ -2,7 +2,7 @@
 
 ghost use Rattle.std.specs.Prelude.{◌≡◌, ◌≤◌, ◌∷◌, [], ◌==◌, length, take, count_by, nat_lt, IfOk};
 
-use crate::rising::{exchange, put, rank_of};
+use crate::rising::{exchange, place_of, put};
 use circular_buffer::HeapCircularBuffer;
 use hs_base::Memory;
 use std::alloc::Global;
@@ -57,7 +57,7 @@ impl RankedWindow {
         ensures count { result ≡ count_by (λ earlier. nat_lt earlier value) self.now.values }
         ensures bound { result ≤ self.now.size }
     {
-        rank_of(&self.sorted, value)
+        place_of(&self.sorted, value)
     }
 
     /// Takes a value in. Where the window was full, its oldest value leaves.

@@ -3,12 +3,12 @@
 ghost use Rattle.std.specs.Prelude.{◌≡◌, ℕ, ◌<◌, ◌≤◌, List, [], ◌∷◌, ◌++◌, count_by, nat_lt, vec_len, vec_capacity};
 ghost use Rattle.std.specs.List.{Contains};
 ghost use Rattle.std.specs.List.Sorted.{IsNonDecreasing};
-ghost use Rattle.hs_auto.specs.Ranks.{StandsSorted, IsRank};
+ghost use Rattle.hs_auto.specs.Ranks.{StandsSorted, IsPlace};
 
 /// How many are less than this value, and so the first place where it can stand.
-pub fn rank_of(sorted: &[u64], value: u64) -> usize
+pub fn place_of(sorted: &[u64], value: u64) -> usize
     requires { IsNonDecreasing sorted.now }
-    ensures place { IsRank sorted.now value result }
+    ensures place { IsPlace sorted.now value result }
     ensures count { result ≡ count_by (λ earlier. nat_lt earlier value) sorted.now }
 {
     sorted.partition_point(|earlier| *earlier < value)
@@ -22,8 +22,8 @@ pub fn put(sorted: &mut Vec<u64>, value: u64)
         → StandsSorted sorted.new.items (value ∷ values) }
     ensures capacity { vec_capacity sorted.old ≤ vec_capacity sorted.new }
 {
-    let rank = rank_of(sorted, value);
-    match sorted.insert(rank, value) {
+    let place = place_of(sorted, value);
+    match sorted.insert(place, value) {
         Ok(()) => {}
         Err(_) => unreachable!(),
     }
@@ -36,8 +36,8 @@ pub fn exchange(sorted: &mut [u64], leaving: u64, value: u64)
     ensures { (values : List ℕ) → StandsSorted sorted.old (values ++ leaving ∷ [])
         → StandsSorted sorted.new (value ∷ values) }
 {
-    let from = rank_of(sorted, leaving);
-    let to = rank_of(sorted, value);
+    let from = place_of(sorted, leaving);
+    let to = place_of(sorted, value);
     if from < to {
         sorted.copy_within(from + 1..to, from);
         sorted[to - 1] = value;

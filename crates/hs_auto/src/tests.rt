@@ -11,6 +11,20 @@ const TRIGGER: TriggerId = TriggerId(1);
 
 const QUIET: Sampled = Sampled::Quiet;
 
+/// Values, and whether each fires where two of the last three must be less.
+const RANKED: [(u64, bool); 10] = [
+    (30, false),
+    (20, false),
+    (10, false),
+    (5, false),
+    (15, true),
+    (12, true),
+    (9, false),
+    (40, true),
+    (13, true),
+    (13, false),
+];
+
 fn fired_alone() -> Sampled {
     Sampled::Fired {
         laterals: Laterals::none(),
@@ -97,36 +111,16 @@ fn each_kind_fires_by_its_rule(rt: HostRuntime) -> Result<(), Fail> {
 }
 
 #[test]
-fn a_full_window_takes_greater_and_lesser_values(rt: HostRuntime) -> Result<(), Fail> {
+fn values_join_above_and_below_those_that_leave(rt: HostRuntime) -> Result<(), Fail> {
     let percentile = AutoRule::Percentile {
         trigger: TRIGGER,
         window: 3,
         share: 6000,
     };
     let mut auto = Auto::make(rt.alloc(), percentile)?;
-    gives(
-        &rt,
-        &mut auto,
-        &[(30, 1, QUIET), (20, 2, QUIET), (10, 3, QUIET)],
-    );
-    gives(
-        &rt,
-        &mut auto,
-        &[
-            (5, 4, QUIET),
-            (15, 5, fired_alone()),
-            (12, 6, fired_alone()),
-        ],
-    );
-    gives(
-        &rt,
-        &mut auto,
-        &[
-            (9, 7, QUIET),
-            (13, 8, fired_alone()),
-            (13, 9, fired_alone()),
-            (13, 10, QUIET),
-        ],
-    );
+    for (value, fires) in &RANKED {
+        let sampled = auto.sample(*value, TraceId(1));
+        assert_eq!(rt; sampled != QUIET, *fires, "at {value}");
+    }
     Ok(())
 }

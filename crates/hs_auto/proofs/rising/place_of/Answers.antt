@@ -3,7 +3,7 @@ use Rattle.std.specs.List.Sorted.{IsPartitionPoint}
 use Rattle.std.proofs.lemmas.List.Sorted.{IsPartitionPoint-from_clause, IsPartitionedBy-ltb}
 use borrow.Author.Tests.{ltb-true, ltb-false}
 use Rattle.hs_auto.proofs.RankLemmas.{count_partition}
-use Rattle.hs_auto.proofs.rising.rank_of.Goals as goal
+use Rattle.hs_auto.proofs.rising.place_of.Goals as goal
 
 pub returns : goal.returns
 returns c =
