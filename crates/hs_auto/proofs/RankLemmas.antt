@@ -1,14 +1,15 @@
 -- One value joins a sorted list, and one leaves it.
-use Rattle.std.proofs.Common.{cond, ◌≡◌, ◌≢◌, ℕ, zero, suc, ◌+◌, ◌<◌, ◌≤◌, Bool, true, false, List, [], ◌∷◌, ◌++◌, length, take, get_or, Some, None, Err, refl, sym, ap, ◌∙◌, arith, subst, ◌==◌, ltb, eq-eqb, ⊎_elim}
-use Rattle.std.specs.List.{count_by, insert, remove, slice_get}
-use Rattle.std.specs.List.Sorted.{IsNonDecreasing, IsPartitionPoint, IsBinarySearchResult}
-use Rattle.std.specs.Ordering.{nat_cmp}
-use Rattle.std.proofs.lemmas.Bool.{cases_lt}
-use Rattle.std.proofs.lemmas.List.Edits.{length-remove, get_or-remove_below, get_or-remove_above}
-use Rattle.std.proofs.lemmas.List.Sorted.{searched, IsNonDecreasingBy-insert}
+use Rattle.std.proofs.Common.{cond, ◌≡◌, ℕ, zero, suc, ◌+◌, ◌-◌, ◌<◌, ◌≤◌, Bool, true, false, List, [], ◌∷◌, ◌++◌, length, take, get_or, Some, None, refl, sym, ap, ◌∙◌, arith, subst, ◌==◌, eq-eqb, ⊎_elim}
+use Rattle.std.specs.List.{count_by, insert, remove, slice_get, Contains, CopiedTo, SameBelow, SameFrom}
+use Rattle.std.specs.List.Sorted.{IsNonDecreasing, IsPartitionPoint}
+use Rattle.std.proofs.lemmas.Bool.{cases_lt, cases_Bool}
+use Rattle.std.proofs.lemmas.List.{get_or_default, same_lists, get_or-set_same, get_or-set_other}
+use Rattle.std.proofs.Math.ListN.{set, length-set}
+use Rattle.std.proofs.lemmas.List.Edits.{length-insert, get_or-insert_below, get_or-insert_at, get_or-insert_above, length-remove, get_or-remove_below, get_or-remove_above}
+use Rattle.std.proofs.lemmas.List.Sorted.{IsNonDecreasingBy-insert}
 use Rattle.std.proofs.lemmas.List.Sums.{sum_by-cons, sum_by_push, sum_by-insert, sum_by-remove}
-use borrow.Author.Tests.{ne_eqb, ltb-true, ltb-false}
-use Rattle.hs_auto.specs.Ranks.{StandsSorted}
+use borrow.Author.Tests.{eqb-true}
+use Rattle.hs_auto.specs.Ranks.{StandsSorted, IsPlace}
 
 -- how many pass a test, where those that do stand in front
 pub count_partition : (p : ℕ → Bool) (xs : List ℕ) (i : ℕ) → i ≤ length xs → IsPartitionPoint (λ y. p y ≡ true) (λ y. p y ≡ false) xs i → count_by p xs ≡ i
@@ -27,37 +28,33 @@ pub count_all : (xs : List ℕ) → count_by (λ x. true) xs ≡ length xs
 count_all [] = refl
 count_all (x ∷ xs) = sum_by-cons (λ y. 1) x xs ∙ ap (λ n. 1 + n) (count_all xs) ∙ omega arith
 
--- a list without x has none that is equal to x
-pub count_none : (x : ℕ) (xs : List ℕ) → ((k : ℕ) → k < length xs → get_or xs k 0 ≢ x) → count_by (λ y. y == x) xs ≡ 0
-count_none x [] other = refl
-count_none x (y ∷ xs) other =
-    sum_by-cons (λ z. cond (z == x) 1 0) y xs ∙ rw (ne_eqb y x (other 0 (omega arith))) (let rest : count_by (λ z. z == x) xs ≡ 0 = count_none x xs (λ k in'. other (suc k) (omega arith)) in ap (λ n. 0 + n) rest ∙ omega arith)
+-- what is counted is there
+pub counted_is_there : (x : ℕ) (xs : List ℕ) → 0 < count_by (λ y. y == x) xs → Contains xs x
+counted_is_there x [] some = absurd (omega arith)
+counted_is_there x (y ∷ xs) some =
+    ⊎_elim (λ (same : y == x ≡ true). (0, omega arith, eqb-true y x same))
+    (λ (other : y == x ≡ false).
+    let split : count_by (λ z. z == x) (y ∷ xs) ≡ 0 + count_by (λ z. z == x) xs = sum_by-cons (λ z. cond (z == x) 1 0) y xs ∙ rw other refl in
+    let rest : Contains xs x = counted_is_there x xs (omega (arith, split, some)) in (suc rest.0, omega (arith, rest.1), rest.2))
+    (cases_Bool (y == x))
 
 pub length_sorted : (sorted values : List ℕ) → StandsSorted sorted values → length sorted ≡ length values
 length_sorted sorted values order = sym (count_all sorted) ∙ order.counts (λ x. true) ∙ count_all values
 
 -- a value joins at its place
-pub sorted_put : (sorted values : List ℕ) (i v : ℕ) → StandsSorted sorted values → i ≤ length sorted
-    → IsPartitionPoint (λ y. ltb y v ≡ true) (λ y. ltb y v ≡ false) sorted i → StandsSorted (insert sorted i v) (v ∷ values)
-sorted_put sorted values i v order in' at =
+pub sorted_put : (sorted values : List ℕ) (i v : ℕ) → StandsSorted sorted values → IsPlace sorted v i → StandsSorted (insert sorted i v) (v ∷ values)
+sorted_put sorted values i v order at =
     record {
       rising =
-          IsNonDecreasingBy-insert (λ x. x) sorted i v order.rising in'
-          (λ k d low. let less : get_or sorted k d < v = ltb-true (get_or sorted k d) v (at.0 k d (omega arith) low) in omega (arith, less))
-          (λ k d low high. ltb-false (get_or sorted k d) v (at.1 k d low high));
+          IsNonDecreasingBy-insert (λ x. x) sorted i v order.rising at.within
+          (λ k d low. omega (arith, get_or_default sorted k d 0 (omega (arith, at.within, low)), at.below k low))
+          (λ k d low high. omega (arith, get_or_default sorted k d 0 high, at.above k low high));
       counts =
           λ p.
           sum_by-insert (λ x. cond (p x) 1 0) sorted i v ∙ ap (λ n. n + cond (p v) 1 0) (order.counts p)
           ∙ (let swapped : count_by p values + cond (p v) 1 0 ≡ cond (p v) 1 0 + count_by p values = omega arith in swapped)
           ∙ sym (sum_by-cons (λ x. cond (p x) 1 0) v values);
     }
-
--- the same, where the list is seen through a slice
-pub put_in : (sorted seen more values : List ℕ) (i v : ℕ) → seen ≡ sorted → more ≡ insert sorted i v → StandsSorted sorted values → i ≤ length seen
-    → IsPartitionPoint (λ y. ltb y v ≡ true) (λ y. ltb y v ≡ false) seen i → StandsSorted more (v ∷ values)
-put_in sorted seen more values i v same is order in' at =
-    subst (λ (xs : List ℕ). StandsSorted xs (v ∷ values)) (sym is)
-    (sorted_put sorted values i v order (omega (arith, in', ap length same)) (subst (λ (xs : List ℕ). IsPartitionPoint (λ y. ltb y v ≡ true) (λ y. ltb y v ≡ false) xs i) same at))
 
 -- a rising list still rises without the element at i
 pub rising_remove : (xs : List ℕ) (i : ℕ) → i < length xs → IsNonDecreasing xs → IsNonDecreasing (remove xs i)
@@ -101,14 +98,103 @@ uncut zero (y ∷ xs) at = cc
 uncut (suc size) [] at = refl
 uncut (suc size) (y ∷ xs) at = ap (λ ys. y ∷ ys) (uncut size xs at)
 
--- the search for a value that is there does not miss it
-pub found : (sorted values : List ℕ) (i x : ℕ) → StandsSorted sorted (values ++ x ∷ []) → IsBinarySearchResult (λ y. nat_cmp y x) sorted (Err i) → ⊥
-found sorted values i x order answer =
-    let missed = searched sorted x (Err i) answer (λ j k le within. order.rising j k 0 le within) in
-    let none : count_by (λ y. y == x) sorted ≡ 0 =
-    count_none x sorted
-    (λ k within same.
-    ⊎_elim (λ (below : k < i). absurd (omega (arith, missed.1 k below, same))) (λ (above : i ≤ k). absurd (omega (arith, missed.2 k above within, same))) (cases_lt k i)) in
+-- a full window's values, without the last one, stay behind the one that comes
+pub cut_full : (size v : ℕ) (xs : List ℕ) (x : ℕ) → 0 < size → length xs ≤ size → slice_get (v ∷ xs) size ≡ Some x
+    → (kept : List ℕ) × (xs ≡ kept ++ x ∷ []) × (take size (v ∷ xs) ≡ v ∷ kept)
+cut_full zero v xs x some few at = absurd (omega arith)
+cut_full (suc size) v xs x some few at = (take size xs, cut size xs x (omega arith) at, refl)
+
+-- the last value of a window stands in the sorted list
+pub last_is_there : (sorted values : List ℕ) (x : ℕ) → StandsSorted sorted (values ++ x ∷ []) → Contains sorted x
+last_is_there sorted values x order =
     let some : count_by (λ y. y == x) (values ++ x ∷ []) ≡ count_by (λ y. y == x) values + 1 =
     sum_by_push (λ y. cond (y == x) 1 0) values x ∙ ap (λ b. count_by (λ y. y == x) values + cond b 1 0) (eq-eqb x x refl) in
-    omega (arith, none, some, order.counts (λ y. y == x))
+    counted_is_there x sorted (omega (arith, some, order.counts (λ y. y == x)))
+
+-- a value that is there stands at its place
+pub stands_at : (sorted : List ℕ) (x i : ℕ) → IsNonDecreasing sorted → Contains sorted x → IsPlace sorted x i → (i < length sorted) × (get_or sorted i x ≡ x)
+stands_at sorted x i rising there at =
+    let k : ℕ = there.0 in
+    let within : k < length sorted = there.1 in
+    let here : get_or sorted k 0 ≡ x = get_or_default sorted k 0 x within ∙ there.2 in
+    ⊎_elim (λ (below : k < i). absurd (omega (arith, at.below k below, here)))
+    (λ (above : i ≤ k).
+    let inside : i < length sorted = omega arith in
+    (inside, (omega (arith, get_or_default sorted i x 0 inside, at.above i (omega arith) inside, rising i k 0 above within, here))))
+    (cases_lt k i)
+
+-- a value joins, and the last one leaves
+pub sorted_exchange : (sorted values : List ℕ) (to v i x : ℕ) → StandsSorted sorted (values ++ x ∷ []) → IsPlace sorted v to
+    → i ≤ length sorted → get_or (insert sorted to v) i x ≡ x → StandsSorted (remove (insert sorted to v) i) (v ∷ values)
+sorted_exchange sorted values to v i x order at within here =
+    sorted_drop (insert sorted to v) (v ∷ values) i x (sorted_put sorted (values ++ x ∷ []) to v order at)
+    (omega (arith, length-insert sorted to v at.within, within)) here
+
+-- what stands behind a value that came
+pub behind : (xs : List ℕ) (i y d k : ℕ) → i < k → i ≤ length xs → get_or (insert xs i y) k d ≡ get_or xs (k - 1) d
+behind xs i y d k past within = ap (λ n. get_or (insert xs i y) n d) (omega arith) ∙ get_or-insert_above xs i y d (k - 1) (omega arith) within
+
+-- the values from `to` on, up to the one that leaves, have moved up by one
+pub moved_up : (xs ys : List ℕ) (from to v : ℕ) → to ≤ from → from < length xs → length ys ≡ length xs → CopiedTo xs ys to (to + 1) (from - to)
+    → SameBelow xs ys (to + 1) → SameFrom xs ys (to + 1 + (from - to)) → set ys to v ≡ remove (insert xs to v) (from + 1)
+moved_up xs ys from to v le within long moved below above =
+    let more : length (insert xs to v) ≡ length xs + 1 = length-insert xs to v (omega arith) in
+    let leaves : from + 1 < length (insert xs to v) = omega arith in
+    let other : (k d : ℕ) → (k ≡ to → ⊥) → get_or (set ys to v) k d ≡ get_or ys k d = λ k d differs. get_or-set_other ys to k v d differs in
+    let front : (k d : ℕ) → k < from + 1 → get_or (insert xs to v) k d ≡ get_or (remove (insert xs to v) (from + 1)) k d =
+    λ k d low. sym (get_or-remove_below (insert xs to v) (from + 1) d k low leaves) in
+    same_lists (set ys to v) (remove (insert xs to v) (from + 1))
+    (omega (arith, length-set ys to v, long, more, length-remove (insert xs to v) (from + 1) leaves))
+    (λ k d in'.
+    ⊎_elim
+    (λ (low : k < to).
+    other k d (λ same. omega arith) ∙ below k d (omega arith) ∙ sym (get_or-insert_below xs to v d k low (omega arith)) ∙ front k d (omega arith))
+    (λ (rest : to ≤ k).
+    ⊎_elim
+    (λ (high : from < k).
+    other k d (λ same. omega arith) ∙ above k d (omega arith)
+    ∙ sym (get_or-remove_above (insert xs to v) (from + 1) d k (omega arith) leaves ∙ get_or-insert_above xs to v d k rest (omega arith)))
+    (λ (middle : k ≤ from).
+    ⊎_elim
+    (λ (past : to < k).
+    other k d (λ same. omega arith) ∙ moved k d (omega arith) (omega arith) ∙ ap (λ n. get_or xs n d) (omega arith) ∙ sym (behind xs to v d k past (omega arith)) ∙ front k d (omega arith))
+    (λ (not_past : k ≤ to).
+    let here : k ≡ to = omega arith in
+    subst (λ n. get_or (set ys to v) n d ≡ get_or (remove (insert xs to v) (from + 1)) n d) (sym here)
+    (get_or-set_same ys to v d (omega arith) ∙ sym (get_or-insert_at xs to v d (omega arith)) ∙ front to d (omega arith)))
+    (cases_lt to k))
+    (cases_lt from k))
+    (cases_lt k to))
+
+-- the values behind the one that leaves, up to `to`, have moved down by one
+pub moved_down : (xs ys : List ℕ) (from to v : ℕ) → from < to → to ≤ length xs → length ys ≡ length xs → CopiedTo xs ys (from + 1) from (to - (from + 1))
+    → SameBelow xs ys from → SameFrom xs ys (from + (to - (from + 1))) → set ys (to - 1) v ≡ remove (insert xs to v) from
+moved_down xs ys from to v lt within long moved below above =
+    let more : length (insert xs to v) ≡ length xs + 1 = length-insert xs to v within in
+    let leaves : from < length (insert xs to v) = omega arith in
+    let other : (k d : ℕ) → (k ≡ to - 1 → ⊥) → get_or (set ys (to - 1) v) k d ≡ get_or ys k d = λ k d differs. get_or-set_other ys (to - 1) k v d differs in
+    let back : (k d : ℕ) → from ≤ k → get_or (insert xs to v) (k + 1) d ≡ get_or (remove (insert xs to v) from) k d =
+    λ k d high. sym (get_or-remove_above (insert xs to v) from d k high leaves) in
+    same_lists (set ys (to - 1) v) (remove (insert xs to v) from)
+    (omega (arith, length-set ys (to - 1) v, long, more, length-remove (insert xs to v) from leaves))
+    (λ k d in'.
+    ⊎_elim
+    (λ (low : k < from).
+    other k d (λ same. omega arith) ∙ below k d low
+    ∙ sym (get_or-remove_below (insert xs to v) from d k low leaves ∙ get_or-insert_below xs to v d k (omega arith) within))
+    (λ (rest : from ≤ k).
+    ⊎_elim
+    (λ (middle : k + 1 < to).
+    other k d (λ same. omega arith) ∙ moved k d rest (omega arith) ∙ ap (λ n. get_or xs n d) (omega arith) ∙ sym (get_or-insert_below xs to v d (k + 1) middle within) ∙ back k d rest)
+    (λ (high : to ≤ k + 1).
+    ⊎_elim
+    (λ (past : to < k + 1).
+    other k d (λ same. omega arith) ∙ above k d (omega arith) ∙ sym (get_or-insert_above xs to v d k (omega arith) within) ∙ back k d rest)
+    (λ (not_past : k + 1 ≤ to).
+    let here : k ≡ to - 1 = omega arith in
+    subst (λ n. get_or (set ys (to - 1) v) n d ≡ get_or (remove (insert xs to v) from) n d) (sym here)
+    (get_or-set_same ys (to - 1) v d (omega arith) ∙ sym (get_or-insert_at xs to v d within)
+    ∙ ap (λ n. get_or (insert xs to v) n d) (omega arith) ∙ back (to - 1) d (omega arith)))
+    (cases_lt to (k + 1)))
+    (cases_lt (k + 1) to))
+    (cases_lt k from))

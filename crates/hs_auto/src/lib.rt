@@ -6,6 +6,7 @@ mod auto;
 mod counted;
 mod laterals;
 mod ranked;
+mod rising;
 mod sampled;
 mod tallies;
 #[cfg(test)]

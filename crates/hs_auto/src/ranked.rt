@@ -2,6 +2,7 @@
 
 ghost use Rattle.std.specs.Prelude.{◌≡◌, ◌≤◌, ◌∷◌, [], ◌==◌, length, take, count_by, nat_lt, IfOk};
 
+use crate::rising::{exchange, place_of, put};
 use circular_buffer::HeapCircularBuffer;
 use hs_base::Memory;
 use std::alloc::Global;
@@ -33,7 +34,7 @@ impl RankedWindow {
     {
         let size = size as usize;
         let arrived = HeapCircularBuffer::with_capacity(alloc, size)?;
-        let sorted = Vec::with_capacity(alloc, size + 1)?;
+        let sorted = Vec::with_capacity(alloc, size)?;
         Ok(RankedWindow { arrived, sorted })
     }
 
@@ -56,7 +57,7 @@ impl RankedWindow {
         ensures count { result ≡ count_by (λ earlier. nat_lt earlier value) self.now.values }
         ensures bound { result ≤ self.now.size }
     {
-        self.sorted.partition_point(|earlier| *earlier < value)
+        place_of(&self.sorted, value)
     }
 
     /// Takes a value in. Where the window was full, its oldest value leaves.
@@ -66,18 +67,12 @@ impl RankedWindow {
           values = take self.old.size (value ∷ self.old.values);
         } }
     {
-        let place = self.sorted.partition_point(|earlier| *earlier < value);
-        match self.sorted.insert(place, value) {
-            Ok(()) => {}
-            Err(_) => unreachable!(),
+        if self.arrived.capacity() == 0 {
+            return;
         }
-        if let Some(oldest) = self.arrived.push_front(value) {
-            match self.sorted.binary_search(&oldest) {
-                Ok(place) => {
-                    self.sorted.remove(place);
-                }
-                Err(_) => unreachable!(),
-            }
+        match self.arrived.push_front(value) {
+            Some(oldest) => exchange(&mut self.sorted, oldest, value),
+            None => put(&mut self.sorted, value),
         }
     }
 }

@@ -11,6 +11,20 @@ const TRIGGER: TriggerId = TriggerId(1);
 
 const QUIET: Sampled = Sampled::Quiet;
 
+/// Values, and whether each fires where two of the last three must be less.
+const RANKED: [(u64, bool); 10] = [
+    (30, false),
+    (20, false),
+    (10, false),
+    (5, false),
+    (15, true),
+    (12, true),
+    (9, false),
+    (40, true),
+    (13, true),
+    (13, false),
+];
+
 fn fired_alone() -> Sampled {
     Sampled::Fired {
         laterals: Laterals::none(),
@@ -93,5 +107,20 @@ fn each_kind_fires_by_its_rule(rt: HostRuntime) -> Result<(), Fail> {
         &mut auto,
         &[(1, 1, QUIET), (1, 2, QUIET), third, fourth],
     );
+    Ok(())
+}
+
+#[test]
+fn values_join_above_and_below_those_that_leave(rt: HostRuntime) -> Result<(), Fail> {
+    let percentile = AutoRule::Percentile {
+        trigger: TRIGGER,
+        window: 3,
+        share: 6000,
+    };
+    let mut auto = Auto::make(rt.alloc(), percentile)?;
+    for (value, fires) in &RANKED {
+        let sampled = auto.sample(*value, TraceId(1));
+        assert_eq!(rt; sampled != QUIET, *fires, "at {value}");
+    }
     Ok(())
 }

@@ -1,93 +1,66 @@
-use Rattle.std.proofs.Common.{◌≡◌, ◌++◌, ◌∷◌, [], List, ℕ, length, take, ltb, true, false, Ok, sym, ap, ◌∙◌, subst, arith, length-take, rules}
-use Rattle.std.specs.List.{remove}
-use Rattle.std.proofs.lemmas.Bool.{false≢true}
-use Rattle.std.specs.List.Sorted.{IsNonDecreasing, IsPartitionPoint}
-use Rattle.std.proofs.lemmas.List.{get_or_default}
-use Rattle.std.proofs.lemmas.List.Sorted.{IsPartitionPoint-from_clause, IsPartitionedBy-ltb, searched}
+use Rattle.std.proofs.Common.{◌≡◌, ◌++◌, ◌∷◌, [], List, ℕ, length, take, sym, ap, ◌∙◌, subst, arith, rules, length-take}
+use Rattle.std.specs.List.{Contains}
+use Rattle.std.specs.Vec.{with_items}
+use Rattle.std.proofs.lemmas.List.{with_items_is, places}
 use Rattle.circular_buffer.specs.Buffer.{Buffer}
 use Rattle.hs_auto.specs.Ranks.{StandsSorted}
-use Rattle.hs_auto.proofs.RankLemmas.{put_in, sorted_drop, length_sorted, cut, uncut, found}
+use Rattle.hs_auto.proofs.RankLemmas.{last_is_there, length_sorted, cut_full, uncut}
 use Rattle.hs_auto.proofs.ranked.RankedWindow.push.Goals as goal
 
-pub unreachable-requires : goal.unreachable-requires
-unreachable-requires c =
-    false≢true (c.in-Err.ensures.succeeds
-    (omega (
-      arith,
-      c.deref.ensures.len,
-      ap length c.deref.ensures.value,
-      length_sorted c.self.inside.sorted.items c.self.inside.arrived.items c.self.invariant.order,
-      c.self.invariant.within,
-      c.self.invariant.room,
-    )))
+pub exchange-requires-clause-there : goal.exchange-requires-clause-there
+exchange-requires-clause-there c =
+    let x = c.in-Some.oldest in
+    let values = c.self.inside.arrived.items in
+    let full = cut_full c.self.inside.arrived.capacity c.args.value values x (omega arith) c.self.invariant.within (sym c.in-Some.ensures.value) in
+    let there : Contains c.self.inside.sorted.items x =
+    last_is_there c.self.inside.sorted.items full.0 x (subst (StandsSorted c.self.inside.sorted.items) full.1 c.self.invariant.order) in
+    subst (λ (xs : List ℕ). Contains xs x) (sym c.deref_mut.ensures.value) there
 
 pub invariant_of-self : goal.invariant_of-self
 invariant_of-self c =
     let v = c.args.value in
+    let x = c.in-Some.oldest in
     let size = c.self.inside.arrived.capacity in
     let values = c.self.inside.arrived.items in
-    let rising : IsNonDecreasing c.deref.result.now = subst IsNonDecreasing (sym c.deref.ensures.value) c.self.invariant.order.rising in
-    let at : IsPartitionPoint (λ y. ltb y v ≡ true) (λ y. ltb y v ≡ false) c.deref.result.now c.partition_point-place.result =
-    IsPartitionPoint-from_clause (λ y. ltb y v) c.deref.result.now c.partition_point-place.result c.partition_point-place.ensures.partitioned
-    (IsPartitionedBy-ltb (λ x. x) c.deref.result.now v rising) (λ a r q k. search rules) in
-    let put : StandsSorted c.deref-in-Some.result.now (v ∷ values) =
-    put_in c.self.inside.sorted.items c.deref.result.now c.deref-in-Some.result.now values c.partition_point-place.result v c.deref.ensures.value
-    (c.deref-in-Some.ensures.value ∙ c.in-Ok.ensures.items) c.self.invariant.order c.partition_point-place.ensures.bound at in
-    let left : v ∷ values ≡ take size (v ∷ values) ++ c.in-Some.oldest ∷ [] =
-    cut size (v ∷ values) c.in-Some.oldest (omega (arith, c.self.invariant.within)) (sym c.in-Some.ensures.value) in
-    let both : StandsSorted c.deref-in-Some.result.now (take size (v ∷ values) ++ c.in-Some.oldest ∷ []) = subst (StandsSorted c.deref-in-Some.result.now) left put in
-    let here =
-    searched c.deref-in-Some.result.now c.in-Some.oldest (Ok c.in-Ok-binary_search.place) c.in-Ok-binary_search.ensures.position
-    (λ i j le within. both.rising i j 0 le within) in
-    let same : c.deref-in-Some.result.now ≡ c.insert.new.self.items = c.deref-in-Some.ensures.value in
+    let full = cut_full size v values x (omega arith) c.self.invariant.within (sym c.in-Some.ensures.value) in
+    let order : StandsSorted c.deref_mut.result.now (full.0 ++ x ∷ []) =
+    subst (λ (xs : List ℕ). StandsSorted xs (full.0 ++ x ∷ [])) (sym c.deref_mut.ensures.value)
+    (subst (StandsSorted c.self.inside.sorted.items) full.1 c.self.invariant.order) in
     let items : c.push_front.new.self.items ≡ take size (v ∷ values) = ap (λ (b : Buffer ℕ). b.items) c.push_front.ensures.items in
     let capacity : c.push_front.new.self.capacity ≡ size = ap (λ (b : Buffer ℕ). b.capacity) c.push_front.ensures.items in
-    let kept : StandsSorted (remove c.deref-in-Some.result.now c.in-Ok-binary_search.place) (take size (v ∷ values)) =
-    sorted_drop c.deref-in-Some.result.now (take size (v ∷ values)) c.in-Ok-binary_search.place c.in-Some.oldest both here.0
-    (get_or_default c.deref-in-Some.result.now c.in-Ok-binary_search.place c.in-Some.oldest 0 here.0 ∙ here.1) in
+    let sorted : (with_items c.self.inside.sorted c.exchange.new.sorted).items ≡ c.exchange.new.sorted =
+    with_items_is c.self.inside.sorted c.exchange.new.sorted (search (rules, places)) in
     record {
       within = omega (arith, ap length items, capacity, length-take size (v ∷ values));
       order =
-          subst (StandsSorted c.remove.new.self.items) (sym items)
-          (subst (λ (xs : List ℕ). StandsSorted xs (take size (v ∷ values)))
-          (ap (λ (xs : List ℕ). remove xs c.in-Ok-binary_search.place) same ∙ sym c.remove.ensures.items) kept);
-      room = omega (arith, capacity, c.remove.ensures.capacity, c.in-Ok.ensures.capacity, c.self.invariant.room);
+          subst (StandsSorted (with_items c.self.inside.sorted c.exchange.new.sorted).items) (sym (items ∙ full.2))
+          (subst (λ (xs : List ℕ). StandsSorted xs (v ∷ full.0)) (sym sorted) (c.exchange.ensures full.0 order));
+      room = omega (arith, capacity, c.self.invariant.room);
     }
 
-pub unreachable-requires-in-Err-binary_search : goal.unreachable-requires-in-Err-binary_search
-unreachable-requires-in-Err-binary_search c =
-    let v = c.args.value in
+pub put-requires-clause-room : goal.put-requires-clause-room
+put-requires-clause-room c =
     let size = c.self.inside.arrived.capacity in
     let values = c.self.inside.arrived.items in
-    let rising : IsNonDecreasing c.deref.result.now = subst IsNonDecreasing (sym c.deref.ensures.value) c.self.invariant.order.rising in
-    let at : IsPartitionPoint (λ y. ltb y v ≡ true) (λ y. ltb y v ≡ false) c.deref.result.now c.partition_point-place.result =
-    IsPartitionPoint-from_clause (λ y. ltb y v) c.deref.result.now c.partition_point-place.result c.partition_point-place.ensures.partitioned
-    (IsPartitionedBy-ltb (λ x. x) c.deref.result.now v rising) (λ a r q k. search rules) in
-    let put : StandsSorted c.deref-in-Some.result.now (v ∷ values) =
-    put_in c.self.inside.sorted.items c.deref.result.now c.deref-in-Some.result.now values c.partition_point-place.result v c.deref.ensures.value
-    (c.deref-in-Some.ensures.value ∙ c.in-Ok.ensures.items) c.self.invariant.order c.partition_point-place.ensures.bound at in
-    let left : v ∷ values ≡ take size (v ∷ values) ++ c.in-Some.oldest ∷ [] =
-    cut size (v ∷ values) c.in-Some.oldest (omega (arith, c.self.invariant.within)) (sym c.in-Some.ensures.value) in
-    found c.deref-in-Some.result.now (take size (v ∷ values)) c.in-Err-binary_search.field-0 c.in-Some.oldest (subst (StandsSorted c.deref-in-Some.result.now) left put)
-    c.in-Err-binary_search.ensures.position
+    let whole : take size (c.args.value ∷ values) ≡ c.args.value ∷ values = uncut size (c.args.value ∷ values) (sym c.in-None.ensures.value) in
+    omega (
+      arith,
+      ap length whole,
+      length-take size (c.args.value ∷ values),
+      length_sorted c.self.inside.sorted.items values c.self.invariant.order,
+      c.self.invariant.room,
+    )
 
-pub invariant_of-self-in_default : goal.invariant_of-self-in_default
-invariant_of-self-in_default c =
+pub invariant_of-self-in-None : goal.invariant_of-self-in-None
+invariant_of-self-in-None c =
     let v = c.args.value in
     let size = c.self.inside.arrived.capacity in
     let values = c.self.inside.arrived.items in
-    let rising : IsNonDecreasing c.deref.result.now = subst IsNonDecreasing (sym c.deref.ensures.value) c.self.invariant.order.rising in
-    let at : IsPartitionPoint (λ y. ltb y v ≡ true) (λ y. ltb y v ≡ false) c.deref.result.now c.partition_point-place.result =
-    IsPartitionPoint-from_clause (λ y. ltb y v) c.deref.result.now c.partition_point-place.result c.partition_point-place.ensures.partitioned
-    (IsPartitionedBy-ltb (λ x. x) c.deref.result.now v rising) (λ a r q k. search rules) in
-    let put : StandsSorted c.insert.new.self.items (v ∷ values) =
-    put_in c.self.inside.sorted.items c.deref.result.now c.insert.new.self.items values c.partition_point-place.result v c.deref.ensures.value
-    c.in-Ok.ensures.items c.self.invariant.order c.partition_point-place.ensures.bound at in
     let items : c.push_front.new.self.items ≡ take size (v ∷ values) = ap (λ (b : Buffer ℕ). b.items) c.push_front.ensures.items in
     let capacity : c.push_front.new.self.capacity ≡ size = ap (λ (b : Buffer ℕ). b.capacity) c.push_front.ensures.items in
-    let whole : take size (v ∷ values) ≡ v ∷ values = uncut size (v ∷ values) (sym c.in_default.ensures.value) in
+    let whole : take size (v ∷ values) ≡ v ∷ values = uncut size (v ∷ values) (sym c.in-None.ensures.value) in
     record {
       within = omega (arith, ap length items, capacity, length-take size (v ∷ values));
-      order = subst (StandsSorted c.insert.new.self.items) (sym (items ∙ whole)) put;
-      room = omega (arith, capacity, c.in-Ok.ensures.capacity, c.self.invariant.room);
+      order = subst (StandsSorted c.put.new.sorted.items) (sym (items ∙ whole)) (c.put.ensures.joins values c.self.invariant.order);
+      room = omega (arith, capacity, c.put.ensures.capacity, c.self.invariant.room);
     }
