@@ -1,0 +1,11 @@
+pub mod Seen
+pub mod Wholes
+pub mod Lent
+pub mod Placed
+pub mod Listed
+pub mod Ids
+pub mod Turning
+pub mod Places
+pub mod Adding
+pub mod Page
+pub mod Joined

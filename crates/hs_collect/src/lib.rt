@@ -1,0 +1,10 @@
+//! The records of each trace, from its pages (`docs/RULES.md`, "The collector").
+#![tactic(auto)]
+
+mod collector;
+mod records;
+#[cfg(test)]
+mod tests;
+
+pub use collector::Collector;
+pub use records::{TraceRecord, TraceRecords};
