@@ -9,3 +9,7 @@ pub mod Places
 pub mod Adding
 pub mod Page
 pub mod Joined
+pub mod Collecting
+pub mod Lower
+pub mod Entries
+pub mod Added

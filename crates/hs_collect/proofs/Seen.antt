@@ -15,7 +15,7 @@ abbrev pub is_trace : TraceId → TraceId → Bool
 is_trace trace other = trace.0 == other.0
 
 -- leaving out another trace changes nothing
-any-others : (trace left : TraceId) (traces : List TraceId) → (trace.0 == left.0) ≡ false
+pub any-others : (trace left : TraceId) (traces : List TraceId) → (trace.0 == left.0) ≡ false
     → list_any (is_trace trace) (filter (λ other. not (other.0 == left.0)) traces) ≡ list_any (is_trace trace) traces
 any-others trace left [] apart = refl
 any-others trace left (other ∷ traces) apart = by_test (other.0 == left.0) refl (any-others trace left traces apart)
@@ -58,7 +58,7 @@ some-seen trace (sheet ∷ sheets) seen = by_test (trace.0 == sheet.header.trace
 
 -- ---- the entry of a trace
 
-any-keys : (trace : TraceId) (entries : List (TraceId × TraceRecords)) → list_any (is_trace trace) (map (λ entry. entry.0) (collection_of entries)) ≡ is_some (lookup (is_trace trace) entries)
+pub any-keys : (trace : TraceId) (entries : List (TraceId × TraceRecords)) → list_any (is_trace trace) (map (λ entry. entry.0) (collection_of entries)) ≡ is_some (lookup (is_trace trace) entries)
 any-keys trace [] = refl
 any-keys trace (entry ∷ entries) = by_test (is_trace trace entry.0) (any-keys trace entries)
   where
@@ -67,7 +67,7 @@ any-keys trace (entry ∷ entries) = by_test (is_trace trace entry.0) (any-keys 
     by_test true later = refl
     by_test false later = later
 
-wholes-found : (trace : TraceId) (sheets : List Sheet) (entries : List (TraceId × TraceRecords)) (records : TraceRecords) → All (λ (entry : TraceId × List Placed). AreWholes (pieces_of entry.0 sheets) entry.1) (collection_of entries)
+pub wholes-found : (trace : TraceId) (sheets : List Sheet) (entries : List (TraceId × TraceRecords)) (records : TraceRecords) → All (λ (entry : TraceId × List Placed). AreWholes (pieces_of entry.0 sheets) entry.1) (collection_of entries)
     → lookup (is_trace trace) entries ≡ Some records → AreWholes (pieces_of trace sheets) (wholes_of records)
 wholes-found trace sheets [] records each found = absurd (cc)
 wholes-found trace sheets (entry ∷ entries) records each found =
