@@ -13,3 +13,4 @@ pub mod Collecting
 pub mod Lower
 pub mod Entries
 pub mod Added
+pub mod Sample

@@ -18,8 +18,8 @@ abbrev pub Pieces : Type 0
 Pieces = List Placed
 
 -- a page without where it lies in memory, of its parts
-abbrev pub sheet : Header → List Point → Sheet
-sheet header points = record { header = header; pieces = map piece_of points }
+abbrev pub sheet_with : Header → List Point → Sheet
+sheet_with header points = record { header = header; pieces = map piece_of points }
 
 -- added pages, in the order of adding
 abbrev pub Sheets : Type 0

@@ -4,7 +4,7 @@ ghost use Rattle.std.specs.Prelude.{◌≡◌, ◌++◌, ◌+◌, ◌-◌, ◌�
 ghost use Rattle.hs_words.specs.Pages.{piece_of, sheet_of};
 ghost use Rattle.hs_collect.specs.Clients.{is_behind};
 ghost use Rattle.hs_collect.specs.Collected.{AreInOrder, AreWholes, end_of, page_pieces};
-ghost use Rattle.hs_collect.specs.Views.{Pieces, wholes_of, sheet};
+ghost use Rattle.hs_collect.specs.Views.{Pieces, wholes_of, sheet_with};
 ghost use Rattle.hs_collect.specs.Joining.{IsPlaceBehind, GoesBehind, Joins, join_at, is_before};
 
 use hs_base::{Bytes, ClientId, List, Memory, RecordId};
@@ -120,7 +120,7 @@ impl TraceRecords {
     fn append(&mut self, header: Header, points: List<Point>, joined: usize)
         requires fits { header.first + length points.items ≤ 2 ^ 32 }
         requires room { length self.old.entries.items + length points.items ≤ self.old.entries.room }
-        ensures { wholes_of self.new ≡ wholes_of self.old ++ drop joined (page_pieces (sheet header points.items)) }
+        ensures { wholes_of self.new ≡ wholes_of self.old ++ drop joined (page_pieces (sheet_with header points.items)) }
     {
         for (place, point) in points.into_vec().into_iter().enumerate().skip(joined) {
             self.entries.push(TraceRecord {

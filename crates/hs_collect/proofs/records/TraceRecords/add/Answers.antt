@@ -4,7 +4,7 @@ use Rattle.hs_base.specs.Listing.{Listing}
 use Rattle.hs_words.specs.Pages.{piece_of}
 use Rattle.hs_collect.specs.declared.records.TraceRecord.{TraceRecord}
 use Rattle.hs_collect.specs.Collected.{Placed, page_pieces}
-use Rattle.hs_collect.specs.Views.{placed_of, sheet, wholes_of}
+use Rattle.hs_collect.specs.Views.{placed_of, wholes_of}
 use Rattle.hs_collect.specs.Joining.{Joins}
 use Rattle.hs_collect.proofs.Joined.{length-joined}
 use Rattle.hs_collect.proofs.Page.{records_added}
