@@ -1,15 +1,15 @@
 -- What the pieces of a page make of the records that are there: the first may join the last record before their place,
 -- and the others stand at it, one behind another.
-use Rattle.std.proofs.Common.{◌≡◌, ℕ, ◌+◌, ◌<◌, ◌≤◌, Bool, true, false, List, [], ◌∷◌, ◌++◌, All, filter, cond, refl, sym, ap, ◌∙◌, subst, arith}
+use Rattle.std.proofs.Common.{◌≡◌, ℕ, ◌+◌, true, false, List, [], ◌∷◌, ◌++◌, All, filter, cond, refl, sym, ap, ◌∙◌, subst, arith}
 use Rattle.std.specs.List.{Any}
 use Rattle.std.proofs.lemmas.List.{append-nil, append_assoc}
-use Rattle.std.proofs.lemmas.List.Elements.{All-nil, All-cons, All-head, All-tail, All-append, All-push, All-weaker}
+use Rattle.std.proofs.lemmas.List.Elements.{All-head, All-tail, All-append, All-push, All-weaker}
 use Rattle.hs_base.specs.declared.ids.ClientId.{ClientId}
 use Rattle.hs_base.specs.declared.ids.RecordId.{RecordId}
 use Rattle.hs_words.specs.Pages.{Piece}
 use Rattle.hs_collect.specs.Clients.{is_behind}
 use Rattle.hs_collect.specs.Collected.{Placed, is_same, is_piece_of, pieces_from, Precedes, IsWhole, AreWholes}
-use Rattle.hs_collect.proofs.Listed.{all_left, all_right, all_into, all_out, all_middle, pairs_into, pairs_out, pairs_before, pairs_behind, any_here, any_into, any_changed, all_at_any}
+use Rattle.hs_collect.proofs.Listed.{all_into, all_out, all_middle, pairs_into, pairs_out, pairs_before, pairs_behind, any_here, any_into, any_changed, all_at_any}
 use Rattle.hs_collect.proofs.Ids.{same_itself, earlier_apart, later_apart, precedes_next, next_number, behind_after}
 use Rattle.hs_collect.proofs.Wholes.{whole-other, whole-joined, whole-new}
 
@@ -46,12 +46,12 @@ new_record pieces piece front back are before behind =
     record {
       ordered = pairs_into InOrder front piece back are.ordered before behind;
       each =
-        all_into (IsWhole (pieces ++ piece ∷ [])) front piece back
-        (whole-new pieces piece (same_itself piece.id) (none_found piece.id pieces (apart_from piece.id pieces (front ++ back) none are.all)))
-        (λ k d lt. whole-other pieces _ piece (apart k d lt) (are.each k d lt));
+          all_into (IsWhole (pieces ++ piece ∷ [])) front piece back
+          (whole-new pieces piece (same_itself piece.id) (none_found piece.id pieces (apart_from piece.id pieces (front ++ back) none are.all)))
+          (λ k d lt. whole-other pieces _ piece (apart k d lt) (are.each k d lt));
       all =
-        All-push (λ p. Any (λ whole. whole.id ≡ p.id) (front ++ piece ∷ back)) pieces piece (λ k d lt. any_into _ front piece back (are.all k d lt))
-        (any_here (λ whole. whole.id ≡ piece.id) front piece back refl);
+          All-push (λ p. Any (λ whole. whole.id ≡ p.id) (front ++ piece ∷ back)) pieces piece (λ k d lt. any_into _ front piece back (are.all k d lt))
+          (any_here (λ whole. whole.id ≡ piece.id) front piece back refl);
     }
 
 -- a record with a piece more at its end
@@ -73,13 +73,13 @@ joined_record pieces piece front whole back its are =
     record {
       ordered = pairs_into InOrder front (grown whole piece.payload) back (pairs_out InOrder front whole back are.ordered) before behind;
       each =
-        all_into (IsWhole (pieces ++ piece ∷ [])) front (grown whole piece.payload) back
-        (whole-joined pieces whole piece (subst (λ (id : RecordId). is_same whole.id id ≡ true) its (same_itself whole.id)) (all_middle (IsWhole pieces) front whole back are.each))
-        (λ k d lt. whole-other pieces _ piece (apart k d lt) (kept k d lt));
+          all_into (IsWhole (pieces ++ piece ∷ [])) front (grown whole piece.payload) back
+          (whole-joined pieces whole piece (subst (λ (id : RecordId). is_same whole.id id ≡ true) its (same_itself whole.id)) (all_middle (IsWhole pieces) front whole back are.each))
+          (λ k d lt. whole-other pieces _ piece (apart k d lt) (kept k d lt));
       all =
-        All-push (λ p. Any (λ w. w.id ≡ p.id) (front ++ grown whole piece.payload ∷ back)) pieces piece
-        (λ k d lt. any_changed _ front whole (grown whole piece.payload) back (λ h. h) (are.all k d lt))
-        (any_here (λ w. w.id ≡ piece.id) front (grown whole piece.payload) back its);
+          All-push (λ p. Any (λ w. w.id ≡ p.id) (front ++ grown whole piece.payload ∷ back)) pieces piece
+          (λ k d lt. any_changed _ front whole (grown whole piece.payload) back (λ h. h) (are.all k d lt))
+          (any_here (λ w. w.id ≡ piece.id) front (grown whole piece.payload) back its);
     }
 
 -- the id of a client's record

@@ -1,5 +1,5 @@
 -- What one more page makes of a collection: its trace's records take its pieces, or the trace joins at the end.
-use Rattle.std.proofs.Common.{◌≡◌, ℕ, ◌==◌, Bool, true, false, not, ◌||◌, cond, List, [], ◌∷◌, ◌++◌, filter, All, map, Option, Some, None, is_some, option_map, refl, sym, ap, ◌∙◌, subst, arith}
+use Rattle.std.proofs.Common.{◌≡◌, ℕ, ◌==◌, Bool, true, false, not, ◌||◌, cond, List, [], ◌∷◌, ◌++◌, filter, All, map, Some, refl, sym, ap, ◌∙◌, subst, arith}
 use Rattle.std.specs.List.{list_any, flat_map, IsDistinct, AllByRecursion}
 use Rattle.std.specs.Map.{lookup, set_value}
 use Rattle.std.proofs.lemmas.List.{append-nil, map-append}
@@ -69,7 +69,7 @@ pieces-other trace sheets sheet apart =
 
 -- ---- the entries
 
-abbrev HasWholes : List Sheet → TraceId × List Placed → Type 0
+abbrev pub HasWholes : List Sheet → TraceId × List Placed → Type 0
 HasWholes sheets entry = AreWholes (pieces_of entry.0 sheets) entry.1
 
 abbrev pub traces_of : Collection → List TraceId
@@ -102,12 +102,12 @@ joins_last sheets sheet entries wholes collected new has =
     let none : pieces_of sheet.header.trace sheets ≡ [] = ap (flat_map page_pieces) (none-unseen sheet.header.trace sheets unseen) in
     record {
       seen =
-        map-append (λ (entry : TraceId × List Placed). entry.0) entries ((sheet.header.trace, wholes) ∷ [])
-        ∙ ap (λ traces. traces ++ sheet.header.trace ∷ []) collected.seen
-        ∙ sym (seen-more sheets sheet ∙ ap (λ b. cond b (first_seen sheets) (first_seen sheets ++ sheet.header.trace ∷ [])) unseen);
+          map-append (λ (entry : TraceId × List Placed). entry.0) entries ((sheet.header.trace, wholes) ∷ [])
+          ∙ ap (λ traces. traces ++ sheet.header.trace ∷ []) collected.seen
+          ∙ sym (seen-more sheets sheet ∙ ap (λ b. cond b (first_seen sheets) (first_seen sheets ++ sheet.header.trace ∷ [])) unseen);
       each =
-        All-push (HasWholes (sheets ++ sheet ∷ [])) entries (sheet.header.trace, wholes) (all-kept sheets sheet entries new collected.each)
-        (subst (λ (ps : List Placed). AreWholes ps wholes) (sym (pieces-own sheets sheet ∙ ap (λ ps. ps ++ page_pieces sheet) none)) has);
+          All-push (HasWholes (sheets ++ sheet ∷ [])) entries (sheet.header.trace, wholes) (all-kept sheets sheet entries new collected.each)
+          (subst (λ (ps : List Placed). AreWholes ps wholes) (sym (pieces-own sheets sheet ∙ ap (λ ps. ps ++ page_pieces sheet) none)) has);
     }
 
 -- the records of a trace that is there, changed
@@ -166,8 +166,8 @@ takes_page sheets sheet entries old new collected distinct found has =
     ap (list_any (is_trace sheet.header.trace)) (sym collected.seen) ∙ found_seen sheet.header.trace entries old found in
     record {
       seen =
-        traces-set (is_trace sheet.header.trace) entries new ∙ collected.seen
-        ∙ sym (seen-more sheets sheet ∙ ap (λ b. cond b (first_seen sheets) (first_seen sheets ++ sheet.header.trace ∷ [])) seen_before);
+          traces-set (is_trace sheet.header.trace) entries new ∙ collected.seen
+          ∙ sym (seen-more sheets sheet ∙ ap (λ b. cond b (first_seen sheets) (first_seen sheets ++ sheet.header.trace ∷ [])) seen_before);
       each =
-        all-set sheets sheet entries new distinct collected.each (subst (λ (ps : List Placed). AreWholes ps new) (sym (pieces-own sheets sheet)) has);
+          all-set sheets sheet entries new distinct collected.each (subst (λ (ps : List Placed). AreWholes ps new) (sym (pieces-own sheets sheet)) has);
     }

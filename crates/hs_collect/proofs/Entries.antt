@@ -1,9 +1,8 @@
 -- The entries of a map and the collection that they are.
-use Rattle.std.proofs.Common.{◌≡◌, Bool, true, false, cond, List, [], ◌∷◌, ◌++◌, map, Option, Some, None, option_map, refl, ap}
+use Rattle.std.proofs.Common.{◌≡◌, Bool, true, false, cond, List, [], ◌∷◌, Some, option_map, refl, ap}
 use Rattle.std.specs.Map.{lookup, set_value}
 use Rattle.hs_base.specs.declared.ids.TraceId.{TraceId}
 use Rattle.hs_collect.specs.declared.records.TraceRecords.{TraceRecords}
-use Rattle.hs_collect.specs.Collected.{Placed}
 use Rattle.hs_collect.specs.Views.{wholes_of, collection_of}
 
 pub collection-set : (test : TraceId → Bool) (entries : List (TraceId × TraceRecords)) (records : TraceRecords) → collection_of (set_value test entries records) ≡ set_value test (collection_of entries) (wholes_of records)

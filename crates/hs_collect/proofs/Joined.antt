@@ -1,5 +1,5 @@
 -- What the first piece of a page did to the records that were there.
-use Rattle.std.proofs.Common.{◌≡◌, ℕ, zero, suc, ◌-◌, Bool, true, false, cond, List, [], ◌∷◌, map, length, Option, Some, None, Result, Ok, Err, IfOk, refl, sym, ap, ◌∙◌, subst}
+use Rattle.std.proofs.Common.{◌≡◌, ℕ, zero, suc, ◌-◌, Bool, true, false, cond, List, [], ◌∷◌, map, length, Some, None, Result, Ok, Err, IfOk, refl, ap, ◌∙◌}
 use Rattle.std.specs.Prelude.{slice_get}
 use Rattle.hs_base.specs.declared.ids.Memory.{Memory}
 use Rattle.hs_words.specs.declared.page.Header.{Header}

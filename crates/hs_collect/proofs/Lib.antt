@@ -14,3 +14,4 @@ pub mod Lower
 pub mod Entries
 pub mod Added
 pub mod Sample
+pub mod Only

@@ -35,10 +35,10 @@ pairs_cons R x xs first rest i zero d lt within = absurd (omega arith)
 pairs_cons R x xs first rest zero (suc j) d lt within = first j d (omega arith)
 pairs_cons R x xs first rest (suc i) (suc j) d lt within = rest i j d (omega arith) (omega arith)
 
-pairs_head : {X : Type 0} (R : X → X → Type 0) (x : X) (xs : List X) → AllPairs R (x ∷ xs) → All (R x) xs
+pub pairs_head : {X : Type 0} (R : X → X → Type 0) (x : X) (xs : List X) → AllPairs R (x ∷ xs) → All (R x) xs
 pairs_head R x xs h = λ k d lt. h 0 (suc k) d (omega arith) (omega arith)
 
-pairs_tail : {X : Type 0} (R : X → X → Type 0) (x : X) (xs : List X) → AllPairs R (x ∷ xs) → AllPairs R xs
+pub pairs_tail : {X : Type 0} (R : X → X → Type 0) (x : X) (xs : List X) → AllPairs R (x ∷ xs) → AllPairs R xs
 pairs_tail R x xs h = λ i j d lt within. h (suc i) (suc j) d (omega arith) (omega arith)
 
 pub pairs_into : {X : Type 0} (R : X → X → Type 0) (front : List X) (x : X) (back : List X) → AllPairs R (front ++ back) → All (λ f. R f x) front → All (R x) back → AllPairs R (front ++ x ∷ back)
@@ -72,7 +72,7 @@ any_head P x xs here = (0, x, omega arith, refl, here)
 any_tail : {X : Type 0} (P : X → Type 0) (x : X) (xs : List X) → Any P xs → Any P (x ∷ xs)
 any_tail P x xs h = (suc h.0, h.1, omega (arith, h.2), h.3, h.4)
 
-any_cases : {X : Type 0} (P : X → Type 0) (x : X) (xs : List X) (k : ℕ) (y : X) → k < length (x ∷ xs) → get_or (x ∷ xs) k y ≡ y → P y → P x ⊎ Any P xs
+pub any_cases : {X : Type 0} (P : X → Type 0) (x : X) (xs : List X) (k : ℕ) (y : X) → k < length (x ∷ xs) → get_or (x ∷ xs) k y ≡ y → P y → P x ⊎ Any P xs
 any_cases P x xs zero y within at holds = inl (subst P (sym at) holds)
 any_cases P x xs (suc k) y within at holds = inr (k, y, omega arith, at, holds)
 
@@ -84,20 +84,20 @@ pub any_into : {X : Type 0} (P : X → Type 0) (front : List X) (x : X) (back : 
 any_into P [] x back h = any_tail P x back h
 any_into P (first ∷ front) x back h =
     elim (any_cases P first (front ++ back) h.0 h.1 h.2 h.3 h.4) [
-      inl here ↦ any_head P first (front ++ x ∷ back) here
-    | inr later ↦ any_tail P first (front ++ x ∷ back) (any_into P front x back later)
+      | inl here ↦ any_head P first (front ++ x ∷ back) here
+      | inr later ↦ any_tail P first (front ++ x ∷ back) (any_into P front x back later)
     ]
 
 pub any_changed : {X : Type 0} (P : X → Type 0) (front : List X) (x y : X) (back : List X) → (P x → P y) → Any P (front ++ x ∷ back) → Any P (front ++ y ∷ back)
 any_changed P [] x y back keeps h =
     elim (any_cases P x back h.0 h.1 h.2 h.3 h.4) [
-      inl here ↦ any_head P y back (keeps here)
-    | inr later ↦ any_tail P y back later
+      | inl here ↦ any_head P y back (keeps here)
+      | inr later ↦ any_tail P y back later
     ]
 any_changed P (first ∷ front) x y back keeps h =
     elim (any_cases P first (front ++ x ∷ back) h.0 h.1 h.2 h.3 h.4) [
-      inl here ↦ any_head P first (front ++ y ∷ back) here
-    | inr later ↦ any_tail P first (front ++ y ∷ back) (any_changed P front x y back keeps later)
+      | inl here ↦ any_head P first (front ++ y ∷ back) here
+      | inr later ↦ any_tail P first (front ++ y ∷ back) (any_changed P front x y back keeps later)
     ]
 
 -- what holds of all holds of the one

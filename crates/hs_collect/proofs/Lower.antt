@@ -1,13 +1,13 @@
 -- A page that can be added goes behind the records of its client.
-use Rattle.std.proofs.Common.{◌≡◌, ◌⊎◌, ℕ, ◌+◌, ◌<◌, ◌≤◌, ◌==◌, Bool, true, false, cond, List, [], ◌∷◌, ◌++◌, length, filter, All, Option, Some, None, option_map, inl, inr, refl, sym, ap, subst, arith, ◌^◌}
-use Rattle.std.specs.List.{find, flat_map, AllPairs}
-use Rattle.std.proofs.lemmas.List.Elements.{All-nil, All-cons, All-head, All-tail, All-append, All-weaker}
+use Rattle.std.proofs.Common.{◌≡◌, ℕ, ◌+◌, ◌≤◌, Bool, true, false, cond, List, [], ◌∷◌, ◌++◌, length, filter, All, Some, option_map, inl, inr, refl, sym, ap, subst, arith, ◌^◌}
+use Rattle.std.specs.List.{find, flat_map}
+use Rattle.std.proofs.lemmas.List.Elements.{All-nil, All-cons, All-head, All-tail, All-append}
 use Rattle.std.proofs.lemmas.Bool.Decides.{nat_tests}
 use Rattle.hs_base.specs.declared.ids.TraceId.{TraceId}
 use Rattle.hs_base.specs.declared.ids.ClientId.{ClientId}
 use Rattle.hs_base.specs.declared.ids.RecordId.{RecordId}
 use Rattle.hs_words.specs.Pages.{Piece, Sheet}
-use Rattle.hs_collect.specs.Collected.{Placed, is_of, is_piece_of, is_same, pieces_from, page_pieces, pieces_of, end_of, GoesOn, CanPrecede, CanBeAdded, IsWhole, AreWholes}
+use Rattle.hs_collect.specs.Collected.{Placed, is_of, is_piece_of, pieces_from, page_pieces, pieces_of, end_of, GoesOn, CanPrecede, CanBeAdded, AreWholes}
 use Rattle.hs_collect.specs.Joining.{GoesBehind}
 use Rattle.hs_collect.proofs.Listed.{all_middle, pairs_before}
 use Rattle.hs_collect.proofs.Ids.{same_ids}
@@ -49,21 +49,20 @@ low_pieces (before ∷ sheets) sheet can =
     by_test false apart later = later
 
 -- the piece that is found has the record's id
-found_low : (client : ClientId) (number : ℕ) (id : RecordId) (pieces : List Placed) (moment : ℕ) → All (IsLow client number) pieces → option_map (λ (first : Placed). first.moment) (find (is_piece_of id) pieces) ≡ Some moment
-    → id.client ≡ client → id.number ≤ number
-found_low client number id [] moment low found = absurd (cc)
-found_low client number id (piece ∷ pieces) moment low found =
-    by_test (is_piece_of id piece) refl found (found_low client number id pieces moment (All-tail (IsLow client number) piece pieces low))
+pub found_holds : (P : RecordId → Type 0) (id : RecordId) (pieces : List Placed) (moment : ℕ) → All (λ piece. P piece.id) pieces → option_map (λ (first : Placed). first.moment) (find (is_piece_of id) pieces) ≡ Some moment → P id
+found_holds P id [] moment holds found = absurd (cc)
+found_holds P id (piece ∷ pieces) moment holds found =
+    by_test (is_piece_of id piece) refl found (found_holds P id pieces moment (All-tail (λ p. P p.id) piece pieces holds))
   where
     by_test : (b : Bool) → is_piece_of id piece ≡ b → option_map (λ (first : Placed). first.moment) (cond b (Some piece) (find (is_piece_of id) pieces)) ≡ Some moment
-        → (option_map (λ (first : Placed). first.moment) (find (is_piece_of id) pieces) ≡ Some moment → id.client ≡ client → id.number ≤ number) → id.client ≡ client → id.number ≤ number
-    by_test true same here later =
-        subst (λ (i : RecordId). i.client ≡ client → i.number ≤ number) (sym (same_ids id piece.id same)) (All-head (IsLow client number) piece pieces low)
+        → (option_map (λ (first : Placed). first.moment) (find (is_piece_of id) pieces) ≡ Some moment → P id) → P id
+    by_test true same here later = subst P (sym (same_ids id piece.id same)) (All-head (λ p. P p.id) piece pieces holds)
     by_test false apart there later = later there
 
 pub goes_behind : (sheets : List Sheet) (sheet : Sheet) (wholes : List Placed) → CanBeAdded (sheets ++ sheet ∷ []) → AreWholes (pieces_of sheet.header.trace sheets) wholes → GoesBehind sheet.header wholes
 goes_behind sheets sheet wholes can are = λ k d lt.
-    found_low sheet.header.client sheet.header.first _ (pieces_of sheet.header.trace sheets) _ (low_pieces sheets sheet (pairs_before CanPrecede sheets sheet [] can.pairs)) (are.each k d lt).moment
+    found_holds (λ id. id.client ≡ sheet.header.client → id.number ≤ sheet.header.first) _ (pieces_of sheet.header.trace sheets) _
+    (low_pieces sheets sheet (pairs_before CanPrecede sheets sheet [] can.pairs)) (are.each k d lt).moment
 
 pub fits_last : (sheets : List Sheet) (sheet : Sheet) → CanBeAdded (sheets ++ sheet ∷ []) → end_of sheet ≤ 2 ^ 32
 fits_last sheets sheet can = all_middle (λ s. end_of s ≤ 2 ^ 32) sheets sheet [] can.fits

@@ -1,8 +1,7 @@
 -- The records that the pieces of a page begin, each from its place among them.
-use Rattle.std.proofs.Common.{◌≡◌, ℕ, ◌+◌, List, [], ◌∷◌, map, drop, refl, sym, ap, ap₂, ◌∙◌, arith, add_assoc, length}
+use Rattle.std.proofs.Common.{◌≡◌, ℕ, ◌+◌, List, [], ◌∷◌, map, drop, refl, sym, ap, ◌∙◌, arith, add_assoc}
 use Rattle.std.specs.List.{enumerate_from}
 use Rattle.std.proofs.lemmas.List.{drop-map}
-use Rattle.hs_base.specs.declared.ids.ClientId.{ClientId}
 use Rattle.hs_words.specs.declared.page.Header.{Header}
 use Rattle.hs_words.specs.declared.page.Point.{Point}
 use Rattle.hs_words.specs.Pages.{piece_of}

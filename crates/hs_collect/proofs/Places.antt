@@ -1,5 +1,5 @@
 -- The place of a client's records among records in order.
-use Rattle.std.proofs.Common.{◌≡◌, ℕ, ◌+◌, ◌<◌, ◌≤◌, Bool, true, false, not, List, map, take, drop, length, get_or, All, ◌-◌, ◌⊎◌, inl, inr, refl, sym, ap, subst, arith, length-drop}
+use Rattle.std.proofs.Common.{◌≡◌, ℕ, ◌+◌, ◌<◌, ◌≤◌, Bool, true, false, not, List, map, take, drop, length, get_or, ◌-◌, ◌⊎◌, inl, inr, refl, sym, ap, subst, arith, length-drop}
 use Rattle.std.specs.List.Sorted.{IsPartitionedBy, IsPartitionPoint}
 use Rattle.std.proofs.lemmas.List.{get_or-map, get_or-take, get_or-drop, take-map, drop-map, length-take-le, length-map}
 use Rattle.std.proofs.lemmas.List.Elements.{All-map, All-same}
@@ -39,8 +39,8 @@ cases_le i j le = grind arith
 pub partitioned : (entries : List TraceRecord) (client : ClientId) → AreInOrder (map placed_of entries) → IsPartitionedBy (stays client) entries
 partitioned entries client order = λ i j d le within passes.
     elim (cases_le i j le) [
-      inl same ↦ subst (λ k. stays client (get_or entries k d) ≡ true) (sym same) passes
-    | inr lt ↦ not_false _ (behind_before (get_or entries i d).id (get_or entries j d).id client (ordered_at entries i j d order lt within) (passes_not _ passes))
+      | inl same ↦ subst (λ k. stays client (get_or entries k d) ≡ true) (sym same) passes
+      | inr lt ↦ not_false _ (behind_before (get_or entries i d).id (get_or entries j d).id client (ordered_at entries i j d order lt within) (passes_not _ passes))
     ]
 
 pub place_is : (entries : List TraceRecord) (client : ClientId) (place : ℕ) → place ≤ length entries
@@ -48,16 +48,16 @@ pub place_is : (entries : List TraceRecord) (client : ClientId) (place : ℕ) �
 place_is entries client place within point =
     record {
       before =
-        All-same (λ whole. is_behind whole.id.client client ≡ false) (take place (map placed_of entries)) (map placed_of (take place entries)) (take-map placed_of place entries)
-        (All-map (λ whole. is_behind whole.id.client client ≡ false) placed_of (take place entries)
-        (λ k d lt.
-            let short : length (take place entries) ≡ place = length-take-le place entries within in
-            let low : k < place = omega arith in
-            subst (λ (e : TraceRecord). is_behind e.id.client client ≡ false) (sym (get_or-take place entries k d low)) (passes_not _ (point.0 k d (omega arith) low))));
+          All-same (λ whole. is_behind whole.id.client client ≡ false) (take place (map placed_of entries)) (map placed_of (take place entries)) (take-map placed_of place entries)
+          (All-map (λ whole. is_behind whole.id.client client ≡ false) placed_of (take place entries)
+          (λ k d lt.
+          let short : length (take place entries) ≡ place = length-take-le place entries within in
+          let low : k < place = omega arith in
+          subst (λ (e : TraceRecord). is_behind e.id.client client ≡ false) (sym (get_or-take place entries k d low)) (passes_not _ (point.0 k d (omega arith) low))));
       behind =
-        All-same (λ whole. is_behind whole.id.client client ≡ true) (drop place (map placed_of entries)) (map placed_of (drop place entries)) (drop-map placed_of place entries)
-        (All-map (λ whole. is_behind whole.id.client client ≡ true) placed_of (drop place entries)
-        (λ k d lt.
-            let long : length (drop place entries) ≡ length entries - place = length-drop place entries in
-            subst (λ (e : TraceRecord). is_behind e.id.client client ≡ true) (sym (get_or-drop place entries k d)) (fails_not _ (point.1 (place + k) d (omega arith) (omega arith)))));
+          All-same (λ whole. is_behind whole.id.client client ≡ true) (drop place (map placed_of entries)) (map placed_of (drop place entries)) (drop-map placed_of place entries)
+          (All-map (λ whole. is_behind whole.id.client client ≡ true) placed_of (drop place entries)
+          (λ k d lt.
+          let long : length (drop place entries) ≡ length entries - place = length-drop place entries in
+          subst (λ (e : TraceRecord). is_behind e.id.client client ≡ true) (sym (get_or-drop place entries k d)) (fails_not _ (point.1 (place + k) d (omega arith) (omega arith)))));
     }

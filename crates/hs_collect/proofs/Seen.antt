@@ -1,5 +1,5 @@
 -- A trace is among those that were seen exactly where one of the pages is of it.
-use Rattle.std.proofs.Common.{◌≡◌, ◌≢◌, ◌⊎◌, ℕ, ◌==◌, Bool, true, false, not, ◌||◌, cond, List, [], ◌∷◌, filter, refl, sym, ap, ◌∙◌, All, map, subst, Option, Some, None, MatchOption, is_some, Bor, inl, inr, arith}
+use Rattle.std.proofs.Common.{◌≡◌, ◌≢◌, ◌==◌, Bool, true, false, not, ◌||◌, cond, List, [], ◌∷◌, filter, refl, sym, ap, ◌∙◌, All, map, subst, Option, Some, None, MatchOption, is_some, Bor, arith}
 use Rattle.std.specs.List.{list_any}
 use Rattle.std.specs.Map.{lookup}
 use Rattle.std.specs.Option.{option_copied}

@@ -2,12 +2,12 @@
 -- record of a trace is joined of its pieces on the added pages of that trace, in the order in which these were added,
 -- and has its first piece's moment. A trace's records stand in the order of client and number, and the traces in the
 -- order of their first pages.
-use Rattle.std.specs.Prelude.{◌≡◌, ◌≢◌, ◌⊎◌, ℕ, ◌+◌, ◌<◌, ◌≤◌, ◌^◌, ◌==◌, ◌&&◌, not, Bool, List, [], ◌∷◌, length, map, filter, All, Option, Some, None, MatchOption, option_map, slice_get, refl}
+use Rattle.std.specs.Prelude.{◌≡◌, ◌≢◌, ◌⊎◌, ℕ, ◌+◌, ◌<◌, ◌≤◌, ◌^◌, ◌==◌, ◌&&◌, not, Bool, List, [], ◌∷◌, length, map, filter, All, Option, Some, None, option_map, slice_get, refl}
 use Rattle.std.specs.List.{flat_map, find, last_or, Any, AllPairs}
+use Rattle.std.proofs.Common.{inr}
 use Rattle.hs_base.specs.declared.ids.TraceId.{TraceId}
 use Rattle.hs_base.specs.declared.ids.ClientId.{ClientId}
 use Rattle.hs_base.specs.declared.ids.RecordId.{RecordId}
-use Rattle.hs_words.specs.declared.page.Header.{Header}
 use Rattle.hs_words.specs.Pages.{Piece, Sheet}
 
 -- a piece with its record, or a record with its whole payload, without where it lies in memory
@@ -139,3 +139,7 @@ empty_record = record { moment = refl; payload = refl }
 
 no_page_of_the_trace : pieces_of (record { 0 = 8 }) four_pages ≡ []
 no_page_of_the_trace = refl
+
+-- the later page of the client 0 goes on with the record 1, at its moment
+goes_on : GoesOn (sheet_at 7 0 1 1 (piece_at 5 (2 ∷ 3 ∷ []) ∷ [])) (sheet_at 7 0 2 1 (piece_at 5 (4 ∷ []) ∷ piece_at 8 (5 ∷ []) ∷ []))
+goes_on = inr (refl, refl)

@@ -1,5 +1,5 @@
 -- Where the pieces of a page stand among the records that are there already, and a piece that is joined to one of these.
-use Rattle.std.specs.Prelude.{◌≡◌, ℕ, zero, suc, ◌≤◌, ◌++◌, Bool, true, false, List, [], ◌∷◌, All, take, drop, option_map, unwrap_or, slice_get, ◌-◌, if◌then◌else◌}
+use Rattle.std.specs.Prelude.{◌≡◌, ℕ, zero, suc, ◌≤◌, ◌++◌, Bool, true, false, List, [], ◌∷◌, All, take, drop, option_map, unwrap_or, slice_get, ◌-◌, if◌then◌else◌, refl}
 use Rattle.hs_base.specs.declared.ids.ClientId.{ClientId}
 use Rattle.hs_base.specs.declared.ids.RecordId.{RecordId}
 use Rattle.hs_words.specs.declared.page.Header.{Header}
@@ -33,3 +33,23 @@ Joins header place old [] joined new = (joined ≡ false) × (new ≡ old)
 Joins header place old (piece ∷ pieces) joined new =
     (joined ≡ is_before place (record { client = header.client; number = header.first }) old)
     × (new ≡ (if joined then join_at (place - 1) piece.payload old else old))
+
+-- ---- worked examples
+
+abbrev whole : (client number : ℕ) → List ℕ → Placed
+whole client number payload = record { id = record { client = record { node = 0; number = client }; number = number }; moment = 0; payload = payload }
+
+abbrev two : List Placed
+two = whole 0 4 (1 ∷ 2 ∷ []) ∷ whole 1 0 (3 ∷ []) ∷ []
+
+the_record_before : is_before 1 (record { client = record { node = 0; number = 0 }; number = 4 }) two ≡ true
+the_record_before = refl
+
+another_number_before : is_before 1 (record { client = record { node = 0; number = 0 }; number = 5 }) two ≡ false
+another_number_before = refl
+
+none_before_the_first : is_before 0 (record { client = record { node = 0; number = 0 }; number = 4 }) two ≡ false
+none_before_the_first = refl
+
+more_bytes : join_at 0 (5 ∷ []) two ≡ whole 0 4 (1 ∷ 2 ∷ 5 ∷ []) ∷ whole 1 0 (3 ∷ []) ∷ []
+more_bytes = refl

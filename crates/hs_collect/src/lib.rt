@@ -2,9 +2,11 @@
 #![tactic(auto)]
 
 mod collector;
+mod law;
 mod records;
 #[cfg(test)]
 mod tests;
 
 pub use collector::Collector;
+pub use law::pages_collect_one;
 pub use records::{TraceRecord, TraceRecords};

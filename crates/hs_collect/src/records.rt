@@ -99,7 +99,12 @@ impl TraceRecords {
 
     /// Joins the first piece of a page to the record before this place, if it is that record's, and answers
     /// whether it is.
-    fn join_first(&mut self, place: usize, header: Header, points: &List<Point>) -> Result<bool, Memory>
+    fn join_first(
+        &mut self,
+        place: usize,
+        header: Header,
+        points: &List<Point>,
+    ) -> Result<bool, Memory>
         requires { place ≤ length self.old.entries.items }
         ensures joins { IfOk result (λ joined. Joins header place (wholes_of self.old) (map piece_of points.now.items)
             joined (wholes_of self.new)) }

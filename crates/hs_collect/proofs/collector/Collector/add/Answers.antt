@@ -1,9 +1,8 @@
-use Rattle.std.proofs.Common.{◌≡◌, ◌++◌, ◌∷◌, [], None, sym, ap, ◌∙◌, subst}
+use Rattle.std.proofs.Common.{sym, ap, ◌∙◌, subst}
 use Rattle.indexmap.specs.IndexMap.{insert_entry}
 use Rattle.indexmap.proofs.CallerLemmas.{insert_entry-new}
 use Rattle.hs_words.specs.Pages.{sheet_of}
 use Rattle.hs_collect.specs.Collected.{AreCollected}
-use Rattle.hs_collect.specs.Views.{wholes_of, collection_of}
 use Rattle.hs_collect.proofs.Seen.{is_trace}
 use Rattle.hs_collect.proofs.Added.{behind_found, fits_own, collected_found, kept_found, collected_new, on_ok, on_err}
 use Rattle.hs_collect.proofs.collector.Collector.add.Goals as goal
@@ -22,18 +21,18 @@ pub returns-in-Some-clause-ok : goal.returns-in-Some-clause-ok
 returns-in-Some-clause-ok c =
     on_ok c.add.result _ _
     (λ takes sheets sheet collected spells.
-        collected_found sheets sheet (sheet_of c.in-Ok.page) c.self.inside.traces.entries (c.get_mut.follows.lender c.add.new.self).entries c.in-Some.records.now c.add.new.self
-        (subst (AreCollected sheets) (sym c.self.view_is) collected) (c.in-Ok.ensures.page sheet spells) c.in-Some.ensures.value c.in-Some.ensures.unique
-        (c.get_mut.follows.holds c.add.new.self).0 takes)
+    collected_found sheets sheet (sheet_of c.in-Ok.page) c.self.inside.traces.entries (c.get_mut.follows.lender c.add.new.self).entries c.in-Some.records.now c.add.new.self
+    (subst (AreCollected sheets) (sym c.self.view_is) collected) (c.in-Ok.ensures.page sheet spells) c.in-Some.ensures.value c.in-Some.ensures.unique
+    (c.get_mut.follows.holds c.add.new.self).0 takes)
     c.add.ensures.ok
 
 pub returns-in-Some-clause-memory : goal.returns-in-Some-clause-memory
 returns-in-Some-clause-memory c =
     on_err c.add.result _ _
     (λ same.
-        kept_found c.in-Ok.page.header.trace c.self.inside.traces.entries (c.get_mut.follows.lender c.add.new.self).entries c.in-Some.records.now c.add.new.self c.in-Some.ensures.value
-        (c.get_mut.follows.holds c.add.new.self).0 same
-        ∙ c.self.view_is)
+    kept_found c.in-Ok.page.header.trace c.self.inside.traces.entries (c.get_mut.follows.lender c.add.new.self).entries c.in-Some.records.now c.add.new.self c.in-Some.ensures.value
+    (c.get_mut.follows.holds c.add.new.self).0 same
+    ∙ c.self.view_is)
     c.add.ensures.err
 
 pub returns-clause-ok : goal.returns-clause-ok

@@ -1,9 +1,8 @@
-use Rattle.std.proofs.Common.{◌≡◌, ℕ, ◌≤◌, ◌++◌, List, length, map, drop, sym, ap, ◌∙◌, subst, arith, length-append}
+use Rattle.std.proofs.Common.{◌≡◌, ◌≤◌, ◌++◌, List, length, map, sym, ap, ◌∙◌, subst, arith, length-append}
 use Rattle.std.proofs.lemmas.List.{length-map}
-use Rattle.hs_base.specs.Listing.{Listing}
 use Rattle.hs_words.specs.Pages.{piece_of}
 use Rattle.hs_collect.specs.declared.records.TraceRecord.{TraceRecord}
-use Rattle.hs_collect.specs.Collected.{Placed, page_pieces}
+use Rattle.hs_collect.specs.Collected.{Placed}
 use Rattle.hs_collect.specs.Views.{placed_of, wholes_of}
 use Rattle.hs_collect.specs.Joining.{Joins}
 use Rattle.hs_collect.proofs.Joined.{length-joined}

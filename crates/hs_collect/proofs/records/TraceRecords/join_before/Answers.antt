@@ -1,4 +1,4 @@
-use Rattle.std.proofs.Common.{◌≡◌, ◌-◌, ◌<◌, ◌++◌, suc, get_or, length, Result, Ok, Err, OnErr, ap, sym, ◌∙◌, arith}
+use Rattle.std.proofs.Common.{◌≡◌, ◌-◌, ◌<◌, ◌++◌, suc, get_or, length, Result, Ok, Err, OnErr, ap, ◌∙◌, arith}
 use Rattle.hs_collect.specs.Views.{wholes_of}
 use Rattle.hs_collect.specs.Joining.{join_at}
 use Rattle.hs_collect.proofs.Lent.{after_join, after_none, before_is, if_not_ne, if_ne}
