@@ -15,3 +15,4 @@ pub mod Entries
 pub mod Added
 pub mod Sample
 pub mod Only
+pub mod Turns

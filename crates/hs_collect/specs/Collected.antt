@@ -2,7 +2,7 @@
 -- record of a trace is joined of its pieces on the added pages of that trace, in the order in which these were added,
 -- and has its first piece's moment. A trace's records stand in the order of client and number, and the traces in the
 -- order of their first pages.
-use Rattle.std.specs.Prelude.{◌≡◌, ◌≢◌, ◌⊎◌, ℕ, ◌+◌, ◌<◌, ◌≤◌, ◌^◌, ◌==◌, ◌&&◌, not, Bool, List, [], ◌∷◌, length, map, filter, All, Option, Some, None, option_map, slice_get, refl}
+use Rattle.std.specs.Prelude.{◌≡◌, ◌≢◌, ◌⊎◌, ℕ, ◌+◌, ◌<◌, ◌≤◌, ◌^◌, ◌==◌, ◌&&◌, not, Bool, List, [], ◌∷◌, length, map, filter, All, Option, Some, None, MatchOption, option_map, slice_get, refl}
 use Rattle.std.specs.List.{flat_map, find, last_or, Any, AllPairs}
 use Rattle.std.proofs.Common.{inr}
 use Rattle.hs_base.specs.declared.ids.TraceId.{TraceId}
@@ -100,6 +100,24 @@ pub record CanPrecede (before sheet : Sheet) : Type 0 where
 pub record CanBeAdded (sheets : List Sheet) : Type 0 where
   pub pairs : AllPairs CanPrecede sheets
   pub fits : All (λ sheet. end_of sheet ≤ 2 ^ 32) sheets
+
+-- whether another page is of this one's client and trace
+abbrev pub is_of_run : Sheet → Sheet → Bool
+is_of_run sheet other =
+    other.header.client.node == sheet.header.client.node && other.header.client.number == sheet.header.client.number && other.header.trace.0 == sheet.header.trace.0
+
+-- A page comes next behind these, the latest first: it has a piece, no page of its client has its number, its records'
+-- numbers fit, and it goes on behind the latest page of its client and trace.
+pub record ComesNext (earlier : List Sheet) (sheet : Sheet) : Type 0 where
+  pub some : 0 < length sheet.pieces
+  pub differ : All (λ before. before.header.client ≡ sheet.header.client → before.header.page ≢ sheet.header.page) earlier
+  pub fits : end_of sheet ≤ 2 ^ 32
+  pub rise : MatchOption (find (is_of_run sheet) earlier) (Unit {0}) (λ before. (before.header.page < sheet.header.page) × GoesOn before sheet)
+
+-- each of these pages, the latest first, comes next behind the earlier ones
+abbrev pub ComeInTurn : List Sheet → Type 0
+ComeInTurn [] = Unit {0}
+ComeInTurn (sheet ∷ earlier) = ComesNext earlier sheet × ComeInTurn earlier
 
 -- ---- worked examples
 

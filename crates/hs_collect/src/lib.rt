@@ -8,5 +8,5 @@ mod records;
 mod tests;
 
 pub use collector::Collector;
-pub use law::pages_collect_one;
+pub use law::{pages_collect_one, pages_in_turn_can_be_added};
 pub use records::{TraceRecord, TraceRecords};
