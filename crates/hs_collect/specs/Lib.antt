@@ -1,0 +1,4 @@
+pub mod Collected
+pub mod Clients
+pub mod Views
+pub mod Joining

@@ -1,0 +1,15 @@
+//! Laws of pages that are added. Each is the contract of a function that does nothing.
+
+ghost use Rattle.std.specs.Prelude.{◌≡◌, reverse};
+ghost use Rattle.hs_collect.specs.Collected.{AreCollected, CanBeAdded, ComeInTurn};
+ghost use Rattle.hs_collect.specs.Views.{Collection, Sheets};
+
+/// A list of pages collects one collection: the same traces, in one order, each with the same records.
+pub fn pages_collect_one()
+    ensures { (sheets : Sheets) (a b : Collection) → AreCollected sheets a → AreCollected sheets b → a ≡ b }
+{}
+
+/// Pages can be added where each goes on behind the latest page before it of its client and trace.
+pub fn pages_in_turn_can_be_added()
+    ensures { (sheets : Sheets) → ComeInTurn (reverse sheets) → CanBeAdded sheets }
+{}
