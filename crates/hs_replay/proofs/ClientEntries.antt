@@ -8,7 +8,7 @@ use Rattle.hs_base.specs.Plain.{Operation, Begin, Point, Crumb, End, Fire, Sampl
 use Rattle.hs_base.specs.Records.{piece_count, record_pieces, records_in, records_of}
 use Rattle.hs_base.specs.Pages.{pages_of}
 use Rattle.hs_workload.specs.Validity.{AreBracketed}
-use Rattle.hs_replay.specs.declared.ledger.Entry.{Entry}
+use Rattle.hs_ledger.specs.declared.ledger.Entry.{Entry}
 use Rattle.hs_replay.specs.declared.client.ClientState.{ClientState}
 use Rattle.hs_replay.specs.Fates.{fate_by, fate_of, entries_from, client_entries}
 use Rattle.hs_replay.specs.Growth.{grown_by}

@@ -2,7 +2,7 @@
 use Rattle.std.proofs.Common.{◌≡◌, ℕ, ◌+◌, ◌<◌, ◌≤◌, List, [], ◌++◌, sym, ap, ◌∙◌, append-nil, length}
 use Rattle.hs_base.specs.Plain.{Operation}
 use Rattle.hs_workload.specs.Validity.{client_pieces}
-use Rattle.hs_replay.specs.declared.ledger.Entry.{Entry}
+use Rattle.hs_ledger.specs.declared.ledger.Entry.{Entry}
 use Rattle.hs_replay.specs.declared.client.ClientState.{ClientState}
 use Rattle.hs_replay.proofs.Walk.{entries_after}
 

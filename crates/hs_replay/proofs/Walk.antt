@@ -6,7 +6,7 @@ use Rattle.hs_base.specs.Plain.{Operation, Begin, Point, Crumb, End, Fire, Sampl
 use Rattle.hs_base.specs.Records.{piece_count, record_pieces, pieces_until_end, segments_from}
 use Rattle.hs_base.specs.Pages.{PlainPage, segment_pages}
 use Rattle.hs_workload.specs.Validity.{AreBracketed}
-use Rattle.hs_replay.specs.declared.ledger.Entry.{Entry}
+use Rattle.hs_ledger.specs.declared.ledger.Entry.{Entry}
 use Rattle.hs_replay.specs.declared.client.ClientState.{ClientState}
 use Rattle.hs_replay.specs.ClientState.{entry_at, stepped}
 use Rattle.hs_replay.proofs.Placed.{found, placed_from}

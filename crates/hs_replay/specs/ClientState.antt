@@ -6,7 +6,7 @@ use Rattle.hs_base.specs.declared.told.Fate.{Fate}
 use Rattle.hs_base.specs.declared.told.Fate.TheVariants.{Null, Live}
 use Rattle.hs_base.specs.Plain.{Operation, Begin, Point, Crumb, End, Fire, Sample}
 use Rattle.hs_base.specs.Records.{piece_count}
-use Rattle.hs_replay.specs.declared.ledger.Entry.{Entry}
+use Rattle.hs_ledger.specs.declared.ledger.Entry.{Entry}
 use Rattle.hs_replay.specs.declared.client.ClientState.{ClientState}
 use Rattle.hs_replay.specs.Growth.{grown_by}
 

@@ -7,8 +7,8 @@ ghost use Rattle.hs_workload.specs.LookBack.{operation_pieces};
 ghost use Rattle.hs_replay.specs.Growth.{grown_by};
 ghost use Rattle.hs_replay.specs.ClientState.{stepped, recorded, entry_at, entry_of, fate_on};
 
-use crate::ledger::Entry;
 use hs_base::{ClientId, Fate, RecordId, TraceId};
+use hs_ledger::Entry;
 use hs_workload::Op;
 
 /// The bytes of a page that are no room for pieces.

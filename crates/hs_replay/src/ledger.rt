@@ -1,34 +1,10 @@
-//! The fate of each record.
+//! What a replay gives.
 
 ghost use Rattle.std.specs.Prelude.{◌≡◌, ◌+◌, ◌<◌, ◌^◌};
+ghost use Rattle.hs_ledger.specs.Totals.{with_fate, parts_of};
 
-use hs_base::{Fate, List, RecordId, TraceId};
-
-/// A record with its trace and what became of it.
-#[derive(Clone, Copy, Debug, PartialEq, Eq)]
-pub struct Entry {
-    pub id: RecordId,
-    pub trace: TraceId,
-    pub fate: Fate,
-}
-
-/// How many records there are, and how many of each fate.
-#[derive(Clone, Copy, Debug, PartialEq, Eq)]
-pub struct Totals {
-    pub records: u32,
-    pub live: u32,
-    pub reported: u32,
-    pub null: u32,
-    pub evicted: u32,
-    pub abandoned: u32,
-}
-
-/// The records in the order of node, client and number, each with its fate.
-#[derive(Drop)]
-pub struct Ledger {
-    pub entries: List<Entry>,
-    pub totals: Totals,
-}
+use hs_base::Fate;
+use hs_ledger::{Ledger, Totals};
 
 /// What a replay of a workload gives. The version is the workload's, 1 or 2.
 #[derive(Drop)]
@@ -37,37 +13,33 @@ pub struct Outcome {
     pub ledger: Ledger,
 }
 
-impl Totals {
-    ghost use Rattle.hs_replay.specs.Totals.{with_fate, parts_of};
-
-    /// No entry.
-    pub(crate) fn none() -> Totals
-        ensures { result ≡ record { records = 0; live = 0; reported = 0; null = 0; evicted = 0; abandoned = 0 } }
-    {
-        Totals {
-            records: 0,
-            live: 0,
-            reported: 0,
-            null: 0,
-            evicted: 0,
-            abandoned: 0,
-        }
+/// No entry.
+pub(crate) fn no_entry() -> Totals
+    ensures { result ≡ record { records = 0; live = 0; reported = 0; null = 0; evicted = 0; abandoned = 0 } }
+{
+    Totals {
+        records: 0,
+        live: 0,
+        reported: 0,
+        null: 0,
+        evicted: 0,
+        abandoned: 0,
     }
+}
 
-    /// Counts an entry of this fate.
-    pub(crate) fn count(&mut self, fate: Fate)
-        requires room { self.old.records + 1 < 2 ^ 32 }
-        requires parts { parts_of self.old ≡ self.old.records }
-        ensures counted { self.new ≡ with_fate self.old fate }
-        ensures parts { parts_of self.new ≡ self.new.records }
-    {
-        self.records += 1;
-        match fate {
-            Fate::Live => self.live += 1,
-            Fate::Reported { .. } => self.reported += 1,
-            Fate::Null { .. } => self.null += 1,
-            Fate::Evicted { .. } => self.evicted += 1,
-            Fate::Abandoned { .. } => self.abandoned += 1,
-        }
+/// Counts an entry of this fate.
+pub(crate) fn count(totals: &mut Totals, fate: Fate)
+    requires room { totals.old.records + 1 < 2 ^ 32 }
+    requires parts { parts_of totals.old ≡ totals.old.records }
+    ensures counted { totals.new ≡ with_fate totals.old fate }
+    ensures parts { parts_of totals.new ≡ totals.new.records }
+{
+    totals.records += 1;
+    match fate {
+        Fate::Live => totals.live += 1,
+        Fate::Reported { .. } => totals.reported += 1,
+        Fate::Null { .. } => totals.null += 1,
+        Fate::Evicted { .. } => totals.evicted += 1,
+        Fate::Abandoned { .. } => totals.abandoned += 1,
     }
 }

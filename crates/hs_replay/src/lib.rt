@@ -8,6 +8,6 @@ mod outcome;
 #[cfg(test)]
 mod tests;
 
-pub use ledger::{Entry, Ledger, Outcome, Totals};
+pub use ledger::Outcome;
 pub use one_client::replay;
 pub use outcome::{Form, write_outcome};

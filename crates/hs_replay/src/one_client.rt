@@ -4,11 +4,12 @@ ghost use Rattle.std.specs.Prelude.{◌≡◌, ◌<◌, ◌≤◌, ◌^◌, fals
 ghost use Rattle.hs_workload.specs.Views.{operation_of, workload_of};
 ghost use Rattle.hs_workload.specs.Validity.{IsValid, AreBracketed, client_pieces};
 ghost use Rattle.hs_replay.specs.Fates.{client_entries, entries_of};
-ghost use Rattle.hs_replay.specs.Totals.{totals_of};
+ghost use Rattle.hs_ledger.specs.Totals.{totals_of};
 
 use crate::client::ClientState;
-use crate::ledger::{Entry, Ledger, Outcome, Totals};
+use crate::ledger::{Outcome, count, no_entry};
 use hs_base::{List, Memory};
+use hs_ledger::{Entry, Ledger, Totals};
 use hs_workload::{Op, Workload};
 use std::alloc::Global;
 
@@ -71,9 +72,9 @@ fn count_entries(entries: &[Entry]) -> Totals
     requires { length entries.now < 2 ^ 32 }
     ensures { result ≡ totals_of entries.now }
 {
-    let mut totals = Totals::none();
+    let mut totals = no_entry();
     for entry in entries {
-        totals.count(entry.fate);
+        count(&mut totals, entry.fate);
     }
     totals
 }

@@ -1,5 +1,5 @@
 use Rattle.std.proofs.Common.{◌≡◌, take}
-use Rattle.hs_replay.specs.Totals.{totals_of, parts_of}
+use Rattle.hs_ledger.specs.Totals.{totals_of, parts_of}
 use Rattle.hs_replay.proofs.one_client.count_entries.Given as goal
 
 abbrev pub invariant-loop-entry : goal.invariant-loop-entry

@@ -2,7 +2,7 @@ use Rattle.std.proofs.Common.{◌≡◌, ◌≤◌, IfOk, List, map, sym, ap₂,
 use Rattle.hs_base.specs.Listing.{Listing}
 use Rattle.hs_workload.specs.Views.{operation_of, workload_of}
 use Rattle.hs_workload.specs.Validity.{client_pieces}
-use Rattle.hs_replay.specs.declared.ledger.Entry.{Entry}
+use Rattle.hs_ledger.specs.declared.ledger.Entry.{Entry}
 use Rattle.hs_replay.specs.Fates.{client_entries, entries_of}
 use Rattle.hs_replay.proofs.FirstClient.{first_client, no_client}
 use Rattle.hs_replay.proofs.one_client.replay_first.Goals as goal
