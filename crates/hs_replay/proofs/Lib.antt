@@ -8,3 +8,6 @@ pub mod LoopLemmas
 pub mod FirstClient
 pub mod OutcomeLemmas
 pub mod Examples
+pub mod Playing
+pub mod Cuts
+pub mod Starts

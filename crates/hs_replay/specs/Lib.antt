@@ -3,3 +3,4 @@ pub mod Growth
 pub mod ClientState
 pub mod OutcomeText
 pub mod PlainBooks
+pub mod Seats

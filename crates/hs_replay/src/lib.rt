@@ -5,6 +5,7 @@ mod client;
 mod ledger;
 mod one_client;
 mod outcome;
+mod seat;
 #[cfg(test)]
 mod tests;
 
