@@ -11,3 +11,4 @@ pub mod Examples
 pub mod Playing
 pub mod Cuts
 pub mod Starts
+pub mod Finishes
