@@ -8,3 +8,5 @@ pub mod LoopLemmas
 pub mod FirstClient
 pub mod OutcomeLemmas
 pub mod Examples
+pub mod PieceNumbers
+pub mod PageNumbers
