@@ -10,3 +10,6 @@ pub mod OutcomeLemmas
 pub mod Examples
 pub mod PieceNumbers
 pub mod PageNumbers
+pub mod PageFates
+pub mod PlainStandings
+pub mod PlainLedger

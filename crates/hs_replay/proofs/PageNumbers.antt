@@ -1,6 +1,6 @@
 -- The pages of a client's operations. On each the pieces' numbers rise one by one, since a piece that fills a page
 -- stands alone. A page begins with the next record, or goes on with the last one of the page before in one segment.
-use Rattle.std.proofs.Common.{◌≡◌, ◌⊎◌, ℕ, zero, suc, ◌+◌, ◌-◌, ◌≤◌, Bool, true, false, nat_le, List, [], ◌∷◌, ◌++◌, map, flat_map, length, take, drop, Option, Some, refl, sym, ap, ◌∙◌, subst, arith, true≢false, inl, inr}
+use Rattle.std.proofs.Common.{◌≡◌, ◌⊎◌, ℕ, zero, suc, ◌+◌, ◌-◌, ◌≤◌, Bool, true, false, nat_le, List, [], ◌∷◌, ◌++◌, map, flat_map, length, take, drop, Some, refl, sym, ap, ◌∙◌, subst, arith, true≢false, inl, inr}
 use Rattle.std.proofs.lemmas.Bool.{le-leb, leb-true}
 use Rattle.std.proofs.lemmas.List.{map-append}
 use Rattle.std.specs.List.{AllByRecursion}
@@ -11,7 +11,7 @@ use Rattle.hs_base.specs.Pages.{PlainPage, first_record, longest_run, cost_of, p
 use Rattle.hs_journal.specs.declared.books.PageNote.{PageNote}
 use Rattle.hs_workload.specs.Validity.{AreBracketed}
 use Rattle.hs_client.specs.Calls.{note_of}
-use Rattle.hs_ledger.specs.Books.{end_of, Follows, AllFollow, count_from}
+use Rattle.hs_ledger.specs.Books.{end_of, AllFollow, count_from}
 use Rattle.hs_replay.proofs.PieceNumbers.{Goes, GoesFrom, behind, Traces, Agree, IsPiece, points, agree-tail, segment_well}
 
 -- the numbers of these pieces rise one by one from this one
@@ -141,8 +141,8 @@ pages_behind (suc most) size traces trace before (piece ∷ pieces) few same goe
     let later = pages_behind most size traces trace note rest fewer refl (subst (λ n. Continues size n rest) end run.next) (all-drop (IsPiece size traces trace) k pieces each.1) in
     let page : PlainPage = record { trace = trace; pieces = piece ∷ take k pieces } in
     let runs : map (λ pieces. record { trace = trace; pieces = pieces }) (runs_within (suc most) size (piece ∷ pieces))
-            ≡ page ∷ map (λ pieces. record { trace = trace; pieces = pieces }) (runs_within most size rest) =
-        rw fits refl in
+    ≡ page ∷ map (λ pieces. record { trace = trace; pieces = pieces }) (runs_within most size rest) =
+    rw fits refl in
     subst (ArePagesBehind traces before (piece ∷ pieces)) (sym runs)
     (record {
       begins = refl;

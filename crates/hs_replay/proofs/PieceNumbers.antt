@@ -1,6 +1,6 @@
 -- How the pieces of a segment are numbered. Each piece has the next number, or that of the piece before it, which then
 -- fills a page. Each fits a page of its own, and its number is that of a record with the segment's trace.
-use Rattle.std.proofs.Common.{◌≡◌, ◌⊎◌, ℕ, zero, suc, ◌+◌, ◌-◌, ◌*◌, ◌/◌, ◌%◌, ◌<◌, ◌≤◌, max, min, Bool, true, false, List, [], ◌∷◌, ◌++◌, map, length, take, drop, Option, Some, option_map, refl, sym, ap, ◌∙◌, subst, arith, length-take, length-drop, mul_comm, div-add-mod', mod-lt, true≢false, inl, inr}
+use Rattle.std.proofs.Common.{◌≡◌, ◌⊎◌, ℕ, zero, suc, ◌+◌, ◌-◌, ◌*◌, ◌/◌, ◌%◌, ◌<◌, ◌≤◌, max, min, true, List, [], ◌∷◌, ◌++◌, map, length, take, drop, Option, Some, option_map, refl, sym, ap, ◌∙◌, subst, arith, length-take, length-drop, mul_comm, div-add-mod', mod-lt, true≢false, inl, inr}
 use Rattle.std.specs.List.{AllByRecursion, range_with_len, slice_get}
 use Rattle.hs_base.specs.declared.ids.TraceId.{TraceId}
 use Rattle.hs_base.specs.Plain.{Operation, Begin, Point, Crumb, End, Fire, Sample}
