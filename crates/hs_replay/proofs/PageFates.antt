@@ -98,47 +98,51 @@ some_page number (page ∷ pages) numbered high =
 
 -- ---- the fate of a record
 
+-- the pages that have this record, and what became of them
+abbrev pages_with : (buffers number k : ℕ) → List PlainPage → List FatedPage
+pages_with buffers number k pages = filter (ledger.has_piece_of number) (fated buffers k pages)
+
+abbrev fates : List FatedPage → List Fate
+fates pages = map (λ page. page.fate) pages
+
+-- the one entry of a record
+abbrev entry_with : ℕ → TraceId → Fate → List Entry
+entry_with number trace fate = record { id = record { client = record { node = 0; number = 0 }; number = number }; trace = trace; fate = fate } ∷ []
+
 find_discarded : (buffers number k : ℕ) (pages : List PlainPage)
-    → unwrap_or (find is_discarded (map (λ (page : FatedPage). page.fate) (filter (ledger.has_piece_of number) (fated buffers k pages)))) Live ≡ fate_by (null_from buffers number k pages)
+    → unwrap_or (find is_discarded (fates (pages_with buffers number k pages))) Live ≡ fate_by (null_from buffers number k pages)
 find_discarded buffers number k [] = refl
-find_discarded buffers number k (page ∷ pages) =
-    step (fated buffers (k + 1) pages) (null_from buffers number (k + 1) pages) (find_discarded buffers number (k + 1) pages) (covers number page) (nat_lt k buffers)
+find_discarded buffers number k (page ∷ pages) = step (find_discarded buffers number (k + 1) pages) (covers number page) (nat_lt k buffers)
   where
-    step : (rest : List FatedPage) (null : Option ℕ)
-        → unwrap_or (find is_discarded (map (λ (page : FatedPage). page.fate) (filter (ledger.has_piece_of number) rest))) Live ≡ fate_by null → (has lives : Bool)
+    step : unwrap_or (find is_discarded (fates (pages_with buffers number (k + 1) pages))) Live ≡ fate_by (null_from buffers number (k + 1) pages) → (has lives : Bool)
         → unwrap_or
-        (find is_discarded (map (λ (page : FatedPage). page.fate)
-        (cond has (record { note = note_of page; fate = cond lives Live (Null k) } ∷ filter (ledger.has_piece_of number) rest) (filter (ledger.has_piece_of number) rest)))) Live
-        ≡ fate_by (cond has (cond lives null (Some k)) null)
-    step rest null later true true = later
-    step rest null later true false = refl
-    step rest null later false lives = later
+        (find is_discarded
+        (fates (cond has (record { note = note_of page; fate = cond lives Live (Null k) } ∷ pages_with buffers number (k + 1) pages) (pages_with buffers number (k + 1) pages))))
+        Live
+        ≡ fate_by (cond has (cond lives (null_from buffers number (k + 1) pages) (Some k)) (null_from buffers number (k + 1) pages))
+    step later true true = later
+    step later true false = refl
+    step later false lives = later
 
 -- the entry of a record that has a page, all of whose pages are of one trace
 entry_is : (buffers number k : ℕ) (trace : TraceId) (pages : List PlainPage) → list_any (covers number) pages ≡ true
     → AllByRecursion (λ (page : PlainPage). covers number page ≡ true → page.trace ≡ trace) pages
-    → entry_on first number (filter (ledger.has_piece_of number) (fated buffers k pages))
-    ≡ record { id = record { client = first; number = number }; trace = trace; fate = fate_by (null_from buffers number k pages) } ∷ []
+    → entry_on first number (pages_with buffers number k pages) ≡ entry_with number trace (fate_by (null_from buffers number k pages))
 entry_is buffers number k trace [] some traced = absurd (false≢true some)
 entry_is buffers number k trace (page ∷ pages) some traced =
     step (λ later. entry_is buffers number (k + 1) trace pages later traced.1) (covers number page) refl
   where
-    fate_is : (lives : Bool) → record_fate (cond lives Live (Null k)) (map (λ (page : FatedPage). page.fate) (filter (ledger.has_piece_of number) (fated buffers (k + 1) pages)))
+    fate_is : (lives : Bool) → record_fate (cond lives Live (Null k)) (fates (pages_with buffers number (k + 1) pages))
         ≡ fate_by (cond lives (null_from buffers number (k + 1) pages) (Some k))
     fate_is true = find_discarded buffers number (k + 1) pages
     fate_is false = refl
 
-    step : (list_any (covers number) pages ≡ true → entry_on first number (filter (ledger.has_piece_of number) (fated buffers (k + 1) pages))
-        ≡ record { id = record { client = first; number = number }; trace = trace; fate = fate_by (null_from buffers number (k + 1) pages) } ∷ [])
+    step : (list_any (covers number) pages ≡ true
+        → entry_on first number (pages_with buffers number (k + 1) pages) ≡ entry_with number trace (fate_by (null_from buffers number (k + 1) pages)))
         → (has : Bool) → covers number page ≡ has
-        → entry_on first number (cond has (record { note = note_of page; fate = plain_fate buffers k } ∷ filter (ledger.has_piece_of number) (fated buffers (k + 1) pages)) (filter (ledger.has_piece_of number) (fated buffers (k + 1) pages)))
-        ≡ record {
-          id = record { client = first; number = number };
-          trace = trace;
-          fate = fate_by (cond has (cond (nat_lt k buffers) (null_from buffers number (k + 1) pages) (Some k)) (null_from buffers number (k + 1) pages));
-        } ∷ []
-    step later true has =
-        ap₂ (λ (t : TraceId) (f : Fate). record { id = record { client = first; number = number }; trace = t; fate = f } ∷ []) (traced.0 has) (fate_is (nat_lt k buffers))
+        → entry_on first number (cond has (record { note = note_of page; fate = plain_fate buffers k } ∷ pages_with buffers number (k + 1) pages) (pages_with buffers number (k + 1) pages))
+        ≡ entry_with number trace (fate_by (cond has (cond (nat_lt k buffers) (null_from buffers number (k + 1) pages) (Some k)) (null_from buffers number (k + 1) pages)))
+    step later true has = ap₂ (entry_with number) (traced.0 has) (fate_is (nat_lt k buffers))
     step later false has = later (ap (λ b. b || list_any (covers number) pages) (sym has) ∙ some)
 
 -- from `buffers` on all pages are null
@@ -180,18 +184,14 @@ get-within k r [] at = absurd (cc)
 get-within zero r (first ∷ records) at = omega arith
 get-within (suc k) r (first ∷ records) at = let later = get-within k r records at in omega arith
 
--- the entry of the record of this number
-abbrev entry_with : (ℕ → Fate) → ℕ → TraceId → List Entry
-entry_with fate number trace = record { id = record { client = record { node = 0; number = 0 }; number = number }; trace = trace; fate = fate number } ∷ []
-
-entries_are : (f : ℕ → List Entry) (fate : ℕ → Fate) (i : ℕ) (records : List Record) → ((k : ℕ) (r : Record) → slice_get records k ≡ Some r → f (i + k) ≡ entry_with fate (i + k) r.trace)
+entries_are : (f : ℕ → List Entry) (fate : ℕ → Fate) (i : ℕ) (records : List Record) → ((k : ℕ) (r : Record) → slice_get records k ≡ Some r → f (i + k) ≡ entry_with (i + k) r.trace (fate (i + k)))
     → flat_map f (range_with_len i (length records)) ≡ entries_from fate i records
 entries_are f fate i [] are = refl
 entries_are f fate i (r ∷ records) are =
     let here : i + 0 ≡ i = omega arith in
-    ap₂ (λ (xs ys : List Entry). xs ++ ys) (sym (ap f here) ∙ are 0 r refl ∙ ap (λ n. entry_with fate n r.trace) here)
+    ap₂ (λ (xs ys : List Entry). xs ++ ys) (sym (ap f here) ∙ are 0 r refl ∙ ap (λ n. entry_with n r.trace (fate n)) here)
     (entries_are f fate (i + 1) records
-    (λ k s at. let there : i + 1 + k ≡ i + suc k = omega arith in ap f there ∙ are (suc k) s at ∙ sym (ap (λ n. entry_with fate n s.trace) there)))
+    (λ k s at. let there : i + 1 + k ≡ i + suc k = omega arith in ap f there ∙ are (suc k) s at ∙ sym (ap (λ n. entry_with n s.trace (fate n)) there)))
 
 pub book_is : (buffers : ℕ) (traces : Traces) (pages : List PlainPage) (records : List Record) → ArePages traces 0 pages (0 + length records) → Agree traces 0 records
     → book_entries first (fated buffers 0 pages) ≡ entries_from (fate_of buffers pages) 0 records
@@ -201,11 +201,11 @@ book_is buffers traces pages records are agree =
     ap (λ n. flat_map (record_entry first (fated buffers 0 pages)) (range_with_len 0 n)) all
     ∙ entries_are (record_entry first (fated buffers 0 pages)) (fate_of buffers pages) 0 records by_number
   where
-    by_number : (k : ℕ) (r : Record) → slice_get records k ≡ Some r → record_entry first (fated buffers 0 pages) (0 + k) ≡ entry_with (fate_of buffers pages) (0 + k) r.trace
+    by_number : (k : ℕ) (r : Record) → slice_get records k ≡ Some r → record_entry first (fated buffers 0 pages) (0 + k) ≡ entry_with (0 + k) r.trace (fate_of buffers pages (0 + k))
     by_number k r at =
         let here : k ≡ 0 + k = omega arith in
         let is : traces (0 + k) ≡ Some r.trace = agree k ∙ ap (option_map (λ (r : Record). r.trace)) at in
         let within = get-within k r records at in
         let some = some_page (0 + k) pages are.numbered (omega (arith, are.ends)) in
         entry_is buffers (0 + k) 0 r.trace pages some (of_trace traces r.trace (0 + k) pages is are.each)
-        ∙ ap (λ f. record { id = record { client = first; number = 0 + k }; trace = r.trace; fate = fate_by f } ∷ []) (null-pages buffers (0 + k) buffers 0 traces pages (omega arith) are.each)
+        ∙ ap (λ f. entry_with (0 + k) r.trace (fate_by f)) (null-pages buffers (0 + k) buffers 0 traces pages (omega arith) are.each)
