@@ -1,8 +1,9 @@
 -- A payload that is longer than a piece may be has its first piece, and then the pieces of what is left.
-use Rattle.std.proofs.Common.{◌≡◌, ℕ, zero, suc, ◌+◌, ◌-◌, ◌*◌, ◌/◌, ◌<◌, ◌≤◌, max, List, [], ◌∷◌, ◌++◌, length, map, take, drop, refl, sym, ap, ap₂, ◌∙◌, arith, length-drop, subst}
+use Rattle.std.proofs.Common.{◌≡◌, ℕ, zero, suc, ◌+◌, ◌-◌, ◌*◌, ◌/◌, ◌%◌, ◌<◌, ◌≤◌, max, min, List, [], ◌∷◌, ◌++◌, length, map, take, drop, refl, sym, ap, ap₂, ◌∙◌, arith, length-drop, subst, div-add-mod', mod-lt}
 use Rattle.std.proofs.Math.Nat.{add-div_right, mul-zero}
-use Rattle.std.proofs.lemmas.Nat.{div_below, le-div}
+use Rattle.std.proofs.lemmas.Nat.{div_below, le-div, div-mul-add}
 use Rattle.std.proofs.lemmas.List.{drop-drop, take_all}
+use Rattle.std.specs.Int.{div_ceil}
 use Rattle.std.specs.List.{range_with_len}
 use Rattle.hs_base.specs.Records.{Piece, Segment, piece_limit, piece_count, record_pieces}
 use Rattle.hs_client.specs.Core.{Core}
@@ -27,7 +28,6 @@ piece_count-long size bytes wide long =
     omega (arith, whole, some)
 
 -- ---- which they are
-
 
 pub record_pieces-short : (size number moment : ℕ) (payload : List ℕ) → 64 ≤ size → length payload ≤ piece_limit size → record_pieces size number moment payload ≡ piece_of number moment payload ∷ []
 record_pieces-short size number moment payload wide short =

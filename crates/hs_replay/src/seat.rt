@@ -33,12 +33,7 @@ pub(crate) struct Seat {
 impl Seat {
     /// The first client's seat, with so many buffers of this size, for so many calls of its core. No other
     /// call but `finish` takes memory.
-    pub(crate) fn make(
-        alloc: Global,
-        buffers: u32,
-        size: u32,
-        calls: u32,
-    ) -> Result<Seat, Memory>
+    pub(crate) fn make(alloc: Global, buffers: u32, size: u32, calls: u32) -> Result<Seat, Memory>
         requires some { 1 ≤ buffers }
         requires few { buffers ≤ 1024 }
         requires least { 64 ≤ size }
