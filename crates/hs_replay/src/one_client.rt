@@ -39,9 +39,10 @@ pub fn replay(alloc: Global, workload: &Workload) -> Result<Outcome, Memory>
     let settings = &workload.settings;
     let operations = operations.as_slice();
     let (client, agent) = play(alloc, settings.buffers, settings.size, operations)?;
+    let ledger = ledger_of(alloc, client, agent)?;
     Ok(Outcome {
         version: workload.version,
-        ledger: ledger_of(alloc, client, agent)?,
+        ledger,
     })
 }
 

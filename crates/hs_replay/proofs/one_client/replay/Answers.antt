@@ -19,10 +19,10 @@ ledger_of-requires c =
 
 pub returns-clause-entries : goal.returns-clause-entries
 returns-clause-entries c =
-    c.in_ok-ledger_of.ensures.entries
+    c.in_ok-ledger.ensures.entries
     ∙ (first_books c.args.workload.now c.in-Some.operations.now c.as_slice-operations.result.now c.in_ok-client.client c.in_ok-client.agent c.requires c.in-Some.ensures c.as_slice-operations.ensures c.in_ok-client.ensures).1
 
 pub returns-clause-totals : goal.returns-clause-totals
 returns-clause-totals c =
-    c.in_ok-ledger_of.ensures.totals
+    c.in_ok-ledger.ensures.totals
     ∙ ap totals_of (first_books c.args.workload.now c.in-Some.operations.now c.as_slice-operations.result.now c.in_ok-client.client c.in_ok-client.agent c.requires c.in-Some.ensures c.as_slice-operations.ensures c.in_ok-client.ensures).1
