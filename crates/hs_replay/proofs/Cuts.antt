@@ -1,14 +1,12 @@
 -- A payload that is longer than a piece may be has its first piece, and then the pieces of what is left.
-use Rattle.std.proofs.Common.{◌≡◌, ℕ, zero, suc, ◌+◌, ◌-◌, ◌*◌, ◌/◌, ◌%◌, ◌<◌, ◌≤◌, max, min, List, [], ◌∷◌, ◌++◌, length, map, take, drop, refl, sym, ap, ap₂, ◌∙◌, arith, length-drop, subst, div-add-mod', mod-lt}
+use Rattle.std.proofs.Common.{◌≡◌, ℕ, zero, suc, ◌+◌, ◌-◌, ◌*◌, ◌/◌, ◌<◌, ◌≤◌, List, [], ◌∷◌, ◌++◌, length, map, take, drop, refl, sym, ap, ap₂, ◌∙◌, arith, length-drop, subst}
 use Rattle.std.proofs.Math.Nat.{add-div_right, mul-zero}
-use Rattle.std.proofs.lemmas.Nat.{div_below, le-div, div-mul-add}
+use Rattle.std.proofs.lemmas.Nat.{div_below, le-div}
 use Rattle.std.proofs.lemmas.List.{drop-drop, take_all}
-use Rattle.std.specs.Int.{div_ceil}
 use Rattle.std.specs.List.{range_with_len}
 use Rattle.hs_base.specs.Records.{Piece, Segment, piece_limit, piece_count, record_pieces}
-use Rattle.hs_client.specs.Core.{Core}
 use Rattle.hs_replay.specs.declared.seat.Seat.{Seat}
-use Rattle.hs_replay.specs.Seats.{IsSound, Goes, Plan, IsPlaying}
+use Rattle.hs_replay.specs.Seats.{IsSound, Goes, Plan, IsPlaying, PlaysPieces}
 use Rattle.hs_replay.proofs.Playing.{piece_of}
 
 -- ---- how many pieces there are
@@ -70,7 +68,7 @@ pub record IsCutTo (moment : ℕ) (payload rest : List ℕ) (old now : Seat) : T
 pub record IsRecorded (moment : ℕ) (payload : List ℕ) (number : ℕ) (now new : Seat) : Type 0 where
   pub sound : IsSound new
   pub goes : Goes 1 number now.core.trace now.core new.core
-  pub played : (plan : Plan) (pieces : List Piece) (later : List Segment) → IsPlaying plan (piece_of now.core.number moment payload ∷ pieces) later now → IsPlaying plan pieces later new
+  pub played : PlaysPieces (piece_of now.core.number moment payload ∷ []) now new
 
 cut_once : (limit moment : ℕ) (payload rest : List ℕ) (old now new : Seat) → IsCutTo moment payload rest old now → limit ≡ piece_limit old.core.size → limit < length rest
     → IsRecorded moment (take limit rest) now.core.number now new → IsCutTo moment payload (drop limit rest) old new
@@ -104,7 +102,7 @@ cut_further limit moment payload rest full behind old now new is limit_is long f
 -- all of the payload is recorded
 pub record IsCut (moment : ℕ) (payload : List ℕ) (old new : Seat) : Type 0 where
   pub goes : Goes (piece_count old.core.size (length payload)) (old.core.number + 1) old.core.trace old.core new.core
-  pub played : (plan : Plan) (pieces : List Piece) (later : List Segment) → IsPlaying plan (record_pieces old.core.size old.core.number moment payload ++ pieces) later old → IsPlaying plan pieces later new
+  pub played : PlaysPieces (record_pieces old.core.size old.core.number moment payload) old new
 
 pub cut_all : (limit moment : ℕ) (payload rest : List ℕ) (old now new : Seat) → IsCutTo moment payload rest old now → limit ≡ piece_limit old.core.size → length rest ≤ limit
     → IsRecorded moment rest (now.core.number + 1) now new → IsCut moment payload old new

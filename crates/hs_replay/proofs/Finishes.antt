@@ -1,5 +1,5 @@
 -- At the end of a client's operations its seat's notes and the pages that it kept make the plain books.
-use Rattle.std.proofs.Common.{◌≡◌, ℕ, zero, suc, ◌+◌, nat_lt, Bool, true, false, List, [], ◌∷◌, ◌++◌, length, map, reverse, Option, Some, None, IsNone, refl, sym, ap, ap₂, ◌∙◌, arith}
+use Rattle.std.proofs.Common.{◌≡◌, ℕ, zero, suc, ◌+◌, nat_lt, Bool, true, false, List, [], ◌∷◌, ◌++◌, length, map, reverse, Option, Some, None, IsNone, refl, sym, ap, ◌∙◌, arith}
 use Rattle.std.proofs.lemmas.List.{append-nil}
 use Rattle.std.specs.Option.{option_to_list}
 use Rattle.std.specs.List.{flat_map}
@@ -7,20 +7,17 @@ use Rattle.hs_base.specs.declared.ids.ClientId.{ClientId}
 use Rattle.hs_base.specs.declared.ids.TraceId.{TraceId}
 use Rattle.hs_base.specs.declared.told.Fate.TheVariants.{Live}
 use Rattle.hs_base.specs.Plain.{Operation}
-use Rattle.hs_base.specs.Records.{Segment, segments_of}
+use Rattle.hs_base.specs.Records.{segments_of}
 use Rattle.hs_base.specs.Pages.{PlainPage, segment_pages, pages_of}
 use Rattle.hs_journal.specs.declared.books.Standing.{Standing}
 use Rattle.hs_journal.specs.declared.books.ClientBook.{ClientBook}
 use Rattle.hs_journal.specs.declared.books.AgentBook.{AgentBook}
 use Rattle.hs_client.specs.Core.{Core, Buffer, Step, Began, Wrote, Needed, Supplied, Ended_, Refused, all_pages, handed}
-use Rattle.hs_client.specs.Calls.{IsBook, after, open_trace, draws_supplied, segments_of_steps, pages_of_steps, filled_chunks, handed_out, note_of}
+use Rattle.hs_client.specs.Calls.{IsBook, after, open_trace, segments_of_steps, pages_of_steps, filled_chunks, handed_out, note_of}
 use Rattle.hs_replay.specs.declared.seat.Seat.{Seat}
 use Rattle.hs_replay.specs.PlainBooks.{ArePlainBooks, first, plain_draws, live_standings}
+use Rattle.hs_replay.proofs.PlainStandings.{length-draws}
 use Rattle.hs_replay.specs.Seats.{Plan, IsAt, new_of, kept_by, plain_chunks, coming, with_all, standings_of}
-
-length-plain_draws : (buffers page count : ℕ) → length (plain_draws buffers page count) ≡ count
-length-plain_draws buffers page zero = refl
-length-plain_draws buffers page (suc count) = ap (λ n. suc n) (length-plain_draws buffers (page + 1) count)
 
 after-client : (new : Core (Unit {0})) (steps : List (Step (Unit {0}))) → (after new steps).client ≡ new.client
 after-client new [] = refl
@@ -70,7 +67,7 @@ finished plan operations seat client agent is book none planned client_is draws_
     sym (append-nil (reverse (segments_of_steps steps))) ∙ ap (λ pieces. reverse (with_all pieces (segments_of_steps steps)) ++ []) (sym (nothing_comes plan.size seat.core.number seat.core.trace))
     ∙ is.playing.gives ∙ planned in
     let pages : pages_of_steps plan.size steps ≡ pages_of plan.size operations = ap (flat_map (segment_pages plan.size)) segments in
-    let each : length (pages_of_steps plan.size steps) ≡ seat.pool.events = sym book.each ∙ ap length s.draws ∙ length-plain_draws plan.buffers 0 seat.pool.events in
+    let each : length (pages_of_steps plan.size steps) ≡ seat.pool.events = sym book.each ∙ ap length s.draws ∙ length-draws plan.buffers 0 seat.pool.events in
     let events : seat.pool.events ≡ length (pages_of plan.size operations) = sym each ∙ ap length pages in
     let notes : core.pages ≡ map note_of (pages_of_steps plan.size steps) = sym (append-nil core.pages) ∙ ap (λ current. all_pages (at_rest core current)) (sym current) ∙ book.pages in
     let kept : kept_by seat ≡ filled_chunks first 0 (pages_of_steps plan.size steps) (plain_chunks plan.buffers plan.size 0 seat.pool.events) =

@@ -1,7 +1,7 @@
 -- What each call of a seat's parts does to the seat's steps.
-use Rattle.std.proofs.Common.{◌≡◌, ℕ, zero, suc, ◌+◌, ◌-◌, ◌<◌, ◌≤◌, nat_lt, Bool, true, false, List, [], ◌∷◌, ◌++◌, length, map, reverse, Option, Some, None, IsSome, IsNone, refl, sym, ap, ap₂, ◌∙◌, subst, arith, append_assoc}
+use Rattle.std.proofs.Common.{◌≡◌, ℕ, zero, suc, ◌+◌, ◌-◌, ◌<◌, ◌≤◌, Bool, List, [], ◌∷◌, ◌++◌, map, reverse, Option, Some, None, refl, sym, ap, ap₂, ◌∙◌, subst, arith, append_assoc}
 use Rattle.std.proofs.lemmas.Bool.{lt-ltb, le-ltb}
-use Rattle.std.proofs.lemmas.List.{append-nil, reverse-append, map-append}
+use Rattle.std.proofs.lemmas.List.{append-nil, reverse-append}
 use Rattle.std.specs.Option.{option_to_list}
 use Rattle.std.specs.List.{range_with_len}
 use Rattle.hs_base.specs.declared.ids.TraceId.{TraceId}
@@ -12,13 +12,11 @@ use Rattle.hs_words.specs.declared.token.Drawn.TheVariants as drawn
 use Rattle.hs_words.specs.Chunks.{Contents, clear_chunk}
 use Rattle.hs_words.specs.PoolAnswers.{stamp_drawn}
 use Rattle.hs_pool.specs.Pool.{Pool, Draws}
-use Rattle.hs_client.specs.declared.answers.Begun.{Begun}
-use Rattle.hs_client.specs.declared.answers.Begun.TheVariants as begun
-use Rattle.hs_client.specs.Core.{Core, Buffer, Step, Began, Wrote, Needed, Supplied, Ended_, after_step, handed, buffer_of, draw_of, number_after, supplied, BeginsBy}
-use Rattle.hs_client.specs.Calls.{AreSteps, May, after, next_number, segments_of_steps, with_last, chunks_supplied, draws_supplied, handed_out}
+use Rattle.hs_client.specs.Core.{Core, Buffer, Step, Began, Wrote, Needed, Supplied, Ended_, after_step, handed, buffer_of, draw_of, number_after, supplied}
+use Rattle.hs_client.specs.Calls.{May, segments_of_steps, with_last}
 use Rattle.hs_replay.specs.declared.seat.Seat.{Seat}
-use Rattle.hs_replay.specs.PlainBooks.{first, plain_draw, plain_draws}
-use Rattle.hs_replay.specs.Seats.{Plan, new_of, plain_chunk, plain_chunks, buffers_from, kept_by, ComesBy, IsPlaying, with_all}
+use Rattle.hs_replay.specs.PlainBooks.{plain_draw, plain_draws}
+use Rattle.hs_replay.specs.Seats.{Plan, plain_chunk, plain_chunks, buffers_from, kept_by, IsPlaying, with_all}
 
 -- ---- draws
 
@@ -212,13 +210,3 @@ ended_trace plan later old new may core pool kept is =
           };
       gives = is.gives;
     }
-
--- a trace is begun where none is open and a call is left
-pub begins : (core : Core (Unit {0})) (answer : Begun) → core.counted < core.calls → IsNone core.trace → BeginsBy core answer → answer ≡ begun.Began
-begins core begun.Began left none by = refl
-begins core begun.Spent left none by = absurd (omega (arith, by))
-begins core begun.AlreadyOpen left none by = absurd (none_open core.trace none by.1)
-  where
-    none_open : (trace : Option TraceId) → IsNone trace → IsSome trace → ⊥
-    none_open None none some = absurd (cc)
-    none_open (Some trace) none some = absurd (cc)

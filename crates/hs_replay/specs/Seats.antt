@@ -1,7 +1,7 @@
 -- A seat: a client's core, its node's pool, and the chunks that the core handed out. A seat comes by steps of the core,
 -- whose draws are draws of the pool. It is at the operations that are still to be played when, with what they come to,
 -- its steps give the segments that are planned.
-use Rattle.std.specs.Prelude.{◌≡◌, ℕ, zero, suc, ◌+◌, ◌-◌, ◌<◌, ◌≤◌, ◌^◌, nat_lt, List, [], ◌∷◌, ◌++◌, length, map, reverse, if◌then◌else◌, Option, Some, None, IsSome, is_some, refl}
+use Rattle.std.specs.Prelude.{◌≡◌, ℕ, zero, suc, ◌+◌, ◌-◌, ◌<◌, ◌≤◌, ◌^◌, nat_lt, false, List, [], ◌∷◌, ◌++◌, length, map, reverse, if◌then◌else◌, Option, Some, None, IsSome, is_some, refl}
 use Rattle.std.specs.Option.{option_to_list}
 use Rattle.std.specs.List.{flat_map, range_with_len}
 use Rattle.hs_base.specs.declared.ids.TraceId.{TraceId}
@@ -9,14 +9,16 @@ use Rattle.hs_base.specs.declared.told.Fate.TheVariants.{Live}
 use Rattle.hs_base.specs.Plain.{Operation}
 use Rattle.hs_base.specs.Records.{Piece, Segment, pieces_until_end, segments_from, segments_of}
 use Rattle.hs_journal.specs.declared.books.Standing.{Standing}
+use Rattle.hs_journal.specs.declared.books.ClientBook.{ClientBook}
+use Rattle.hs_journal.specs.declared.books.AgentBook.{AgentBook}
 use Rattle.hs_words.specs.declared.page.Header.{Header}
 use Rattle.hs_words.specs.Chunks.{Contents, clear_chunk, header_in}
 use Rattle.hs_client.specs.Core.{Core, Buffer, Step, new_core, handed, buffer_of}
 use Rattle.hs_client.specs.Calls.{AreSteps, after, next_number, segments_of_steps, with_last, chunks_supplied, draws_supplied, handed_out}
-use Rattle.hs_pool.specs.Pool.{Pool, HasSize}
+use Rattle.hs_pool.specs.Pool.{HasSize}
 use Rattle.hs_workload.specs.Validity.{AreBracketed, client_pieces}
 use Rattle.hs_replay.specs.declared.seat.Seat.{Seat}
-use Rattle.hs_replay.specs.PlainBooks.{first, plain_draws}
+use Rattle.hs_replay.specs.PlainBooks.{first, plain_draws, ArePlainBooks}
 
 -- the chunks that are kept
 abbrev pub kept_by : Seat → List (Buffer (Unit {0}))
@@ -90,6 +92,18 @@ pub record IsPlaying (plan : Plan) (pieces : List Piece) (later : List Segment) 
   pub comes : ComesBy plan steps seat
   pub gives : reverse (with_all pieces (segments_of_steps steps)) ++ later ≡ plan.segments
 
+-- These pieces were next in the open trace of the old seat, and the new one has them behind it.
+abbrev pub PlaysPieces : List Piece → Seat → Seat → Type 0
+PlaysPieces here old new = (plan : Plan) (pieces : List Piece) (later : List Segment) → IsPlaying plan (here ++ pieces) later old → IsPlaying plan pieces later new
+
+-- A segment of this trace was next, whatever its pieces, and the new seat is in it.
+abbrev pub PlaysBegin : TraceId → Seat → Seat → Type 0
+PlaysBegin trace old new = (plan : Plan) (pieces : List Piece) (later : List Segment) → IsPlaying plan [] (record { trace = trace; pieces = pieces } ∷ later) old → IsPlaying plan pieces later new
+
+-- No piece was next in the open trace, and the new seat is behind it.
+abbrev pub PlaysEnd : Seat → Seat → Type 0
+PlaysEnd old new = (plan : Plan) (later : List Segment) → IsPlaying plan [] later old → IsPlaying plan [] later new
+
 -- the pieces that come next in the open trace, if one is open
 abbrev pub coming : (size number : ℕ) → Option TraceId → List Operation → List Piece
 coming size number None operations = []
@@ -102,6 +116,10 @@ pub record IsAt (plan : Plan) (operations : List Operation) (seat : Seat) : Type
   pub bracketed : AreBracketed (is_some seat.core.trace) operations
   pub left : seat.core.counted + client_pieces plan.size operations ≤ seat.core.calls
 
+-- This operation was next, and the new seat has it behind it.
+abbrev pub PlaysOperation : Operation → Seat → Seat → Type 0
+PlaysOperation operation old new = (plan : Plan) (rest : List Operation) → IsAt plan (operation ∷ rest) old → IsAt plan rest new
+
 -- the plan of a client with these operations
 abbrev pub plan_of : (buffers size calls : ℕ) → List Operation → Plan
 plan_of buffers size calls operations = record { buffers = buffers; size = size; calls = calls; segments = segments_of size operations }
@@ -110,7 +128,16 @@ plan_of buffers size calls operations = record { buffers = buffers; size = size;
 abbrev pub IsNext : Operation → Seat → Type 0
 IsNext operation seat = (plan : Plan) × (rest : List Operation) × IsAt plan (operation ∷ rest) seat
 
+-- The seat is at the start of any operations that so many calls serve.
+abbrev pub IsAtStart : (buffers size calls : ℕ) → Seat → Type 0
+IsAtStart buffers size calls seat =
+    (operations : List Operation) → AreBracketed false operations → client_pieces size operations ≤ calls → IsAt (plan_of buffers size calls operations) operations seat
+
 -- ---- what stands in the end
+
+-- Where the seat has all operations of its plan behind it, these are their plain books.
+abbrev pub AreBooksOf : Seat → ClientBook → AgentBook → Type 0
+AreBooksOf seat client agent = (plan : Plan) (operations : List Operation) → IsAt plan [] seat → plan.segments ≡ segments_of plan.size operations → ArePlainBooks plan.buffers plan.size operations client agent
 
 -- what stands of a page that nobody takes
 abbrev pub standing_of : Header → Standing

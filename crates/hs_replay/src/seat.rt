@@ -1,17 +1,14 @@
 //! A client at its node, where nobody takes what it hands out.
 
-ghost use Rattle.std.specs.Prelude.{◌≡◌, ◌+◌, ◌<◌, ◌≤◌, false, List as Seq, [], ◌∷◌, ◌++◌, length, map, IfOk, IsSome, IsNone};
+ghost use Rattle.std.specs.Prelude.{◌≡◌, ◌+◌, ◌<◌, ◌≤◌, [], ◌∷◌, ◌++◌, length, map, IfOk, IsSome, IsNone};
 ghost use Rattle.std.specs.Option.{option_to_list};
-ghost use Rattle.hs_base.specs.Plain.{Operation};
-ghost use Rattle.hs_base.specs.Records.{Piece, Segment, piece_count, record_pieces, segments_of};
+ghost use Rattle.hs_base.specs.Records.{piece_count, record_pieces};
 ghost use Rattle.hs_client.specs.Core.{number_after, buffer_of, buffer_in};
 ghost use Rattle.hs_workload.specs.Views.{operation_of};
-ghost use Rattle.hs_workload.specs.Validity.{AreBracketed, client_pieces};
-ghost use Rattle.hs_replay.specs.PlainBooks.{ArePlainBooks};
-ghost use Rattle.hs_replay.specs.Seats.{IsSound, Goes, Plan, IsPlaying, IsAt, IsNext, plan_of, standings_of};
+ghost use Rattle.hs_replay.specs.Seats.{IsSound, Goes, IsNext, IsAtStart, PlaysOperation, PlaysBegin, PlaysPieces, PlaysEnd, AreBooksOf, standings_of};
 
 use hs_base::{ClientId, Fate, List, Memory, NodeId, TraceId};
-use hs_client::{ClientCore, Ended, Pointed, any_steps_make_the_book};
+use hs_client::{Begun, ClientCore, Ended, Pointed, any_steps_make_the_book};
 use hs_journal::{AgentBook, ClientBook, Standing};
 use hs_pool::PlainPool;
 use hs_words::{Held, Stock};
@@ -39,7 +36,7 @@ impl Seat {
         requires least { 64 ≤ size }
         requires most { size ≤ 32768 }
         ensures sound { IfOk result IsSound }
-        ensures start { IfOk result (λ seat. (operations : Seq Operation) → AreBracketed false operations → client_pieces size operations ≤ calls → IsAt (plan_of buffers size calls operations) operations seat) }
+        ensures start { IfOk result (IsAtStart buffers size calls) }
     {
         Ok(Seat {
             core: ClientCore::make(alloc, ClientId { node: 0, number: 0 }, size, calls)?,
@@ -54,7 +51,7 @@ impl Seat {
         requires sound { IsSound self.old }
         requires next { IsNext (operation_of operation.now) self.old }
         ensures sound { IsSound self.new }
-        ensures at { (plan : Plan) (rest : Seq Operation) → IsAt plan (operation_of operation.now ∷ rest) self.old → IsAt plan rest self.new }
+        ensures played { PlaysOperation (operation_of operation.now) self.old self.new }
     {
         match operation {
             Op::Begin { trace } => self.begin(*trace),
@@ -71,9 +68,12 @@ impl Seat {
         requires none { IsNone self.old.core.trace }
         ensures sound { IsSound self.new }
         ensures goes { Goes 1 self.old.core.number (Some trace) self.old.core self.new.core }
-        ensures played { (plan : Plan) (pieces : Seq Piece) (later : Seq Segment) → IsPlaying plan [] (record { trace = trace; pieces = pieces } ∷ later) self.old → IsPlaying plan pieces later self.new }
+        ensures played { PlaysBegin trace self.old self.new }
     {
-        self.core.begin(trace);
+        match self.core.begin(trace) {
+            Begun::Began => {}
+            Begun::Spent | Begun::AlreadyOpen => unreachable!(),
+        }
     }
 
     /// Records a payload, in as few pieces as fit pages.
@@ -83,7 +83,7 @@ impl Seat {
         requires left { self.old.core.counted + piece_count self.old.core.size (length payload.now) ≤ self.old.core.calls }
         ensures sound { IsSound self.new }
         ensures goes { Goes (piece_count self.old.core.size (length payload.now)) (self.old.core.number + 1) self.old.core.trace self.old.core self.new.core }
-        ensures played { (plan : Plan) (pieces : Seq Piece) (later : Seq Segment) → IsPlaying plan (record_pieces self.old.core.size self.old.core.number moment payload.now ++ pieces) later self.old → IsPlaying plan pieces later self.new }
+        ensures played { PlaysPieces (record_pieces self.old.core.size self.old.core.number moment payload.now) self.old self.new }
     {
         let limit = self.limit;
         let mut rest = payload;
@@ -104,7 +104,7 @@ impl Seat {
         requires narrow { 34 + length payload.now ≤ self.old.core.size }
         ensures sound { IsSound self.new }
         ensures goes { Goes 1 (number_after more self.old.core.number) self.old.core.trace self.old.core self.new.core }
-        ensures played { (plan : Plan) (pieces : Seq Piece) (later : Seq Segment) → IsPlaying plan (record { number = self.old.core.number; moment = moment; payload = payload.now } ∷ pieces) later self.old → IsPlaying plan pieces later self.new }
+        ensures played { PlaysPieces (record { number = self.old.core.number; moment = moment; payload = payload.now } ∷ []) self.old self.new }
     {
         match self.core.piece(moment, payload, more) {
             Pointed::Written => {}
@@ -124,7 +124,7 @@ impl Seat {
         requires left { self.old.core.counted < self.old.core.calls }
         ensures sound { IsSound self.new }
         ensures goes { Goes 1 self.old.core.number None self.old.core self.new.core }
-        ensures played { (plan : Plan) (later : Seq Segment) → IsPlaying plan [] later self.old → IsPlaying plan [] later self.new }
+        ensures played { PlaysEnd self.old self.new }
     {
         match self.core.end() {
             Ended::Ended(last) => keep(&mut self.kept, last),
@@ -135,7 +135,7 @@ impl Seat {
     /// The books of the client and of its node's agent, at which each page that was kept stands live.
     pub(crate) fn finish(self, alloc: Global) -> Result<(ClientBook, AgentBook), Memory>
         requires { IsNone self.core.trace }
-        ensures { IfOk result (λ books. (plan : Plan) (operations : Seq Operation) → IsAt plan [] self → plan.segments ≡ segments_of plan.size operations → ArePlainBooks plan.buffers plan.size operations books.0 books.1) }
+        ensures { IfOk result (λ books. AreBooksOf self books.0 books.1) }
     {
         any_steps_make_the_book::<()>();
         let agent = AgentBook {

@@ -7,6 +7,7 @@ ghost use Rattle.hs_replay.specs.OutcomeText.{outcome_text, small, ten_bytes, th
 
 use crate::{Form, Outcome, replay, write_outcome};
 use hs_base::{Bytes, ClientId, Fate, List, Memory, Rank, RecordId, Settings, TraceId, TriggerId};
+use hs_ledger::{Entry, Ledger, Totals};
 use hs_workload::{Op, Workload};
 use std::alloc::Global;
 use std::test::Fail;

@@ -13,7 +13,7 @@ loop-operation-preserved c =
     let plan = plan_of c.args.buffers c.args.size c.count_calls-calls.result (map operation_of ops) in
     let next : drop i ops ≡ op ∷ drop (i + 1) ops = drop_more ops i op (omega arith) ∙ ap (λ x. x ∷ drop (i + 1) ops) (sym c.operation-item.is) in
     let at = subst (λ rest. IsAt plan (map operation_of rest) c.loop-operation.seat) next c.loop-operation.invariant.1 in
-    (c.step.ensures.sound, c.step.ensures.at plan (map operation_of (drop (i + 1) ops)) at)
+    (c.step.ensures.sound, c.step.ensures.played plan (map operation_of (drop (i + 1) ops)) at)
 
 pub returns : goal.returns
 returns c =

@@ -1,6 +1,5 @@
 use Rattle.std.proofs.Common.{◌-◌, length, refl, ap, sym, ◌∙◌, arith}
 use Rattle.hs_words.specs.Chunks.{clear_chunks}
-use Rattle.hs_replay.specs.declared.seat.Seat.{Seat}
 use Rattle.hs_replay.proofs.Starts.{length-clear_chunks, IsNew, new_sound, new_start}
 use Rattle.hs_replay.proofs.seat.Seat.make.Goals as goal
 
