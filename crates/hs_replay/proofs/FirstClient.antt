@@ -1,12 +1,19 @@
 -- The first client of a valid workload.
-use Rattle.std.proofs.Common.{◌≡◌, ℕ, ◌≤◌, false, List, [], ◌∷◌, map, slice_get, Some, None, refl, sym, ap, ◌∙◌, subst, arith}
+use Rattle.std.proofs.Common.{◌≡◌, ℕ, ◌≤◌, false, List, [], ◌∷◌, map, slice_get, Some, refl, sym, ap, ◌∙◌, subst, arith}
 use Rattle.std.specs.List.{AllByRecursion}
 use Rattle.hs_base.specs.Listing.{Listing}
 use Rattle.hs_base.specs.Plain.{Operation}
+use Rattle.hs_journal.specs.declared.books.ClientBook.{ClientBook}
+use Rattle.hs_journal.specs.declared.books.AgentBook.{AgentBook}
+use Rattle.hs_ledger.specs.Books.{BooksFit}
+use Rattle.hs_ledger.specs.Fates as ledger
 use Rattle.hs_workload.specs.declared.operation.Op.{Op}
-use Rattle.hs_workload.specs.Views.{operation_of, operations_of}
-use Rattle.hs_workload.specs.Validity.{IsClient, AreBracketed, client_pieces, workload_pieces}
-use Rattle.hs_replay.specs.Fates.{first_entries, client_entries}
+use Rattle.hs_workload.specs.declared.operation.Workload.{Workload}
+use Rattle.hs_workload.specs.Views.{operation_of, operations_of, workload_of}
+use Rattle.hs_workload.specs.Validity.{IsValid, IsClient, AreBracketed, client_pieces, workload_pieces}
+use Rattle.hs_replay.specs.Fates.{first_entries, client_entries, entries_of}
+use Rattle.hs_replay.specs.PlainBooks.{ArePlainBooks}
+use Rattle.hs_replay.proofs.PlainLedger.{plain_books}
 
 pub record IsFirst (buffers size : ℕ) (clients : List (Listing Op)) (ops : List Operation) : Type 0 where
   pub bracketed : AreBracketed false ops
@@ -21,6 +28,11 @@ first_client buffers size version (client ∷ clients) first ops each few is ite
     let e : client.items ≡ ops = ap (λ (l : Listing Op). l.items) (sym same) ∙ sym items in
     subst (λ items. IsFirst buffers size (client ∷ clients) (map operation_of items)) e (record { bracketed = each.0.bracketed; few = omega arith; entries = refl })
 
-pub no_client : (buffers size : ℕ) (clients : List (Listing Op)) → None ≡ slice_get clients 0 → first_entries buffers size (map operations_of clients) ≡ []
-no_client buffers size [] is = refl
-no_client buffers size (client ∷ clients) is = absurd (cc)
+-- the first client's plain books fit, and tell of the workload's records
+pub first_books : (w : Workload) (first : Listing Op) (ops : List Op) (client : ClientBook) (agent : AgentBook) → IsValid (workload_of w) → Some first ≡ slice_get w.clients.items 0 → ops ≡ first.items
+    → ArePlainBooks w.settings.buffers w.settings.size (map operation_of ops) client agent
+    → BooksFit (client ∷ []) (agent ∷ []) × (ledger.entries_of (client ∷ []) (agent ∷ []) ≡ entries_of (workload_of w))
+first_books w first ops client agent valid is items are =
+    let first = first_client w.settings.buffers w.settings.size w.version w.clients.items first ops valid.each valid.few is items in
+    let plain = plain_books w.settings.buffers w.settings.size (map operation_of ops) client agent valid.size.0 first.bracketed first.few are in
+    (plain.0, plain.1 ∙ sym first.entries)

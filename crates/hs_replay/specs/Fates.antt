@@ -9,7 +9,7 @@ use Rattle.hs_base.specs.declared.told.Fate.TheVariants.{Null, Live}
 use Rattle.hs_base.specs.Plain.{Operation, Begin, Point, End, PlainWorkload}
 use Rattle.hs_base.specs.Records.{Record, records_of}
 use Rattle.hs_base.specs.Pages.{PlainPage, pages_of}
-use Rattle.hs_replay.specs.declared.ledger.Entry.{Entry}
+use Rattle.hs_ledger.specs.declared.ledger.Entry.{Entry}
 
 -- whether a page has a piece of the record of this number
 abbrev pub has_piece_of : ℕ → PlainPage → Bool

@@ -1,5 +1,4 @@
 pub mod Fates
-pub mod Growth
-pub mod ClientState
-pub mod Totals
 pub mod OutcomeText
+pub mod PlainBooks
+pub mod Seats

@@ -7,10 +7,10 @@ use Rattle.hs_base.specs.declared.told.Fate.{Fate}
 use Rattle.hs_base.specs.declared.told.Fate.TheVariants.{Null, Live, Reported, Evicted, Abandoned}
 use Rattle.hs_base.specs.Plain.{Operation, Begin, Point, End, PlainWorkload}
 use Rattle.hs_base.specs.Text.{line_of, text_of, hex_text, trace_digits}
-use Rattle.hs_replay.specs.declared.ledger.Entry.{Entry}
-use Rattle.hs_replay.specs.declared.ledger.Totals.{Totals}
+use Rattle.hs_ledger.specs.declared.ledger.Entry.{Entry}
+use Rattle.hs_ledger.specs.declared.ledger.Totals.{Totals}
 use Rattle.hs_replay.specs.Fates.{entries_of}
-use Rattle.hs_replay.specs.Totals.{totals_of}
+use Rattle.hs_ledger.specs.Totals.{totals_of}
 
 -- a trace in a text of this version
 abbrev pub trace_word : ℕ → TraceId → List ℕ

@@ -1,13 +1,11 @@
 //! The replay of a workload on one thread, and the text of its outcome.
 #![tactic(auto)]
 
-mod client;
-mod ledger;
 mod one_client;
 mod outcome;
+mod seat;
 #[cfg(test)]
 mod tests;
 
-pub use ledger::{Entry, Ledger, Outcome, Totals};
-pub use one_client::replay;
+pub use one_client::{Outcome, replay};
 pub use outcome::{Form, write_outcome};

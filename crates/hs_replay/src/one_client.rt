@@ -1,16 +1,28 @@
 //! The replay of a workload of one client, without an agent.
 
-ghost use Rattle.std.specs.Prelude.{◌≡◌, ◌<◌, ◌≤◌, ◌^◌, false, IfOk, map, length};
+ghost use Rattle.std.specs.Prelude.{◌≡◌, ◌<◌, ◌≤◌, [], ◌∷◌, false, IfOk, map, length};
 ghost use Rattle.hs_workload.specs.Views.{operation_of, workload_of};
+ghost use Rattle.hs_workload.specs.LookBack.{operation_pieces};
 ghost use Rattle.hs_workload.specs.Validity.{IsValid, AreBracketed, client_pieces};
-ghost use Rattle.hs_replay.specs.Fates.{client_entries, entries_of};
-ghost use Rattle.hs_replay.specs.Totals.{totals_of};
+ghost use Rattle.hs_ledger.specs.Books.{BooksFit};
+ghost use Rattle.hs_ledger.specs.Fates.{entries_of as book_entries_of};
+ghost use Rattle.hs_ledger.specs.Totals.{totals_of};
+ghost use Rattle.hs_replay.specs.Fates.{entries_of};
+ghost use Rattle.hs_replay.specs.PlainBooks.{ArePlainBooks};
 
-use crate::client::ClientState;
-use crate::ledger::{Entry, Ledger, Outcome, Totals};
+use crate::seat::{FRAME, Seat};
 use hs_base::{List, Memory};
+use hs_journal::{AgentBook, ClientBook};
+use hs_ledger::{Ledger, make_ledger};
 use hs_workload::{Op, Workload};
 use std::alloc::Global;
+
+/// What a replay of a workload gives. The version is the workload's, 1 or 2.
+#[derive(Drop)]
+pub struct Outcome {
+    pub version: u8,
+    pub ledger: Ledger,
+}
 
 /// Replays a workload of one client. Page k of the client draws buffer k with the stamp k, as long as there
 /// are buffers, and nothing is given back (`docs/RULES.md`, "The replay of one client"). The one error
@@ -21,59 +33,86 @@ pub fn replay(alloc: Global, workload: &Workload) -> Result<Outcome, Memory>
     ensures entries { IfOk result (λ outcome. outcome.ledger.entries.items ≡ entries_of (workload_of workload.now)) }
     ensures totals { IfOk result (λ outcome. outcome.ledger.totals ≡ totals_of (entries_of (workload_of workload.now))) }
 {
-    let entries = replay_first(alloc, workload)?;
-    let totals = count_entries(entries.as_slice());
+    let Some(operations) = workload.clients.get(0) else {
+        unreachable!()
+    };
+    let settings = &workload.settings;
+    let operations = operations.as_slice();
+    let (client, agent) = play(alloc, settings.buffers, settings.size, operations)?;
+    let ledger = ledger_of(alloc, client, agent)?;
     Ok(Outcome {
         version: workload.version,
-        ledger: Ledger { entries, totals },
+        ledger,
     })
 }
 
-/// The entries of the first client's records.
-fn replay_first(alloc: Global, workload: &Workload) -> Result<List<Entry>, Memory>
-    requires { IsValid (workload_of workload.now) }
-    ensures entries { IfOk result (λ entries. entries.items ≡ entries_of (workload_of workload.now)) }
-    ensures few { IfOk result (λ entries. length entries.items ≤ 262144) }
+/// The ledger of one client's book and its node's agent's.
+fn ledger_of(alloc: Global, client: ClientBook, agent: AgentBook) -> Result<Ledger, Memory>
+    requires { BooksFit (client ∷ []) (agent ∷ []) }
+    ensures entries { IfOk result (λ ledger. ledger.entries.items ≡ book_entries_of (client ∷ []) (agent ∷ [])) }
+    ensures totals { IfOk result (λ ledger. ledger.totals ≡ totals_of (book_entries_of (client ∷ []) (agent ∷ []))) }
 {
-    let buffers = u64::from(workload.settings.buffers);
-    let size = u64::from(workload.settings.size);
-    match workload.clients.get(0) {
-        Some(operations) => replay_client(alloc, buffers, size, operations.as_slice()),
-        None => Ok(List::new(alloc)),
-    }
+    let clients = only(alloc, client)?;
+    let agents = only(alloc, agent)?;
+    make_ledger(alloc, &clients, &agents)
 }
 
-/// The entries of a client's records.
-fn replay_client(
+/// Plays a client's operations, and answers its book and that of its node's agent.
+fn play(
     alloc: Global,
-    buffers: u64,
-    size: u64,
+    buffers: u32,
+    size: u32,
     operations: &[Op],
-) -> Result<List<Entry>, Memory>
-    requires size { 64 ≤ size }
+) -> Result<(ClientBook, AgentBook), Memory>
+    requires some { 1 ≤ buffers }
+    requires few { buffers ≤ 1024 }
+    requires least { 64 ≤ size }
+    requires most { size ≤ 32768 }
     requires bracketed { AreBracketed false (map operation_of operations.now) }
-    requires few { client_pieces size (map operation_of operations.now) ≤ 262144 }
-    ensures entries { IfOk result (λ entries. entries.items ≡ client_entries buffers size (map operation_of operations.now)) }
-    ensures few { IfOk result (λ entries. length entries.items ≤ 262144) }
+    requires pieces { client_pieces size (map operation_of operations.now) ≤ 262144 }
+    ensures { IfOk result (λ books. ArePlainBooks buffers size (map operation_of operations.now) books.0 books.1) }
 {
-    let mut state = ClientState::new();
-    let mut entries = List::new(alloc);
+    let calls = count_calls(size, operations);
+    let mut seat = Seat::make(alloc, buffers, size, calls)?;
     for operation in operations {
-        if let Some(entry) = state.step(buffers, size, operation) {
-            entries.append(entry)?;
-        }
+        seat.step(operation);
     }
-    Ok(entries)
+    seat.finish(alloc)
 }
 
-/// Counts the entries, all of them and those of each fate.
-fn count_entries(entries: &[Entry]) -> Totals
-    requires { length entries.now < 2 ^ 32 }
-    ensures { result ≡ totals_of entries.now }
+/// How many calls of a core the operations come to at most: a point counts once for each of its pieces.
+fn count_calls(size: u32, operations: &[Op]) -> u32
+    requires least { 64 ≤ size }
+    requires few { client_pieces size (map operation_of operations.now) ≤ 262144 }
+    ensures { result ≡ client_pieces size (map operation_of operations.now) }
 {
-    let mut totals = Totals::none();
-    for entry in entries {
-        totals.count(entry.fate);
+    let mut calls = 0;
+    for operation in operations {
+        calls += calls_of(size, operation);
     }
-    totals
+    calls
+}
+
+/// How many calls of a core an operation comes to at most.
+fn calls_of(size: u32, operation: &Op) -> u32
+    requires least { 64 ≤ size }
+    requires few { operation_pieces size (operation_of operation.now) ≤ 262144 }
+    ensures { result ≡ operation_pieces size (operation_of operation.now) }
+{
+    match operation {
+        Op::Point { payload, .. } => {
+            let pieces = payload.len().div_ceil(size as usize - FRAME).max(1);
+            pieces as u32
+        }
+        _ => 1,
+    }
+}
+
+/// A list of one item.
+fn only<T: Drop>(alloc: Global, item: T) -> Result<List<T>, Memory>
+    ensures { IfOk result (λ list. list.items ≡ item ∷ []) }
+{
+    let mut list = List::with_room(alloc, 1)?;
+    list.push(item);
+    Ok(list)
 }

@@ -5,8 +5,9 @@ ghost use Rattle.hs_workload.specs.Views.{operation_of, operations_of, workload_
 ghost use Rattle.hs_workload.specs.Validity.{IsValid};
 ghost use Rattle.hs_replay.specs.OutcomeText.{outcome_text, small, ten_bytes, three_operations};
 
-use crate::{Entry, Form, Ledger, Outcome, Totals, replay, write_outcome};
+use crate::{Form, Outcome, replay, write_outcome};
 use hs_base::{Bytes, ClientId, Fate, List, Memory, Rank, RecordId, Settings, TraceId, TriggerId};
+use hs_ledger::{Entry, Ledger, Totals};
 use hs_workload::{Op, Workload};
 use std::alloc::Global;
 use std::test::Fail;

@@ -1,0 +1,155 @@
+-- The books of a client alone, whose pages that got a buffer all live, fit together, and their ledger has an entry for
+-- each of the client's records, with the fate that the whole list of its pages decides.
+use Rattle.std.proofs.Common.{◌≡◌, ℕ, ◌+◌, ◌<◌, ◌≤◌, ◌^◌, false, List, [], ◌∷◌, All, map, filter, length, option_map, unwrap_or, refl, sym, ap, ◌∙◌, subst, arith, append-nil}
+use Rattle.std.proofs.lemmas.List.{length-map}
+use Rattle.std.proofs.lemmas.List.Elements.{All-from_recursion}
+use Rattle.std.specs.List.{AllByRecursion, find, slice_get}
+use Rattle.hs_base.specs.declared.ids.TraceId.{TraceId}
+use Rattle.hs_base.specs.declared.ids.ClientId.{ClientId}
+use Rattle.hs_base.specs.declared.told.Fate.TheVariants.{Live}
+use Rattle.hs_base.specs.Plain.{Operation, Begin, Point, Crumb, End, Fire, Sample}
+use Rattle.hs_base.specs.Records.{Record, records_in, records_of}
+use Rattle.hs_base.specs.Pages.{PlainPage, pages_of}
+use Rattle.hs_journal.specs.declared.journal.Draw.{Draw}
+use Rattle.hs_journal.specs.declared.journal.Draw.TheVariants.{Got}
+use Rattle.hs_journal.specs.declared.books.PageNote.{PageNote}
+use Rattle.hs_journal.specs.declared.books.Standing.{Standing}
+use Rattle.hs_journal.specs.declared.books.ClientBook.{ClientBook}
+use Rattle.hs_journal.specs.declared.books.AgentBook.{AgentBook}
+use Rattle.hs_workload.specs.Validity.{AreBracketed, client_pieces}
+use Rattle.hs_client.specs.Calls.{note_of}
+use Rattle.hs_ledger.specs.Books.{IsOfGotPage, BookFits, BooksFit, is_of, AreNumbered}
+use Rattle.hs_ledger.specs.Fates.{FatedPage, fated_pages, book_entries, page_fate}
+use Rattle.hs_ledger.specs.Fates as ledger
+use Rattle.hs_replay.specs.Fates.{client_entries, fate_of, entries_from}
+use Rattle.hs_replay.specs.PlainBooks.{ArePlainBooks, plain_draws, live_standings, first}
+use Rattle.hs_replay.proofs.PieceNumbers.{Traces, Agree}
+use Rattle.hs_replay.proofs.PageNumbers.{AreNumberedFrom, ArePages, IsPage, closed-pages}
+use Rattle.hs_replay.proofs.PageFates.{book_is}
+use Rattle.hs_replay.proofs.PlainStandings.{length-draws, IsLive, all-live, found-live, fated_is, one_standing}
+
+-- ---- the client's records
+
+mutual
+  few_in : (size : ℕ) (trace : TraceId) (ops : List Operation) → length (records_in trace ops) ≤ client_pieces size ops
+  few_in size trace [] = omega arith
+  few_in size trace (Begin next ∷ ops) = let later = few_in size next ops in omega arith
+  few_in size trace (Point moment payload ∷ ops) = let later = few_in size trace ops in omega arith
+  few_in size trace (End ∷ ops) = let later = few_of size ops in omega arith
+  few_in size trace (Crumb node ∷ ops) = let later = few_in size trace ops in omega arith
+  few_in size trace (Fire trigger ∷ ops) = let later = few_in size trace ops in omega arith
+  few_in size trace (Sample moment auto value ∷ ops) = let later = few_in size trace ops in omega arith
+
+  -- a record has at least one piece
+  few_of : (size : ℕ) (ops : List Operation) → length (records_of ops) ≤ client_pieces size ops
+  few_of size [] = omega arith
+  few_of size (Begin next ∷ ops) = let later = few_in size next ops in omega arith
+  few_of size (Point moment payload ∷ ops) = let later = few_of size ops in omega arith
+  few_of size (End ∷ ops) = let later = few_of size ops in omega arith
+  few_of size (Crumb node ∷ ops) = let later = few_of size ops in omega arith
+  few_of size (Fire trigger ∷ ops) = let later = few_of size ops in omega arith
+  few_of size (Sample moment auto value ∷ ops) = let later = few_of size ops in omega arith
+
+abbrev traces_of : List Record → Traces
+traces_of records number = option_map (λ (r : Record). r.trace) (slice_get records number)
+
+traces-agree : (records : List Record) → Agree (traces_of records) 0 records
+traces-agree records k = let here : 0 + k ≡ k = omega arith in ap (traces_of records) here
+
+numbered : (notes : List PageNote) → AreNumberedFrom 0 notes → AreNumbered notes
+numbered [] are = tt
+numbered (note ∷ notes) are = are
+
+counted : (traces : Traces) (pages : List PlainPage) → AllByRecursion (IsPage traces) pages → AllByRecursion (λ (note : PageNote). 1 ≤ note.count) (map note_of pages)
+counted traces [] each = tt
+counted traces (page ∷ pages) each = (each.0.some, counted traces pages each.1)
+
+-- ---- the books
+
+abbrev client_with : ClientBook → ClientId → List Draw → List PageNote → ClientBook
+client_with book client draws pages = record { client = client; draws = record { items = draws; room = book.draws.room }; pages = record { items = pages; room = book.pages.room } }
+
+abbrev agent_with : AgentBook → ℕ → List Standing → AgentBook
+agent_with book node standings =
+    record { node = record { 0 = node }; log = book.log; standings = record { items = standings; room = book.standings.room }; claims = book.claims; sent = book.sent }
+
+-- the books of these pages
+abbrev client_of : ClientBook → ℕ → List PlainPage → ClientBook
+client_of book buffers pages = client_with book first (plain_draws buffers 0 (length pages)) (map note_of pages)
+
+abbrev agent_of : AgentBook → ℕ → List PlainPage → AgentBook
+agent_of book buffers pages = agent_with book 0 (live_standings first 0 (plain_draws buffers 0 (length pages)))
+
+of_got : (client : ClientBook) (standings : List Standing) → client.client ≡ first → AllByRecursion (IsLive 0 client.draws.items) standings
+    → AllByRecursion (IsOfGotPage (client ∷ []) 0) standings
+of_got client [] is each = tt
+of_got client (s ∷ standings) is each =
+    let at = each.0.at in
+    let place : at.place ≡ s.page = omega (arith, at.is) in (
+      (
+        ap (λ (c : ClientId). c.node) each.0.client_is,
+        (client, at.buffer, at.stamp, (0, omega arith, refl), is ∙ sym each.0.client_is, ap (slice_get client.draws.items) (sym place) ∙ at.got),
+      ),
+      of_got client standings is each.1,
+    )
+
+books_fit : (buffers : ℕ) (traces : Traces) (pages : List PlainPage) (last : ℕ) (client : ClientBook) (agent : AgentBook) → last < 2 ^ 32 → ArePages traces 0 pages last
+    → BooksFit (client_of client buffers pages ∷ []) (agent_of agent buffers pages ∷ [])
+books_fit buffers traces pages last client agent few are =
+    let draws = plain_draws buffers 0 (length pages) in
+    let standings = live_standings first 0 draws in
+    let book = client_of client buffers pages in
+    let agents = agent_of agent buffers pages ∷ [] in
+    record {
+      ordered = (All-from_recursion _ [] tt, tt);
+      each =
+          All-from_recursion (BookFits agents) (book ∷ []) (
+            record {
+              drawn = length-draws buffers 0 (length pages) ∙ sym (length-map pages note_of);
+              counted = All-from_recursion (λ (note : PageNote). 1 ≤ note.count) (map note_of pages) (counted traces pages are.each);
+              numbered = numbered (map note_of pages) are.numbered;
+              standing = λ page buffer stamp got.
+                  ap (λ (xs : List Standing). length (filter (is_of first page) xs)) (append-nil standings)
+                  ∙ one_standing page 0 page buffer stamp draws (omega arith) got;
+            },
+            tt,
+          );
+      few = omega (arith, are.ends);
+      got =
+          All-from_recursion (λ (b : AgentBook). All (IsOfGotPage (book ∷ []) b.node.0) b.standings.items) agents
+          (All-from_recursion (IsOfGotPage (book ∷ []) 0) standings (of_got book standings refl (all-live 0 draws)), tt);
+    }
+
+entries_are : (buffers : ℕ) (records : List Record) (pages : List PlainPage) (client : ClientBook) (agent : AgentBook) → ArePages (traces_of records) 0 pages (0 + length records)
+    → ledger.entries_of (client_of client buffers pages ∷ []) (agent_of agent buffers pages ∷ []) ≡ entries_from (fate_of buffers pages) 0 records
+entries_are buffers records pages client agent are =
+    let draws = plain_draws buffers 0 (length pages) in
+    let standings = live_standings first 0 draws in
+    let agents = agent_of agent buffers pages ∷ [] in
+    let live : (page buffer stamp : ℕ) → page_fate agents first page (Got buffer stamp) ≡ Live = λ page buffer stamp.
+    ap (λ (xs : List Standing). unwrap_or (option_map (λ (standing : Standing). standing.fate) (find (is_of first page) xs)) Live) (append-nil standings)
+    ∙ found-live 0 draws (is_of first page) standings (all-live 0 draws) in
+    append-nil (book_entries first (fated_pages agents (client_of client buffers pages)))
+    ∙ ap (book_entries first) (fated_is buffers 0 (page_fate agents first) pages live (λ page stamp. refl))
+    ∙ book_is buffers (traces_of records) pages records are (traces-agree records)
+
+abbrev FitAndTell : (buffers size : ℕ) → List Operation → ClientBook → AgentBook → Type 0
+FitAndTell buffers size ops client agent = BooksFit (client ∷ []) (agent ∷ []) × (ledger.entries_of (client ∷ []) (agent ∷ []) ≡ client_entries buffers size ops)
+
+pub plain_books : (buffers size : ℕ) (ops : List Operation) (client : ClientBook) (agent : AgentBook) → 64 ≤ size → AreBracketed false ops → client_pieces size ops ≤ 262144
+    → ArePlainBooks buffers size ops client agent
+    → BooksFit (client ∷ []) (agent ∷ []) × (ledger.entries_of (client ∷ []) (agent ∷ []) ≡ client_entries buffers size ops)
+plain_books buffers size ops client agent wide well few are =
+    let pages = pages_of size ops in
+    let records = records_of ops in
+    let draws = plain_draws buffers 0 (length pages) in
+    let standings = live_standings first 0 draws in
+    let fewer = few_of size ops in
+    let in_order = closed-pages size (traces_of records) 0 ops wide well (traces-agree records) in
+    let here : FitAndTell buffers size ops (client_of client buffers pages) (agent_of agent buffers pages) =
+    (books_fit buffers (traces_of records) pages (0 + length records) client agent (omega arith) in_order, entries_are buffers records pages client agent in_order) in
+    subst (λ c. FitAndTell buffers size ops (client_with client c client.draws.items client.pages.items) (agent_with agent agent.node.0 agent.standings.items)) (sym are.client_is)
+    (subst (λ d. FitAndTell buffers size ops (client_with client first d client.pages.items) (agent_with agent agent.node.0 agent.standings.items)) (sym are.draws)
+    (subst (λ p. FitAndTell buffers size ops (client_with client first draws p) (agent_with agent agent.node.0 agent.standings.items)) (sym are.pages)
+    (subst (λ n. FitAndTell buffers size ops (client_of client buffers pages) (agent_with agent n agent.standings.items)) (sym are.node)
+    (subst (λ s. FitAndTell buffers size ops (client_of client buffers pages) (agent_with agent 0 s)) (sym are.standings) here))))

@@ -1,0 +1,212 @@
+-- What each call of a seat's parts does to the seat's steps.
+use Rattle.std.proofs.Common.{◌≡◌, ℕ, zero, suc, ◌+◌, ◌-◌, ◌<◌, ◌≤◌, Bool, List, [], ◌∷◌, ◌++◌, map, reverse, Option, Some, None, refl, sym, ap, ap₂, ◌∙◌, subst, arith, append_assoc}
+use Rattle.std.proofs.lemmas.Bool.{lt-ltb, le-ltb}
+use Rattle.std.proofs.lemmas.List.{append-nil, reverse-append}
+use Rattle.std.specs.Option.{option_to_list}
+use Rattle.std.specs.List.{range_with_len}
+use Rattle.hs_base.specs.declared.ids.TraceId.{TraceId}
+use Rattle.hs_base.specs.Records.{Piece, Segment}
+use Rattle.hs_journal.specs.declared.journal.Draw.TheVariants.{Got, Empty}
+use Rattle.hs_words.specs.declared.token.Drawn.{Drawn}
+use Rattle.hs_words.specs.declared.token.Drawn.TheVariants as drawn
+use Rattle.hs_words.specs.Chunks.{Contents, clear_chunk}
+use Rattle.hs_words.specs.PoolAnswers.{stamp_drawn}
+use Rattle.hs_pool.specs.Pool.{Pool, Draws}
+use Rattle.hs_client.specs.Core.{Core, Buffer, Step, Began, Wrote, Needed, Supplied, Ended_, after_step, handed, buffer_of, draw_of, number_after, supplied}
+use Rattle.hs_client.specs.Calls.{May, segments_of_steps, with_last}
+use Rattle.hs_replay.specs.declared.seat.Seat.{Seat}
+use Rattle.hs_replay.specs.PlainBooks.{plain_draw, plain_draws}
+use Rattle.hs_replay.specs.Seats.{Plan, plain_chunk, plain_chunks, buffers_from, kept_by, IsPlaying, with_all}
+
+-- ---- draws
+
+pub plain_draws-more : (buffers page count : ℕ) → plain_draws buffers page (count + 1) ≡ plain_draws buffers page count ++ plain_draw buffers (page + count) ∷ []
+plain_draws-more buffers page zero = let e : page + 0 ≡ page = omega arith in rw e refl
+plain_draws-more buffers page (suc count) =
+    let e : page + 1 + count ≡ page + suc count = omega arith in
+    let one : suc count + 1 ≡ suc (count + 1) = omega arith in
+    rw one (ap (λ draws. plain_draw buffers page ∷ draws) (plain_draws-more buffers (page + 1) count ∙ ap (λ n. plain_draws buffers (page + 1) count ++ plain_draw buffers n ∷ []) e))
+
+pub plain_chunks-more : (buffers size page count : ℕ) → plain_chunks buffers size page (count + 1) ≡ plain_chunks buffers size page count ++ plain_chunk buffers size (page + count) ∷ []
+plain_chunks-more buffers size page zero = let e : page + 0 ≡ page = omega arith in rw e refl
+plain_chunks-more buffers size page (suc count) =
+    let e : page + 1 + count ≡ page + suc count = omega arith in
+    let one : suc count + 1 ≡ suc (count + 1) = omega arith in
+    rw one (ap (λ chunks. plain_chunk buffers size page ∷ chunks) (plain_chunks-more buffers size (page + 1) count ∙ ap (λ n. plain_chunks buffers size (page + 1) count ++ plain_chunk buffers size n ∷ []) e))
+
+record IsFront (size n k : ℕ) (chunk : Contents) (rest : List Contents) : Type 0 where
+  some : 0 < k
+  chunk_is : chunk ≡ clear_chunk size n
+  rest_is : rest ≡ map (clear_chunk size) (range_with_len (n + 1) (k - 1))
+
+is_front : (size n k : ℕ) (chunk : Contents) (rest : List Contents) → map (clear_chunk size) (range_with_len n k) ≡ chunk ∷ rest → IsFront size n k chunk rest
+is_front size n zero chunk rest e = absurd (cc)
+is_front size n (suc k) chunk rest e =
+    let less : suc k - 1 ≡ k = omega arith in
+    let tail : rest ≡ map (clear_chunk size) (range_with_len (n + 1) k) = cc in
+    record { some = omega arith; chunk_is = cc; rest_is = rw less tail }
+
+none_waits : (size n k : ℕ) → map (clear_chunk size) (range_with_len n k) ≡ [] → k ≡ 0
+none_waits size n zero e = refl
+none_waits size n (suc k) e = absurd (cc)
+
+-- what is known of the draw of a page
+pub record IsPlainDraw (buffers size : ℕ) (old : Pool) (buffer : Option (Buffer (Unit {0}))) (stamp : ℕ) (new : Pool) : Type 0 where
+  pub buffer_is : buffer ≡ plain_chunk buffers size old.events
+  pub stamp_is : draw_of buffer stamp ≡ plain_draw buffers old.events
+  pub queue : new.queue ≡ buffers_from buffers size new.events
+  pub events : new.events ≡ old.events + 1
+
+-- ---- the steps
+
+abbrev pub piece_of : ℕ → ℕ → List ℕ → Piece
+piece_of number moment payload = record { number = number; moment = moment; payload = payload }
+
+pub wrote : (plan : Plan) (pieces : List Piece) (later : List Segment) (old new : Seat) (moment : ℕ) (payload : List ℕ) (more : Bool)
+    → May old.core (Wrote moment payload more) → new.core ≡ after_step old.core (Wrote moment payload more) → new.pool ≡ old.pool → kept_by new ≡ kept_by old
+    → IsPlaying plan (piece_of old.core.number moment payload ∷ pieces) later old → IsPlaying plan pieces later new
+wrote plan pieces later old new moment payload more may core pool kept is =
+    let step : Step (Unit {0}) = Wrote moment payload more in
+    let s = is.comes in
+    record {
+      steps = step ∷ is.steps;
+      comes =
+          record {
+            may = (s.may, subst (λ (c : Core (Unit {0})). May c step) s.core may);
+            core = core ∙ ap (λ (c : Core (Unit {0})). after_step c step) s.core;
+            number = ap (λ (c : Core (Unit {0})). c.number) core ∙ ap (number_after more) s.number;
+            kept = kept ∙ s.kept;
+            draws = s.draws ∙ ap (λ (p : Pool). plain_draws plan.buffers 0 p.events) (sym pool);
+            chunks = s.chunks ∙ ap (λ (p : Pool). plain_chunks plan.buffers plan.size 0 p.events) (sym pool);
+            queue = ap (λ (p : Pool). p.queue) pool ∙ s.queue ∙ ap (λ (p : Pool). buffers_from plan.buffers plan.size p.events) (sym pool);
+          };
+      gives = ap (λ n. reverse (with_all pieces (with_last (piece_of n moment payload) (segments_of_steps is.steps))) ++ later) (sym s.number) ∙ is.gives;
+    }
+
+pub needed : (plan : Plan) (pieces : List Piece) (later : List Segment) (old new : Seat) (len : ℕ) → May old.core (Needed len) → new.core ≡ after_step old.core (Needed len) → new.pool ≡ old.pool
+    → kept_by new ≡ kept_by old ++ option_to_list (handed old.core) → IsPlaying plan pieces later old → IsPlaying plan pieces later new
+needed plan pieces later old new len may core pool kept is =
+    let step : Step (Unit {0}) = Needed len in
+    let s = is.comes in
+    record {
+      steps = step ∷ is.steps;
+      comes =
+          record {
+            may = (s.may, subst (λ (c : Core (Unit {0})). May c step) s.core may);
+            core = core ∙ ap (λ (c : Core (Unit {0})). after_step c step) s.core;
+            number = ap (λ (c : Core (Unit {0})). c.number) core ∙ s.number;
+            kept = kept ∙ ap₂ (λ (k : List (Buffer (Unit {0}))) (c : Core (Unit {0})). k ++ option_to_list (handed c)) s.kept s.core;
+            draws = s.draws ∙ ap (λ (p : Pool). plain_draws plan.buffers 0 p.events) (sym pool);
+            chunks = s.chunks ∙ ap (λ (p : Pool). plain_chunks plan.buffers plan.size 0 p.events) (sym pool);
+            queue = ap (λ (p : Pool). p.queue) pool ∙ s.queue ∙ ap (λ (p : Pool). buffers_from plan.buffers plan.size p.events) (sym pool);
+          };
+      gives = is.gives;
+    }
+
+supplied_page : (plan : Plan) (pieces : List Piece) (later : List Segment) (old new : Seat) (buffer : Option (Buffer (Unit {0}))) (stamp moment : ℕ) (payload : List ℕ) (more : Bool)
+    → May old.core (Supplied buffer stamp moment payload more) → new.core ≡ after_step old.core (Supplied buffer stamp moment payload more)
+    → IsPlainDraw plan.buffers plan.size old.pool buffer stamp new.pool → kept_by new ≡ kept_by old
+    → IsPlaying plan (piece_of old.core.number moment payload ∷ pieces) later old → IsPlaying plan pieces later new
+supplied_page plan pieces later old new buffer stamp moment payload more may core drawn kept is =
+    let step : Step (Unit {0}) = Supplied buffer stamp moment payload more in
+    let s = is.comes in
+    let here : 0 + old.pool.events ≡ old.pool.events = omega arith in
+    record {
+      steps = step ∷ is.steps;
+      comes =
+          record {
+            may = (s.may, subst (λ (c : Core (Unit {0})). May c step) s.core may);
+            core = core ∙ ap (λ (c : Core (Unit {0})). after_step c step) s.core;
+            number = ap (λ (c : Core (Unit {0})). c.number) core ∙ ap (number_after more) s.number;
+            kept = kept ∙ s.kept;
+            draws =
+                ap₂ (λ draws draw. draws ++ draw ∷ []) s.draws (drawn.stamp_is ∙ ap (plain_draw plan.buffers) (sym here)) ∙ sym (plain_draws-more plan.buffers 0 old.pool.events)
+                ∙ ap (plain_draws plan.buffers 0) (sym drawn.events);
+            chunks =
+                ap₂ (λ chunks chunk. chunks ++ chunk ∷ []) s.chunks (drawn.buffer_is ∙ ap (plain_chunk plan.buffers plan.size) (sym here))
+                ∙ sym (plain_chunks-more plan.buffers plan.size 0 old.pool.events) ∙ ap (plain_chunks plan.buffers plan.size 0) (sym drawn.events);
+            queue = drawn.queue;
+          };
+      gives = ap (λ n. reverse (with_all pieces (with_last (piece_of n moment payload) (segments_of_steps is.steps))) ++ later) (sym s.number) ∙ is.gives;
+    }
+
+-- a page that gets the buffer at the front of the queue, or none where the queue is empty
+pub drew : {g : _} (plan : Plan) (pieces : List Piece) (later : List Segment) (old new : Seat) (drew : Drawn (Unit {0}) g) (moment : ℕ) (payload : List ℕ) (more : Bool)
+    → Draws old.pool drew new.pool → stamp_drawn drew ≡ old.pool.events → new.pool.events ≡ old.pool.events + 1
+    → May old.core (supplied drew moment payload more) → new.core ≡ after_step old.core (supplied drew moment payload more) → kept_by new ≡ kept_by old
+    → IsPlaying plan (piece_of old.core.number moment payload ∷ pieces) later old → IsPlaying plan pieces later new
+drew plan pieces later old new (drawn.Got held stamp) moment payload more draws stamp_is events may core kept is =
+    let n = old.pool.events in
+    let front = is_front plan.size n (plan.buffers - n) held.chunk new.pool.queue (sym is.comes.queue ∙ draws.0) in
+    let less : n < plan.buffers = omega (arith, front.some) in
+    let lt = lt-ltb n plan.buffers less in
+    let left : plan.buffers - n - 1 ≡ plan.buffers - (n + 1) = omega arith in
+    let chunk : Some (buffer_of held) ≡ plain_chunk plan.buffers plan.size n =
+    rw lt (ap (λ (chunk : Contents). let b : Buffer (Unit {0}) = record { chunk = chunk; lease = tt } in Some b) front.chunk_is) in
+    let draw : draw_of (Some (buffer_of held)) stamp ≡ plain_draw plan.buffers n =
+    rw lt (ap₂ (λ (chunk : Contents) stamp. Got chunk.number stamp) front.chunk_is stamp_is) in
+    supplied_page plan pieces later old new (Some (buffer_of held)) stamp moment payload more may core
+    (record { buffer_is = chunk; stamp_is = draw; events = events; queue = front.rest_is ∙ ap₂ (λ n k. map (clear_chunk plan.size) (range_with_len n k)) (sym events) (left ∙ ap (λ n. plan.buffers - n) (sym events)) })
+    kept is
+drew plan pieces later old new (drawn.Empty stamp) moment payload more draws stamp_is events may core kept is =
+    let n = old.pool.events in
+    let none = none_waits plan.size n (plan.buffers - n) (sym is.comes.queue ∙ draws.0) in
+    let le : plan.buffers ≤ n = omega (arith, none) in
+    let not = le-ltb n plan.buffers le in
+    let nothing : plan.buffers - new.pool.events ≡ 0 = omega arith in
+    supplied_page plan pieces later old new None stamp moment payload more may core
+    (record { buffer_is = rw not refl; stamp_is = rw not (ap (λ stamp. Empty stamp) stamp_is); events = events; queue = rw nothing draws.1 })
+    kept is
+
+-- ---- begins and ends
+
+pub with_all-open : (trace : TraceId) (before pieces : List Piece) (segments : List Segment)
+    → with_all pieces (record { trace = trace; pieces = before } ∷ segments) ≡ record { trace = trace; pieces = before ++ pieces } ∷ segments
+with_all-open trace before [] segments = ap (λ (pieces : List Piece). let s : Segment = record { trace = trace; pieces = pieces } in s ∷ segments) (sym (append-nil before))
+with_all-open trace before (piece ∷ pieces) segments =
+    with_all-open trace (before ++ piece ∷ []) pieces segments
+    ∙ ap (λ (pieces : List Piece). let s : Segment = record { trace = trace; pieces = pieces } in s ∷ segments) (append_assoc before (piece ∷ []) pieces)
+
+pub began_trace : (plan : Plan) (pieces : List Piece) (later : List Segment) (old new : Seat) (trace : TraceId) → May old.core (Began trace) → new.core ≡ after_step old.core (Began trace) → new.pool ≡ old.pool
+    → kept_by new ≡ kept_by old → IsPlaying plan [] (record { trace = trace; pieces = pieces } ∷ later) old → IsPlaying plan pieces later new
+began_trace plan pieces later old new trace may core pool kept is =
+    let step : Step (Unit {0}) = Began trace in
+    let s = is.comes in
+    let segment : Segment = record { trace = trace; pieces = pieces } in
+    let segments = segments_of_steps is.steps in
+    record {
+      steps = step ∷ is.steps;
+      comes =
+          record {
+            may = (s.may, subst (λ (c : Core (Unit {0})). May c step) s.core may);
+            core = core ∙ ap (λ (c : Core (Unit {0})). after_step c step) s.core;
+            number = ap (λ (c : Core (Unit {0})). c.number) core ∙ s.number;
+            kept = kept ∙ s.kept;
+            draws = s.draws ∙ ap (λ (p : Pool). plain_draws plan.buffers 0 p.events) (sym pool);
+            chunks = s.chunks ∙ ap (λ (p : Pool). plain_chunks plan.buffers plan.size 0 p.events) (sym pool);
+            queue = ap (λ (p : Pool). p.queue) pool ∙ s.queue ∙ ap (λ (p : Pool). buffers_from plan.buffers plan.size p.events) (sym pool);
+          };
+      gives =
+          ap (λ segments. reverse segments ++ later) (with_all-open trace [] pieces segments) ∙ ap (λ segments. segments ++ later) (reverse-append (segment ∷ []) segments)
+          ∙ append_assoc (reverse segments) (segment ∷ []) later ∙ is.gives;
+    }
+
+pub ended_trace : (plan : Plan) (later : List Segment) (old new : Seat) → May old.core Ended_ → new.core ≡ after_step old.core Ended_ → new.pool ≡ old.pool
+    → kept_by new ≡ kept_by old ++ option_to_list (handed old.core) → IsPlaying plan [] later old → IsPlaying plan [] later new
+ended_trace plan later old new may core pool kept is =
+    let step : Step (Unit {0}) = Ended_ in
+    let s = is.comes in
+    record {
+      steps = step ∷ is.steps;
+      comes =
+          record {
+            may = (s.may, subst (λ (c : Core (Unit {0})). May c step) s.core may);
+            core = core ∙ ap (λ (c : Core (Unit {0})). after_step c step) s.core;
+            number = ap (λ (c : Core (Unit {0})). c.number) core ∙ s.number;
+            kept = kept ∙ ap₂ (λ (k : List (Buffer (Unit {0}))) (c : Core (Unit {0})). k ++ option_to_list (handed c)) s.kept s.core;
+            draws = s.draws ∙ ap (λ (p : Pool). plain_draws plan.buffers 0 p.events) (sym pool);
+            chunks = s.chunks ∙ ap (λ (p : Pool). plain_chunks plan.buffers plan.size 0 p.events) (sym pool);
+            queue = ap (λ (p : Pool). p.queue) pool ∙ s.queue ∙ ap (λ (p : Pool). buffers_from plan.buffers plan.size p.events) (sym pool);
+          };
+      gives = is.gives;
+    }

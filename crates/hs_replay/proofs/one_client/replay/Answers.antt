@@ -1,0 +1,28 @@
+use Rattle.std.proofs.Common.{◌∙◌, ap}
+use Rattle.hs_ledger.specs.Totals.{totals_of}
+use Rattle.hs_replay.proofs.FirstClient.{first_client, first_books}
+use Rattle.hs_replay.proofs.one_client.replay.Goals as goal
+
+pub play-requires-clause-bracketed : goal.play-requires-clause-bracketed
+play-requires-clause-bracketed c =
+    let w = c.args.workload.now in
+    (first_client w.settings.buffers w.settings.size w.version w.clients.items c.in-Some.operations.now c.as_slice-operations.result.now c.requires.each c.requires.few c.in-Some.ensures c.as_slice-operations.ensures).bracketed
+
+pub play-requires-clause-pieces : goal.play-requires-clause-pieces
+play-requires-clause-pieces c =
+    let w = c.args.workload.now in
+    (first_client w.settings.buffers w.settings.size w.version w.clients.items c.in-Some.operations.now c.as_slice-operations.result.now c.requires.each c.requires.few c.in-Some.ensures c.as_slice-operations.ensures).few
+
+pub ledger_of-requires : goal.ledger_of-requires
+ledger_of-requires c =
+    (first_books c.args.workload.now c.in-Some.operations.now c.as_slice-operations.result.now c.in_ok-client.client c.in_ok-client.agent c.requires c.in-Some.ensures c.as_slice-operations.ensures c.in_ok-client.ensures).0
+
+pub returns-clause-entries : goal.returns-clause-entries
+returns-clause-entries c =
+    c.in_ok-ledger.ensures.entries
+    ∙ (first_books c.args.workload.now c.in-Some.operations.now c.as_slice-operations.result.now c.in_ok-client.client c.in_ok-client.agent c.requires c.in-Some.ensures c.as_slice-operations.ensures c.in_ok-client.ensures).1
+
+pub returns-clause-totals : goal.returns-clause-totals
+returns-clause-totals c =
+    c.in_ok-ledger.ensures.totals
+    ∙ ap totals_of (first_books c.args.workload.now c.in-Some.operations.now c.as_slice-operations.result.now c.in_ok-client.client c.in_ok-client.agent c.requires c.in-Some.ensures c.as_slice-operations.ensures c.in_ok-client.ensures).1
