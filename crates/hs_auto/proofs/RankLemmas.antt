@@ -1,8 +1,8 @@
 -- One value joins a sorted list, and one leaves it.
-use Rattle.std.proofs.Common.{cond, ◌≡◌, ℕ, zero, suc, ◌+◌, ◌-◌, ◌<◌, ◌≤◌, Bool, true, false, List, [], ◌∷◌, ◌++◌, length, take, get_or, Some, None, refl, sym, ap, ◌∙◌, arith, subst, ◌==◌, eq-eqb, ⊎_elim}
+use Rattle.std.proofs.Common.{cond, ◌≡◌, ℕ, zero, suc, ◌+◌, ◌-◌, ◌<◌, ◌≤◌, Bool, true, false, List, [], ◌∷◌, ◌++◌, length, take, get_or, slice_index, ltb, Some, None, refl, sym, ap, ◌∙◌, arith, subst, ◌==◌, eq-eqb, ⊎_elim}
 use Rattle.std.specs.List.{count_by, insert, remove, slice_get, Contains, CopiedTo, SameBelow, SameFrom}
 use Rattle.std.specs.List.Sorted.{IsNonDecreasing, IsPartitionPoint}
-use Rattle.std.proofs.lemmas.Bool.{cases_lt, cases_Bool}
+use Rattle.std.proofs.lemmas.Bool.{cases_lt, cases_Bool, lt-ltb, le-ltb}
 use Rattle.std.proofs.lemmas.List.{get_or_default, same_lists, get_or-set_same, get_or-set_other}
 use Rattle.std.proofs.Math.ListN.{set, length-set}
 use Rattle.std.proofs.lemmas.List.Edits.{length-insert, get_or-insert_below, get_or-insert_at, get_or-insert_above, length-remove, get_or-remove_below, get_or-remove_above}
@@ -23,6 +23,54 @@ count_partition p (x ∷ xs) (suc i) in' h =
     let rest : count_by p xs ≡ i = count_partition p xs i (omega arith) ((λ k d low high. h.0 (suc k) d (omega arith) (omega arith)), (λ k d low high. h.1 (suc k) d (omega arith) (omega arith))) in
     sum_by-cons (λ y. cond (p y) 1 0) x xs ∙ rw here (ap (λ n. 1 + n) rest ∙ omega arith)
 
+-- a rising list without its first
+rising_rest : (x : ℕ) (xs : List ℕ) → IsNonDecreasing (x ∷ xs) → IsNonDecreasing xs
+rising_rest x xs rising j k d le within = rising (suc j) (suc k) d (omega arith) (omega arith)
+
+-- a place in the rest is one further with a lesser value in front
+place_behind : (x : ℕ) (xs : List ℕ) (v i : ℕ) → x < v → IsPlace xs v i → IsPlace (x ∷ xs) v (1 + i)
+place_behind x xs v i less at = record { within = omega (arith, at.within); below = below; above = above }
+  where
+    below : (k : ℕ) → k < 1 + i → slice_index (x ∷ xs) k < v
+    below zero low = less
+    below (suc k) low = at.below k (omega arith)
+
+    above : (k : ℕ) → 1 + i ≤ k → k < length (x ∷ xs) → v ≤ slice_index (x ∷ xs) k
+    above zero high in' = absurd (omega arith)
+    above (suc k) high in' = at.above k (omega arith) (omega arith)
+
+-- where the first is not less, none is
+none_less : (x : ℕ) (xs : List ℕ) (v i : ℕ) → IsNonDecreasing (x ∷ xs) → v ≤ x → IsPlace xs v i → i ≡ 0
+none_less x xs v zero rising le at = refl
+none_less x xs v (suc i) rising le at =
+    let some : 0 < length xs = omega (arith, at.within) in
+    let rest : get_or xs 0 0 ≡ slice_index xs 0 = get_or_default xs 0 0 0 some in
+    let risen : x ≤ get_or xs 0 0 = rising 0 1 0 (omega arith) (omega arith) in
+    absurd (omega (arith, at.below 0 (omega arith), rest, risen))
+
+place_in_front : (x : ℕ) (xs : List ℕ) (v : ℕ) → IsNonDecreasing (x ∷ xs) → v ≤ x → IsPlace (x ∷ xs) v 0
+place_in_front x xs v rising le =
+    record {
+      within = omega arith;
+      below = λ k low. absurd (omega arith);
+      above = λ k high in'. let risen : x ≤ get_or (x ∷ xs) k 0 = rising 0 k 0 (omega arith) in' in omega (arith, get_or_default (x ∷ xs) k 0 0 in', risen);
+    }
+
+-- as many as are less stand in front
+pub place_by_count : (xs : List ℕ) (v : ℕ) → IsNonDecreasing xs → IsPlace xs v (count_by (λ y. ltb y v) xs)
+place_by_count [] v rising = record { within = omega arith; below = λ k low. absurd (omega arith); above = λ k high in'. absurd (omega arith) }
+place_by_count (x ∷ xs) v rising =
+    let at : IsPlace xs v (count_by (λ y. ltb y v) xs) = place_by_count xs v (rising_rest x xs rising) in
+    ⊎_elim
+    (λ (less : x < v).
+    let all : count_by (λ y. ltb y v) (x ∷ xs) ≡ 1 + count_by (λ y. ltb y v) xs = sum_by-cons (λ y. cond (ltb y v) 1 0) x xs ∙ rw (lt-ltb x v less) refl in
+    subst (IsPlace (x ∷ xs) v) (sym all) (place_behind x xs v (count_by (λ y. ltb y v) xs) less at))
+    (λ (not_less : v ≤ x).
+    let none : count_by (λ y. ltb y v) xs ≡ 0 = none_less x xs v (count_by (λ y. ltb y v) xs) rising not_less at in
+    let all : count_by (λ y. ltb y v) (x ∷ xs) ≡ 0 = sum_by-cons (λ y. cond (ltb y v) 1 0) x xs ∙ rw (le-ltb x v not_less) (ap (λ n. 0 + n) none ∙ omega arith) in
+    subst (IsPlace (x ∷ xs) v) (sym all) (place_in_front x xs v rising not_less))
+    (cases_lt x v)
+
 -- each element passes the test that all pass
 pub count_all : (xs : List ℕ) → count_by (λ x. true) xs ≡ length xs
 count_all [] = refl
@@ -40,6 +88,10 @@ counted_is_there x (y ∷ xs) some =
 
 pub length_sorted : (sorted values : List ℕ) → StandsSorted sorted values → length sorted ≡ length values
 length_sorted sorted values order = sym (count_all sorted) ∙ order.counts (λ x. true) ∙ count_all values
+
+-- the place of a value, by how many of a window's values are less
+pub place_of_count : (sorted values : List ℕ) (v i : ℕ) → StandsSorted sorted values → i ≡ count_by (λ y. ltb y v) values → IsPlace sorted v i
+place_of_count sorted values v i order is = subst (IsPlace sorted v) (order.counts (λ y. ltb y v) ∙ sym is) (place_by_count sorted v order.rising)
 
 -- a value joins at its place
 pub sorted_put : (sorted values : List ℕ) (i v : ℕ) → StandsSorted sorted values → IsPlace sorted v i → StandsSorted (insert sorted i v) (v ∷ values)

@@ -16,6 +16,13 @@ counted_of (Percentile trigger window share) = 0
 counted_of (Category trigger window share) = window
 counted_of (Queue trigger window share laterals) = 0
 
+-- The rule ranks its values.
+abbrev pub Ranks : AutoRule → Type 0
+Ranks (Exception trigger) = ⊥
+Ranks (Percentile trigger window share) = Unit {0}
+Ranks (Category trigger window share) = ⊥
+Ranks (Queue trigger window share laterals) = Unit {0}
+
 -- the values of the window that it looks at, of those that are ranked and those that are counted
 abbrev pub looked_at : AutoRule → List ℕ → List ℕ → List ℕ
 looked_at (Exception trigger) ranked counted = []

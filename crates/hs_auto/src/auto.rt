@@ -1,9 +1,9 @@
 //! An autotrigger (`docs/RULES.md`, "Autotriggers").
 
-ghost use Rattle.std.specs.Prelude.{◌≡◌, ◌<◌, ◌^◌, List, [], ◌∷◌, ◌==◌, ◌&&◌, not, length, count_by, nat_lt, IfOk};
+ghost use Rattle.std.specs.Prelude.{◌≡◌, ◌<◌, ◌≤◌, ◌^◌, List, [], ◌∷◌, ◌==◌, ◌&&◌, not, length, count_by, nat_lt, IfOk};
 ghost use Rattle.hs_auto.specs.Firing.{Sample, fires, laterals_after, sampled, reaches_share};
 ghost use Rattle.hs_auto.specs.Watching.{HasSampled, IsAutoRule, reach_of};
-ghost use Rattle.hs_auto.specs.Rooms.{ranked_of, counted_of};
+ghost use Rattle.hs_auto.specs.Rooms.{ranked_of, counted_of, Ranks};
 
 use crate::counted::CountedWindow;
 use crate::laterals::distinct_others;
@@ -74,27 +74,31 @@ impl Auto {
             → HasSampled self.new (record { value = value; trace = trace } ∷ samples) }
         ensures rule { self.new.rule ≡ self.old.rule }
     {
-        let sampled = if self.fires(value) {
+        let less = self.ranked.count_less(value);
+        let sampled = if self.fires(value, less) {
             Sampled::Fired {
                 laterals: self.laterals(trace),
             }
         } else {
             Sampled::Quiet
         };
-        self.ranked.push(value);
+        self.ranked.push(value, less);
         self.counted.push(value);
         self.recent.push_front(trace);
         sampled
     }
 
-    fn fires(&self, value: u64) -> bool
+    /// Whether it fires, where so many values of the window that it ranks are less.
+    fn fires(&self, value: u64, less: usize) -> bool
+        requires less { Ranks self.now.rule → less ≡ count_by (λ earlier. nat_lt earlier value) self.now.values }
+        requires few { less ≤ 1024 }
         ensures { (samples : List Sample) → HasSampled self.now samples
             → result ≡ fires self.now.rule samples value }
     {
         match self.rule {
             AutoRule::Exception { .. } => value != 0,
             AutoRule::Percentile { share, .. } | AutoRule::Queue { share, .. } => {
-                ranks_high(&self.ranked, value, share)
+                ranks_high(&self.ranked, less, share)
             }
             AutoRule::Category { share, .. } => is_rare(&self.counted, value, share),
         }
@@ -140,14 +144,14 @@ fn rooms_of(rule: AutoRule) -> Rooms
     }
 }
 
-/// Whether a full window's values less than this one reach the share.
-fn ranks_high(ranked: &RankedWindow, value: u64, share: u32) -> bool
-    requires { ranked.now.size < 2 ^ 32 }
+/// Whether a window is full, and so many of its values reach the share.
+fn ranks_high(ranked: &RankedWindow, less: usize, share: u32) -> bool
+    requires size { ranked.now.size < 2 ^ 32 }
+    requires few { less < 2 ^ 32 }
     ensures { result ≡ ((length ranked.now.values == ranked.now.size)
-        && reaches_share ranked.now.size share
-        (count_by (λ earlier. nat_lt earlier value) ranked.now.values)) }
+        && reaches_share ranked.now.size share less) }
 {
-    ranked.is_full() && reaches(ranked.count_less(value), share, ranked.size())
+    ranked.is_full() && reaches(less, share, ranked.size())
 }
 
 /// Whether a full window's values equal to this one stay below the share.

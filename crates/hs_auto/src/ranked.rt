@@ -60,8 +60,10 @@ impl RankedWindow {
         place_of(&self.sorted, value)
     }
 
-    /// Takes a value in. Where the window was full, its oldest value leaves.
-    pub fn push(&mut self, value: u64)
+    /// Takes a value in, where so many of its values are less. Where the window was full, its oldest value
+    /// leaves.
+    pub fn push(&mut self, value: u64, less: usize)
+        requires { less ≡ count_by (λ earlier. nat_lt earlier value) self.old.values }
         ensures { self.new ≡ record {
           size = self.old.size;
           values = take self.old.size (value ∷ self.old.values);
@@ -71,8 +73,8 @@ impl RankedWindow {
             return;
         }
         match self.arrived.push_front(value) {
-            Some(oldest) => exchange(&mut self.sorted, oldest, value),
-            None => put(&mut self.sorted, value),
+            Some(oldest) => exchange(&mut self.sorted, oldest, value, less),
+            None => put(&mut self.sorted, value, less),
         }
     }
 }

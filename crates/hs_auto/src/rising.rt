@@ -14,30 +14,29 @@ pub fn place_of(sorted: &[u64], value: u64) -> usize
     sorted.partition_point(|earlier| *earlier < value)
 }
 
-/// Takes a value in. There is room for one more.
-pub fn put(sorted: &mut Vec<u64>, value: u64)
-    requires rising { IsNonDecreasing sorted.old.items }
+/// Takes a value in at its place. There is room for one more.
+pub fn put(sorted: &mut Vec<u64>, value: u64, place: usize)
+    requires place { IsPlace sorted.old.items value place }
     requires room { vec_len sorted.old < vec_capacity sorted.old }
     ensures joins { (values : List ℕ) → StandsSorted sorted.old.items values
         → StandsSorted sorted.new.items (value ∷ values) }
     ensures capacity { vec_capacity sorted.old ≤ vec_capacity sorted.new }
 {
-    let place = place_of(sorted, value);
     match sorted.insert(place, value) {
         Ok(()) => {}
         Err(_) => unreachable!(),
     }
 }
 
-/// Takes a value in for one that leaves, by one move of the values between their two places.
-pub fn exchange(sorted: &mut [u64], leaving: u64, value: u64)
+/// Takes a value in at its place for one that leaves, by one move of the values between their two places.
+pub fn exchange(sorted: &mut [u64], leaving: u64, value: u64, to: usize)
     requires rising { IsNonDecreasing sorted.old }
     requires there { Contains sorted.old leaving }
+    requires place { IsPlace sorted.old value to }
     ensures { (values : List ℕ) → StandsSorted sorted.old (values ++ leaving ∷ [])
         → StandsSorted sorted.new (value ∷ values) }
 {
     let from = place_of(sorted, leaving);
-    let to = place_of(sorted, value);
     if from < to {
         sorted.copy_within(from + 1..to, from);
         sorted[to - 1] = value;

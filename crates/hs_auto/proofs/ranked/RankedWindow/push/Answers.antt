@@ -1,10 +1,11 @@
-use Rattle.std.proofs.Common.{◌≡◌, ◌++◌, ◌∷◌, [], List, ℕ, length, take, sym, ap, ◌∙◌, subst, arith, rules, length-take}
-use Rattle.std.specs.List.{Contains}
+use Rattle.std.proofs.Common.{◌≡◌, ◌++◌, ◌∷◌, [], List, ℕ, ltb, length, take, sym, ap, ◌∙◌, subst, arith, rules, length-take}
+use Rattle.std.specs.List.{Contains, count_by}
 use Rattle.std.specs.Vec.{with_items}
 use Rattle.std.proofs.lemmas.List.{with_items_is, places}
 use Rattle.circular_buffer.specs.Buffer.{Buffer}
-use Rattle.hs_auto.specs.Ranks.{StandsSorted}
-use Rattle.hs_auto.proofs.RankLemmas.{last_is_there, length_sorted, cut_full, uncut}
+use Rattle.hs_auto.specs.Windows.{Window}
+use Rattle.hs_auto.specs.Ranks.{StandsSorted, IsPlace}
+use Rattle.hs_auto.proofs.RankLemmas.{last_is_there, place_of_count, length_sorted, cut_full, uncut}
 use Rattle.hs_auto.proofs.ranked.RankedWindow.push.Goals as goal
 
 pub exchange-requires-clause-there : goal.exchange-requires-clause-there
@@ -15,6 +16,18 @@ exchange-requires-clause-there c =
     let there : Contains c.self.inside.sorted.items x =
     last_is_there c.self.inside.sorted.items full.0 x (subst (StandsSorted c.self.inside.sorted.items) full.1 c.self.invariant.order) in
     subst (λ (xs : List ℕ). Contains xs x) (sym c.deref_mut.ensures.value) there
+
+-- as many of the sorted values are less as of those that arrived
+pub exchange-requires-clause-place : goal.exchange-requires-clause-place
+exchange-requires-clause-place c =
+    subst (λ (xs : List ℕ). IsPlace xs c.args.value c.args.less) (sym c.deref_mut.ensures.value)
+    (place_of_count c.self.inside.sorted.items c.self.inside.arrived.items c.args.value c.args.less c.self.invariant.order
+    (c.requires ∙ ap (λ (w : Window). count_by (λ y. ltb y c.args.value) w.values) (sym c.self.view_is)))
+
+pub put-requires-clause-place : goal.put-requires-clause-place
+put-requires-clause-place c =
+    place_of_count c.self.inside.sorted.items c.self.inside.arrived.items c.args.value c.args.less c.self.invariant.order
+    (c.requires ∙ ap (λ (w : Window). count_by (λ y. ltb y c.args.value) w.values) (sym c.self.view_is))
 
 pub invariant_of-self : goal.invariant_of-self
 invariant_of-self c =
