@@ -13,10 +13,10 @@ use Rattle.hs_words.specs.Chunks.{Contents, clear_chunk}
 use Rattle.hs_words.specs.PoolAnswers.{stamp_drawn}
 use Rattle.hs_pool.specs.Pool.{Pool, Draws}
 use Rattle.hs_client.specs.Core.{Core, Buffer, Step, Began, Wrote, Needed, Supplied, Ended_, after_step, handed, buffer_of, draw_of, number_after, supplied}
-use Rattle.hs_client.specs.Calls.{May, segments_of_steps, with_last}
+use Rattle.hs_client.specs.Calls.{May, after, next_number, segments_of_steps, with_last, chunks_supplied, draws_supplied, handed_out}
 use Rattle.hs_replay.specs.declared.seat.Seat.{Seat}
 use Rattle.hs_replay.specs.PlainBooks.{plain_draw, plain_draws}
-use Rattle.hs_replay.specs.Seats.{Plan, plain_chunk, plain_chunks, buffers_from, kept_by, IsPlaying, with_all}
+use Rattle.hs_replay.specs.Seats.{new_of, ComesBy, Plan, plain_chunk, plain_chunks, buffers_from, kept_by, IsPlaying, with_all}
 
 -- ---- draws
 
@@ -62,44 +62,50 @@ pub record IsPlainDraw (buffers size : ℕ) (old : Pool) (buffer : Option (Buffe
 abbrev pub piece_of : ℕ → ℕ → List ℕ → Piece
 piece_of number moment payload = record { number = number; moment = moment; payload = payload }
 
+abbrev Unsupplied : Step (Unit {0}) → List (Step (Unit {0})) → Type 0
+Unsupplied step steps = (draws_supplied (step ∷ steps) ≡ draws_supplied steps) × (chunks_supplied (step ∷ steps) ≡ chunks_supplied steps)
+
+-- a step without a draw
+comes_on : (plan : Plan) (steps : List (Step (Unit {0}))) (old new : Seat) (step : Step (Unit {0})) → ComesBy plan steps old → May old.core step → new.core ≡ after_step old.core step → new.pool ≡ old.pool
+    → (after_step old.core step).number ≡ next_number (step ∷ steps) → kept_by new ≡ handed_out (new_of plan) (step ∷ steps) → Unsupplied step steps → ComesBy plan (step ∷ steps) new
+comes_on plan steps old new step s may core pool number kept none =
+    record {
+      may = (s.may, subst (λ (c : Core (Unit {0})). May c step) s.core may);
+      core = core ∙ ap (λ (c : Core (Unit {0})). after_step c step) s.core;
+      number = ap (λ (c : Core (Unit {0})). c.number) core ∙ number;
+      kept = kept;
+      draws = none.0 ∙ s.draws ∙ ap (λ (p : Pool). plain_draws plan.buffers 0 p.events) (sym pool);
+      chunks = none.1 ∙ s.chunks ∙ ap (λ (p : Pool). plain_chunks plan.buffers plan.size 0 p.events) (sym pool);
+      queue = ap (λ (p : Pool). p.queue) pool ∙ s.queue ∙ ap (λ (p : Pool). buffers_from plan.buffers plan.size p.events) (sym pool);
+    }
+
+-- what is kept where the chunk of the current page is handed out
+hands_out : (plan : Plan) (steps : List (Step (Unit {0}))) (old new : Seat) → ComesBy plan steps old → kept_by new ≡ kept_by old ++ option_to_list (handed old.core)
+    → kept_by new ≡ handed_out (new_of plan) steps ++ option_to_list (handed (after (new_of plan) steps))
+hands_out plan steps old new s kept = kept ∙ ap₂ (λ (k : List (Buffer (Unit {0}))) (c : Core (Unit {0})). k ++ option_to_list (handed c)) s.kept s.core
+
+-- the piece's number is that of the steps
+numbered : (plan : Plan) (pieces : List Piece) (later : List Segment) (old : Seat) (moment : ℕ) (payload : List ℕ) (is : IsPlaying plan (piece_of old.core.number moment payload ∷ pieces) later old)
+    → reverse (with_all pieces (with_last (piece_of (next_number is.steps) moment payload) (segments_of_steps is.steps))) ++ later ≡ plan.segments
+numbered plan pieces later old moment payload is =
+    ap (λ n. reverse (with_all pieces (with_last (piece_of n moment payload) (segments_of_steps is.steps))) ++ later) (sym is.comes.number) ∙ is.gives
+
 pub wrote : (plan : Plan) (pieces : List Piece) (later : List Segment) (old new : Seat) (moment : ℕ) (payload : List ℕ) (more : Bool)
     → May old.core (Wrote moment payload more) → new.core ≡ after_step old.core (Wrote moment payload more) → new.pool ≡ old.pool → kept_by new ≡ kept_by old
     → IsPlaying plan (piece_of old.core.number moment payload ∷ pieces) later old → IsPlaying plan pieces later new
 wrote plan pieces later old new moment payload more may core pool kept is =
-    let step : Step (Unit {0}) = Wrote moment payload more in
-    let s = is.comes in
     record {
-      steps = step ∷ is.steps;
-      comes =
-          record {
-            may = (s.may, subst (λ (c : Core (Unit {0})). May c step) s.core may);
-            core = core ∙ ap (λ (c : Core (Unit {0})). after_step c step) s.core;
-            number = ap (λ (c : Core (Unit {0})). c.number) core ∙ ap (number_after more) s.number;
-            kept = kept ∙ s.kept;
-            draws = s.draws ∙ ap (λ (p : Pool). plain_draws plan.buffers 0 p.events) (sym pool);
-            chunks = s.chunks ∙ ap (λ (p : Pool). plain_chunks plan.buffers plan.size 0 p.events) (sym pool);
-            queue = ap (λ (p : Pool). p.queue) pool ∙ s.queue ∙ ap (λ (p : Pool). buffers_from plan.buffers plan.size p.events) (sym pool);
-          };
-      gives = ap (λ n. reverse (with_all pieces (with_last (piece_of n moment payload) (segments_of_steps is.steps))) ++ later) (sym s.number) ∙ is.gives;
+      steps = Wrote moment payload more ∷ is.steps;
+      comes = comes_on plan is.steps old new (Wrote moment payload more) is.comes may core pool (ap (number_after more) is.comes.number) (kept ∙ is.comes.kept) (refl, refl);
+      gives = numbered plan pieces later old moment payload is;
     }
 
 pub needed : (plan : Plan) (pieces : List Piece) (later : List Segment) (old new : Seat) (len : ℕ) → May old.core (Needed len) → new.core ≡ after_step old.core (Needed len) → new.pool ≡ old.pool
     → kept_by new ≡ kept_by old ++ option_to_list (handed old.core) → IsPlaying plan pieces later old → IsPlaying plan pieces later new
 needed plan pieces later old new len may core pool kept is =
-    let step : Step (Unit {0}) = Needed len in
-    let s = is.comes in
     record {
-      steps = step ∷ is.steps;
-      comes =
-          record {
-            may = (s.may, subst (λ (c : Core (Unit {0})). May c step) s.core may);
-            core = core ∙ ap (λ (c : Core (Unit {0})). after_step c step) s.core;
-            number = ap (λ (c : Core (Unit {0})). c.number) core ∙ s.number;
-            kept = kept ∙ ap₂ (λ (k : List (Buffer (Unit {0}))) (c : Core (Unit {0})). k ++ option_to_list (handed c)) s.kept s.core;
-            draws = s.draws ∙ ap (λ (p : Pool). plain_draws plan.buffers 0 p.events) (sym pool);
-            chunks = s.chunks ∙ ap (λ (p : Pool). plain_chunks plan.buffers plan.size 0 p.events) (sym pool);
-            queue = ap (λ (p : Pool). p.queue) pool ∙ s.queue ∙ ap (λ (p : Pool). buffers_from plan.buffers plan.size p.events) (sym pool);
-          };
+      steps = Needed len ∷ is.steps;
+      comes = comes_on plan is.steps old new (Needed len) is.comes may core pool is.comes.number (hands_out plan is.steps old new is.comes kept) (refl, refl);
       gives = is.gives;
     }
 
@@ -127,7 +133,7 @@ supplied_page plan pieces later old new buffer stamp moment payload more may cor
                 ∙ sym (plain_chunks-more plan.buffers plan.size 0 old.pool.events) ∙ ap (plain_chunks plan.buffers plan.size 0) (sym drawn.events);
             queue = drawn.queue;
           };
-      gives = ap (λ n. reverse (with_all pieces (with_last (piece_of n moment payload) (segments_of_steps is.steps))) ++ later) (sym s.number) ∙ is.gives;
+      gives = numbered plan pieces later old moment payload is;
     }
 
 -- a page that gets the buffer at the front of the queue, or none where the queue is empty
@@ -170,22 +176,11 @@ with_all-open trace before (piece ∷ pieces) segments =
 pub began_trace : (plan : Plan) (pieces : List Piece) (later : List Segment) (old new : Seat) (trace : TraceId) → May old.core (Began trace) → new.core ≡ after_step old.core (Began trace) → new.pool ≡ old.pool
     → kept_by new ≡ kept_by old → IsPlaying plan [] (record { trace = trace; pieces = pieces } ∷ later) old → IsPlaying plan pieces later new
 began_trace plan pieces later old new trace may core pool kept is =
-    let step : Step (Unit {0}) = Began trace in
-    let s = is.comes in
     let segment : Segment = record { trace = trace; pieces = pieces } in
     let segments = segments_of_steps is.steps in
     record {
-      steps = step ∷ is.steps;
-      comes =
-          record {
-            may = (s.may, subst (λ (c : Core (Unit {0})). May c step) s.core may);
-            core = core ∙ ap (λ (c : Core (Unit {0})). after_step c step) s.core;
-            number = ap (λ (c : Core (Unit {0})). c.number) core ∙ s.number;
-            kept = kept ∙ s.kept;
-            draws = s.draws ∙ ap (λ (p : Pool). plain_draws plan.buffers 0 p.events) (sym pool);
-            chunks = s.chunks ∙ ap (λ (p : Pool). plain_chunks plan.buffers plan.size 0 p.events) (sym pool);
-            queue = ap (λ (p : Pool). p.queue) pool ∙ s.queue ∙ ap (λ (p : Pool). buffers_from plan.buffers plan.size p.events) (sym pool);
-          };
+      steps = Began trace ∷ is.steps;
+      comes = comes_on plan is.steps old new (Began trace) is.comes may core pool is.comes.number (kept ∙ is.comes.kept) (refl, refl);
       gives =
           ap (λ segments. reverse segments ++ later) (with_all-open trace [] pieces segments) ∙ ap (λ segments. segments ++ later) (reverse-append (segment ∷ []) segments)
           ∙ append_assoc (reverse segments) (segment ∷ []) later ∙ is.gives;
@@ -194,19 +189,8 @@ began_trace plan pieces later old new trace may core pool kept is =
 pub ended_trace : (plan : Plan) (later : List Segment) (old new : Seat) → May old.core Ended_ → new.core ≡ after_step old.core Ended_ → new.pool ≡ old.pool
     → kept_by new ≡ kept_by old ++ option_to_list (handed old.core) → IsPlaying plan [] later old → IsPlaying plan [] later new
 ended_trace plan later old new may core pool kept is =
-    let step : Step (Unit {0}) = Ended_ in
-    let s = is.comes in
     record {
-      steps = step ∷ is.steps;
-      comes =
-          record {
-            may = (s.may, subst (λ (c : Core (Unit {0})). May c step) s.core may);
-            core = core ∙ ap (λ (c : Core (Unit {0})). after_step c step) s.core;
-            number = ap (λ (c : Core (Unit {0})). c.number) core ∙ s.number;
-            kept = kept ∙ ap₂ (λ (k : List (Buffer (Unit {0}))) (c : Core (Unit {0})). k ++ option_to_list (handed c)) s.kept s.core;
-            draws = s.draws ∙ ap (λ (p : Pool). plain_draws plan.buffers 0 p.events) (sym pool);
-            chunks = s.chunks ∙ ap (λ (p : Pool). plain_chunks plan.buffers plan.size 0 p.events) (sym pool);
-            queue = ap (λ (p : Pool). p.queue) pool ∙ s.queue ∙ ap (λ (p : Pool). buffers_from plan.buffers plan.size p.events) (sym pool);
-          };
+      steps = Ended_ ∷ is.steps;
+      comes = comes_on plan is.steps old new Ended_ is.comes may core pool is.comes.number (hands_out plan is.steps old new is.comes kept) (refl, refl);
       gives = is.gives;
     }

@@ -6,7 +6,7 @@ use Rattle.std.specs.Option.{option_to_list}
 use Rattle.std.specs.List.{flat_map, range_with_len}
 use Rattle.hs_base.specs.declared.ids.TraceId.{TraceId}
 use Rattle.hs_base.specs.declared.told.Fate.TheVariants.{Live}
-use Rattle.hs_base.specs.Plain.{Operation}
+use Rattle.hs_base.specs.Plain.{Operation, Begin, Point, End}
 use Rattle.hs_base.specs.Records.{Piece, Segment, pieces_until_end, segments_from, segments_of}
 use Rattle.hs_journal.specs.declared.books.Standing.{Standing}
 use Rattle.hs_journal.specs.declared.books.ClientBook.{ClientBook}
@@ -148,5 +148,26 @@ abbrev pub standings_of : List (Buffer (Unit {0})) → List Standing
 standings_of buffers = flat_map (λ buffer. map standing_of (option_to_list (header_in buffer.chunk))) buffers
 
 -- worked examples
+abbrev t1 : TraceId
+t1 = record { 0 = 1 }
+
+abbrev a_piece : ℕ → Piece
+a_piece number = record { number = number; moment = 7; payload = [] }
+
+abbrev segment : List Piece → Segment
+segment pieces = record { trace = t1; pieces = pieces }
+
+-- two pages of a pool with one buffer
 draws_of_two : plain_chunks 1 64 0 2 ≡ Some (record { chunk = clear_chunk 64 0; lease = tt }) ∷ None ∷ []
 draws_of_two = refl
+
+second_waits : buffers_from 2 64 1 ≡ clear_chunk 64 1 ∷ []
+second_waits = refl
+
+-- the newest segment gets the pieces, in their order
+pieces_more : with_all (a_piece 1 ∷ a_piece 2 ∷ []) (segment (a_piece 0 ∷ []) ∷ segment [] ∷ []) ≡ segment (a_piece 0 ∷ a_piece 1 ∷ a_piece 2 ∷ []) ∷ segment [] ∷ []
+pieces_more = refl
+
+-- two points up to the end of the trace, and none where no trace is open
+comes_next : (coming 64 3 (Some t1) (Point 7 [] ∷ Point 7 [] ∷ End ∷ []) ≡ a_piece 3 ∷ a_piece 4 ∷ []) × (coming 64 3 None (Begin t1 ∷ Point 7 [] ∷ End ∷ []) ≡ [])
+comes_next = (refl, refl)
