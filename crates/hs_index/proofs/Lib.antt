@@ -1,2 +1,4 @@
 pub mod NodeSets
 pub mod Listed
+pub mod Touching
+pub mod Evicting

@@ -20,7 +20,7 @@ use Rattle.hs_base.specs.declared.ids.TraceId.{TraceId}
 use Rattle.hs_index.specs.Index.{Noted, Indexed, same_trace, is_of, is_other, nothing, noted_of, others, chunk_count, count_chunks}
 use Rattle.hs_index.specs.Touched.{indexed, listed}
 
-by_answer : {P : Type 0} (b : Bool) → (b ≡ true → P) → (b ≡ false → P) → P
+pub by_answer : {P : Type 0} (b : Bool) → (b ≡ true → P) → (b ≡ false → P) → P
 by_answer true p q = p refl
 by_answer false p q = q refl
 
@@ -58,13 +58,13 @@ module _ {L : Type 0} where
     this-here : (e : TraceId × Noted L) → same_trace trace e.0 ≡ true → filter (is_other trace) (indexed e ∷ []) ≡ []
     this-here e y = ap (λ b. cond (not b) (indexed e ∷ []) []) y
 
-    found-here : (e : TraceId × Noted L) → same_trace trace e.0 ≡ true → find (is_of trace) (indexed e ∷ []) ≡ Some (indexed e)
+    pub found-here : (e : TraceId × Noted L) → same_trace trace e.0 ≡ true → find (is_of trace) (indexed e ∷ []) ≡ Some (indexed e)
     found-here e y = ap (λ b. cond b (Some (indexed e)) None) y
 
-    missed-here : (e : TraceId × Noted L) → same_trace trace e.0 ≡ false → find (is_of trace) (indexed e ∷ []) ≡ None
+    pub missed-here : (e : TraceId × Noted L) → same_trace trace e.0 ≡ false → find (is_of trace) (indexed e ∷ []) ≡ None
     missed-here e n = ap (λ b. cond b (Some (indexed e)) None) n
 
-    find-cons : (e : TraceId × Noted L) (es : List (TraceId × Noted L)) → find (is_of trace) (listed (e ∷ es)) ≡ option_or (find (is_of trace) (listed es)) (find (is_of trace) (indexed e ∷ []))
+    pub find-cons : (e : TraceId × Noted L) (es : List (TraceId × Noted L)) → find (is_of trace) (listed (e ∷ es)) ≡ option_or (find (is_of trace) (listed es)) (find (is_of trace) (indexed e ∷ []))
     find-cons e es = ap (find (is_of trace)) (listed-cons e es) ∙ find-append (is_of trace) (listed es) (indexed e ∷ [])
 
     others-cons : (e : TraceId × Noted L) (es : List (TraceId × Noted L)) → others trace (listed (e ∷ es)) ≡ others trace (listed es) ++ filter (is_other trace) (indexed e ∷ [])

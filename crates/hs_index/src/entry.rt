@@ -49,8 +49,10 @@ impl<L: Token> Entry<L> {
         ensures err { OnErr result (self.new ≡ self.old) }
         ensures back { IfErr result (λ back. buffer_of back ≡ buffer_of held) }
     {
-        let chunks = self.held.len();
-        if self.held.reserve(1).is_err() || self.gone.reserve(chunks + 1).is_err() {
+        let Some(chunks) = self.held.len().checked_add(1) else {
+            return Err(held);
+        };
+        if self.held.reserve(1).is_err() || self.gone.reserve(chunks).is_err() {
             return Err(held);
         }
         self.held.push(held);

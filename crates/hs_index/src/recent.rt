@@ -119,26 +119,31 @@ impl<L: Token> Recent<L> {
         ensures back { IfErr result (λ back. back ≡ entry) }
     {
         let chunks = entry.len() as u32;
-        if let Err(failed) = self.cache.push(trace, entry) {
-            return Err(failed.value.1);
+        match self.cache.push(trace, entry) {
+            Ok(_) => {
+                self.chunks += chunks;
+                Ok(())
+            }
+            Err(failed) => Err(failed.value.1),
         }
-        self.chunks += chunks;
-        Ok(())
     }
 
-    /// Takes out a trace, where it is there.
-    pub fn take(&mut self, trace: TraceId) -> Option<Entry<L>>
-        ensures some { IfSome result (λ entry. noted_of trace self.old.traces ≡ entry) }
-        ensures none { IfNone result (find (is_of trace) self.old.traces ≡ None) }
+    /// Takes out what is indexed of a trace, which is nothing where the trace is not there.
+    pub fn take(&mut self, trace: TraceId) -> Entry<L>
+        ensures taken { result ≡ noted_of trace self.old.traces }
         ensures others { self.new.traces ≡ others trace self.old.traces }
         ensures room { self.new.room ≡ self.old.room }
     {
         if self.cache.len() == 0 {
-            return None;
+            return Entry::new(*self.cache.allocator());
         }
-        let (_, entry) = self.cache.pop_entry(&trace)?;
-        self.chunks -= entry.len() as u32;
-        Some(entry)
+        match self.cache.pop_entry(&trace) {
+            Some((_, entry)) => {
+                self.chunks -= entry.len() as u32;
+                entry
+            }
+            None => Entry::new(*self.cache.allocator()),
+        }
     }
 
     /// Takes out the trace that was touched longest ago, where there is one.
@@ -150,6 +155,27 @@ impl<L: Token> Recent<L> {
         let (trace, entry) = self.cache.pop_lru()?;
         self.chunks -= entry.len() as u32;
         Some((trace, entry))
+    }
+
+    /// Lets traces go, as long as there are more chunks or more traces than these, which there are by one at
+    /// most. Takes no memory.
+    pub fn evict(&mut self, threshold: u32, limit: u32) -> List<Gone<L>>
+        requires chunks { count_chunks self.old.traces ≤ threshold + 1 }
+        requires traces { length self.old.traces ≤ limit + 1 }
+        ensures gone { map leaving_of result.items ≡ evicted threshold limit self.old.traces }
+        ensures stay { self.new.traces ≡ kept threshold limit self.old.traces }
+        ensures room { self.new.room ≡ self.old.room }
+    {
+        while self.chunks() > threshold || self.traces() > limit {
+            let (chunks, traces) = (self.chunks(), self.traces());
+            let Some((_, entry)) = self.take_oldest() else {
+                unreachable!()
+            };
+            if entry.len() > 0 {
+                return entry.go(chunks, traces);
+            }
+        }
+        List::new(*self.cache.allocator())
     }
 
     /// The nodes to which crumbs of a trace lead.
