@@ -94,39 +94,39 @@ module _ {L : Type 0} where
     find-listed (e ∷ es) d =
         by_answer (same_trace trace e.0)
         (λ y. find-cons e es
-              ∙ ap (λ o. option_or o (find (is_of trace) (indexed e ∷ []))) (find-none es (none_past_head same_trace_equiv trace e es d y))
-              ∙ found-here e y
-              ∙ sym (ap (λ b. option_map indexed (cond b (Some e) (lookup_entry (same_trace trace) es))) y))
+        ∙ ap (λ o. option_or o (find (is_of trace) (indexed e ∷ []))) (find-none es (none_past_head same_trace_equiv trace e es d y))
+        ∙ found-here e y
+        ∙ sym (ap (λ b. option_map indexed (cond b (Some e) (lookup_entry (same_trace trace) es))) y))
         (λ n. find-cons e es
-              ∙ ap (λ o. option_or (find (is_of trace) (listed es)) o) (missed-here e n)
-              ∙ or-none (find (is_of trace) (listed es))
-              ∙ find-listed es (IsDistinct-tail same_trace e.0 (keys_of es) d)
-              ∙ sym (ap (λ b. option_map indexed (cond b (Some e) (lookup_entry (same_trace trace) es))) n))
+        ∙ ap (λ o. option_or (find (is_of trace) (listed es)) o) (missed-here e n)
+        ∙ or-none (find (is_of trace) (listed es))
+        ∙ find-listed es (IsDistinct-tail same_trace e.0 (keys_of es) d)
+        ∙ sym (ap (λ b. option_map indexed (cond b (Some e) (lookup_entry (same_trace trace) es))) n))
 
     pub others-listed : (es : List (TraceId × Noted L)) → IsDistinct same_trace (keys_of es) → others trace (listed es) ≡ listed (remove_entry (same_trace trace) es)
     others-listed [] d = refl
     others-listed (e ∷ es) d =
         by_answer (same_trace trace e.0)
         (λ y. others-cons e es
-              ∙ ap (λ l. l ++ filter (is_other trace) (indexed e ∷ [])) (others-none es (none_past_head same_trace_equiv trace e es d y))
-              ∙ ap (λ l. listed es ++ l) (this-here e y)
-              ∙ append-nil (listed es)
-              ∙ sym (ap (λ b. listed (cond b es (e ∷ remove_entry (same_trace trace) es))) y))
+        ∙ ap (λ l. l ++ filter (is_other trace) (indexed e ∷ [])) (others-none es (none_past_head same_trace_equiv trace e es d y))
+        ∙ ap (λ l. listed es ++ l) (this-here e y)
+        ∙ append-nil (listed es)
+        ∙ sym (ap (λ b. listed (cond b es (e ∷ remove_entry (same_trace trace) es))) y))
         (λ n. others-cons e es
-              ∙ ap (λ l. l ++ filter (is_other trace) (indexed e ∷ [])) (others-listed es (IsDistinct-tail same_trace e.0 (keys_of es) d))
-              ∙ ap (λ l. listed (remove_entry (same_trace trace) es) ++ l) (other-here e n)
-              ∙ sym (listed-cons e (remove_entry (same_trace trace) es))
-              ∙ sym (ap (λ b. listed (cond b es (e ∷ remove_entry (same_trace trace) es))) n))
+        ∙ ap (λ l. l ++ filter (is_other trace) (indexed e ∷ [])) (others-listed es (IsDistinct-tail same_trace e.0 (keys_of es) d))
+        ∙ ap (λ l. listed (remove_entry (same_trace trace) es) ++ l) (other-here e n)
+        ∙ sym (listed-cons e (remove_entry (same_trace trace) es))
+        ∙ sym (ap (λ b. listed (cond b es (e ∷ remove_entry (same_trace trace) es))) n))
 
     noted-entry : (es : List (TraceId × Noted L)) → option_map_or (λ (t : Indexed L). t.noted) (option_map indexed (lookup_entry (same_trace trace) es)) nothing ≡ unwrap_or (lookup (same_trace trace) es) nothing
     noted-entry [] = refl
     noted-entry (e ∷ es) =
         by_answer (same_trace trace e.0)
         (λ y. ap (λ b. option_map_or (λ (t : Indexed L). t.noted) (option_map indexed (cond b (Some e) (lookup_entry (same_trace trace) es))) nothing) y
-              ∙ sym (ap (λ b. unwrap_or (cond b (Some e.1) (lookup (same_trace trace) es)) nothing) y))
+        ∙ sym (ap (λ b. unwrap_or (cond b (Some e.1) (lookup (same_trace trace) es)) nothing) y))
         (λ n. ap (λ b. option_map_or (λ (t : Indexed L). t.noted) (option_map indexed (cond b (Some e) (lookup_entry (same_trace trace) es))) nothing) n
-              ∙ noted-entry es
-              ∙ sym (ap (λ b. unwrap_or (cond b (Some e.1) (lookup (same_trace trace) es)) nothing) n))
+        ∙ noted-entry es
+        ∙ sym (ap (λ b. unwrap_or (cond b (Some e.1) (lookup (same_trace trace) es)) nothing) n))
 
     pub noted-listed : (es : List (TraceId × Noted L)) → IsDistinct same_trace (keys_of es) → noted_of trace (listed es) ≡ unwrap_or (lookup (same_trace trace) es) nothing
     noted-listed es d = ap (λ o. option_map_or (λ (t : Indexed L). t.noted) o nothing) (find-listed es d) ∙ noted-entry es
@@ -137,23 +137,23 @@ module _ {L : Type 0} where
     entry-set (e ∷ es) v w h =
         by_answer (same_trace trace e.0)
         (λ y. ap (λ b. lookup_entry (same_trace trace) (cond b ((e.0, w) ∷ es) (e ∷ set_value (same_trace trace) es w))) y
-              ∙ ap (λ b. cond b (Some (e.0, w)) (lookup_entry (same_trace trace) es)) y
-              ∙ ap (λ t. Some (t, w)) (same_from_test trace e.0 y))
+        ∙ ap (λ b. cond b (Some (e.0, w)) (lookup_entry (same_trace trace) es)) y
+        ∙ ap (λ t. Some (t, w)) (same_from_test trace e.0 y))
         (λ n. ap (λ b. lookup_entry (same_trace trace) (cond b ((e.0, w) ∷ es) (e ∷ set_value (same_trace trace) es w))) n
-              ∙ ap (λ b. cond b (Some e) (lookup_entry (same_trace trace) (set_value (same_trace trace) es w))) n
-              ∙ entry-set es v w (sym (ap (λ b. cond b (Some e.1) (lookup (same_trace trace) es)) n) ∙ h))
+        ∙ ap (λ b. cond b (Some e) (lookup_entry (same_trace trace) (set_value (same_trace trace) es w))) n
+        ∙ entry-set es v w (sym (ap (λ b. cond b (Some e.1) (lookup (same_trace trace) es)) n) ∙ h))
 
     remove-set : (es : List (TraceId × Noted L)) (w : Noted L) → remove_entry (same_trace trace) (set_value (same_trace trace) es w) ≡ remove_entry (same_trace trace) es
     remove-set [] w = refl
     remove-set (e ∷ es) w =
         by_answer (same_trace trace e.0)
         (λ y. ap (λ b. remove_entry (same_trace trace) (cond b ((e.0, w) ∷ es) (e ∷ set_value (same_trace trace) es w))) y
-              ∙ ap (λ b. cond b es ((e.0, w) ∷ remove_entry (same_trace trace) es)) y
-              ∙ sym (ap (λ b. cond b es (e ∷ remove_entry (same_trace trace) es)) y))
+        ∙ ap (λ b. cond b es ((e.0, w) ∷ remove_entry (same_trace trace) es)) y
+        ∙ sym (ap (λ b. cond b es (e ∷ remove_entry (same_trace trace) es)) y))
         (λ n. ap (λ b. remove_entry (same_trace trace) (cond b ((e.0, w) ∷ es) (e ∷ set_value (same_trace trace) es w))) n
-              ∙ ap (λ b. cond b (set_value (same_trace trace) es w) (e ∷ remove_entry (same_trace trace) (set_value (same_trace trace) es w))) n
-              ∙ ap (λ l. e ∷ l) (remove-set es w)
-              ∙ sym (ap (λ b. cond b es (e ∷ remove_entry (same_trace trace) es)) n))
+        ∙ ap (λ b. cond b (set_value (same_trace trace) es w) (e ∷ remove_entry (same_trace trace) (set_value (same_trace trace) es w))) n
+        ∙ ap (λ l. e ∷ l) (remove-set es w)
+        ∙ sym (ap (λ b. cond b es (e ∷ remove_entry (same_trace trace) es)) n))
 
     pub promoted-set : (es : List (TraceId × Noted L)) (v w : Noted L) → lookup (same_trace trace) es ≡ Some v
         → promoted (same_trace trace) (set_value (same_trace trace) es w) ≡ (trace, w) ∷ remove_entry (same_trace trace) es

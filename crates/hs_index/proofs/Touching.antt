@@ -42,7 +42,7 @@ module _ {L : Type 0} (trace : TraceId) where
       by_answer (same_trace trace e.0)
       (λ y. absurd (or-some (find (is_of trace) (listed es)) (indexed e) (ap (λ o. option_or (find (is_of trace) (listed es)) o) (sym (found-here trace e y)) ∙ sym (find-cons trace e es) ∙ h)))
       (λ n. ap (λ b. cond b (Some e) (lookup_entry (same_trace trace) es)) n
-            ∙ entry-missing es (or-left (find (is_of trace) (listed es)) (find (is_of trace) (indexed e ∷ [])) (sym (find-cons trace e es) ∙ h)))
+      ∙ entry-missing es (or-left (find (is_of trace) (listed es)) (find (is_of trace) (indexed e ∷ [])) (sym (find-cons trace e es) ∙ h)))
 
   pub put-new : (es : List (TraceId × Noted L)) (cap : ℕ) (v : Noted L) → find (is_of trace) (listed es) ≡ None → length es < cap
       → put_entries same_trace (lru_cache es cap) trace v ≡ (trace, v) ∷ es
@@ -59,7 +59,7 @@ module _ {L : Type 0} (trace : TraceId) where
       by_answer (same_trace trace e.0)
       (λ y. ap (λ b. suc (length (cond b es (e ∷ remove_entry (same_trace trace) es)))) y)
       (λ n. ap (λ b. suc (length (cond b es (e ∷ remove_entry (same_trace trace) es)))) n
-            ∙ ap suc (length-remove es v (sym (ap (λ b. cond b (Some e.1) (lookup (same_trace trace) es)) n) ∙ h)))
+      ∙ ap suc (length-remove es v (sym (ap (λ b. cond b (Some e.1) (lookup (same_trace trace) es)) n) ∙ h)))
 
   pub count-remove : (es : List (TraceId × Noted L)) (v : Noted L) → lookup (same_trace trace) es ≡ Some v
       → sum_by chunk_count (values_of (remove_entry (same_trace trace) es)) + chunk_count v ≡ sum_by chunk_count (values_of es)
@@ -116,10 +116,10 @@ module _ {L : Type 0} (trace : TraceId) where
   lookup-entry (e ∷ es) =
       by_answer (same_trace trace e.0)
       (λ y. ap (λ b. option_map (λ (p : TraceId × Noted L). p.1) (cond b (Some e) (lookup_entry (same_trace trace) es))) y
-            ∙ sym (ap (λ b. cond b (Some e.1) (lookup (same_trace trace) es)) y))
+      ∙ sym (ap (λ b. cond b (Some e.1) (lookup (same_trace trace) es)) y))
       (λ n. ap (λ b. option_map (λ (p : TraceId × Noted L). p.1) (cond b (Some e) (lookup_entry (same_trace trace) es))) n
-            ∙ lookup-entry es
-            ∙ sym (ap (λ b. cond b (Some e.1) (lookup (same_trace trace) es)) n))
+      ∙ lookup-entry es
+      ∙ sym (ap (λ b. cond b (Some e.1) (lookup (same_trace trace) es)) n))
 
   pub found-entry : (es : List (TraceId × Noted L)) (e : TraceId × Noted L) → lookup_entry (same_trace trace) es ≡ Some e → lookup (same_trace trace) es ≡ Some e.1
   found-entry es e h = sym (lookup-entry es) ∙ ap (λ o. option_map (λ (p : TraceId × Noted L). p.1) o) h
@@ -133,4 +133,4 @@ module _ {L : Type 0} (trace : TraceId) where
       by_answer (same_trace trace e.0)
       (λ y. absurd (none-some e (sym h ∙ ap (λ b. cond b (Some e) (lookup_entry (same_trace trace) es)) y)))
       (λ n. ap (λ b. cond b es (e ∷ remove_entry (same_trace trace) es)) n
-            ∙ ap (λ l. e ∷ l) (remove-missing es (sym (ap (λ b. cond b (Some e) (lookup_entry (same_trace trace) es)) n) ∙ h)))
+      ∙ ap (λ l. e ∷ l) (remove-missing es (sym (ap (λ b. cond b (Some e) (lookup_entry (same_trace trace) es)) n) ∙ h)))

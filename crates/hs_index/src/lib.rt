@@ -9,3 +9,6 @@ mod recent;
 
 pub use answers::{Gone, Taken};
 pub use index::TraceIndex;
+
+#[cfg(test)]
+mod tests;

@@ -1,5 +1,5 @@
-use Rattle.std.proofs.Common.{◌≡◌, ◌+◌, ◌<◌, ◌∷◌, ◌++◌, [], length, sym, ap, ◌∙◌, arith}
-use Rattle.std.specs.Prelude.{sum_by}
+use Rattle.std.proofs.Common.{◌≡◌, suc, ◌+◌, ◌<◌, ◌∷◌, ◌++◌, [], length, sym, ap, ◌∙◌, arith}
+use Rattle.std.specs.Prelude.{sum_by, find}
 use Rattle.std.specs.Map.{values_of}
 use Rattle.std.proofs.lemmas.List.Sums.{sum_by-cons}
 use Rattle.lru.specs.LruCache.{LruCache, lru_cache}
@@ -21,6 +21,37 @@ overflow_add-self g c =
 
 pub invariant_of-self : goal.invariant_of-self
 invariant_of-self g c =
-    let new : c.push.new.self ≡ lru_cache ((c.args.trace, c.args.entry) ∷ c.self.inside.cache.entries) c.self.inside.cache.cap = ? in
-    let all : c.push.new.self.entries ≡ (c.args.trace, c.args.entry) ∷ c.self.inside.cache.entries = ap (λ (k : LruCache TraceId (Noted g.row.L.Denot)). k.entries) new in
-    ?
+    let seen : listed c.self.inside.cache.entries ≡ c.args.self.now.traces = ap (λ (t : Touched g.row.L.Denot). t.traces) c.self.view_is in
+    let wide : c.self.inside.cache.cap ≡ c.args.self.now.room = ap (λ (t : Touched g.row.L.Denot). t.room) c.self.view_is in
+    let long : length (listed c.self.inside.cache.entries) ≡ length c.self.inside.cache.entries = length-listed c.self.inside.cache.entries in
+    let same : length (listed c.self.inside.cache.entries) ≡ length c.args.self.now.traces = ap length seen in
+    let all : c.push.new.self.entries ≡ (c.args.trace, c.args.entry) ∷ c.self.inside.cache.entries =
+    ap (λ (k : LruCache TraceId (Noted g.row.L.Denot)). k.entries) c.in-Ok.ensures.entries
+    ∙ put-new c.args.trace c.self.inside.cache.entries c.self.inside.cache.cap c.args.entry (ap (find (is_of c.args.trace)) seen ∙ c.requires.new)
+    (let room = c.requires.room in omega (arith, long, same, wide, room)) in
+    record {
+      chunks =
+          let counted : sum_by chunk_count (values_of c.push.new.self.entries) ≡ chunk_count c.args.entry + sum_by chunk_count (values_of c.self.inside.cache.entries) =
+          ap (λ l. sum_by chunk_count (values_of l)) all ∙ sum_by-cons chunk_count c.args.entry (values_of c.self.inside.cache.entries) in
+          let held = c.self.invariant.chunks in
+          let len = c.len-chunks.ensures in
+          omega (arith, counted, held, len);
+      few =
+          let more : length c.push.new.self.entries ≡ suc (length c.self.inside.cache.entries) = ap length all in
+          let few = c.requires.few in
+          omega (arith, more, long, same, few);
+    }
+
+pub returns-in-Ok-clause-ok : goal.returns-in-Ok-clause-ok
+returns-in-Ok-clause-ok g c =
+    let seen : listed c.self.inside.cache.entries ≡ c.args.self.now.traces = ap (λ (t : Touched g.row.L.Denot). t.traces) c.self.view_is in
+    let wide : c.self.inside.cache.cap ≡ c.args.self.now.room = ap (λ (t : Touched g.row.L.Denot). t.room) c.self.view_is in
+    let long : length (listed c.self.inside.cache.entries) ≡ length c.self.inside.cache.entries = length-listed c.self.inside.cache.entries in
+    let same : length (listed c.self.inside.cache.entries) ≡ length c.args.self.now.traces = ap length seen in
+    let all : c.push.new.self.entries ≡ (c.args.trace, c.args.entry) ∷ c.self.inside.cache.entries =
+    ap (λ (k : LruCache TraceId (Noted g.row.L.Denot)). k.entries) c.in-Ok.ensures.entries
+    ∙ put-new c.args.trace c.self.inside.cache.entries c.self.inside.cache.cap c.args.entry (ap (find (is_of c.args.trace)) seen ∙ c.requires.new)
+    (let room = c.requires.room in omega (arith, long, same, wide, room)) in
+    ap listed all
+    ∙ listed-cons (c.args.trace, c.args.entry) c.self.inside.cache.entries
+    ∙ ap (λ l. l ++ indexed (c.args.trace, c.args.entry) ∷ []) seen
