@@ -3,3 +3,5 @@ pub mod NodeSets
 pub mod Listed
 pub mod Touching
 pub mod Evicting
+pub mod LongestEnd
+pub mod LookBack

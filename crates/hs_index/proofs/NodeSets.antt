@@ -38,7 +38,7 @@ one_node k n =
     (λ (ne : n ≡ k → ⊥). ap (λ m. nat_eq m 1) (bit_at-pow_other k n ne) ∙ sym (ne_eqb n k ne))
     (cases_eq n k)
 
-has-with_node : (nodes : NodeSet) (node : NodeId) (n : ℕ) → has_node (with_node nodes node) n ≡ (has_node nodes n || nat_eq n node.0)
+pub has-with_node : (nodes : NodeSet) (node : NodeId) (n : ℕ) → has_node (with_node nodes node) n ≡ (has_node nodes n || nat_eq n node.0)
 has-with_node nodes node n =
     ap (λ m. nat_eq m 1) (bit_at_or nodes.0 (2 ^ node.0) n)
     ∙ max_bits (bit_at nodes.0 n) (bit_at (2 ^ node.0) n) (bit_at-lt nodes.0 n) (bit_at-lt (2 ^ node.0) n)
@@ -49,3 +49,6 @@ with_node_by_nodes new nodes node h = same_nodes new (with_node nodes node) (λ 
 
 pub no_nodes_by_nodes : (new : NodeSet) → ((n : ℕ) → has_node new n ≡ false) → new ≡ no_nodes
 no_nodes_by_nodes new h = same_nodes new no_nodes (λ n. h n ∙ sym (ap (λ m. nat_eq m 1) (bit_at-zero n)))
+
+pub has-no_nodes : (n : ℕ) → has_node no_nodes n ≡ false
+has-no_nodes n = ap (λ m. nat_eq m 1) (bit_at-zero n)

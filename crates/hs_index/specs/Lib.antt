@@ -3,3 +3,4 @@ pub mod Touched
 pub mod EntryLayout
 pub mod RecentLayout
 pub mod IndexLayout
+pub mod Calls

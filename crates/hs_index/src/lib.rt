@@ -5,10 +5,12 @@
 mod answers;
 mod entry;
 mod index;
+mod laws;
 mod recent;
 
 pub use answers::{Gone, Taken};
 pub use index::TraceIndex;
+pub use laws::{any_calls_look_back, longest_end_stays};
 
 #[cfg(test)]
 mod tests;
