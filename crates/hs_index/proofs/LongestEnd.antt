@@ -1,5 +1,5 @@
 -- The traces that stay are the longest end of the list that is within the limits.
-use Rattle.std.proofs.Common.{◌≡◌, ℕ, suc, ◌<◌, ◌≤◌, Bool, true, false, List, [], ◌∷◌, ◌++◌, length, refl, sym, ap, subst, ◌∙◌, arith, true≢false}
+use Rattle.std.proofs.Common.{◌≡◌, ℕ, ◌≤◌, false, List, [], ◌∷◌, ◌++◌, length, refl, sym, ap, ◌∙◌, arith}
 use Rattle.std.proofs.lemmas.List.{length-append}
 use Rattle.hs_index.specs.Index.{Indexed, is_over, kept}
 use Rattle.hs_index.specs.Calls.{IsLongestEnd}
@@ -38,9 +38,9 @@ module _ {L : Type 0} (threshold limit : ℕ) where
       by_answer (is_over threshold limit (t ∷ ts))
       (λ y. let same = ap length (first-leaves threshold limit t ts y) in omega (arith, shorter, same))
       (λ n. let same = ap length (all-stay threshold limit (t ∷ ts) n) in
-            let long = ap length e in
-            let parts = length-append front back in
-            omega (arith, same, long, parts))
+      let long = ap length e in
+      let parts = length-append front back in
+      omega (arith, same, long, parts))
 
   pub longest_end : (ts : List (Indexed L)) → IsLongestEnd threshold limit ts (kept threshold limit ts)
   longest_end ts = record { rest = rest ts; within = within ts; longest = λ front back e h. longest ts front back e h }

@@ -1,12 +1,12 @@
 -- After any calls an index holds what they say when one looks back over them.
-use Rattle.std.proofs.Common.{◌≡◌, ℕ, zero, suc, ◌+◌, ◌<◌, ◌≤◌, Bool, true, false, cond, not, ◌||◌, ◌&&◌, nat_eq, List, [], ◌∷◌, ◌++◌, length, Option, Some, None, is_some, refl, sym, ap, subst, ◌∙◌, arith, append-nil, true≢false}
-use Rattle.std.specs.Prelude.{find, filter}
+use Rattle.std.proofs.Common.{◌≡◌, ℕ, suc, ◌<◌, ◌≤◌, Bool, true, false, cond, not, ◌||◌, ◌&&◌, nat_eq, List, [], ◌∷◌, ◌++◌, length, Option, Some, None, is_some, refl, sym, ap, subst, ◌∙◌, arith, append-nil, true≢false}
+use Rattle.std.specs.Prelude.{find}
 use Rattle.std.specs.Option.{option_map_or, option_or}
 use Rattle.std.proofs.lemmas.List.Folds.{find-append}
 use Rattle.hs_base.specs.declared.ids.TraceId.{TraceId}
 use Rattle.hs_base.specs.declared.ids.NodeId.{NodeId}
 use Rattle.hs_base.specs.NodeSets.{has_node}
-use Rattle.hs_index.specs.Index.{Buffer, Noted, Indexed, Index, same_trace, is_of, is_other, nothing, no_nodes, noted_of, others, touch, with_chunk, with_crumb, with_node, is_over, kept}
+use Rattle.hs_index.specs.Index.{Buffer, Noted, Indexed, same_trace, is_of, nothing, noted_of, others, touch, with_chunk, with_crumb, is_over, kept}
 use Rattle.hs_index.specs.Calls.{Call, Arrived, Crumbed, Claimed, after, touches, last_touch, chunk_in, is_crumb, is_in, is_indexed, chunks_since, has_crumb_since, AreLater, AreInTurn, LooksBack}
 use Rattle.hs_index.proofs.Listed.{by_answer, same_trace_equiv, same_from_test}
 use Rattle.hs_index.proofs.NodeSets.{has-with_node, has-no_nodes}
@@ -46,33 +46,33 @@ module _ {L : Type 0} where
         by_answer (is_of u t)
         (λ y. ap (λ b. find (is_of trace) (cond (not b) (t ∷ others u ts) (others u ts))) y ∙ find-others-this same ts)
         (λ n. ap (λ b. find (is_of trace) (cond (not b) (t ∷ others u ts) (others u ts))) n
-              ∙ ap (λ b. cond b (Some t) (find (is_of trace) (others u ts))) (same_trace_equiv.congr trace u t.trace same ∙ n)
-              ∙ find-others-this same ts)
+        ∙ ap (λ b. cond b (Some t) (find (is_of trace) (others u ts))) (same_trace_equiv.congr trace u t.trace same ∙ n)
+        ∙ find-others-this same ts)
 
     find-others-other : same_trace trace u ≡ false → (ts : List (Indexed L)) → find (is_of trace) (others u ts) ≡ find (is_of trace) ts
     find-others-other other [] = refl
     find-others-other other (t ∷ ts) =
         by_answer (is_of u t)
         (λ y. ap (λ b. find (is_of trace) (cond (not b) (t ∷ others u ts) (others u ts))) y
-              ∙ find-others-other other ts
-              ∙ sym (ap (λ b. cond b (Some t) (find (is_of trace) ts)) (ap (same_trace trace) (same_from_test u t.trace y) ∙ other)))
+        ∙ find-others-other other ts
+        ∙ sym (ap (λ b. cond b (Some t) (find (is_of trace) ts)) (ap (same_trace trace) (same_from_test u t.trace y) ∙ other)))
         (λ n. ap (λ b. find (is_of trace) (cond (not b) (t ∷ others u ts) (others u ts))) n
-              ∙ ap (λ o. cond (is_of trace t) (Some t) o) (find-others-other other ts))
+        ∙ ap (λ o. cond (is_of trace t) (Some t) o) (find-others-other other ts))
 
     noted-touch-this : same_trace trace u ≡ true → (w : Noted L) (ts : List (Indexed L)) → noted_of trace (touch u w ts) ≡ w
     noted-touch-this same w ts =
         ap (λ o. option_map_or (λ (t : Indexed L). t.noted) o nothing)
         (find-append (is_of trace) (others u ts) (record { trace = u; noted = w } ∷ [])
-         ∙ ap (λ o. option_or o (find (is_of trace) (record { trace = u; noted = w } ∷ []))) (find-others-this same ts)
-         ∙ ap (λ b. cond b (Some (record { trace = u; noted = w })) None) same)
+        ∙ ap (λ o. option_or o (find (is_of trace) (record { trace = u; noted = w } ∷ []))) (find-others-this same ts)
+        ∙ ap (λ b. cond b (Some (record { trace = u; noted = w })) None) same)
 
     noted-touch-other : same_trace trace u ≡ false → (w : Noted L) (ts : List (Indexed L)) → noted_of trace (touch u w ts) ≡ noted_of trace ts
     noted-touch-other other w ts =
         ap (λ o. option_map_or (λ (t : Indexed L). t.noted) o nothing)
         (find-append (is_of trace) (others u ts) (record { trace = u; noted = w } ∷ [])
-         ∙ ap (λ o. option_or (find (is_of trace) (others u ts)) o) (ap (λ b. cond b (Some (record { trace = u; noted = w })) None) other)
-         ∙ or-none (find (is_of trace) (others u ts))
-         ∙ find-others-other other ts)
+        ∙ ap (λ o. option_or (find (is_of trace) (others u ts)) o) (ap (λ b. cond b (Some (record { trace = u; noted = w })) None) other)
+        ∙ or-none (find (is_of trace) (others u ts))
+        ∙ find-others-other other ts)
 
     noted-others-other : same_trace trace u ≡ false → (ts : List (Indexed L)) → noted_of trace (others u ts) ≡ noted_of trace ts
     noted-others-other other ts = ap (λ o. option_map_or (λ (t : Indexed L). t.noted) o nothing) (find-others-other other ts)
@@ -106,10 +106,10 @@ module _ {L : Type 0} where
     none-kept trace (t ∷ ts) h =
         by_answer (is_over threshold limit (t ∷ ts))
         (λ y. ap (find (is_of trace)) (first-leaves threshold limit t ts y)
-              ∙ none-kept trace ts
-                (by_answer (is_of trace t)
-                 (λ is. absurd (some-is-not-none t (sym (ap (λ b. cond b (Some t) (find (is_of trace) ts)) is) ∙ h)))
-                 (λ not-is. sym (ap (λ b. cond b (Some t) (find (is_of trace) ts)) not-is) ∙ h)))
+        ∙ none-kept trace ts
+        (by_answer (is_of trace t)
+        (λ is. absurd (some-is-not-none t (sym (ap (λ b. cond b (Some t) (find (is_of trace) ts)) is) ∙ h)))
+        (λ not-is. sym (ap (λ b. cond b (Some t) (find (is_of trace) ts)) not-is) ∙ h)))
         (λ n. ap (find (is_of trace)) (all-stay threshold limit (t ∷ ts) n) ∙ h)
 
     find-kept : (trace : TraceId) (ts : List (Indexed L)) → AreInTurn when ts → is_in trace (kept threshold limit ts) ≡ true
@@ -118,11 +118,11 @@ module _ {L : Type 0} where
     find-kept trace (t ∷ ts) a i =
         by_answer (is_over threshold limit (t ∷ ts))
         (λ y. let inside : is_in trace (kept threshold limit ts) ≡ true = sym (ap (is_in trace) (first-leaves threshold limit t ts y)) ∙ i in
-              ap (find (is_of trace)) (first-leaves threshold limit t ts y)
-              ∙ find-kept trace ts a.1 inside
-              ∙ by_answer (is_of trace t)
-                (λ is. absurd (true≢false (sym inside ∙ ap is_some (none-kept trace ts (absent trace (when t.trace) ts (ap when (same_from_test trace t.trace is)) a.0)))))
-                (λ not-is. sym (ap (λ b. cond b (Some t) (find (is_of trace) ts)) not-is)))
+        ap (find (is_of trace)) (first-leaves threshold limit t ts y)
+        ∙ find-kept trace ts a.1 inside
+        ∙ by_answer (is_of trace t)
+        (λ is. absurd (true≢false (sym inside ∙ ap is_some (none-kept trace ts (absent trace (when t.trace) ts (ap when (same_from_test trace t.trace is)) a.0)))))
+        (λ not-is. sym (ap (λ b. cond b (Some t) (find (is_of trace) ts)) not-is)))
         (λ n. ap (find (is_of trace)) (all-stay threshold limit (t ∷ ts) n))
 
     noted-kept : (trace : TraceId) (ts : List (Indexed L)) → AreInTurn when ts → is_in trace (kept threshold limit ts) ≡ true
@@ -140,7 +140,7 @@ module _ {L : Type 0} where
         by_answer (is_of u t)
         (λ y. subst (λ b. AreLater now n (cond (not b) (t ∷ others u ts) (others u ts))) (sym y) (later-others ts m n e a.1))
         (λ no. subst (λ b. AreLater now n (cond (not b) (t ∷ others u ts) (others u ts))) (sym no)
-               ((let same = apart-from t no in let less = a.0 in omega (arith, same, less, e)), later-others ts m n e a.1))
+        ((let same = apart-from t no in let less = a.0 in omega (arith, same, less, e)), later-others ts m n e a.1))
 
     turn-others : (ts : List (Indexed L)) → AreInTurn before ts → AreInTurn now (others u ts)
     turn-others [] a = tt
@@ -148,7 +148,7 @@ module _ {L : Type 0} where
         by_answer (is_of u t)
         (λ y. subst (λ b. AreInTurn now (cond (not b) (t ∷ others u ts) (others u ts))) (sym y) (turn-others ts a.1))
         (λ no. subst (λ b. AreInTurn now (cond (not b) (t ∷ others u ts) (others u ts))) (sym no)
-               (later-others ts (before t.trace) (now t.trace) (apart-from t no) a.0, turn-others ts a.1))
+        (later-others ts (before t.trace) (now t.trace) (apart-from t no) a.0, turn-others ts a.1))
 
     -- the trace itself is touched now
     module _ (w : Noted L) (most : (trace : TraceId) → before trace < now u) where
@@ -158,7 +158,7 @@ module _ {L : Type 0} where
           by_answer (is_of u t)
           (λ y. subst (λ b. AreLater now n (cond (not b) (t ∷ others u ts) (others u ts) ++ record { trace = u; noted = w } ∷ [])) (sym y) (later-touch ts m n e less a.1))
           (λ no. subst (λ b. AreLater now n (cond (not b) (t ∷ others u ts) (others u ts) ++ record { trace = u; noted = w } ∷ [])) (sym no)
-                 ((let same = apart-from t no in let here = a.0 in omega (arith, same, here, e)), later-touch ts m n e less a.1))
+          ((let same = apart-from t no in let here = a.0 in omega (arith, same, here, e)), later-touch ts m n e less a.1))
 
       turn-touch : (ts : List (Indexed L)) → AreInTurn before ts → AreInTurn now (touch u w ts)
       turn-touch [] a = (tt, tt)
@@ -166,7 +166,7 @@ module _ {L : Type 0} where
           by_answer (is_of u t)
           (λ y. subst (λ b. AreInTurn now (cond (not b) (t ∷ others u ts) (others u ts) ++ record { trace = u; noted = w } ∷ [])) (sym y) (turn-touch ts a.1))
           (λ no. subst (λ b. AreInTurn now (cond (not b) (t ∷ others u ts) (others u ts) ++ record { trace = u; noted = w } ∷ [])) (sym no)
-                 (later-touch ts (before t.trace) (now t.trace) (apart-from t no) (most t.trace) a.0, turn-touch ts a.1))
+          (later-touch ts (before t.trace) (now t.trace) (apart-from t no) (most t.trace) a.0, turn-touch ts a.1))
 
   last-within : (calls : List (Call L)) (trace : TraceId) → last_touch calls trace ≤ length calls
   last-within [] trace = omega arith
@@ -218,8 +218,8 @@ module _ {L : Type 0} where
           (λ trace n. ap (λ b. cond b (suc (length earlier)) (last_touch earlier trace)) (touched-now trace ∙ n))
           w
           (λ trace. let most = last-within earlier trace in
-                    let here : last_touch (call ∷ earlier) u ≡ suc (length earlier) = ap (λ b. cond b (suc (length earlier)) (last_touch earlier u)) (touched-now u ∙ same_trace_equiv.refl u) in
-                    omega (arith, most, here))
+          let here : last_touch (call ∷ earlier) u ≡ suc (length earlier) = ap (λ b. cond b (suc (length earlier)) (last_touch earlier u)) (touched-now u ∙ same_trace_equiv.refl u) in
+          omega (arith, most, here))
           ts looks.order
 
       noted-in : (trace : TraceId) → is_indexed threshold limit trace (call ∷ earlier) ≡ true → noted_of trace (after threshold limit (call ∷ earlier)).touched ≡ noted_of trace (touch u w ts)
@@ -228,21 +228,21 @@ module _ {L : Type 0} where
       touch-step : LooksBack threshold limit (call ∷ earlier)
       touch-step = record {
         chunks = λ trace.
-          chunk-step (is_indexed threshold limit trace (call ∷ earlier)) (noted_of trace (after threshold limit (call ∷ earlier)).touched).chunks (noted_of trace ts).chunks (chunks_since threshold limit trace earlier) (chunk_in trace call)
-          (looks.chunks trace)
-          (λ i. ap (λ (n : Noted L). n.chunks) (noted-in trace i)
-                ∙ by_answer (same_trace trace u)
-                  (λ y. ap (λ (n : Noted L). n.chunks) (noted-touch-this trace u y w ts) ∙ chunks-of trace y)
-                  (λ n. ap (λ (n : Noted L). n.chunks) (noted-touch-other trace u n w ts) ∙ sym (append-nil (noted_of trace ts).chunks) ∙ ap (λ l. (noted_of trace ts).chunks ++ l) (sym (no-chunk trace n))))
-          (λ o. ap (λ (n : Noted L). n.chunks) (noted-out trace (after threshold limit (call ∷ earlier)).touched o));
+            chunk-step (is_indexed threshold limit trace (call ∷ earlier)) (noted_of trace (after threshold limit (call ∷ earlier)).touched).chunks (noted_of trace ts).chunks (chunks_since threshold limit trace earlier) (chunk_in trace call)
+            (looks.chunks trace)
+            (λ i. ap (λ (n : Noted L). n.chunks) (noted-in trace i)
+            ∙ by_answer (same_trace trace u)
+            (λ y. ap (λ (n : Noted L). n.chunks) (noted-touch-this trace u y w ts) ∙ chunks-of trace y)
+            (λ n. ap (λ (n : Noted L). n.chunks) (noted-touch-other trace u n w ts) ∙ sym (append-nil (noted_of trace ts).chunks) ∙ ap (λ l. (noted_of trace ts).chunks ++ l) (sym (no-chunk trace n))))
+            (λ o. ap (λ (n : Noted L). n.chunks) (noted-out trace (after threshold limit (call ∷ earlier)).touched o));
         crumbs = λ trace node.
-          bit-step (is_indexed threshold limit trace (call ∷ earlier)) (has_node (noted_of trace (after threshold limit (call ∷ earlier)).touched).crumbs node) (has_node (noted_of trace ts).crumbs node) (has_crumb_since threshold limit trace node earlier) (is_crumb trace node call)
-          (looks.crumbs trace node)
-          (λ i. ap (λ (n : Noted L). has_node n.crumbs node) (noted-in trace i)
-                ∙ by_answer (same_trace trace u)
-                  (λ y. ap (λ (n : Noted L). has_node n.crumbs node) (noted-touch-this trace u y w ts) ∙ crumbs-of trace node y)
-                  (λ n. ap (λ (n : Noted L). has_node n.crumbs node) (noted-touch-other trace u n w ts) ∙ sym (or-false (has_node (noted_of trace ts).crumbs node)) ∙ ap (λ b. has_node (noted_of trace ts).crumbs node || b) (sym (no-crumb trace node n))))
-          (λ o. ap (λ (n : Noted L). has_node n.crumbs node) (noted-out trace (after threshold limit (call ∷ earlier)).touched o) ∙ has-no_nodes node);
+            bit-step (is_indexed threshold limit trace (call ∷ earlier)) (has_node (noted_of trace (after threshold limit (call ∷ earlier)).touched).crumbs node) (has_node (noted_of trace ts).crumbs node) (has_crumb_since threshold limit trace node earlier) (is_crumb trace node call)
+            (looks.crumbs trace node)
+            (λ i. ap (λ (n : Noted L). has_node n.crumbs node) (noted-in trace i)
+            ∙ by_answer (same_trace trace u)
+            (λ y. ap (λ (n : Noted L). has_node n.crumbs node) (noted-touch-this trace u y w ts) ∙ crumbs-of trace node y)
+            (λ n. ap (λ (n : Noted L). has_node n.crumbs node) (noted-touch-other trace u n w ts) ∙ sym (or-false (has_node (noted_of trace ts).crumbs node)) ∙ ap (λ b. has_node (noted_of trace ts).crumbs node || b) (sym (no-crumb trace node n))))
+            (λ o. ap (λ (n : Noted L). has_node n.crumbs node) (noted-out trace (after threshold limit (call ∷ earlier)).touched o) ∙ has-no_nodes node);
         order = subst (λ l. AreInTurn (last_touch (call ∷ earlier)) l) (sym is) (turn-kept threshold limit (last_touch (call ∷ earlier)) (touch u w ts) turned);
         within = ap (is_over threshold limit) is ∙ within threshold limit (touch u w ts);
       }
@@ -261,32 +261,32 @@ module _ {L : Type 0} where
         (λ trace y. ap (λ v. (noted_of v ts).chunks) (same_from_test trace u y) ∙ sym (append-nil (noted_of trace ts).chunks))
         (λ trace n. refl)
         (λ trace node y. has-with_node (noted_of u ts).crumbs to node
-                         ∙ ap (λ v. has_node (noted_of v ts).crumbs node || nat_eq node to.0) (same_from_test trace u y)
-                         ∙ ap (λ b. has_node (noted_of trace ts).crumbs node || (b && nat_eq node to.0)) (sym y))
+        ∙ ap (λ v. has_node (noted_of v ts).crumbs node || nat_eq node to.0) (same_from_test trace u y)
+        ∙ ap (λ b. has_node (noted_of trace ts).crumbs node || (b && nat_eq node to.0)) (sym y))
         (λ trace node n. ap (λ b. b && nat_eq node to.0) n)
 
     claimed-step : (u : TraceId) → LooksBack threshold limit (Claimed u ∷ earlier)
     claimed-step u =
         let off = λ (trace : TraceId) (i : is_in trace (others u ts) ≡ true).
-            by_answer {P = same_trace trace u ≡ false} (same_trace trace u) (λ y. absurd (true≢false (sym i ∙ others-this-out trace u y ts))) (λ n. n) in
+        by_answer {P = same_trace trace u ≡ false} (same_trace trace u) (λ y. absurd (true≢false (sym i ∙ others-this-out trace u y ts))) (λ n. n) in
         record {
           chunks = λ trace.
-            chunk-step (is_in trace (others u ts)) (noted_of trace (others u ts)).chunks (noted_of trace ts).chunks (chunks_since threshold limit trace earlier) []
-            (looks.chunks trace)
-            (λ i. ap (λ (n : Noted L). n.chunks) (noted-others-other trace u (off trace i) ts) ∙ sym (append-nil (noted_of trace ts).chunks))
-            (λ o. ap (λ (n : Noted L). n.chunks) (noted-out trace (others u ts) o));
+              chunk-step (is_in trace (others u ts)) (noted_of trace (others u ts)).chunks (noted_of trace ts).chunks (chunks_since threshold limit trace earlier) []
+              (looks.chunks trace)
+              (λ i. ap (λ (n : Noted L). n.chunks) (noted-others-other trace u (off trace i) ts) ∙ sym (append-nil (noted_of trace ts).chunks))
+              (λ o. ap (λ (n : Noted L). n.chunks) (noted-out trace (others u ts) o));
           crumbs = λ trace node.
-            bit-step (is_in trace (others u ts)) (has_node (noted_of trace (others u ts)).crumbs node) (has_node (noted_of trace ts).crumbs node) (has_crumb_since threshold limit trace node earlier) false
-            (looks.crumbs trace node)
-            (λ i. ap (λ (n : Noted L). has_node n.crumbs node) (noted-others-other trace u (off trace i) ts) ∙ sym (or-false (has_node (noted_of trace ts).crumbs node)))
-            (λ o. ap (λ (n : Noted L). has_node n.crumbs node) (noted-out trace (others u ts) o) ∙ has-no_nodes node);
+              bit-step (is_in trace (others u ts)) (has_node (noted_of trace (others u ts)).crumbs node) (has_node (noted_of trace ts).crumbs node) (has_crumb_since threshold limit trace node earlier) false
+              (looks.crumbs trace node)
+              (λ i. ap (λ (n : Noted L). has_node n.crumbs node) (noted-others-other trace u (off trace i) ts) ∙ sym (or-false (has_node (noted_of trace ts).crumbs node)))
+              (λ o. ap (λ (n : Noted L). has_node n.crumbs node) (noted-out trace (others u ts) o) ∙ has-no_nodes node);
           order = turn-others u (last_touch earlier) (last_touch earlier) (λ trace n. refl) ts looks.order;
           within =
-            let chunks = ltb-false threshold (count_chunks ts) (or-left-false (nat_lt threshold (count_chunks ts)) (nat_lt limit (length ts)) looks.within) in
-            let traces = ltb-false limit (length ts) (or-right-false (nat_lt threshold (count_chunks ts)) (nat_lt limit (length ts)) looks.within) in
-            let fewer = count-others u ts in
-            let shorter = length-others u ts in
-            within-not-over threshold limit (others u ts) (omega (arith, chunks, fewer)) (omega (arith, traces, shorter));
+              let chunks = ltb-false threshold (count_chunks ts) (or-left-false (nat_lt threshold (count_chunks ts)) (nat_lt limit (length ts)) looks.within) in
+              let traces = ltb-false limit (length ts) (or-right-false (nat_lt threshold (count_chunks ts)) (nat_lt limit (length ts)) looks.within) in
+              let fewer = count-others u ts in
+              let shorter = length-others u ts in
+              within-not-over threshold limit (others u ts) (omega (arith, chunks, fewer)) (omega (arith, traces, shorter));
         }
 
   pub look_back : (threshold limit : ℕ) (calls : List (Call L)) → LooksBack threshold limit calls

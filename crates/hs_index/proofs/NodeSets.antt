@@ -1,5 +1,5 @@
 -- Sets of nodes that have the same nodes are one.
-use Rattle.std.proofs.Common.{◌≡◌, ℕ, zero, suc, ◌<◌, ◌^◌, max, true, false, ◌||◌, nat_eq, bit_or, refl, sym, ap, ◌∙◌, arith, ⊎_elim, eq-eqb}
+use Rattle.std.proofs.Common.{◌≡◌, ℕ, zero, suc, ◌<◌, ◌^◌, max, false, ◌||◌, nat_eq, refl, sym, ap, ◌∙◌, arith, ⊎_elim, eq-eqb}
 use Rattle.std.specs.Int.{bit_at}
 use Rattle.std.proofs.lemmas.Bool.{cases_eq}
 use Rattle.std.proofs.lemmas.Nat.Bits.{bit_at-lt, bit_at_or, bit_at-pow_same, bit_at-pow_other, bit_at-zero, same_from_bits}

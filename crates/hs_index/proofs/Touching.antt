@@ -1,5 +1,5 @@
 -- What the cache's calls do to the indexed traces.
-use Rattle.std.proofs.Common.{◌≡◌, ℕ, zero, suc, ◌+◌, ◌-◌, ◌<◌, ◌≤◌, Bool, true, false, cond, List, [], ◌∷◌, ◌++◌, length, map, reverse, take, get_or, Option, Some, None, unwrap_or, option_map, refl, sym, ap, subst, ◌∙◌, arith, append_assoc, append-nil}
+use Rattle.std.proofs.Common.{◌≡◌, ℕ, suc, ◌+◌, ◌-◌, ◌<◌, cond, List, [], ◌∷◌, ◌++◌, length, map, reverse, take, get_or, Option, Some, None, unwrap_or, option_map, refl, sym, ap, ◌∙◌, arith}
 use Rattle.std.specs.Prelude.{find, sum_by, slice_get}
 use Rattle.std.specs.List.{IsDistinct}
 use Rattle.std.specs.Option.{option_map_or, option_or}
@@ -8,14 +8,12 @@ use Rattle.std.proofs.Math.Seq.{take-suc}
 use Rattle.std.proofs.lemmas.List.{reverse-append, map-append, take_all}
 use Rattle.std.proofs.lemmas.List.Sums.{sum_by-cons}
 use Rattle.std.proofs.lemmas.Option.{slice_get_within, get_or_from_slice_get, none-some}
-use Rattle.std.proofs.lemmas.Map.{length-set_value}
 use Rattle.std.proofs.lemmas.Map.Entries.{sum_by-remove_entry}
-use Rattle.std.proofs.lemmas.Map.Steps.{set_value_same}
 use Rattle.lru.specs.LruCache.{lru_cache, promoted, put_entries}
 use Rattle.hs_base.specs.declared.ids.TraceId.{TraceId}
-use Rattle.hs_index.specs.Index.{Noted, Indexed, same_trace, is_of, nothing, noted_of, others, touch, chunk_count, count_chunks}
+use Rattle.hs_index.specs.Index.{Noted, Indexed, same_trace, is_of, nothing, noted_of, touch, chunk_count, count_chunks}
 use Rattle.hs_index.specs.Touched.{indexed, listed}
-use Rattle.hs_index.proofs.Listed.{by_answer, listed-cons, count-listed, find-cons, found-here, missed-here, find-missing, others-missing, others-listed, noted-listed, promoted-set}
+use Rattle.hs_index.proofs.Listed.{by_answer, listed-cons, count-listed, find-cons, found-here, find-missing, others-missing, others-listed, noted-listed, promoted-set}
 
 module _ {L : Type 0} (trace : TraceId) where
   pub noted-found : (es : List (TraceId × Noted L)) (v : Noted L) → IsDistinct same_trace (keys_of es) → lookup (same_trace trace) es ≡ Some v → noted_of trace (listed es) ≡ v

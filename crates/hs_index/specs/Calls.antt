@@ -6,7 +6,7 @@ use Rattle.hs_base.specs.declared.ids.TraceId.{TraceId}
 use Rattle.hs_base.specs.declared.ids.NodeId.{NodeId}
 use Rattle.hs_base.specs.NodeSets.{has_node}
 use Rattle.hs_words.specs.Chunks.{clear_chunk}
-use Rattle.hs_index.specs.Index.{Buffer, Indexed, Index, new_index, same_trace, is_of, noted_of, count_chunks, is_over, with_arrival, crumbed, claimed, settled, going, leaving}
+use Rattle.hs_index.specs.Index.{Buffer, Indexed, Index, new_index, same_trace, is_of, noted_of, is_over, with_arrival, crumbed, claimed, settled, going, leaving}
 
 -- A chunk of a trace arrived, a crumb of a trace to a node came, or a trace was claimed.
 pub data Call (L : Type 0) : Type 0 where

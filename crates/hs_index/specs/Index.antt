@@ -1,14 +1,14 @@
 -- What contracts see of an index: its two limits, and the indexed traces from the one that was touched longest ago to the
 -- one touched last, each with its chunks in the order of arrival and the nodes to which its crumbs lead. A touch moves a
 -- trace to the end. While there are more chunks or more traces than the limits allow, the trace touched longest ago goes.
-use Rattle.std.specs.Prelude.{◌≡◌, ℕ, ◌^◌, ◌≤◌, Bool, true, false, if◌then◌else◌, not, ◌||◌, ◌==◌, nat_lt, List, [], ◌∷◌, ◌++◌, length, map, filter, find, sum_by, bit_or, Option, Some, None, refl}
-use Rattle.std.specs.Option.{option_map, option_map_or}
+use Rattle.std.specs.Prelude.{ℕ, ◌^◌, Bool, if◌then◌else◌, not, ◌||◌, ◌==◌, nat_lt, List, [], ◌∷◌, ◌++◌, length, map, filter, find, sum_by, bit_or}
+use Rattle.std.specs.Option.{option_map_or}
 use Rattle.hs_base.specs.declared.ids.TraceId.{TraceId}
 use Rattle.hs_base.specs.declared.ids.NodeId.{NodeId}
 use Rattle.hs_base.specs.declared.node_set.NodeSet.{NodeSet}
 use Rattle.hs_words.specs.declared.token.Held.{Held}
 use Rattle.hs_words.specs.declared.page.Header.{Header}
-use Rattle.hs_words.specs.Chunks.{Contents, clear_chunk, with_page, header_in}
+use Rattle.hs_words.specs.Chunks.{Contents, header_in}
 use Rattle.hs_index.specs.declared.answers.Gone.{Gone}
 
 -- a chunk with its lease

@@ -1,4 +1,4 @@
-ghost use Rattle.std.specs.Prelude.{IsSome};
+ghost use Rattle.std.specs.Prelude.{◌<◌, IsSome};
 
 use super::*;
 use hs_base::{ClientId, Crumb, List, NodeId, NodeSet, TraceId};

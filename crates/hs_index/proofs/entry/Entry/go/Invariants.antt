@@ -1,4 +1,4 @@
-use Rattle.std.proofs.Common.{◌≡◌, ◌+◌, ◌≤◌, length, map}
+use Rattle.std.proofs.Common.{◌≡◌, ◌≤◌, length, map}
 use Rattle.hs_index.specs.Index.{buffer_of, leaving, leaving_of}
 use Rattle.hs_index.proofs.entry.Entry.go.Given as goal
 

@@ -1,7 +1,6 @@
-use Rattle.std.proofs.Common.{◌≡◌, [], ap}
+use Rattle.std.proofs.Common.{◌≡◌}
 use Rattle.std.proofs.Common.{arith}
 use Rattle.std.proofs.lemmas.Grind.{common_steps}
-use Rattle.hs_base.specs.declared.node_set.NodeSet.{NodeSet}
 use Rattle.hs_index.specs.Index.{no_nodes}
 use Rattle.hs_index.proofs.NodeSets.{no_nodes_by_nodes}
 use Rattle.hs_index.proofs.entry.Entry.new.Goals as goal

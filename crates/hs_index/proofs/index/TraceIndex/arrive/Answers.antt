@@ -1,6 +1,6 @@
 use Rattle.std.proofs.Common.{◌≡◌, ◌+◌, ◌≤◌, ◌∷◌, [], length, ap, subst, List, sym, ◌∙◌, arith}
 use Rattle.std.proofs.lemmas.List.{length-append}
-use Rattle.hs_index.specs.Index.{Indexed, buffer_of, noted_of, others, touch, with_chunk, chunk_count, count_chunks, kept}
+use Rattle.hs_index.specs.Index.{Indexed, buffer_of, noted_of, with_chunk, chunk_count, count_chunks}
 use Rattle.hs_index.proofs.Evicting.{count-parts, count-touch, length-touch, count-kept, length-kept}
 use Rattle.hs_index.proofs.index.TraceIndex.arrive.Goals as goal
 

@@ -1,4 +1,4 @@
-use Rattle.std.proofs.Common.{◌≡◌, ◌+◌, ◌≤◌, length, sym, ap, ◌∙◌, arith}
+use Rattle.std.proofs.Common.{◌≡◌, length, ap, ◌∙◌, arith}
 use Rattle.hs_index.specs.Index.{count_chunks, others}
 use Rattle.hs_index.proofs.Evicting.{length-others, count-others}
 use Rattle.hs_index.proofs.index.TraceIndex.claim.Goals as goal

@@ -1,5 +1,5 @@
-use Rattle.std.proofs.Common.{◌≡◌, ◌+◌, ◌≤◌, length, ap, subst, List, sym, ◌∙◌, arith}
-use Rattle.hs_index.specs.Index.{Indexed, noted_of, others, touch, with_crumb, chunk_count, count_chunks, kept}
+use Rattle.std.proofs.Common.{◌≤◌, length, ap, subst, List, sym, ◌∙◌, arith}
+use Rattle.hs_index.specs.Index.{Indexed, noted_of, with_crumb, count_chunks}
 use Rattle.hs_index.proofs.Evicting.{count-parts, count-touch, length-touch, count-kept, length-kept}
 use Rattle.hs_index.proofs.index.TraceIndex.crumb.Goals as goal
 

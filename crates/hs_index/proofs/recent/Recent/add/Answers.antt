@@ -1,11 +1,11 @@
-use Rattle.std.proofs.Common.{rules, Fits, w32, ◌≡◌, ◌+◌, ◌<◌, ◌∷◌, ◌++◌, [], length, None, Some, sym, ap, ◌∙◌, arith}
-use Rattle.std.specs.Prelude.{sum_by, find}
+use Rattle.std.proofs.Common.{rules, Fits, w32, ◌≡◌, ◌+◌, ◌∷◌, [], length, None, Some, sym, ap, ◌∙◌, arith}
+use Rattle.std.specs.Prelude.{sum_by}
 use Rattle.std.specs.Map.{values_of, lookup, set_value}
 use Rattle.std.proofs.lemmas.Map.Steps.{set_value_same}
 use Rattle.lru.specs.LruCache.{LruCache, promoted}
 use Rattle.hs_base.specs.declared.ids.TraceId.{TraceId}
-use Rattle.hs_index.specs.Index.{Noted, Buffer, buffer_of, nothing, same_trace, noted_of, touch, with_chunk, chunk_count, count_chunks}
-use Rattle.hs_index.specs.Touched.{Touched, indexed, listed}
+use Rattle.hs_index.specs.Index.{Noted, buffer_of, same_trace, noted_of, touch, with_chunk, chunk_count}
+use Rattle.hs_index.specs.Touched.{Touched, listed}
 use Rattle.hs_index.proofs.Listed.{count-listed, find-missing}
 use Rattle.hs_index.proofs.Outcomes.{on_err}
 use Rattle.std.proofs.lemmas.List.{length-append}

@@ -1,10 +1,10 @@
-use Rattle.std.proofs.Common.{rules, Fits, w32, ◌≡◌, ◌+◌, ◌<◌, ◌∷◌, ◌++◌, [], length, None, Some, sym, ap, subst, ◌∙◌, arith}
-use Rattle.std.specs.Prelude.{sum_by, find, OnOk}
+use Rattle.std.proofs.Common.{rules, Fits, w32, ◌≡◌, length, None, Some, sym, ap, ◌∙◌, arith}
+use Rattle.std.specs.Prelude.{sum_by}
 use Rattle.std.specs.Map.{values_of, lookup, set_value}
 use Rattle.lru.specs.LruCache.{LruCache, promoted}
 use Rattle.hs_base.specs.declared.ids.TraceId.{TraceId}
-use Rattle.hs_index.specs.Index.{Noted, nothing, same_trace, noted_of, touch, with_crumb, chunk_count, count_chunks}
-use Rattle.hs_index.specs.Touched.{Touched, indexed, listed}
+use Rattle.hs_index.specs.Index.{Noted, same_trace, noted_of, touch, with_crumb, chunk_count}
+use Rattle.hs_index.specs.Touched.{Touched, listed}
 use Rattle.hs_index.proofs.Outcomes.{on_ok}
 use Rattle.hs_index.proofs.Listed.{count-listed, find-missing}
 use Rattle.hs_index.proofs.Touching.{noted-found, noted-missing, touch-missing, touch-found, length-touched, count-touched}

@@ -1,7 +1,5 @@
-use Rattle.std.proofs.Common.{◌≡◌, sym, ap, ◌∙◌}
-use Rattle.std.proofs.Common.{None}
-use Rattle.std.specs.Map.{lookup}
-use Rattle.hs_index.specs.Index.{Noted, same_trace, noted_of}
+use Rattle.std.proofs.Common.{sym, ap, ◌∙◌}
+use Rattle.hs_index.specs.Index.{Noted, noted_of}
 use Rattle.hs_index.specs.Touched.{Touched}
 use Rattle.hs_index.proofs.NodeSets.{no_nodes_by_nodes}
 use Rattle.hs_index.proofs.Touching.{noted-found, noted-missing, empty-missing}

@@ -1,4 +1,4 @@
-use Rattle.std.proofs.Common.{List, ◌≡◌, ℕ, true, false, ◌+◌, ◌<◌, ◌≤◌, ◌∷◌, [], length, map, sym, ap, subst, ◌∙◌, arith}
+use Rattle.std.proofs.Common.{List, ◌≡◌, true, false, ◌+◌, ◌≤◌, ◌∷◌, length, map, sym, ap, subst, ◌∙◌, arith}
 use Rattle.hs_index.specs.Index.{Indexed, chunk_count, count_chunks, is_over, leaving, leaving_of, kept, evicted}
 use Rattle.hs_index.specs.Touched.{indexed}
 use Rattle.hs_index.proofs.Evicting.{within-not-over, over-by-chunks, over-by-traces, all-stay, none-go, full-goes, full-leaves}

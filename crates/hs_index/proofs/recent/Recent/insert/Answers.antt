@@ -1,8 +1,8 @@
-use Rattle.std.proofs.Common.{◌≡◌, suc, ◌+◌, ◌<◌, ◌∷◌, ◌++◌, [], length, sym, ap, ◌∙◌, arith}
+use Rattle.std.proofs.Common.{◌≡◌, suc, ◌+◌, ◌∷◌, ◌++◌, [], length, ap, ◌∙◌, arith}
 use Rattle.std.specs.Prelude.{sum_by, find}
 use Rattle.std.specs.Map.{values_of}
 use Rattle.std.proofs.lemmas.List.Sums.{sum_by-cons}
-use Rattle.lru.specs.LruCache.{LruCache, lru_cache}
+use Rattle.lru.specs.LruCache.{LruCache}
 use Rattle.hs_base.specs.declared.ids.TraceId.{TraceId}
 use Rattle.hs_index.specs.Index.{Noted, chunk_count, count_chunks, is_of}
 use Rattle.hs_index.specs.Touched.{Touched, indexed, listed}

@@ -1,12 +1,12 @@
-use Rattle.std.proofs.Common.{rules, Fits, w32, ◌≡◌, suc, ◌+◌, ◌<◌, ◌≤◌, ◌∷◌, ◌++◌, [], length, None, Some, sym, ap, ◌∙◌, arith}
+use Rattle.std.proofs.Common.{rules, Fits, w32, ◌≡◌, length, sym, ap, ◌∙◌, arith}
 use Rattle.std.specs.Prelude.{sum_by}
-use Rattle.std.specs.Map.{values_of, lookup, lookup_entry, remove_entry}
+use Rattle.std.specs.Map.{values_of, remove_entry}
 use Rattle.lru.specs.LruCache.{LruCache}
 use Rattle.hs_base.specs.declared.ids.TraceId.{TraceId}
 use Rattle.hs_index.specs.Index.{Noted, same_trace, noted_of, others, chunk_count}
 use Rattle.hs_index.specs.Touched.{Touched, listed}
 use Rattle.hs_index.proofs.Listed.{others-listed}
-use Rattle.hs_index.proofs.Touching.{noted-found, noted-missing, empty-missing, found-entry, missing-entry, remove-missing, count-remove, length-remove}
+use Rattle.hs_index.proofs.Touching.{noted-found, noted-missing, found-entry, missing-entry, remove-missing, count-remove, length-remove}
 use Rattle.hs_index.proofs.recent.Recent.take.Goals as goal
 
 pub overflow_cast-self : goal.overflow_cast-self
