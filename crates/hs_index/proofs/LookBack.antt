@@ -6,7 +6,7 @@ use Rattle.std.proofs.lemmas.List.Folds.{find-append}
 use Rattle.hs_base.specs.declared.ids.TraceId.{TraceId}
 use Rattle.hs_base.specs.declared.ids.NodeId.{NodeId}
 use Rattle.hs_base.specs.NodeSets.{has_node}
-use Rattle.hs_index.specs.Index.{Buffer, Noted, Indexed, same_trace, is_of, nothing, noted_of, others, touch, with_chunk, with_crumb, is_over, kept}
+use Rattle.hs_index.specs.Index.{Buffer, Noted, Indexed, same_trace, trace_of, is_of, nothing, noted_of, others, touch, with_chunk, with_crumb, is_over, kept}
 use Rattle.hs_index.specs.Calls.{Call, Arrived, Crumbed, Claimed, after, touches, last_touch, chunk_in, is_crumb, is_in, is_indexed, chunks_since, has_crumb_since, AreLater, AreInTurn, LooksBack}
 use Rattle.hs_index.proofs.Listed.{by_answer, same_trace_equiv, same_from_test}
 use Rattle.hs_index.proofs.NodeSets.{has-with_node, has-no_nodes}
@@ -184,13 +184,13 @@ module _ {L : Type 0} where
 
   same-threshold : (threshold limit : ℕ) (calls : List (Call L)) → (after threshold limit calls).threshold ≡ threshold
   same-threshold threshold limit [] = refl
-  same-threshold threshold limit (Arrived u buffer ∷ earlier) = same-threshold threshold limit earlier
+  same-threshold threshold limit (Arrived buffer ∷ earlier) = same-threshold threshold limit earlier
   same-threshold threshold limit (Crumbed u to ∷ earlier) = same-threshold threshold limit earlier
   same-threshold threshold limit (Claimed u ∷ earlier) = same-threshold threshold limit earlier
 
   same-limit : (threshold limit : ℕ) (calls : List (Call L)) → (after threshold limit calls).limit ≡ limit
   same-limit threshold limit [] = refl
-  same-limit threshold limit (Arrived u buffer ∷ earlier) = same-limit threshold limit earlier
+  same-limit threshold limit (Arrived buffer ∷ earlier) = same-limit threshold limit earlier
   same-limit threshold limit (Crumbed u to ∷ earlier) = same-limit threshold limit earlier
   same-limit threshold limit (Claimed u ∷ earlier) = same-limit threshold limit earlier
 
@@ -247,12 +247,12 @@ module _ {L : Type 0} where
         within = ap (is_over threshold limit) is ∙ within threshold limit (touch u w ts);
       }
 
-    arrived-step : (u : TraceId) (buffer : Buffer L) → LooksBack threshold limit (Arrived u buffer ∷ earlier)
-    arrived-step u buffer =
-        touch-step (Arrived u buffer) u (with_chunk (noted_of u ts) buffer) (λ trace. refl) (same-kept threshold limit earlier (touch u (with_chunk (noted_of u ts) buffer) ts))
-        (λ trace y. ap (λ v. (noted_of v ts).chunks ++ buffer ∷ []) (same_from_test trace u y) ∙ ap (λ l. (noted_of trace ts).chunks ++ l) (sym (ap (λ b. cond b (buffer ∷ []) []) y)))
+    arrived-step : (buffer : Buffer L) → LooksBack threshold limit (Arrived buffer ∷ earlier)
+    arrived-step buffer =
+        touch-step (Arrived buffer) (trace_of buffer) (with_chunk (noted_of (trace_of buffer) ts) buffer) (λ trace. refl) (same-kept threshold limit earlier (touch (trace_of buffer) (with_chunk (noted_of (trace_of buffer) ts) buffer) ts))
+        (λ trace y. ap (λ v. (noted_of v ts).chunks ++ buffer ∷ []) (same_from_test trace (trace_of buffer) y) ∙ ap (λ l. (noted_of trace ts).chunks ++ l) (sym (ap (λ b. cond b (buffer ∷ []) []) y)))
         (λ trace n. ap (λ b. cond b (buffer ∷ []) []) n)
-        (λ trace node y. ap (λ v. has_node (noted_of v ts).crumbs node) (same_from_test trace u y) ∙ sym (or-false (has_node (noted_of trace ts).crumbs node)))
+        (λ trace node y. ap (λ v. has_node (noted_of v ts).crumbs node) (same_from_test trace (trace_of buffer) y) ∙ sym (or-false (has_node (noted_of trace ts).crumbs node)))
         (λ trace node n. refl)
 
     crumbed-step : (u : TraceId) (to : NodeId) → LooksBack threshold limit (Crumbed u to ∷ earlier)
@@ -296,6 +296,6 @@ module _ {L : Type 0} where
     order = tt;
     within = within-not-over {L = L} threshold limit [] (omega arith) (omega arith);
   }
-  look_back threshold limit (Arrived u buffer ∷ earlier) = arrived-step threshold limit earlier (look_back threshold limit earlier) u buffer
+  look_back threshold limit (Arrived buffer ∷ earlier) = arrived-step threshold limit earlier (look_back threshold limit earlier) buffer
   look_back threshold limit (Crumbed u to ∷ earlier) = crumbed-step threshold limit earlier (look_back threshold limit earlier) u to
   look_back threshold limit (Claimed u ∷ earlier) = claimed-step threshold limit earlier (look_back threshold limit earlier) u

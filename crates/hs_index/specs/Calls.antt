@@ -1,22 +1,22 @@
 -- What a whole list of calls of an index says, looked back over from its end: in each list of calls the last stands first.
 -- A trace is touched by each chunk and each crumb of it. Its chunks are those that arrived since it was last not indexed,
 -- because it went, was claimed or never came; and so with its crumbs.
-use Rattle.std.specs.Prelude.{◌≡◌, ℕ, suc, ◌<◌, ◌≤◌, Bool, true, false, ◌&&◌, ◌||◌, ◌==◌, if◌then◌else◌, List, [], ◌∷◌, ◌++◌, length, map, find, is_some, refl}
+use Rattle.std.specs.Prelude.{◌≡◌, ℕ, suc, ◌<◌, ◌≤◌, Bool, true, false, ◌&&◌, ◌||◌, ◌==◌, if◌then◌else◌, List, [], ◌∷◌, ◌++◌, length, map, find, is_some, Some, refl}
 use Rattle.hs_base.specs.declared.ids.TraceId.{TraceId}
 use Rattle.hs_base.specs.declared.ids.NodeId.{NodeId}
 use Rattle.hs_base.specs.NodeSets.{has_node}
-use Rattle.hs_words.specs.Chunks.{clear_chunk}
-use Rattle.hs_index.specs.Index.{Buffer, Indexed, Index, new_index, same_trace, is_of, noted_of, is_over, with_arrival, crumbed, claimed, settled, going, leaving}
+use Rattle.hs_words.specs.Chunks.{clear_chunk, with_page}
+use Rattle.hs_index.specs.Index.{Buffer, Indexed, Index, new_index, same_trace, is_of, noted_of, is_over, trace_of, arrived, crumbed, claimed, settled, going, leaving}
 
--- A chunk of a trace arrived, a crumb of a trace to a node came, or a trace was claimed.
+-- A chunk arrived, a crumb of a trace to a node came, or a trace was claimed.
 pub data Call (L : Type 0) : Type 0 where
-  Arrived : (trace : TraceId) (buffer : Buffer L) → Call L
+  Arrived : (buffer : Buffer L) → Call L
   Crumbed : (trace : TraceId) (node : NodeId) → Call L
   Claimed : (trace : TraceId) → Call L
 
 -- the index after one call
 abbrev pub after_call : {L : Type 0} → Index L → Call L → Index L
-after_call index (Arrived trace buffer) = settled (with_arrival index trace buffer)
+after_call index (Arrived buffer) = settled (arrived index buffer)
 after_call index (Crumbed trace node) = settled (crumbed index trace node)
 after_call index (Claimed trace) = claimed index trace
 
@@ -28,7 +28,7 @@ after threshold limit (call ∷ earlier) = after_call (after threshold limit ear
 -- ---- what the calls were
 
 abbrev pub touches : {L : Type 0} → TraceId → Call L → Bool
-touches trace (Arrived t buffer) = same_trace trace t
+touches trace (Arrived buffer) = same_trace trace (trace_of buffer)
 touches trace (Crumbed t node) = same_trace trace t
 touches trace (Claimed t) = false
 
@@ -39,13 +39,13 @@ last_touch (call ∷ earlier) trace = if touches trace call then suc (length ear
 
 -- the chunk of the trace that the call brought
 abbrev pub chunk_in : {L : Type 0} → TraceId → Call L → List (Buffer L)
-chunk_in trace (Arrived t buffer) = if same_trace trace t then buffer ∷ [] else []
+chunk_in trace (Arrived buffer) = if same_trace trace (trace_of buffer) then buffer ∷ [] else []
 chunk_in trace (Crumbed t node) = []
 chunk_in trace (Claimed t) = []
 
 -- whether the call brought a crumb of the trace to the node
 abbrev pub is_crumb : {L : Type 0} → TraceId → ℕ → Call L → Bool
-is_crumb trace node (Arrived t buffer) = false
+is_crumb trace node (Arrived buffer) = false
 is_crumb trace node (Crumbed t to) = same_trace trace t && node == to.0
 is_crumb trace node (Claimed t) = false
 
@@ -98,11 +98,16 @@ pub record IsLongestEnd {L : Type 0} (threshold limit : ℕ) (touched stay : Lis
 abbrev t : ℕ → TraceId
 t n = record { 0 = n }
 
-abbrev b : ℕ → Buffer ℕ
-b number = record { chunk = clear_chunk 64 number; lease = 7 }
+-- a chunk with a page of the trace
+abbrev b : ℕ → ℕ → Buffer ℕ
+b trace number =
+    record {
+      chunk = with_page (clear_chunk 64 number) (Some (record { header = record { trace = t trace; client = record { node = 0; number = 0 }; page = 0; first = 0 }; pieces = [] }));
+      lease = 7;
+    }
 
 abbrev chunk : ℕ → ℕ → Call ℕ
-chunk trace number = Arrived (t trace) (b number)
+chunk trace number = Arrived (b trace number)
 
 abbrev crumb : ℕ → ℕ → Call ℕ
 crumb trace node = Crumbed (t trace) (record { 0 = node })
@@ -119,7 +124,7 @@ a_chunk_touches : traces_after 9 9 (chunk 1 2 ∷ chunk 2 1 ∷ chunk 1 0 ∷ []
 a_chunk_touches = refl
 
 -- its chunks stand in the order of arrival
-chunks_stand_in_order : chunks_after 9 9 (chunk 1 2 ∷ chunk 2 1 ∷ chunk 1 0 ∷ []) 1 ≡ b 0 ∷ b 2 ∷ []
+chunks_stand_in_order : chunks_after 9 9 (chunk 1 2 ∷ chunk 2 1 ∷ chunk 1 0 ∷ []) 1 ≡ b 1 0 ∷ b 1 2 ∷ []
 chunks_stand_in_order = refl
 
 -- at the threshold all stay
@@ -127,23 +132,23 @@ two_may_stay : traces_after 2 9 (chunk 2 1 ∷ chunk 1 0 ∷ []) ≡ 1 ∷ 2 ∷
 two_may_stay = refl
 
 -- one more, and the first goes
-the_first_goes : going (with_arrival (after 2 9 (chunk 2 1 ∷ chunk 1 0 ∷ [])) (t 3) (b 2)) ≡ leaving 3 3 (b 0) ∷ []
+the_first_goes : going (arrived (after 2 9 (chunk 2 1 ∷ chunk 1 0 ∷ [])) (b 3 2)) ≡ leaving 3 3 (b 1 0) ∷ []
 the_first_goes = refl
 
 -- the trace that was touched longest ago goes, and not the one that was seen first
-the_longest_untouched_goes : going (with_arrival (after 3 9 (chunk 1 2 ∷ chunk 2 1 ∷ chunk 1 0 ∷ [])) (t 3) (b 3)) ≡ leaving 4 3 (b 1) ∷ []
+the_longest_untouched_goes : going (arrived (after 3 9 (chunk 1 2 ∷ chunk 2 1 ∷ chunk 1 0 ∷ [])) (b 3 3)) ≡ leaving 4 3 (b 2 1) ∷ []
 the_longest_untouched_goes = refl
 
 -- a trace that goes takes all its chunks, in the order of arrival
-all_its_chunks_go : going (with_arrival (after 2 9 (chunk 1 1 ∷ chunk 1 0 ∷ [])) (t 2) (b 2)) ≡ leaving 3 2 (b 0) ∷ leaving 3 2 (b 1) ∷ []
+all_its_chunks_go : going (arrived (after 2 9 (chunk 1 1 ∷ chunk 1 0 ∷ [])) (b 2 2)) ≡ leaving 3 2 (b 1 0) ∷ leaving 3 2 (b 1 1) ∷ []
 all_its_chunks_go = refl
 
 -- with no room for a chunk each goes at once
-it_goes_at_once : going (with_arrival (after 0 9 []) (t 1) (b 0)) ≡ leaving 1 1 (b 0) ∷ []
+it_goes_at_once : going (arrived (after 0 9 []) (b 1 0)) ≡ leaving 1 1 (b 1 0) ∷ []
 it_goes_at_once = refl
 
 -- too many traces: the first goes, though there are few chunks
-too_many_traces : going (with_arrival (after 9 2 (chunk 2 1 ∷ chunk 1 0 ∷ [])) (t 3) (b 2)) ≡ leaving 3 3 (b 0) ∷ []
+too_many_traces : going (arrived (after 9 2 (chunk 2 1 ∷ chunk 1 0 ∷ [])) (b 3 2)) ≡ leaving 3 3 (b 1 0) ∷ []
 too_many_traces = refl
 
 -- a trace with a crumb and no chunk is touched, and counts
@@ -154,7 +159,7 @@ a_crumb_touches : traces_after 9 9 (crumb 1 0 ∷ chunk 2 1 ∷ chunk 1 0 ∷ []
 a_crumb_touches = refl
 
 -- over the threshold it goes first, which frees no chunk; the next trace goes with the counts as they are by then
-counted_anew : going (with_arrival (after 2 9 (chunk 2 1 ∷ chunk 1 0 ∷ crumb 4 5 ∷ [])) (t 3) (b 2)) ≡ leaving 3 3 (b 0) ∷ []
+counted_anew : going (arrived (after 2 9 (chunk 2 1 ∷ chunk 1 0 ∷ crumb 4 5 ∷ [])) (b 3 2)) ≡ leaving 3 3 (b 1 0) ∷ []
 counted_anew = refl
 
 -- and its crumbs are forgotten
@@ -165,10 +170,10 @@ crumbs_are_forgotten : has_node (noted_of (t 4) (after 2 9 (chunk 3 2 ∷ chunk 
 crumbs_are_forgotten = refl
 
 -- a claimed trace is gone, and begins anew
-a_claimed_trace_begins_anew : chunks_after 9 9 (chunk 1 2 ∷ Claimed (t 1) ∷ chunk 2 1 ∷ chunk 1 0 ∷ []) 1 ≡ b 2 ∷ []
+a_claimed_trace_begins_anew : chunks_after 9 9 (chunk 1 2 ∷ Claimed (t 1) ∷ chunk 2 1 ∷ chunk 1 0 ∷ []) 1 ≡ b 1 2 ∷ []
 a_claimed_trace_begins_anew = refl
 
-since_the_claim : chunks_since 9 9 (t 1) (chunk 1 2 ∷ Claimed (t 1) ∷ chunk 2 1 ∷ chunk 1 0 ∷ []) ≡ b 2 ∷ []
+since_the_claim : chunks_since 9 9 (t 1) (chunk 1 2 ∷ Claimed (t 1) ∷ chunk 2 1 ∷ chunk 1 0 ∷ []) ≡ b 1 2 ∷ []
 since_the_claim = refl
 
 its_last_touch : last_touch (chunk 1 2 ∷ Claimed (t 1) ∷ chunk 2 1 ∷ chunk 1 0 ∷ []) (t 2) ≡ 2

@@ -126,13 +126,13 @@ evicted threshold limit (oldest ∷ later) =
 abbrev pub touched_with : {L : Type 0} → Index L → TraceId → Noted L → Index L
 touched_with index trace noted = with_touched index (touch trace noted index.touched)
 
--- what is there when a chunk of the trace came
-abbrev pub with_arrival : {L : Type 0} → Index L → TraceId → Buffer L → Index L
-with_arrival index trace buffer = touched_with index trace (with_chunk (noted_of trace index.touched) buffer)
+-- the trace that a chunk's page is of, where it has one
+abbrev pub trace_of : {L : Type 0} → Buffer L → TraceId
+trace_of buffer = option_map_or (λ (header : Header). header.trace) (header_in buffer.chunk) (record { 0 = 0 })
 
--- the same when a chunk came, of the trace that its page is of
+-- what is there when a chunk came
 abbrev pub arrived : {L : Type 0} → Index L → Buffer L → Index L
-arrived index buffer = option_map_or (λ (header : Header). with_arrival index header.trace buffer) (header_in buffer.chunk) index
+arrived index buffer = touched_with index (trace_of buffer) (with_chunk (noted_of (trace_of buffer) index.touched) buffer)
 
 -- the same when a crumb came
 abbrev pub crumbed : {L : Type 0} → Index L → TraceId → NodeId → Index L

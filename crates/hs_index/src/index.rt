@@ -1,7 +1,8 @@
 //! The index.
 
 ghost use Rattle.std.specs.Prelude.{◌≡◌, ◌<◌, ◌≤◌, length, map, IfOk, IfErr, OnOk, OnErr, IsOk, IsSome};
-ghost use Rattle.hs_index.specs.Index.{buffer_of, leaving_of, new_index, noted_of, count_chunks, arrived, crumbed, claimed, settled, going};
+ghost use Rattle.hs_index.specs.Index.{buffer_of, leaving_of, new_index, noted_of, count_chunks, arrived, crumbed, going};
+ghost use Rattle.hs_index.specs.Calls.{after_call, Arrived, Crumbed, Claimed};
 
 use crate::answers::{Gone, Taken};
 use crate::recent::Recent;
@@ -47,7 +48,7 @@ impl<L: Token> TraceIndex<L> {
     pub fn arrive(&mut self, held: Held<L>) -> Result<List<Gone<L>>, Held<L>>
         requires started { IsSome held.chunk.page }
         ensures gone { IfOk result (λ gone. map leaving_of gone.items ≡ going (arrived self.old (buffer_of held))) }
-        ensures after { OnOk result (self.new ≡ settled (arrived self.old (buffer_of held))) }
+        ensures after { OnOk result (self.new ≡ after_call self.old (Arrived (buffer_of held))) }
         ensures back { IfErr result (λ back. buffer_of back ≡ buffer_of held) }
         ensures same { OnErr result (self.new ≡ self.old) }
     {
@@ -62,7 +63,7 @@ impl<L: Token> TraceIndex<L> {
     pub fn crumb(&mut self, crumb: Crumb) -> Result<List<Gone<L>>, Memory>
         requires node { crumb.node.0 < 16 }
         ensures gone { IfOk result (λ gone. map leaving_of gone.items ≡ going (crumbed self.old crumb.trace crumb.node)) }
-        ensures after { OnOk result (self.new ≡ settled (crumbed self.old crumb.trace crumb.node)) }
+        ensures after { OnOk result (self.new ≡ after_call self.old (Crumbed crumb.trace crumb.node)) }
         ensures same { OnErr result (self.new ≡ self.old) }
     {
         self.recent.add_crumb(crumb)?;
@@ -74,7 +75,7 @@ impl<L: Token> TraceIndex<L> {
         ensures ok { IsOk result }
         ensures held { IfOk result (λ taken. map buffer_of taken.held.items ≡ (noted_of trace self.old.touched).chunks) }
         ensures crumbs { IfOk result (λ taken. taken.crumbs ≡ (noted_of trace self.old.touched).crumbs) }
-        ensures after { self.new ≡ claimed self.old trace }
+        ensures after { self.new ≡ after_call self.old (Claimed trace) }
     {
         Ok(self.recent.take(trace).release())
     }
