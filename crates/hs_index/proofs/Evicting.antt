@@ -1,0 +1,140 @@
+-- What goes and what stays.
+use Rattle.std.proofs.Common.{◌≡◌, ℕ, suc, ◌+◌, ◌<◌, ◌≤◌, Bool, true, false, cond, not, ◌||◌, nat_lt, List, [], ◌∷◌, ◌++◌, length, map, Some, refl, sym, ap, subst, ◌∙◌, arith, append-nil}
+use Rattle.std.specs.Prelude.{find}
+use Rattle.std.specs.Option.{option_map_or}
+use Rattle.std.proofs.lemmas.Bool.{lt-ltb, le-ltb, ltb-false}
+use Rattle.std.proofs.lemmas.List.{length-append}
+use Rattle.std.proofs.lemmas.List.Sums.{sum_by-cons, sum_by_push}
+use Rattle.hs_base.specs.declared.ids.TraceId.{TraceId}
+use Rattle.hs_index.specs.Index.{Noted, Indexed, is_of, nothing, noted_of, others, touch, chunk_count, count_chunks, is_over, leaving, kept, evicted}
+use Rattle.hs_index.proofs.Listed.{by_answer}
+
+or-right : (b : Bool) → (b || true) ≡ true
+or-right true = refl
+or-right false = refl
+
+or-none : (a b : Bool) → a ≡ false → b ≡ false → (a || b) ≡ false
+or-none a b p q = ap (λ x. x || b) p ∙ q
+
+pub or-left-false : (a b : Bool) → (a || b) ≡ false → a ≡ false
+or-left-false true b h = h
+or-left-false false b h = refl
+
+pub or-right-false : (a b : Bool) → (a || b) ≡ false → b ≡ false
+or-right-false true b h = absurd (cc)
+or-right-false false b h = h
+
+nil-from-length : {X : Type 0} (xs : List X) → length xs ≤ 0 → xs ≡ []
+nil-from-length [] h = refl
+nil-from-length (x ∷ xs) h = absurd (omega arith)
+
+module _ {L : Type 0} where
+  pub count-cons : (t : Indexed L) (ts : List (Indexed L)) → count_chunks (t ∷ ts) ≡ chunk_count t.noted + count_chunks ts
+  count-cons t ts = sum_by-cons (λ u. chunk_count u.noted) t ts
+
+  module _ (trace : TraceId) where
+    pub length-others : (ts : List (Indexed L)) → length (others trace ts) ≤ length ts
+    length-others [] = omega arith
+    length-others (t ∷ ts) =
+        let rest = length-others ts in
+        by_answer (is_of trace t)
+        (λ y. subst (λ b. length (cond (not b) (t ∷ others trace ts) (others trace ts)) ≤ suc (length ts)) (sym y) (omega (arith, rest)))
+        (λ n. subst (λ b. length (cond (not b) (t ∷ others trace ts) (others trace ts)) ≤ suc (length ts)) (sym n) (omega (arith, rest)))
+
+    pub count-others : (ts : List (Indexed L)) → count_chunks (others trace ts) ≤ count_chunks ts
+    count-others [] = omega arith
+    count-others (t ∷ ts) =
+        let rest = count-others ts in
+        let whole = count-cons t ts in
+        let more = count-cons t (others trace ts) in
+        by_answer (is_of trace t)
+        (λ y. subst (λ b. count_chunks (cond (not b) (t ∷ others trace ts) (others trace ts)) ≤ count_chunks (t ∷ ts)) (sym y) (omega (arith, rest, whole)))
+        (λ n. subst (λ b. count_chunks (cond (not b) (t ∷ others trace ts) (others trace ts)) ≤ count_chunks (t ∷ ts)) (sym n) (omega (arith, rest, whole, more)))
+
+    -- the other traces' chunks and the trace's own are no more than all
+    pub count-parts : (ts : List (Indexed L)) → count_chunks (others trace ts) + chunk_count (noted_of trace ts) ≤ count_chunks ts
+    count-parts [] = omega arith
+    count-parts (t ∷ ts) =
+        let rest = count-parts ts in
+        let fewer = count-others ts in
+        let whole = count-cons t ts in
+        let more = count-cons t (others trace ts) in
+        by_answer (is_of trace t)
+        (λ y. subst (λ b. count_chunks (cond (not b) (t ∷ others trace ts) (others trace ts)) + chunk_count (option_map_or (λ (u : Indexed L). u.noted) (cond b (Some t) (find (is_of trace) ts)) nothing) ≤ count_chunks (t ∷ ts)) (sym y) (omega (arith, fewer, whole)))
+        (λ n. subst (λ b. count_chunks (cond (not b) (t ∷ others trace ts) (others trace ts)) + chunk_count (option_map_or (λ (u : Indexed L). u.noted) (cond b (Some t) (find (is_of trace) ts)) nothing) ≤ count_chunks (t ∷ ts)) (sym n) (omega (arith, rest, whole, more)))
+
+    pub count-touch : (w : Noted L) (ts : List (Indexed L)) → count_chunks (touch trace w ts) ≡ count_chunks (others trace ts) + chunk_count w
+    count-touch w ts = sum_by_push (λ t. chunk_count t.noted) (others trace ts) (record { trace = trace; noted = w })
+
+    pub length-touch : (w : Noted L) (ts : List (Indexed L)) → length (touch trace w ts) ≤ length ts + 1
+    length-touch w ts =
+        let all = length-append (others trace ts) (record { trace = trace; noted = w } ∷ []) in
+        let fewer = length-others ts in
+        omega (arith, all, fewer)
+
+  module _ (threshold limit : ℕ) where
+    pub within-not-over : (ts : List (Indexed L)) → count_chunks ts ≤ threshold → length ts ≤ limit → is_over threshold limit ts ≡ false
+    within-not-over ts c l = or-none (nat_lt threshold (count_chunks ts)) (nat_lt limit (length ts)) (le-ltb threshold (count_chunks ts) c) (le-ltb limit (length ts) l)
+
+    pub over-by-chunks : (ts : List (Indexed L)) → threshold < count_chunks ts → is_over threshold limit ts ≡ true
+    over-by-chunks ts h = ap (λ b. b || nat_lt limit (length ts)) (lt-ltb threshold (count_chunks ts) h)
+
+    pub over-by-traces : (ts : List (Indexed L)) → limit < length ts → is_over threshold limit ts ≡ true
+    over-by-traces ts h = ap (λ b. nat_lt threshold (count_chunks ts) || b) (lt-ltb limit (length ts) h) ∙ or-right (nat_lt threshold (count_chunks ts))
+
+    -- within the limits all stay
+    pub all-stay : (ts : List (Indexed L)) → is_over threshold limit ts ≡ false → kept threshold limit ts ≡ ts
+    all-stay [] h = refl
+    all-stay (t ∷ ts) h = ap (λ b. cond b (kept threshold limit ts) (t ∷ ts)) h
+
+    pub none-go : (ts : List (Indexed L)) → is_over threshold limit ts ≡ false → evicted threshold limit ts ≡ []
+    none-go [] h = refl
+    none-go (t ∷ ts) h = ap (λ b. cond b (map (leaving (count_chunks (t ∷ ts)) (length (t ∷ ts))) t.noted.chunks ++ evicted threshold limit ts) []) h
+
+    -- over the limits the first goes
+    pub first-leaves : (t : Indexed L) (ts : List (Indexed L)) → is_over threshold limit (t ∷ ts) ≡ true → kept threshold limit (t ∷ ts) ≡ kept threshold limit ts
+    first-leaves t ts h = ap (λ b. cond b (kept threshold limit ts) (t ∷ ts)) h
+
+    pub first-goes : (t : Indexed L) (ts : List (Indexed L)) → is_over threshold limit (t ∷ ts) ≡ true
+        → evicted threshold limit (t ∷ ts) ≡ map (leaving (count_chunks (t ∷ ts)) (length (t ∷ ts))) t.noted.chunks ++ evicted threshold limit ts
+    first-goes t ts h = ap (λ b. cond b (map (leaving (count_chunks (t ∷ ts)) (length (t ∷ ts))) t.noted.chunks ++ evicted threshold limit ts) []) h
+
+    -- a trace without chunks goes alone
+    pub empty-goes : (t : Indexed L) (ts : List (Indexed L)) → is_over threshold limit (t ∷ ts) ≡ true → chunk_count t.noted ≤ 0
+        → evicted threshold limit (t ∷ ts) ≡ evicted threshold limit ts
+    empty-goes t ts h none =
+        first-goes t ts h
+        ∙ ap (λ l. map (leaving (count_chunks (t ∷ ts)) (length (t ∷ ts))) l ++ evicted threshold limit ts) (nil-from-length t.noted.chunks none)
+
+    -- after a trace with chunks nothing more goes, where there was one too many at most
+    rest-is-within : (t : Indexed L) (ts : List (Indexed L)) → 0 < chunk_count t.noted → count_chunks (t ∷ ts) ≤ threshold + 1 → length (t ∷ ts) ≤ limit + 1
+        → is_over threshold limit ts ≡ false
+    rest-is-within t ts some c l =
+        let whole = count-cons t ts in
+        within-not-over ts (omega (arith, whole)) (omega arith)
+
+    pub full-goes : (t : Indexed L) (ts : List (Indexed L)) → is_over threshold limit (t ∷ ts) ≡ true → 0 < chunk_count t.noted → count_chunks (t ∷ ts) ≤ threshold + 1 → length (t ∷ ts) ≤ limit + 1
+        → evicted threshold limit (t ∷ ts) ≡ map (leaving (count_chunks (t ∷ ts)) (length (t ∷ ts))) t.noted.chunks
+    full-goes t ts h some c l =
+        first-goes t ts h
+        ∙ ap (λ r. map (leaving (count_chunks (t ∷ ts)) (length (t ∷ ts))) t.noted.chunks ++ r) (none-go ts (rest-is-within t ts some c l))
+        ∙ append-nil (map (leaving (count_chunks (t ∷ ts)) (length (t ∷ ts))) t.noted.chunks)
+
+    pub full-leaves : (t : Indexed L) (ts : List (Indexed L)) → is_over threshold limit (t ∷ ts) ≡ true → 0 < chunk_count t.noted → count_chunks (t ∷ ts) ≤ threshold + 1 → length (t ∷ ts) ≤ limit + 1
+        → kept threshold limit (t ∷ ts) ≡ ts
+    full-leaves t ts h some c l = first-leaves t ts h ∙ all-stay ts (rest-is-within t ts some c l)
+
+    -- what stays is within the limits
+    pub count-kept : (ts : List (Indexed L)) → count_chunks (kept threshold limit ts) ≤ threshold
+    count-kept [] = omega arith
+    count-kept (t ∷ ts) =
+        by_answer (is_over threshold limit (t ∷ ts))
+        (λ y. subst (λ l. count_chunks l ≤ threshold) (sym (first-leaves t ts y)) (count-kept ts))
+        (λ n. subst (λ l. count_chunks l ≤ threshold) (sym (all-stay (t ∷ ts) n)) (ltb-false threshold (count_chunks (t ∷ ts)) (or-left-false (nat_lt threshold (count_chunks (t ∷ ts))) (nat_lt limit (length (t ∷ ts))) n)))
+
+    pub length-kept : (ts : List (Indexed L)) → length (kept threshold limit ts) ≤ limit
+    length-kept [] = omega arith
+    length-kept (t ∷ ts) =
+        by_answer (is_over threshold limit (t ∷ ts))
+        (λ y. subst (λ l. length l ≤ limit) (sym (first-leaves t ts y)) (length-kept ts))
+        (λ n. subst (λ l. length l ≤ limit) (sym (all-stay (t ∷ ts) n)) (ltb-false limit (length (t ∷ ts)) (or-right-false (nat_lt threshold (count_chunks (t ∷ ts))) (nat_lt limit (length (t ∷ ts))) n)))

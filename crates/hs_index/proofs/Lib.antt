@@ -1,0 +1,7 @@
+pub mod Outcomes
+pub mod NodeSets
+pub mod Listed
+pub mod Touching
+pub mod Evicting
+pub mod LongestEnd
+pub mod LookBack

@@ -1,0 +1,31 @@
+use Rattle.std.proofs.Common.{◌≡◌, ◌+◌, ◌≤◌, ◌∷◌, [], length, ap, subst, List, sym, ◌∙◌, arith}
+use Rattle.std.proofs.lemmas.List.{length-append}
+use Rattle.hs_index.specs.Index.{Indexed, buffer_of, noted_of, with_chunk, chunk_count, count_chunks}
+use Rattle.hs_index.proofs.Evicting.{count-parts, count-touch, length-touch, count-kept, length-kept}
+use Rattle.hs_index.proofs.index.TraceIndex.arrive.Goals as goal
+
+pub evict-requires-clause-chunks : goal.evict-requires-clause-chunks
+evict-requires-clause-chunks g c =
+    let old = c.self.inside.recent.traces in
+    let counted = ap count_chunks c.in_ok-add.ensures.ok in
+    let last = count-touch c.in-Some.header.trace (with_chunk (noted_of c.in-Some.header.trace old) (buffer_of c.args.held)) old in
+    let one : chunk_count (with_chunk (noted_of c.in-Some.header.trace old) (buffer_of c.args.held)) ≡ chunk_count (noted_of c.in-Some.header.trace old) + 1 =
+    length-append (noted_of c.in-Some.header.trace old).chunks (buffer_of c.args.held ∷ []) in
+    let parts = count-parts c.in-Some.header.trace old in
+    let most = c.self.invariant.chunks in
+    omega (arith, counted, last, one, parts, most)
+
+pub evict-requires-clause-traces : goal.evict-requires-clause-traces
+evict-requires-clause-traces g c =
+    let old = c.self.inside.recent.traces in
+    let long = ap length c.in_ok-add.ensures.ok in
+    let last = length-touch c.in-Some.header.trace (with_chunk (noted_of c.in-Some.header.trace old) (buffer_of c.args.held)) old in
+    let most = c.self.invariant.traces in
+    omega (arith, long, last, most)
+
+pub invariant_of-self-2 : goal.invariant_of-self-2
+invariant_of-self-2 g c = record {
+  chunks = subst (λ (l : List (Indexed g.row.L.Denot)). count_chunks l ≤ c.self.inside.threshold) (sym c.evict.ensures.stay) (count-kept c.self.inside.threshold c.self.inside.limit c.add.new.self.traces);
+  traces = subst (λ (l : List (Indexed g.row.L.Denot)). length l ≤ c.self.inside.limit) (sym c.evict.ensures.stay) (length-kept c.self.inside.threshold c.self.inside.limit c.add.new.self.traces);
+  room = c.evict.ensures.room ∙ c.in_ok-add.ensures.room ∙ c.self.invariant.room;
+}

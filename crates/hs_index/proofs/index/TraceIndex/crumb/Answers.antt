@@ -1,0 +1,28 @@
+use Rattle.std.proofs.Common.{◌≤◌, length, ap, subst, List, sym, ◌∙◌, arith}
+use Rattle.hs_index.specs.Index.{Indexed, noted_of, with_crumb, count_chunks}
+use Rattle.hs_index.proofs.Evicting.{count-parts, count-touch, length-touch, count-kept, length-kept}
+use Rattle.hs_index.proofs.index.TraceIndex.crumb.Goals as goal
+
+pub evict-requires-clause-chunks : goal.evict-requires-clause-chunks
+evict-requires-clause-chunks g c =
+    let old = c.self.inside.recent.traces in
+    let counted = ap count_chunks c.in_ok-add_crumb.ensures.ok in
+    let last = count-touch c.args.crumb.trace (with_crumb (noted_of c.args.crumb.trace old) c.args.crumb.node) old in
+    let parts = count-parts c.args.crumb.trace old in
+    let most = c.self.invariant.chunks in
+    omega (arith, counted, last, parts, most)
+
+pub evict-requires-clause-traces : goal.evict-requires-clause-traces
+evict-requires-clause-traces g c =
+    let old = c.self.inside.recent.traces in
+    let long = ap length c.in_ok-add_crumb.ensures.ok in
+    let last = length-touch c.args.crumb.trace (with_crumb (noted_of c.args.crumb.trace old) c.args.crumb.node) old in
+    let most = c.self.invariant.traces in
+    omega (arith, long, last, most)
+
+pub invariant_of-self-2 : goal.invariant_of-self-2
+invariant_of-self-2 g c = record {
+  chunks = subst (λ (l : List (Indexed g.row.L.Denot)). count_chunks l ≤ c.self.inside.threshold) (sym c.evict.ensures.stay) (count-kept c.self.inside.threshold c.self.inside.limit c.add_crumb.new.self.traces);
+  traces = subst (λ (l : List (Indexed g.row.L.Denot)). length l ≤ c.self.inside.limit) (sym c.evict.ensures.stay) (length-kept c.self.inside.threshold c.self.inside.limit c.add_crumb.new.self.traces);
+  room = c.evict.ensures.room ∙ c.in_ok-add_crumb.ensures.room ∙ c.self.invariant.room;
+}

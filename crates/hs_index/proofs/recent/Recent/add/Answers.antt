@@ -1,0 +1,79 @@
+use Rattle.std.proofs.Common.{rules, Fits, w32, ◌≡◌, ◌+◌, ◌∷◌, [], length, None, Some, sym, ap, ◌∙◌, arith}
+use Rattle.std.specs.Prelude.{sum_by}
+use Rattle.std.specs.Map.{values_of, lookup, set_value}
+use Rattle.std.proofs.lemmas.Map.Steps.{set_value_same}
+use Rattle.lru.specs.LruCache.{LruCache, promoted}
+use Rattle.hs_base.specs.declared.ids.TraceId.{TraceId}
+use Rattle.hs_index.specs.Index.{Noted, buffer_of, same_trace, noted_of, touch, with_chunk, chunk_count}
+use Rattle.hs_index.specs.Touched.{Touched, listed}
+use Rattle.hs_index.proofs.Listed.{count-listed, find-missing}
+use Rattle.hs_index.proofs.Outcomes.{on_err}
+use Rattle.std.proofs.lemmas.List.{length-append}
+use Rattle.hs_index.proofs.Touching.{noted-found, noted-missing, touch-missing, touch-found, length-touched, count-touched}
+use Rattle.hs_index.proofs.recent.Recent.add.Goals as goal
+
+pub invariant_of-self : goal.invariant_of-self
+invariant_of-self g c =
+    let same : set_value (same_trace c.args.trace) c.self.inside.cache.entries c.add.new.self ≡ c.self.inside.cache.entries =
+    set_value_same (same_trace c.args.trace) c.self.inside.cache.entries c.add.new.self (sym c.in-Some.ensures.value ∙ ap Some (sym c.in_err-add-in-Some.ensures.err)) in
+    record {
+      chunks = c.self.invariant.chunks ∙ sym (ap (λ es. sum_by chunk_count (values_of es)) same);
+      few = let long = ap length same in let few = c.self.invariant.few in omega (arith, long, few);
+    }
+
+pub returns-in_err-add-in-Some-clause-err : goal.returns-in_err-add-in-Some-clause-err
+returns-in_err-add-in-Some-clause-err g c =
+    let same : set_value (same_trace c.args.trace) c.self.inside.cache.entries c.add.new.self ≡ c.self.inside.cache.entries =
+    set_value_same (same_trace c.args.trace) c.self.inside.cache.entries c.add.new.self (sym c.in-Some.ensures.value ∙ ap Some (sym c.in_err-add-in-Some.ensures.err)) in
+    let all : listed (set_value (same_trace c.args.trace) c.self.inside.cache.entries c.add.new.self) ≡ c.args.self.now.traces = ap listed same ∙ ap (λ (t : Touched g.row.L.Denot). t.traces) c.self.view_is in
+    on_err c.from_residual.result all
+
+pub invariant_of-self-in-Some : goal.invariant_of-self-in-Some
+invariant_of-self-in-Some g c =
+    let found : lookup (same_trace c.args.trace) c.self.inside.cache.entries ≡ Some c.in-Some.entry.now = sym c.in-Some.ensures.value in
+    let now : c.promote.new.self.entries ≡ promoted (same_trace c.args.trace) (set_value (same_trace c.args.trace) c.self.inside.cache.entries c.add.new.self) = ap (λ (k : LruCache TraceId (Noted g.row.L.Denot)). k.entries) c.promote.ensures.entries in
+    record {
+      chunks =
+          let counted = count-touched c.args.trace c.self.inside.cache.entries c.in-Some.entry.now c.add.new.self found in
+          let here : sum_by chunk_count (values_of c.promote.new.self.entries)
+          ≡ sum_by chunk_count (values_of (promoted (same_trace c.args.trace) (set_value (same_trace c.args.trace) c.self.inside.cache.entries c.add.new.self))) =
+          ap (λ l. sum_by chunk_count (values_of l)) now in
+          let one : chunk_count c.add.new.self ≡ chunk_count c.in-Some.entry.now + 1 = ap chunk_count c.in_ok-add-in-Some.ensures.ok ∙ length-append c.in-Some.entry.now.chunks (buffer_of c.args.held ∷ []) in
+          let held = c.self.invariant.chunks in
+          omega (arith, counted, here, one, held);
+      few =
+          let long : length c.promote.new.self.entries ≡ length c.self.inside.cache.entries =
+          ap length now ∙ length-touched c.args.trace c.self.inside.cache.entries c.in-Some.entry.now c.add.new.self found in
+          let few = c.self.invariant.few in
+          omega (arith, long, few);
+    }
+
+pub insert-requires-clause-new : goal.insert-requires-clause-new
+insert-requires-clause-new g c = find-missing c.args.trace c.self.inside.cache.entries (sym c.in-None.ensures.value)
+
+pub insert-requires-clause-count : goal.insert-requires-clause-count
+insert-requires-clause-count g c =
+    let counted = count-listed c.self.inside.cache.entries in
+    let held = c.self.invariant.chunks in
+    let one : chunk_count c.add-in-None.new.self ≡ 1 = ap chunk_count (c.in_ok-add-in-None.ensures.ok ∙ ap (λ (n : Noted g.row.L.Denot). with_chunk n (buffer_of c.args.held)) c.new-entry.ensures) in
+    let most = c.if-self.false in
+    let fits : Fits w32 c.self.inside.chunks = search rules in
+    omega (arith, counted, held, one, most, fits)
+
+pub returns-in_ok-add-in-Some-clause-ok : goal.returns-in_ok-add-in-Some-clause-ok
+returns-in_ok-add-in-Some-clause-ok g c =
+    let found : lookup (same_trace c.args.trace) c.self.inside.cache.entries ≡ Some c.in-Some.entry.now = sym c.in-Some.ensures.value in
+    ap (λ (k : LruCache TraceId (Noted g.row.L.Denot)). listed k.entries) c.promote.ensures.entries
+    ∙ touch-found c.args.trace c.self.inside.cache.entries c.in-Some.entry.now c.add.new.self found c.len.ensures.valid.0
+    ∙ ap (λ (n : Noted g.row.L.Denot). touch c.args.trace n (listed c.self.inside.cache.entries))
+    (c.in_ok-add-in-Some.ensures.ok ∙ ap (λ (n : Noted g.row.L.Denot). with_chunk n (buffer_of c.args.held)) (sym (noted-found c.args.trace c.self.inside.cache.entries c.in-Some.entry.now c.len.ensures.valid.0 found)))
+    ∙ ap (λ (t : Touched g.row.L.Denot). touch c.args.trace (with_chunk (noted_of c.args.trace t.traces) (buffer_of c.args.held)) t.traces) c.self.view_is
+
+pub returns-in-Ok-clause-ok : goal.returns-in-Ok-clause-ok
+returns-in-Ok-clause-ok g c =
+    let missing : lookup (same_trace c.args.trace) c.self.inside.cache.entries ≡ None = sym c.in-None.ensures.value in
+    c.in-Ok.ensures.ok
+    ∙ touch-missing c.args.trace c.self.inside.cache.entries c.add-in-None.new.self missing
+    ∙ ap (λ (n : Noted g.row.L.Denot). touch c.args.trace n (listed c.self.inside.cache.entries))
+    (c.in_ok-add-in-None.ensures.ok ∙ ap (λ (n : Noted g.row.L.Denot). with_chunk n (buffer_of c.args.held)) (c.new-entry.ensures ∙ sym (noted-missing c.args.trace c.self.inside.cache.entries missing)))
+    ∙ ap (λ (t : Touched g.row.L.Denot). touch c.args.trace (with_chunk (noted_of c.args.trace t.traces) (buffer_of c.args.held)) t.traces) c.self.view_is

@@ -1,0 +1,131 @@
+//! What is indexed of one trace.
+
+ghost use Rattle.std.specs.Prelude.{◌≡◌, ◌<◌, length, map, OnOk, OnErr, IfErr};
+ghost use Rattle.hs_index.specs.Index.{buffer_of, nothing, with_chunk, with_crumb, leaving, leaving_of};
+ghost use Rattle.hs_index.specs.Touched.{IsLast};
+
+use crate::answers::{Gone, Taken};
+use hs_base::{List, NodeId, NodeSet};
+use hs_words::{Held, Token};
+use std::alloc::Global;
+use std::marker::Model;
+
+/// The chunks of a trace in the order of arrival, and the nodes to which its crumbs lead.
+#[derive(Drop)]
+pub struct Entry<L: Token> {
+    held: List<Held<L>>,
+    /// Empty, with room for all chunks, so that they go without memory.
+    gone: List<Gone<L>>,
+    crumbs: NodeSet,
+}
+
+impl<L: Token> Model for Entry<L> {
+    ghost use Rattle.hs_index.specs.Index.{Noted};
+
+    ghost Value = { Noted L };
+
+    ghost use Rattle.hs_index.specs.EntryLayout.{noted_in, HasRoom};
+
+    ghost view = { noted_in };
+
+    ghost invariant = { HasRoom };
+}
+
+impl<L: Token> Entry<L> {
+    /// Nothing. Takes no memory.
+    pub fn new(alloc: Global) -> Entry<L>
+        ensures { result ≡ nothing }
+    {
+        Entry {
+            held: List::new(alloc),
+            gone: List::new(alloc),
+            crumbs: NodeSet::none(),
+        }
+    }
+
+    /// Adds a chunk, or hands it back for want of memory.
+    pub fn add(&mut self, held: Held<L>) -> Result<(), Held<L>>
+        ensures ok { OnOk result (self.new ≡ with_chunk self.old (buffer_of held)) }
+        ensures err { OnErr result (self.new ≡ self.old) }
+        ensures back { IfErr result (λ back. buffer_of back ≡ buffer_of held) }
+    {
+        let Some(chunks) = self.held.len().checked_add(1) else {
+            return Err(held);
+        };
+        if self.held.reserve(1).is_err() || self.gone.reserve(chunks).is_err() {
+            return Err(held);
+        }
+        self.held.push(held);
+        Ok(())
+    }
+
+    /// Adds a node to which a crumb leads.
+    pub fn add_crumb(&mut self, node: NodeId)
+        requires { node.0 < 16 }
+        ensures { self.new ≡ with_crumb self.old node }
+    {
+        self.crumbs = self.crumbs.with(node);
+    }
+
+    /// The number of chunks.
+    pub fn len(&self) -> usize
+        ensures { result ≡ length self.now.chunks }
+    {
+        self.held.len()
+    }
+
+    /// The nodes to which crumbs lead.
+    pub fn crumbs(&self) -> NodeSet
+        ensures { result ≡ self.now.crumbs }
+    {
+        self.crumbs
+    }
+
+    /// The chunk that came last.
+    pub fn into_last(self) -> Held<L>
+        requires { 0 < length self.chunks }
+        ensures { IsLast self.chunks (buffer_of result) }
+    {
+        let Entry {
+            mut held,
+            gone: _,
+            crumbs: _,
+        } = self;
+        match held.pop() {
+            Some(last) => last,
+            None => unreachable!(),
+        }
+    }
+
+    /// The chunks as they go, with these counts. Takes no memory.
+    pub fn go(self, chunks: u32, traces: u32) -> List<Gone<L>>
+        ensures { map leaving_of result.items ≡ map (leaving chunks traces) self.chunks }
+    {
+        let Entry {
+            held,
+            mut gone,
+            crumbs: _,
+        } = self;
+        for held in held.into_vec() {
+            gone.push(Gone {
+                held,
+                chunks,
+                traces,
+            });
+        }
+        gone
+    }
+
+    /// All of it.
+    pub fn release(self) -> Taken<L>
+        ensures held { map buffer_of result.held.items ≡ self.chunks }
+        ensures crumbs { result.crumbs ≡ self.crumbs }
+    {
+        let Entry {
+            held,
+            gone: _,
+            crumbs,
+        } = self;
+        Taken { held, crumbs }
+    }
+}

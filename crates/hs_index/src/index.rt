@@ -1,0 +1,105 @@
+//! The index.
+
+ghost use Rattle.std.specs.Prelude.{◌≡◌, ◌<◌, ◌≤◌, length, map, IfOk, IfErr, OnOk, OnErr, IsOk, IsSome};
+ghost use Rattle.hs_index.specs.Index.{buffer_of, leaving_of, new_index, noted_of, count_chunks, arrived, crumbed, going};
+ghost use Rattle.hs_index.specs.Calls.{after_call, Arrived, Crumbed, Claimed};
+
+use crate::answers::{Gone, Taken};
+use crate::recent::Recent;
+use hs_base::{Crumb, List, Memory, NodeSet, TraceId};
+use hs_words::{Held, Token};
+use std::alloc::Global;
+use std::marker::Model;
+
+/// An index of traces that stays at or below a number of chunks and a number of traces.
+#[derive(Drop)]
+pub struct TraceIndex<L: Token> {
+    threshold: u32,
+    limit: u32,
+    recent: Recent<L>,
+}
+
+impl<L: Token> Model for TraceIndex<L> {
+    ghost use Rattle.hs_index.specs.Index.{Index};
+
+    ghost Value = { Index L };
+
+    ghost use Rattle.hs_index.specs.IndexLayout.{index_in, IsInOrder};
+
+    ghost view = { index_in };
+
+    ghost invariant = { IsInOrder };
+}
+
+impl<L: Token> TraceIndex<L> {
+    /// An empty index in which at most `threshold` chunks and `traces` traces stay.
+    pub fn make(alloc: Global, threshold: u32, traces: u32) -> Result<TraceIndex<L>, Memory>
+        ensures { IfOk result (λ index. index ≡ new_index threshold traces) }
+    {
+        Ok(TraceIndex {
+            threshold,
+            limit: traces,
+            recent: Recent::make(alloc, traces)?,
+        })
+    }
+
+    /// Indexes a chunk whose page was started, which touches the page's trace. Answers what goes, in order. For
+    /// want of memory the chunk is handed back; an index of 2^32 - 1 chunks or traces takes no more.
+    pub fn arrive(&mut self, held: Held<L>) -> Result<List<Gone<L>>, Held<L>>
+        requires started { IsSome held.chunk.page }
+        ensures gone { IfOk result (λ gone. map leaving_of gone.items ≡ going (arrived self.old (buffer_of held))) }
+        ensures after { OnOk result (self.new ≡ after_call self.old (Arrived (buffer_of held))) }
+        ensures back { IfErr result (λ back. buffer_of back ≡ buffer_of held) }
+        ensures same { OnErr result (self.new ≡ self.old) }
+    {
+        let Some(header) = held.chunk.header() else {
+            unreachable!()
+        };
+        self.recent.add(header.trace, held)?;
+        Ok(self.recent.evict(self.threshold, self.limit))
+    }
+
+    /// Indexes a crumb, which touches its trace. Answers what goes, in order.
+    pub fn crumb(&mut self, crumb: Crumb) -> Result<List<Gone<L>>, Memory>
+        requires node { crumb.node.0 < 16 }
+        ensures gone { IfOk result (λ gone. map leaving_of gone.items ≡ going (crumbed self.old crumb.trace crumb.node)) }
+        ensures after { OnOk result (self.new ≡ after_call self.old (Crumbed crumb.trace crumb.node)) }
+        ensures same { OnErr result (self.new ≡ self.old) }
+    {
+        self.recent.add_crumb(crumb)?;
+        Ok(self.recent.evict(self.threshold, self.limit))
+    }
+
+    /// Takes a trace out of the index, with its chunks and crumbs. Takes no memory.
+    pub fn claim(&mut self, trace: TraceId) -> Result<Taken<L>, Memory>
+        ensures ok { IsOk result }
+        ensures held { IfOk result (λ taken. map buffer_of taken.held.items ≡ (noted_of trace self.old.touched).chunks) }
+        ensures crumbs { IfOk result (λ taken. taken.crumbs ≡ (noted_of trace self.old.touched).crumbs) }
+        ensures after { self.new ≡ after_call self.old (Claimed trace) }
+    {
+        Ok(self.recent.take(trace).release())
+    }
+
+    /// The nodes to which crumbs of an indexed trace lead. There are none where the trace is not indexed.
+    pub fn crumbs(&self, trace: TraceId) -> NodeSet
+        ensures { result ≡ (noted_of trace self.now.touched).crumbs }
+    {
+        self.recent.crumbs(trace)
+    }
+
+    /// The number of indexed chunks.
+    pub fn chunks(&self) -> u32
+        ensures value { result ≡ count_chunks self.now.touched }
+        ensures within { result ≤ self.now.threshold }
+    {
+        self.recent.chunks()
+    }
+
+    /// The number of indexed traces.
+    pub fn traces(&self) -> u32
+        ensures value { result ≡ length self.now.touched }
+        ensures within { result ≤ self.now.limit }
+    {
+        self.recent.traces()
+    }
+}
