@@ -51,19 +51,21 @@ least_since-full burst rate now taken (t ∷ ts) = let h = least_since-full burs
 
 covers_later : (burst rate now more taken : ℕ) (ts : List ℕ) → Covers burst rate now taken ts → Covers burst rate (now + more) taken ts
 covers_later burst rate now more taken [] h = tt
-covers_later burst rate now more taken (t ∷ ts) h =
-    (let e = times_later rate now more t h.1 in omega (arith, h.0)
-    , omega (arith, h.1)
-    , covers_later burst rate now more (taken + 1) ts h.2)
+covers_later burst rate now more taken (t ∷ ts) h = (
+  let e = times_later rate now more t h.1 in omega (arith, h.0),
+  omega (arith, h.1),
+  covers_later burst rate now more (taken + 1) ts h.2,
+)
 
 covers_taken : (burst rate now taken : ℕ) (ts : List ℕ) → Covers burst rate now taken ts
     → 1000000 ≤ least_since burst rate now taken ts → Covers burst rate now (taken + 1) ts
 covers_taken burst rate now taken [] h level = tt
-covers_taken burst rate now taken (t ∷ ts) h level =
-    (term_covered (burst * 1000000 + rate * (now - t)) taken (least_since burst rate now (taken + 1) ts) level
-    , h.1
-    , covers_taken burst rate now (taken + 1) ts h.2
-    (rest_covered (burst * 1000000 + rate * (now - t) - taken * 1000000) (least_since burst rate now (taken + 1) ts) level))
+covers_taken burst rate now taken (t ∷ ts) h level = (
+  term_covered (burst * 1000000 + rate * (now - t)) taken (least_since burst rate now (taken + 1) ts) level,
+  h.1,
+  covers_taken burst rate now (taken + 1) ts h.2
+      (rest_covered (burst * 1000000 + rate * (now - t) - taken * 1000000) (least_since burst rate now (taken + 1) ts) level),
+)
 
 covers_either : (burst rate now : ℕ) (ts : List ℕ) (b : Bool) → (b ≡ true → 1000000 ≤ level_at burst rate ts now)
     → Covers burst rate now 1 ts → Covers burst rate now 1 (if b then now ∷ ts else ts)
@@ -114,28 +116,28 @@ pub level_left : (burst rate moment : ℕ) (earlier : List ℕ)
 level_left burst rate moment earlier =
     level_either burst rate (greatest (moment ∷ earlier)) (admitted_of burst rate earlier) (nat_le 1000000 (level_found burst rate earlier moment))
 
-pub left_if_limited : (burst rate moment level : ℕ) (earlier : List ℕ) → level ≡ level_found burst rate earlier moment → level < 1000000
+pub left_if_limited : (burst rate moment level : ℕ) (earlier : List ℕ) → level ≡ level_found burst rate earlier moment → nat_le 1000000 level ≡ false
     → level ≡ level_at burst rate (admitted_of burst rate (moment ∷ earlier)) (greatest (moment ∷ earlier))
 left_if_limited burst rate moment level earlier e few =
-    let t : nat_le 1000000 (level_found burst rate earlier moment) ≡ false = lt-leb 1000000 (level_found burst rate earlier moment) (omega arith) in
+    let t : nat_le 1000000 (level_found burst rate earlier moment) ≡ false = ap (nat_le 1000000) (sym e) ∙ few in
     rw level_left (rw t e)
 
-pub left_if_admitted : (burst rate moment level : ℕ) (earlier : List ℕ) → level ≡ level_found burst rate earlier moment → 1000000 ≤ level
+pub left_if_admitted : (burst rate moment level : ℕ) (earlier : List ℕ) → level ≡ level_found burst rate earlier moment → nat_le 1000000 level ≡ true
     → level - 1000000 ≡ level_at burst rate (admitted_of burst rate (moment ∷ earlier)) (greatest (moment ∷ earlier))
 left_if_admitted burst rate moment level earlier e some =
-    let t : nat_le 1000000 (level_found burst rate earlier moment) ≡ true = le-leb 1000000 (level_found burst rate earlier moment) (omega arith) in
+    let t : nat_le 1000000 (level_found burst rate earlier moment) ≡ true = ap (nat_le 1000000) (sym e) ∙ some in
     rw level_left (rw t (ap (λ n. n - 1000000) e))
 
-pub answer_if_limited : (burst rate moment level : ℕ) (earlier : List ℕ) → level ≡ level_found burst rate earlier moment → level < 1000000
+pub answer_if_limited : (burst rate moment level : ℕ) (earlier : List ℕ) → level ≡ level_found burst rate earlier moment → nat_le 1000000 level ≡ false
     → Limited level ≡ attempted burst rate earlier moment
 answer_if_limited burst rate moment level earlier e few =
-    let t : nat_le 1000000 (level_found burst rate earlier moment) ≡ false = lt-leb 1000000 (level_found burst rate earlier moment) (omega arith) in
+    let t : nat_le 1000000 (level_found burst rate earlier moment) ≡ false = ap (nat_le 1000000) (sym e) ∙ few in
     rw t (ap Limited e)
 
-pub answer_if_admitted : (burst rate moment level : ℕ) (earlier : List ℕ) → level ≡ level_found burst rate earlier moment → 1000000 ≤ level
+pub answer_if_admitted : (burst rate moment level : ℕ) (earlier : List ℕ) → level ≡ level_found burst rate earlier moment → nat_le 1000000 level ≡ true
     → Admitted ≡ attempted burst rate earlier moment
 answer_if_admitted burst rate moment level earlier e some =
-    let t : nat_le 1000000 (level_found burst rate earlier moment) ≡ true = le-leb 1000000 (level_found burst rate earlier moment) (omega arith) in
+    let t : nat_le 1000000 (level_found burst rate earlier moment) ≡ true = ap (nat_le 1000000) (sym e) ∙ some in
     rw t refl
 
 -- a bucket that let flow in what had come since its moment stands at the level that the attempt finds

@@ -1,6 +1,6 @@
 //! The token bucket of a trigger id (`docs/RULES.md`, "The bucket").
 
-ghost use Rattle.std.specs.Prelude.{◌≡◌, ◌+◌, ◌-◌, ◌*◌, ℕ, List, [], ◌∷◌, max, min};
+ghost use Rattle.std.specs.Prelude.{◌≡◌, ◌+◌, ◌-◌, ◌*◌, ℕ, List, [], ◌∷◌, max, min, nat_le};
 ghost use Rattle.hs_pins.specs.Buckets.{HasTaken, IsLimit, attempted};
 
 use std::marker::Model;
@@ -63,7 +63,8 @@ impl Bucket {
         ensures rate { self.new.rate ≡ self.old.rate }
     {
         self.refill(moment);
-        if self.level < TOKEN {
+        let enough = has_token(self.level);
+        if !enough {
             return Attempt::Limited { level: self.level };
         }
         self.level -= TOKEN;
@@ -88,4 +89,11 @@ impl Bucket {
         };
         self.moment = moment.max(self.moment);
     }
+}
+
+/// Whether a level is a whole token or more.
+fn has_token(level: u64) -> bool
+    ensures { result ≡ nat_le 1000000 level }
+{
+    level >= TOKEN
 }
