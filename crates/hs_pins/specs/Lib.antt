@@ -1,2 +1,4 @@
 pub mod Buckets
 pub mod BucketExamples
+pub mod Priorities
+pub mod Buffers

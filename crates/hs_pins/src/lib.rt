@@ -1,8 +1,12 @@
-//! What triggers claim at a node: whether a trigger is admitted, by the token bucket of its id.
+//! What triggers claim at a node: which triggers are admitted, which traces they claim, and the
+//! chunks that are pinned for them (`docs/RULES.md`, "The bucket" and "Pins").
 #![tactic(auto)]
 
 mod bucket;
+mod pile;
+mod priority;
 #[cfg(test)]
 mod tests;
 
 pub use bucket::{Attempt, Bucket};
+pub use priority::Priority;
