@@ -2,3 +2,5 @@ pub mod Buckets
 pub mod BucketExamples
 pub mod Priorities
 pub mod Buffers
+pub mod Groups
+pub mod Counting

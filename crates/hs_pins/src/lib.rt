@@ -4,9 +4,11 @@
 
 mod bucket;
 mod pile;
+mod pinned;
 mod priority;
 #[cfg(test)]
 mod tests;
 
 pub use bucket::{Attempt, Bucket};
+pub use pinned::Pinned;
 pub use priority::Priority;
