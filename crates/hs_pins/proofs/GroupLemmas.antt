@@ -214,3 +214,9 @@ module _ {L : Type 0} where
       n_is_none : (bs : List (Buffer L)) → nat_eq (length bs) 0 ≡ true → bs ≡ []
       n_is_none [] e = refl
       n_is_none (b ∷ bs) e = absurd (let z = eqb-true (length (b ∷ bs)) 0 e in omega arith)
+
+  pub counts-more : (before now new : Groups L) (count more : ℕ) → IsCounted before count → before ≡ now → IsCounted new (count + more) → count_of new ≡ count_of now + more
+  counts-more before now new count more h same k = let a = h.counted in let b = k.counted in let d = ap count_of same in omega arith
+
+  pub counts-less : (before now new : Groups L) (count : ℕ) → IsCounted before count → before ≡ now → 1 ≤ count → IsCounted new (count - 1) → count_of new + 1 ≡ count_of now
+  counts-less before now new count h same some k = let a = h.counted in let b = k.counted in let d = ap count_of same in omega arith

@@ -68,6 +68,18 @@ impl<L: Token> Pile<L> {
         }
     }
 
+    /// Adds a chunk at the end. For want of memory it comes back.
+    pub fn push(&mut self, held: Held<L>) -> Result<(), Held<L>>
+        ensures ok { OnOk result (self.new ≡ self.old ++ buffer_of held ∷ []) }
+        ensures err { OnErr result (self.new ≡ self.old) }
+        ensures back { IfErr result (λ back. buffer_of back ≡ buffer_of held) }
+    {
+        match self.chunks.push_back(held) {
+            Ok(()) => Ok(()),
+            Err(failed) => Err(failed.value),
+        }
+    }
+
     /// Takes the first chunk out, or answers `None` where there is none.
     pub fn take_first(&mut self) -> Option<Held<L>>
         ensures first { option_map buffer_of result ≡ slice_get self.old 0 }

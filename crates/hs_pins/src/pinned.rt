@@ -1,6 +1,6 @@
 //! The pinned chunks of one trigger id (`docs/RULES.md`, "Pins").
 
-ghost use Rattle.std.specs.Prelude.{◌≡◌, ◌≢◌, ◌+◌, ◌<◌, ◌^◌, [], ◌∷◌, length, map, drop, slice_get, Some, OnOk, OnErr, IfErr, IfSome, IsSome, option_map};
+ghost use Rattle.std.specs.Prelude.{◌≡◌, ◌≢◌, ◌+◌, ◌<◌, ◌^◌, [], ◌∷◌, length, map, drop, slice_get, Some, OnOk, OnErr, IfErr, IfSome, OnSome, IsSome, option_map};
 ghost use Rattle.std.specs.Map.{lookup};
 ghost use Rattle.std.specs.BTreeMap.{insert_entry};
 ghost use Rattle.hs_pins.specs.Buffers.{buffer_of, used_of};
@@ -58,6 +58,7 @@ impl<L: Token> Pinned<L> {
     pub fn pin(&mut self, priority: Priority, chunks: List<Held<L>>) -> Result<(), List<Held<L>>>
         requires { count_of self.old + length chunks.items < 2 ^ 32 }
         ensures ok { OnOk result (self.new ≡ pinned self.old priority (map buffer_of chunks.items)) }
+        ensures count { OnOk result (count_of self.new ≡ count_of self.old + length chunks.items) }
         ensures err { OnErr result (self.new ≡ self.old) }
         ensures back { IfErr result (λ back. map buffer_of back.items ≡ map buffer_of chunks.items) }
     {
@@ -67,6 +68,25 @@ impl<L: Token> Pinned<L> {
         }
         add_chunks(&mut self.groups, priority, chunks)?;
         self.count += count;
+        Ok(())
+    }
+
+    /// Pins one chunk for the group of this priority. For want of memory it comes back, and nothing
+    /// changes.
+    pub fn pin_one(
+        &mut self,
+        alloc: Global,
+        priority: Priority,
+        held: Held<L>,
+    ) -> Result<(), Held<L>>
+        requires { count_of self.old + 1 < 2 ^ 32 }
+        ensures ok { OnOk result (self.new ≡ pinned self.old priority (buffer_of held ∷ [])) }
+        ensures count { OnOk result (count_of self.new ≡ count_of self.old + 1) }
+        ensures err { OnErr result (self.new ≡ self.old) }
+        ensures back { IfErr result (λ back. buffer_of back ≡ buffer_of held) }
+    {
+        add_chunk(alloc, &mut self.groups, priority, held)?;
+        self.count += 1;
         Ok(())
     }
 
@@ -85,6 +105,7 @@ impl<L: Token> Pinned<L> {
     pub fn take_next(&mut self) -> Option<(Priority, Held<L>)>
         ensures next { option_map (λ next. (next.0, buffer_of next.1)) result ≡ next_of self.old }
         ensures rest { self.new ≡ without_next self.old (greatest_of self.old) }
+        ensures count { OnSome result (count_of self.new + 1 ≡ count_of self.old) }
     {
         let priority = greatest(&self.groups)?;
         let held = take_first(&mut self.groups, priority);
@@ -97,6 +118,9 @@ impl<L: Token> Pinned<L> {
     pub fn take_least(&mut self) -> Option<(Priority, List<Held<L>>)>
         ensures least { option_map (λ least. (least.0, map buffer_of least.1.items)) result ≡ slice_get self.old 0 }
         ensures rest { self.new ≡ drop 1 self.old }
+        ensures count { IfSome result (λ least.
+            count_of self.new + length least.1.items ≡ count_of self.old) }
+        ensures some { IfSome result (λ least. 0 < length least.1.items) }
     {
         let (priority, pile) = self.groups.pop_first()?;
         self.count -= pile.len() as u32;
@@ -153,6 +177,34 @@ fn add_chunks<L: Token>(
         return pile.append(chunks);
     }
     add_pile(groups, priority, chunks)
+}
+
+/// Pins a chunk for the group of this priority. For want of memory it comes back, and nothing changes.
+fn add_chunk<L: Token>(
+    alloc: Global,
+    groups: &mut BTreeMap<Priority, Pile<L>>,
+    priority: Priority,
+    held: Held<L>,
+) -> Result<(), Held<L>>
+    ensures ok { OnOk result (groups.new.entries
+        ≡ pinned groups.old.entries priority (buffer_of held ∷ [])) }
+    ensures err { OnErr result (groups.new.entries ≡ groups.old.entries) }
+    ensures back { IfErr result (λ back. buffer_of back ≡ buffer_of held) }
+{
+    if let Some(pile) = groups.get_mut(&priority) {
+        return pile.push(held);
+    }
+    let Ok(mut chunks) = List::with_room(alloc, 1) else {
+        return Err(held);
+    };
+    chunks.push(held);
+    match add_pile(groups, priority, chunks) {
+        Ok(()) => Ok(()),
+        Err(mut back) => match back.pop() {
+            Some(held) => Err(held),
+            None => unreachable!(),
+        },
+    }
 }
 
 /// Adds a group with these chunks to a map that has none of this priority. For want of memory the

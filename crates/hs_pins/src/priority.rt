@@ -7,7 +7,7 @@ use hs_base::{Group, rank_of};
 
 /// A group's place among those of its trigger id: by the rank of its lead, then by its node, then by
 /// its number there. Contracts order priorities by `priority_cmp`.
-#[derive(Clone, Copy, Debug, PartialEq, Eq, PartialOrd, Ord)]
+#[derive(Clone, Copy, Debug, PartialEq, Eq, PartialOrd, Ord, Hash)]
 pub struct Priority {
     pub word: u64,
     pub lead: u128,
