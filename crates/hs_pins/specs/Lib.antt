@@ -4,3 +4,4 @@ pub mod Priorities
 pub mod Buffers
 pub mod Groups
 pub mod Counting
+pub mod Lanes

@@ -3,6 +3,7 @@
 #![tactic(auto)]
 
 mod bucket;
+mod lanes;
 mod pile;
 mod pinned;
 mod priority;
@@ -10,5 +11,6 @@ mod priority;
 mod tests;
 
 pub use bucket::{Attempt, Bucket};
+pub use lanes::Lanes;
 pub use pinned::Pinned;
 pub use priority::Priority;

@@ -1,6 +1,6 @@
 //! The pinned chunks of one trigger id (`docs/RULES.md`, "Pins").
 
-ghost use Rattle.std.specs.Prelude.{◌≡◌, ◌≢◌, ◌+◌, ◌<◌, ◌^◌, [], ◌∷◌, length, map, drop, slice_get, Some, OnOk, OnErr, IfErr, IfSome, OnSome, IsSome, option_map};
+ghost use Rattle.std.specs.Prelude.{◌≡◌, ◌≢◌, ◌+◌, ◌<◌, ◌^◌, [], ◌∷◌, length, map, drop, slice_get, Some, OnOk, OnErr, IfErr, IfSome, OnSome, IfNone, IsSome, option_map};
 ghost use Rattle.std.specs.Map.{lookup};
 ghost use Rattle.std.specs.BTreeMap.{insert_entry};
 ghost use Rattle.hs_pins.specs.Buffers.{buffer_of, used_of};
@@ -106,6 +106,7 @@ impl<L: Token> Pinned<L> {
         ensures next { option_map (λ next. (next.0, buffer_of next.1)) result ≡ next_of self.old }
         ensures rest { self.new ≡ without_next self.old (greatest_of self.old) }
         ensures count { OnSome result (count_of self.new + 1 ≡ count_of self.old) }
+        ensures none { IfNone result (self.new ≡ self.old) }
     {
         let priority = greatest(&self.groups)?;
         let held = take_first(&mut self.groups, priority);
