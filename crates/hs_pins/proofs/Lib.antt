@@ -1,3 +1,4 @@
 pub mod BucketLemmas
 pub mod GroupLemmas
 pub mod LaneLemmas
+pub mod PinLemmas

@@ -5,3 +5,4 @@ pub mod Buffers
 pub mod Groups
 pub mod Counting
 pub mod Lanes
+pub mod Pinning

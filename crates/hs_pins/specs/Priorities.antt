@@ -1,12 +1,14 @@
 -- The order of the groups of a trigger id: by the word of the lead's rank, then by the lead, then by the node that admitted
 -- the group, then by its number there.
-use Rattle.std.specs.Prelude.{◌≡◌, ℕ, Bool, true, refl}
+use Rattle.std.specs.Prelude.{◌≡◌, ℕ, Bool, true, ◌&&◌, ◌==◌, refl}
 use Rattle.std.specs.declared.cmp.Ordering.{Ordering}
 use Rattle.std.specs.declared.cmp.Ordering.TheVariants.{Less, Greater}
 use Rattle.std.specs.Ordering.{nat_cmp, ordering_then, is_eq}
 use Rattle.hs_base.specs.declared.told.Group.{Group}
+use Rattle.hs_base.specs.declared.ids.TriggerId.{TriggerId}
 use Rattle.hs_base.specs.Ranks.{rank_of_lem}
 use Rattle.hs_pins.specs.declared.priority.Priority.{Priority}
+use Rattle.hs_pins.specs.declared.priority.Mark.{Mark}
 
 abbrev pub priority_cmp : Priority → Priority → Ordering
 priority_cmp a b = ordering_then (nat_cmp a.word b.word) (ordering_then (nat_cmp a.lead b.lead) (ordering_then (nat_cmp a.node b.node) (nat_cmp a.number b.number)))
@@ -17,6 +19,23 @@ same_priority a b = is_eq (priority_cmp a b)
 
 abbrev pub priority_of : Group → Priority
 priority_of group = record { word = (rank_of_lem group.lead).word; lead = group.lead.0; node = group.id.node; number = group.id.number }
+
+-- the group of a trigger id with this priority
+abbrev pub group_at : TriggerId → Priority → Group
+group_at trigger p = record { id = record { node = p.node; number = p.number }; trigger = trigger; lead = record { 0 = p.lead } }
+
+-- a group's trigger id and its priority
+abbrev pub mark_of : Group → Mark
+mark_of group = record { trigger = group.trigger; priority = priority_of group }
+
+-- whether two marks are of one group
+abbrev pub same_mark : Mark → Mark → Bool
+same_mark a b =
+    a.trigger.0 == b.trigger.0 && (a.priority.word == b.priority.word && (a.priority.lead == b.priority.lead && (a.priority.node == b.priority.node && a.priority.number == b.priority.number)))
+
+-- the group of a group's own priority is that group
+own_group : (group : Group) → group_at group.trigger (priority_of group) ≡ group
+own_group group = refl
 
 -- for the worked examples
 abbrev of : ℕ → ℕ → ℕ → ℕ → Priority

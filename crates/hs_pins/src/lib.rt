@@ -3,14 +3,16 @@
 #![tactic(auto)]
 
 mod bucket;
+mod claim;
 mod lanes;
 mod pile;
 mod pinned;
+mod pins;
 mod priority;
 #[cfg(test)]
 mod tests;
 
 pub use bucket::{Attempt, Bucket};
-pub use lanes::Lanes;
-pub use pinned::Pinned;
+pub use claim::{Admitted, Claim, Dropped, Taken2};
+pub use pins::Pins;
 pub use priority::Priority;
