@@ -1,10 +1,10 @@
 -- The claims of a node stay declared, whatever changes.
 use Rattle.std.proofs.Common.{◌≡◌, ℕ, Bool, true, false, cond, List, [], ◌∷◌, ◌++◌, Option, Some, None, IsSome, refl, sym, ap, subst, ◌∙◌, true≢false}
-use Rattle.std.specs.Prelude.{IfSome}
+use Rattle.std.specs.Prelude.{IfSome, Result, Ok, Err}
 use Rattle.std.specs.Option.{option_and_then}
 use Rattle.hs_words.specs.declared.page.Header.{Header}
 use Rattle.hs_words.specs.Chunks.{header_in}
-use Rattle.std.specs.List.{AllByRecursion}
+use Rattle.std.specs.List.{list_any}
 use Rattle.std.specs.Map.{lookup, set_value}
 use Rattle.hs_base.specs.declared.ids.TraceId.{TraceId}
 use Rattle.hs_base.specs.declared.ids.TriggerId.{TriggerId}
@@ -12,11 +12,13 @@ use Rattle.hs_base.specs.declared.told.Group.{Group}
 use Rattle.hs_base.specs.declared.node_set.NodeSet.{NodeSet}
 use Rattle.hs_pins.specs.declared.claim.Claim.{Claim}
 use Rattle.hs_pins.specs.declared.priority.Priority.{Priority}
-use Rattle.hs_pins.specs.Priorities.{priority_of}
-use Rattle.hs_pins.specs.Buffers.{Buffer}
+use Rattle.hs_pins.specs.declared.priority.Mark.{Mark}
+use Rattle.hs_words.specs.declared.token.Held.{Held}
+use Rattle.hs_pins.specs.Priorities.{priority_of, mark_of, same_mark}
+use Rattle.hs_pins.specs.Buffers.{Buffer, buffer_of}
 use Rattle.hs_pins.specs.Groups.{Groups}
-use Rattle.hs_pins.specs.Lanes.{Lanes, has_lane, same_id, pinned_in}
-use Rattle.hs_pins.specs.Pinning.{Pinning, Claims, AreDeclared, claimed, claimed_by, claim_in, claim_for, same_trace, AddsCrumb}
+use Rattle.hs_pins.specs.Lanes.{Lanes, has_lane, same_id, with_groups, pinned_in}
+use Rattle.hs_pins.specs.Pinning.{Pinning, Claims, AreDeclared, claimed, claimed_by, claim_in, claim_for, same_trace, is_abandoned, Arrives, AddsCrumb}
 
 found-set : {K X : Type 0} (test other : K → Bool) (es : List (K × X)) (w : X) → IsSome (lookup test es) → IsSome (lookup test (set_value other es w))
 found-set test other [] w h = h
@@ -97,3 +99,49 @@ module _ {L : Type 0} where
 pub if_some : {A : Type 0} (o : Option A) (P Q : A → Type 0) → ((a : A) → P a → Q a) → IfSome o P → IfSome o Q
 if_some None P Q f h = h
 if_some (Some a) P Q f h = f a h
+
+module _ {L : Type 0} where
+  abandoned-is : (s : Pinning L) (group other : Group) (mark : Mark) (b : Bool) → group ≡ other → mark ≡ mark_of group → b ≡ list_any (same_mark mark) s.abandoned → is_abandoned s other ≡ b
+  abandoned-is s group other mark b same m e =
+      ap (λ gr. is_abandoned s gr) (sym same) ∙ ap (λ k. list_any (same_mark k) s.abandoned) (sym m) ∙ sym e
+
+  arrived-any : {g : _} (s now new : Pinning L) (chunk : Buffer L) (group : Group) (r : Result (Option (Held L g)) (Held L g)) → s ≡ now
+      → IfSome (claim_for s.claims chunk) (λ claim. group ≡ claim.group) → ((claim : Claim) → group ≡ claim.group → Arrives s claim chunk r new)
+      → IfSome (claim_for now.claims chunk) (λ claim. Arrives now claim chunk r new)
+  arrived-any s now new chunk group r same known arrives =
+      let P : Pinning L → Type 0 = λ x. IfSome (claim_for x.claims chunk) (λ claim. Arrives x claim chunk r new) in
+      subst P same (if_some (claim_for s.claims chunk) (λ claim. group ≡ claim.group) (λ claim. Arrives s claim chunk r new) arrives known)
+
+  pub arrives-back : {g : _} (s now : Pinning L) (held : Held L g) (group : Group) (mark : Mark) (b : Bool) → s ≡ now
+      → IfSome (claim_for s.claims (buffer_of held)) (λ claim. group ≡ claim.group) → mark ≡ mark_of group → b ≡ list_any (same_mark mark) s.abandoned → b ≡ true
+      → IfSome (claim_for now.claims (buffer_of held)) (λ claim. Arrives now claim (buffer_of held) (Ok (Some held)) now)
+  arrives-back s now held group mark b same known m e held_back =
+      arrived-any s now now (buffer_of held) group (Ok (Some held)) same known (λ claim own. (abandoned-is s group claim.group mark b own m e ∙ held_back, refl, sym same))
+
+  pub arrives-kept : {g : _} (s now : Pinning L) (lanes : Lanes L) (held back : Held L g) (group : Group) (mark : Mark) (b : Bool) → s ≡ now
+      → IfSome (claim_for s.claims (buffer_of held)) (λ claim. group ≡ claim.group) → mark ≡ mark_of group → b ≡ list_any (same_mark mark) s.abandoned → b ≡ false
+      → lanes ≡ s.lanes → buffer_of back ≡ buffer_of held
+      → IfSome (claim_for now.claims (buffer_of held)) (λ claim. Arrives now claim (buffer_of held) (Err back) (record s { lanes = lanes }))
+  arrives-kept s now lanes held back group mark b same known m e pinned_here kept own_back =
+      arrived-any s now (record s { lanes = lanes }) (buffer_of held) group (Err back) same known
+      (λ claim own. (abandoned-is s group claim.group mark b own m e ∙ pinned_here, own_back, ap (λ l. record s { lanes = l }) kept))
+
+  pub arrives-pinned : {g : _} (s now : Pinning L) (lanes : Lanes L) (held : Held L g) (group : Group) (mark : Mark) (priority : Priority) (b : Bool) → s ≡ now
+      → IfSome (claim_for s.claims (buffer_of held)) (λ claim. group ≡ claim.group) → mark ≡ mark_of group → priority ≡ priority_of group
+      → b ≡ list_any (same_mark mark) s.abandoned → b ≡ false
+      → lanes ≡ pinned_in s.lanes group.trigger priority (buffer_of held ∷ [])
+      → IfSome (claim_for now.claims (buffer_of held)) (λ claim. Arrives {g = g} now claim (buffer_of held) (Ok None) (record s { lanes = lanes }))
+  arrives-pinned {g} s now lanes held group mark priority b same known m p e pinned_here pinned =
+      arrived-any {g = g} s now (record s { lanes = lanes }) (buffer_of held) group (Ok None) same known
+      (λ claim own. (
+        abandoned-is s group claim.group mark b own m e ∙ pinned_here,
+        ap (λ l. record s { lanes = l }) (pinned ∙ ap (λ q. pinned_in s.lanes group.trigger q (buffer_of held ∷ [])) p)
+            ∙ ap (λ (x : Group). record s { lanes = pinned_in s.lanes x.trigger (priority_of x) (buffer_of held ∷ []) }) own,
+      ))
+
+  pub declared-arrived : (claims : Claims) (lanes now : Lanes L) (id : TriggerId) (priority : Priority) (chunks : List (Buffer L)) → AreDeclared claims lanes → now ≡ pinned_in lanes id priority chunks
+      → AreDeclared claims now
+  declared-arrived claims lanes now id priority chunks h e = rw e (declared-set claims lanes id _ h)
+
+  pub declared-groups : (claims : Claims) (lanes now : Lanes L) (id : TriggerId) (w : Groups L) → AreDeclared claims lanes → now ≡ with_groups lanes id w → AreDeclared claims now
+  declared-groups claims lanes now id w h e = rw e (declared-set claims lanes id w h)

@@ -129,8 +129,12 @@ impl<L: Token> Pins<L> {
             return Ok(Some(held));
         }
         let priority = Priority::of(&group);
-        self.lanes
-            .pin_one(self.alloc, group.trigger, priority, held)?;
+        let pinned = self
+            .lanes
+            .pin_one(self.alloc, group.trigger, priority, held);
+        if let Err(back) = pinned {
+            return Err(back);
+        }
         Ok(None)
     }
 
