@@ -2,3 +2,4 @@ pub mod BucketLemmas
 pub mod GroupLemmas
 pub mod LaneLemmas
 pub mod PinLemmas
+pub mod RuleLemmas

@@ -1,7 +1,7 @@
 -- The token bucket of a trigger id, over the moments of all its attempts, here the latest attempt first. A moment is in
 -- microseconds, a level in millionths of a token. Moments may come in any order: an attempt is made at the greatest
 -- moment so far.
-use Rattle.std.specs.Prelude.{◌≡◌, ℕ, ◌+◌, ◌-◌, ◌*◌, ◌≤◌, List, [], ◌∷◌, max, min, if◌then◌else◌, nat_le}
+use Rattle.std.specs.Prelude.{◌≡◌, ℕ, ◌+◌, ◌-◌, ◌*◌, ◌≤◌, List, [], ◌∷◌, max, min, if◌then◌else◌, nat_le, refl}
 use Rattle.hs_pins.specs.declared.bucket.Attempt.{Attempt}
 use Rattle.hs_pins.specs.declared.bucket.Attempt.TheVariants.{Admitted, Limited}
 
@@ -57,3 +57,10 @@ pub record IsStanding (s : Standing) : Type 0 where
 pub record HasTaken (s : Standing) (moments : List ℕ) : Type 0 where
   pub moment : s.moment ≡ greatest moments
   pub level : s.level ≡ level_at s.burst s.rate (admitted_of s.burst s.rate moments) (greatest moments)
+
+-- a full bucket that has taken no attempt
+abbrev pub fresh_bucket : ℕ → ℕ → Standing
+fresh_bucket burst rate = record { burst = burst; rate = rate; level = burst * 1000000; moment = 0 }
+
+a_fresh_bucket_has_taken_nothing : (burst rate : ℕ) → HasTaken (fresh_bucket burst rate) []
+a_fresh_bucket_has_taken_nothing burst rate = record { moment = refl; level = refl }

@@ -1,13 +1,12 @@
 -- The pinned chunks of a node: for each declared trigger id, rising, its groups.
-use Rattle.std.specs.Prelude.{◌≡◌, ℕ, ◌+◌, ◌<◌, Bool, List, [], ◌∷◌, length, All, Option, unwrap_or, IsSome}
-use Rattle.std.specs.declared.cmp.Ordering.{Ordering}
+use Rattle.std.specs.Prelude.{ℕ, ◌+◌, ◌<◌, Bool, List, [], ◌∷◌, map, All, AllPairs, unwrap_or, IsSome}
 use Rattle.std.specs.Ordering.{nat_cmp, is_eq}
-use Rattle.std.specs.List.{list_any, AllByRecursion}
 use Rattle.std.specs.Map.{lookup, set_value}
 use Rattle.hs_base.specs.declared.ids.TriggerId.{TriggerId}
 use Rattle.hs_base.specs.declared.settings.TriggerRule.{TriggerRule}
 use Rattle.hs_pins.specs.declared.priority.Priority.{Priority}
 use Rattle.hs_pins.specs.Buffers.{Buffer}
+use Rattle.hs_pins.specs.Buckets.{IsLimit}
 use Rattle.hs_pins.specs.Groups.{Groups, count_of, pinned}
 
 abbrev pub Lanes : Type 0 → Type 0
@@ -37,3 +36,12 @@ with_groups lanes id groups = set_value (same_id id) lanes groups
 -- the lanes where chunks became pinned for the group of this trigger id and priority
 abbrev pub pinned_in : {L : Type 0} → Lanes L → TriggerId → Priority → List (Buffer L) → Lanes L
 pinned_in lanes id priority chunks = with_groups lanes id (pinned (groups_of lanes id) priority chunks)
+
+-- trigger rules within their limits, declared in rising order
+pub record AreRules (rules : List TriggerRule) : Type 0 where
+  pub rising : AllPairs (λ (a b : TriggerRule). a.id.0 < b.id.0) rules
+  pub limits : All (λ rule. IsLimit rule.burst rule.rate) rules
+
+-- the declared ids, for which nothing is pinned
+abbrev pub fresh_lanes : {L : Type 0} → List TriggerRule → Lanes L
+fresh_lanes rules = map (λ rule. (rule.id, [])) rules

@@ -1,11 +1,12 @@
 -- What triggers claim at a node: its claims in the order in which they were made, the bucket of each declared trigger id, the
 -- chunks that are pinned for each id, and the groups that were abandoned.
-use Rattle.std.specs.Prelude.{◌≡◌, ℕ, ◌+◌, Bool, true, false, not, ◌||◌, ◌==◌, List, [], ◌∷◌, ◌++◌, Option, Some, None, Result, Ok, Err}
+use Rattle.std.specs.Prelude.{◌≡◌, ℕ, ◌+◌, Bool, true, false, not, ◌||◌, ◌==◌, List, [], ◌∷◌, ◌++◌, map, Option, Some, None, Result, Ok, Err}
 use Rattle.std.specs.List.{list_any, AllByRecursion}
 use Rattle.std.specs.Option.{option_and_then, option_map}
 use Rattle.std.specs.Map.{lookup, set_value}
 use Rattle.hs_base.specs.declared.ids.TraceId.{TraceId}
 use Rattle.hs_base.specs.declared.ids.TriggerId.{TriggerId}
+use Rattle.hs_base.specs.declared.settings.TriggerRule.{TriggerRule}
 use Rattle.hs_base.specs.declared.told.Group.{Group}
 use Rattle.hs_base.specs.declared.node_set.NodeSet.{NodeSet}
 use Rattle.hs_base.specs.NodeSets.{has_node}
@@ -21,9 +22,9 @@ use Rattle.hs_pins.specs.declared.priority.Mark.{Mark}
 use Rattle.hs_pins.specs.declared.priority.Priority.{Priority}
 use Rattle.hs_pins.specs.Priorities.{priority_of, group_at, mark_of, same_mark}
 use Rattle.hs_pins.specs.Buffers.{Buffer, buffer_of}
-use Rattle.hs_pins.specs.Buckets.{Standing, HasTaken, attempted}
+use Rattle.hs_pins.specs.Buckets.{Standing, HasTaken, attempted, fresh_bucket}
 use Rattle.hs_pins.specs.Groups.{greatest_of, next_of, without_next}
-use Rattle.hs_pins.specs.Lanes.{Lanes, same_id, has_lane, groups_of, with_groups, pinned_in}
+use Rattle.hs_pins.specs.Lanes.{Lanes, same_id, has_lane, fresh_lanes, groups_of, with_groups, pinned_in}
 
 abbrev pub Claims : Type 0
 Claims = List (TraceId × Claim)
@@ -88,6 +89,15 @@ pub record AddsCrumb (old new : Claims) (trace : TraceId) (node : ℕ) (fresh : 
   pub fresh_is : fresh ≡ not (has_node before.crumbs node)
   pub nodes : (n : ℕ) → has_node after n ≡ (has_node before.crumbs n || n == node)
   pub has : new ≡ set_value (same_trace trace) old (record { group = before.group; laterals = before.laterals; crumbs = after })
+
+-- the full bucket of each declared id
+abbrev pub fresh_buckets_of : List TriggerRule → Buckets
+fresh_buckets_of rules = map (λ rule. (rule.id, fresh_bucket rule.burst rule.rate)) rules
+
+-- pins that have claimed nothing
+abbrev pub fresh_pins : {L : Type 0} → ℕ → ℕ → List TriggerRule → Pinning L
+fresh_pins node limit rules =
+    record { node = node; limit = limit; admitted = 0; claims = []; buckets = fresh_buckets_of rules; lanes = fresh_lanes rules; abandoned = [] }
 
 -- a chunk that was dropped, with its group
 abbrev pub dropped_of : {L : Type 0} {g : _} → Dropped L g → Group × Buffer L

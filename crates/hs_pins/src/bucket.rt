@@ -1,7 +1,7 @@
 //! The token bucket of a trigger id (`docs/RULES.md`, "The bucket").
 
 ghost use Rattle.std.specs.Prelude.{◌≡◌, ◌+◌, ◌-◌, ◌*◌, ℕ, List, [], ◌∷◌, max, min, nat_le};
-ghost use Rattle.hs_pins.specs.Buckets.{HasTaken, IsLimit, attempted};
+ghost use Rattle.hs_pins.specs.Buckets.{HasTaken, IsLimit, attempted, fresh_bucket};
 
 use std::marker::Model;
 
@@ -42,6 +42,7 @@ impl Bucket {
     pub fn make(burst: u32, rate: u32) -> Bucket
         requires { IsLimit burst rate }
         ensures taken { HasTaken result [] }
+        ensures fresh { result ≡ fresh_bucket burst rate }
         ensures burst { result.burst ≡ burst }
         ensures rate { result.rate ≡ rate }
     {

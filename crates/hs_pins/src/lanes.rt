@@ -1,13 +1,13 @@
 //! The pinned chunks of a node.
 
-ghost use Rattle.std.specs.Prelude.{◌≡◌, ◌+◌, ◌<◌, ◌^◌, [], ◌∷◌, length, map, drop, slice_get, OnOk, OnErr, IfErr, IfSome, OnSome, IfNone, IsSome, option_map};
+ghost use Rattle.std.specs.Prelude.{◌≡◌, ◌+◌, ◌<◌, ◌^◌, [], ◌∷◌, length, map, drop, slice_get, OnOk, OnErr, IfOk, IfErr, IfSome, OnSome, IfNone, IsSome, option_map};
 ghost use Rattle.hs_pins.specs.Buffers.{buffer_of, used_of};
 ghost use Rattle.hs_pins.specs.Groups.{count_of, greatest_of, next_of, without_next};
-ghost use Rattle.hs_pins.specs.Lanes.{has_lane, groups_of, total_of, with_groups, pinned_in};
+ghost use Rattle.hs_pins.specs.Lanes.{has_lane, groups_of, total_of, with_groups, pinned_in, AreRules, fresh_lanes};
 
 use crate::pinned::Pinned;
 use crate::priority::Priority;
-use hs_base::{List, TriggerId};
+use hs_base::{List, Memory, TriggerId, TriggerRule};
 use hs_words::{Held, Token};
 use std::alloc::Global;
 use std::collections::BTreeMap;
@@ -33,6 +33,15 @@ impl<L: Token> Model for Lanes<L> {
 }
 
 impl<L: Token> Lanes<L> {
+    /// Lanes of these trigger ids, for which nothing is pinned.
+    pub fn make(alloc: Global, rules: &[TriggerRule]) -> Result<Lanes<L>, Memory>
+        requires { AreRules rules.now }
+        ensures { IfOk result (λ lanes. lanes ≡ fresh_lanes rules.now) }
+    {
+        let lanes = empty_lanes(alloc, rules)?;
+        Ok(Lanes { lanes, total: 0 })
+    }
+
     /// How many chunks are pinned.
     pub fn total(&self) -> u32
         ensures { result ≡ total_of self.now }
@@ -121,6 +130,20 @@ fn take_from<L: Token>(
         unreachable!()
     };
     pinned.take_next()
+}
+
+fn empty_lanes<L: Token>(
+    alloc: Global,
+    rules: &[TriggerRule],
+) -> Result<BTreeMap<TriggerId, Pinned<L>>, Memory>
+    requires { AreRules rules.now }
+    ensures { IfOk result (λ lanes. lanes.entries ≡ fresh_lanes rules.now) }
+{
+    let mut lanes = BTreeMap::new(alloc);
+    for rule in rules {
+        lanes.insert(rule.id, Pinned::new(alloc))?;
+    }
+    Ok(lanes)
 }
 
 fn pin_chunks<L: Token>(

@@ -1,17 +1,19 @@
 //! What triggers claim at a node (`docs/RULES.md`, "Pins").
 
-ghost use Rattle.std.specs.Prelude.{◌≡◌, ◌+◌, ◌<◌, ◌≤◌, ◌^◌, ℕ, [], ◌∷◌, ◌++◌, length, map, OnOk, OnErr, IfErr, IfSome, OnSome, IfNone, IsSome, IsNone, None, option_map};
+ghost use Rattle.std.specs.Prelude.{◌≡◌, ◌+◌, ◌<◌, ◌≤◌, ◌^◌, ℕ, [], ◌∷◌, ◌++◌, length, map, OnOk, OnErr, IfOk, IfErr, IfSome, OnSome, IfNone, IsSome, IsNone, None, option_map};
 ghost use Rattle.indexmap.specs.IndexMap.{spare};
 ghost use Rattle.hs_pins.specs.Buffers.{buffer_of, used_of};
 ghost use Rattle.hs_pins.specs.Groups.{next_of};
-ghost use Rattle.hs_pins.specs.Lanes.{has_lane, groups_of, total_of};
-ghost use Rattle.hs_pins.specs.Pinning.{claim_in, claim_for, bucket_in, claimed, admission, admitted_after, Attempts, Arrives, AddsCrumb, dropped_of, next_in, without_next_in};
+ghost use Rattle.hs_pins.specs.Lanes.{AreRules, has_lane, groups_of, total_of};
+ghost use Rattle.hs_pins.specs.Pinning.{claim_in, claim_for, bucket_in, claimed, admission, admitted_after, Attempts, Arrives, AddsCrumb, dropped_of, next_in, without_next_in, fresh_pins, fresh_buckets_of};
 
 use crate::bucket::{Attempt, Bucket};
 use crate::claim::{Admitted, Claim, Dropped, Taken2};
 use crate::lanes::Lanes;
 use crate::priority::{Mark, Priority};
-use hs_base::{Crumb, Group, Laterals, NodeId, NodeSet, TraceId, TriggerId};
+use hs_base::{
+    Crumb, Group, Laterals, Memory, NodeId, NodeSet, Settings, TraceId, TriggerId, TriggerRule,
+};
 use hs_words::{Held, Token};
 use indexmap::{IndexMap, IndexSet};
 use std::alloc::Global;
@@ -50,6 +52,27 @@ impl<L: Token> Model for Pins<L> {
 }
 
 impl<L: Token> Pins<L> {
+    /// Pins of a node that have claimed nothing, with a full bucket for each declared trigger id.
+    pub fn make(alloc: Global, node: NodeId, settings: &Settings) -> Result<Pins<L>, Memory>
+        requires { AreRules settings.now.triggers.items }
+        ensures { IfOk result (λ pins. pins
+            ≡ fresh_pins node.0 settings.now.pins settings.now.triggers.items) }
+    {
+        let rules = settings.triggers.as_slice();
+        let buckets = full_buckets(alloc, rules)?;
+        let lanes = Lanes::make(alloc, rules)?;
+        Ok(Pins {
+            alloc,
+            node,
+            limit: settings.pins,
+            admitted: 0,
+            claims: IndexMap::new(alloc),
+            buckets,
+            lanes,
+            abandoned: IndexSet::new(alloc),
+        })
+    }
+
     /// Takes a trigger of a declared id at a moment in microseconds, and answers whether it is admitted.
     pub fn admit(&mut self, trigger: TriggerId, moment: u64) -> Admitted
         requires declared { IsSome (bucket_in self.old.buckets trigger) }
@@ -195,6 +218,17 @@ impl<L: Token> Pins<L> {
     {
         self.lanes.total()
     }
+}
+
+fn full_buckets(alloc: Global, rules: &[TriggerRule]) -> Result<BTreeMap<TriggerId, Bucket>, Memory>
+    requires { AreRules rules.now }
+    ensures { IfOk result (λ buckets. buckets.entries ≡ fresh_buckets_of rules.now) }
+{
+    let mut buckets = BTreeMap::new(alloc);
+    for rule in rules {
+        buckets.insert(rule.id, Bucket::make(rule.burst, rule.rate))?;
+    }
+    Ok(buckets)
 }
 
 /// Takes an attempt at the bucket of a trigger id.
