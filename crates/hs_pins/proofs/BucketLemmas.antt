@@ -1,7 +1,7 @@
 -- One attempt more: what flows in raises every term of the level alike, and a token that is taken lowers each by one.
-use Rattle.std.proofs.Common.{◌≡◌, ℕ, ◌+◌, ◌-◌, ◌*◌, ◌≤◌, ◌<◌, max, min, List, [], ◌∷◌, refl, arith, ap, sym, ◌∙◌, subst, Bool, true, false, cond}
+use Rattle.std.proofs.Common.{◌≡◌, ℕ, ◌+◌, ◌-◌, ◌*◌, ◌≤◌, max, min, List, [], ◌∷◌, refl, arith, ap, sym, ◌∙◌, subst, Bool, true, false}
 use Rattle.std.specs.Prelude.{nat_le, if◌then◌else◌}
-use Rattle.std.proofs.lemmas.Bool.{leb-true, le-leb, lt-leb}
+use Rattle.std.proofs.lemmas.Bool.{leb-true}
 use Rattle.hs_pins.specs.declared.bucket.Attempt.TheVariants.{Admitted, Limited}
 use Rattle.hs_pins.specs.Buckets.{Standing, HasTaken, greatest, least_since, level_at, level_found, admitted_of, attempted}
 

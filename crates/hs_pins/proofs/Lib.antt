@@ -3,3 +3,4 @@ pub mod GroupLemmas
 pub mod LaneLemmas
 pub mod PinLemmas
 pub mod RuleLemmas
+pub mod TestLemmas

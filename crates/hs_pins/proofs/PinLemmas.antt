@@ -20,7 +20,7 @@ use Rattle.hs_pins.specs.Groups.{Groups}
 use Rattle.hs_pins.specs.Lanes.{Lanes, has_lane, same_id, with_groups, pinned_in}
 use Rattle.hs_pins.specs.Pinning.{Pinning, Claims, AreDeclared, claimed, claimed_by, claim_in, claim_for, same_trace, is_abandoned, Arrives, AddsCrumb}
 
-found-set : {K X : Type 0} (test other : K → Bool) (es : List (K × X)) (w : X) → IsSome (lookup test es) → IsSome (lookup test (set_value other es w))
+pub found-set : {K X : Type 0} (test other : K → Bool) (es : List (K × X)) (w : X) → IsSome (lookup test es) → IsSome (lookup test (set_value other es w))
 found-set test other [] w h = h
 found-set test other (x ∷ es) w h = at (other x.0) (test x.0) refl h (found-set test other es w)
   where

@@ -2,7 +2,7 @@
 use Rattle.std.specs.Prelude.{◌≡◌, ℕ, List, [], ◌∷◌, refl}
 use Rattle.hs_pins.specs.declared.bucket.Attempt.{Attempt}
 use Rattle.hs_pins.specs.declared.bucket.Attempt.TheVariants.{Admitted, Limited}
-use Rattle.hs_pins.specs.Buckets.{greatest, level_at, admitted_of, level_found, attempted}
+use Rattle.hs_pins.specs.Buckets.{greatest, admitted_of, level_found, attempted}
 
 -- the answers to attempts at these moments, the first first, each after the ones before it
 abbrev answers : ℕ → ℕ → List ℕ → List ℕ → List Attempt

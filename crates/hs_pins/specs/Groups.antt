@@ -1,6 +1,6 @@
 -- The pinned chunks of one trigger id: its groups that have one, in rising priority, each with its chunks in the order in
 -- which they became pinned.
-use Rattle.std.specs.Prelude.{◌≡◌, ℕ, ◌-◌, Bool, List, [], ◌∷◌, ◌++◌, length, drop, ◌+◌, slice_get, Option, Some, None, unwrap_or, is_some, if◌then◌else◌, refl}
+use Rattle.std.specs.Prelude.{ℕ, ◌-◌, List, [], ◌∷◌, ◌++◌, length, drop, ◌+◌, slice_get, Option, Some, None, unwrap_or, is_some, if◌then◌else◌}
 use Rattle.std.specs.Option.{option_map, option_and_then}
 use Rattle.std.specs.Map.{lookup, set_value, remove_entry}
 use Rattle.std.specs.BTreeMap.{insert_entry}

@@ -6,3 +6,5 @@ pub mod Groups
 pub mod Counting
 pub mod Lanes
 pub mod Pinning
+pub mod PinningExamples
+pub mod ForTests

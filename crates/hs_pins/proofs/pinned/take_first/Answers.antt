@@ -1,6 +1,4 @@
-use Rattle.std.proofs.Common.{sym, ap, ◌∙◌}
-use Rattle.std.specs.Option.{option_map}
-use Rattle.hs_pins.specs.Buffers.{buffer_of}
+use Rattle.std.proofs.Common.{sym, ◌∙◌}
 use Rattle.hs_pins.specs.Priorities.{same_priority}
 use Rattle.hs_pins.proofs.GroupLemmas.{first-there, rest-emptied}
 use Rattle.hs_pins.proofs.pinned.take_first.Goals as goal

@@ -1,5 +1,3 @@
-use Rattle.std.proofs.Common.{ap, subst}
-use Rattle.hs_pins.specs.Counting.{IsCounted}
 use Rattle.hs_pins.proofs.GroupLemmas.{counted-rest}
 use Rattle.hs_pins.proofs.pinned.Pinned.take_least.Goals as goal
 
