@@ -1,0 +1,18 @@
+//! What triggers claim at a node: which triggers are admitted, which traces they claim, and the
+//! chunks that are pinned for them (`docs/RULES.md`, "The bucket" and "Pins").
+#![tactic(auto)]
+
+mod bucket;
+mod claim;
+mod lanes;
+mod pile;
+mod pinned;
+mod pins;
+mod priority;
+#[cfg(test)]
+mod tests;
+
+pub use bucket::{Attempt, Bucket};
+pub use claim::{Admitted, Claim, Dropped, Taken2};
+pub use pins::Pins;
+pub use priority::Priority;

@@ -1,0 +1,282 @@
+//! What triggers claim at a node (`docs/RULES.md`, "Pins").
+
+ghost use Rattle.std.specs.Prelude.{◌≡◌, ◌+◌, ◌<◌, ◌≤◌, ◌^◌, ℕ, [], ◌∷◌, ◌++◌, length, map, OnOk, OnErr, IfOk, IfErr, IfSome, OnSome, IfNone, IsSome, IsNone, None, option_map};
+ghost use Rattle.indexmap.specs.IndexMap.{spare};
+ghost use Rattle.hs_pins.specs.Buffers.{buffer_of, used_of};
+ghost use Rattle.hs_pins.specs.Groups.{next_of};
+ghost use Rattle.hs_pins.specs.Lanes.{AreRules, has_lane, groups_of, total_of};
+ghost use Rattle.hs_pins.specs.Pinning.{claim_in, claim_for, bucket_in, claimed, admission, admitted_after, Attempts, Arrives, AddsCrumb, dropped_of, next_in, without_next_in, fresh_pins, fresh_buckets_of};
+
+use crate::bucket::{Attempt, Bucket};
+use crate::claim::{Admitted, Claim, Dropped, Taken2};
+use crate::lanes::Lanes;
+use crate::priority::{Mark, Priority};
+use hs_base::{
+    Crumb, Group, Laterals, Memory, NodeId, NodeSet, Settings, TraceId, TriggerId, TriggerRule,
+};
+use hs_words::{Held, Token};
+use indexmap::{IndexMap, IndexSet};
+use std::alloc::Global;
+use std::collections::BTreeMap;
+use std::marker::Model;
+
+/// The claims of a node and what is pinned for them.
+#[derive(Drop)]
+pub struct Pins<L: Token> {
+    alloc: Global,
+    node: NodeId,
+    limit: u32,
+    admitted: u32,
+    claims: IndexMap<TraceId, Claim>,
+    buckets: BTreeMap<TriggerId, Bucket>,
+    lanes: Lanes<L>,
+    abandoned: IndexSet<Mark>,
+}
+
+impl<L: Token> Model for Pins<L> {
+    ghost use Rattle.hs_pins.specs.Pinning.{Pinning, AreDeclared};
+
+    ghost Value = { Pinning L };
+
+    ghost view = { λ a. record {
+      node = a.node.0;
+      limit = a.limit;
+      admitted = a.admitted;
+      claims = a.claims.entries;
+      buckets = a.buckets.entries;
+      lanes = a.lanes;
+      abandoned = a.abandoned.keys;
+    } };
+
+    ghost invariant = { λ a. AreDeclared a.claims.entries a.lanes };
+}
+
+impl<L: Token> Pins<L> {
+    /// Pins of a node that have claimed nothing, with a full bucket for each declared trigger id.
+    pub fn make(alloc: Global, node: NodeId, settings: &Settings) -> Result<Pins<L>, Memory>
+        requires { AreRules settings.now.triggers.items }
+        ensures { IfOk result (λ pins. pins
+            ≡ fresh_pins node.0 settings.now.pins settings.now.triggers.items) }
+    {
+        let rules = settings.triggers.as_slice();
+        let buckets = full_buckets(alloc, rules)?;
+        let lanes = Lanes::make(alloc, rules)?;
+        Ok(Pins {
+            alloc,
+            node,
+            limit: settings.pins,
+            admitted: 0,
+            claims: IndexMap::new(alloc),
+            buckets,
+            lanes,
+            abandoned: IndexSet::new(alloc),
+        })
+    }
+
+    /// Takes a trigger of a declared id at a moment in microseconds, and answers whether it is admitted.
+    pub fn admit(&mut self, trigger: TriggerId, moment: u64) -> Admitted
+        requires declared { IsSome (bucket_in self.old.buckets trigger) }
+        requires few { self.old.admitted < 4294967295 }
+        ensures attempt { Attempts self.old.buckets self.new.buckets trigger moment self.old.admitted result }
+        ensures admitted { self.new.admitted ≡ admitted_after self.old.admitted result }
+        ensures kept { self.new ≡ record self.old { buckets = self.new.buckets; admitted = self.new.admitted } }
+    {
+        match attempt(&mut self.buckets, trigger, moment) {
+            Attempt::Admitted => {
+                let number = self.admitted;
+                self.admitted += 1;
+                Admitted::Admitted { number }
+            }
+            Attempt::Limited { level } => Admitted::Limited { level },
+        }
+    }
+
+    /// The group that claimed a trace, or `None` where the trace is not claimed here.
+    pub fn owner(&self, trace: TraceId) -> Option<Group>
+        ensures { result ≡ option_map (λ claim. claim.group) (claim_in self.now.claims trace) }
+    {
+        match self.claims.get(&trace) {
+            Some(claim) => Some(claim.group),
+            None => None,
+        }
+    }
+
+    /// Claims a trace for a group, with what was indexed of it. For want of memory all comes back, and
+    /// nothing changes.
+    pub fn claim(
+        &mut self,
+        group: Group,
+        laterals: Laterals,
+        trace: TraceId,
+        taken: Taken2<L>,
+    ) -> Result<(), Taken2<L>>
+        requires unclaimed { claim_in self.old.claims trace ≡ None }
+        requires declared { has_lane self.old.lanes group.trigger }
+        requires few { total_of self.old.lanes + length taken.held.items < 2 ^ 32 }
+        ensures ok { OnOk result (self.new
+            ≡ claimed self.old group laterals trace (map buffer_of taken.held.items) taken.crumbs) }
+        ensures count { OnOk result (total_of self.new.lanes
+            ≡ total_of self.old.lanes + length taken.held.items) }
+        ensures err { OnErr result (self.new ≡ self.old) }
+        ensures back { IfErr result (λ back. map buffer_of back.held.items ≡ map buffer_of taken.held.items) }
+        ensures crumbs { IfErr result (λ back. back.crumbs ≡ taken.crumbs) }
+    {
+        let Taken2 { held, crumbs } = taken;
+        if self.claims.reserve(1).is_err() {
+            return Err(Taken2 { held, crumbs });
+        }
+        let priority = Priority::of(&group);
+        if let Err(held) = self.lanes.pin(group.trigger, priority, held) {
+            return Err(Taken2 { held, crumbs });
+        }
+        let claim = Claim {
+            group,
+            laterals,
+            crumbs,
+        };
+        note_claim(&mut self.claims, trace, claim);
+        Ok(())
+    }
+
+    /// Takes a chunk of a claimed trace. It comes back exactly where the claiming group was abandoned,
+    /// and else is pinned for the group. For want of memory it comes back as the error, and nothing
+    /// changes.
+    pub fn arrive(&mut self, held: Held<L>) -> Result<Option<Held<L>>, Held<L>>
+        requires claimed { IsSome (claim_for self.old.claims (buffer_of held)) }
+        requires few { total_of self.old.lanes + 1 < 2 ^ 32 }
+        ensures { IfSome (claim_for self.old.claims (buffer_of held))
+            (λ claim. Arrives self.old claim (buffer_of held) result self.new) }
+    {
+        let group = claiming_group(&self.claims, &held);
+        if self.abandoned.contains(&Mark::of(&group)) {
+            return Ok(Some(held));
+        }
+        let priority = Priority::of(&group);
+        let pinned = self
+            .lanes
+            .pin_one(self.alloc, group.trigger, priority, held);
+        if let Err(back) = pinned {
+            return Err(back);
+        }
+        Ok(None)
+    }
+
+    /// Adds a crumb to the set of its claimed trace, and answers whether the node is new there.
+    pub fn crumb(&mut self, crumb: Crumb) -> bool
+        requires claimed { IsSome (claim_in self.old.claims crumb.trace) }
+        requires node { crumb.node.0 < 16 }
+        ensures adds { AddsCrumb self.old.claims self.new.claims crumb.trace crumb.node.0 result }
+        ensures kept { self.new ≡ record self.old { claims = self.new.claims } }
+    {
+        add_crumb(&mut self.claims, crumb)
+    }
+
+    /// The nodes to which the crumbs of a claimed trace lead.
+    pub fn crumbs(&self, trace: TraceId) -> NodeSet
+        requires { IsSome (claim_in self.now.claims trace) }
+        ensures { IfSome (claim_in self.now.claims trace) (λ claim. result ≡ claim.crumbs) }
+    {
+        match self.claims.get(&trace) {
+            Some(claim) => claim.crumbs,
+            None => unreachable!(),
+        }
+    }
+
+    /// The laterals with which a claimed trace was claimed.
+    pub fn laterals(&self, trace: TraceId) -> Laterals
+        requires { IsSome (claim_in self.now.claims trace) }
+        ensures { IfSome (claim_in self.now.claims trace) (λ claim. result ≡ claim.laterals) }
+    {
+        match self.claims.get(&trace) {
+            Some(claim) => claim.laterals,
+            None => unreachable!(),
+        }
+    }
+
+    /// The used bytes of the next chunk of a trigger id, or `None` where none is pinned for it.
+    pub fn next_cost(&self, trigger: TriggerId) -> Option<u32>
+        ensures { result ≡ option_map (λ next. used_of next.1) (next_of (groups_of self.now.lanes trigger)) }
+    {
+        self.lanes.next_used(trigger)
+    }
+
+    /// Takes the next chunk of a declared trigger id out: the first of the group of greatest priority.
+    /// `None` where none is pinned for the id.
+    pub fn take_next(&mut self, trigger: TriggerId) -> Option<Dropped<L>>
+        requires declared { has_lane self.old.lanes trigger }
+        ensures next { option_map dropped_of result ≡ next_in self.old.lanes trigger }
+        ensures rest { self.new ≡ record self.old { lanes = without_next_in self.old.lanes trigger } }
+    {
+        let (priority, held) = self.lanes.take_next(trigger)?;
+        let group = priority.group(trigger);
+        Some(Dropped { held, group })
+    }
+
+    /// How many chunks are pinned.
+    pub fn chunks(&self) -> u32
+        ensures { result ≡ total_of self.now.lanes }
+    {
+        self.lanes.total()
+    }
+}
+
+fn full_buckets(alloc: Global, rules: &[TriggerRule]) -> Result<BTreeMap<TriggerId, Bucket>, Memory>
+    requires { AreRules rules.now }
+    ensures { IfOk result (λ buckets. buckets.entries ≡ fresh_buckets_of rules.now) }
+{
+    let mut buckets = BTreeMap::new(alloc);
+    for rule in rules {
+        buckets.insert(rule.id, Bucket::make(rule.burst, rule.rate))?;
+    }
+    Ok(buckets)
+}
+
+/// Takes an attempt at the bucket of a trigger id.
+fn attempt(buckets: &mut BTreeMap<TriggerId, Bucket>, trigger: TriggerId, moment: u64) -> Attempt
+    requires { IsSome (bucket_in buckets.old.entries trigger) }
+    ensures { (number : ℕ) → Attempts buckets.old.entries buckets.new.entries trigger moment number (admission number result) }
+{
+    let Some(bucket) = buckets.get_mut(&trigger) else {
+        unreachable!()
+    };
+    bucket.attempt(moment)
+}
+
+/// Notes the claim of a trace that has none.
+fn note_claim(claims: &mut IndexMap<TraceId, Claim>, trace: TraceId, claim: Claim)
+    requires unclaimed { claim_in claims.old.entries trace ≡ None }
+    requires room { 1 ≤ spare claims.old }
+    ensures { claims.new.entries ≡ claims.old.entries ++ (trace, claim) ∷ [] }
+{
+    match claims.insert(trace, claim) {
+        Ok(_) => {}
+        Err(_) => unreachable!(),
+    }
+}
+
+/// The group that claimed a chunk's trace.
+fn claiming_group<L: Token>(claims: &IndexMap<TraceId, Claim>, held: &Held<L>) -> Group
+    requires { IsSome (claim_for claims.now.entries (buffer_of held.now)) }
+    ensures { IfSome (claim_for claims.now.entries (buffer_of held.now)) (λ claim. result ≡ claim.group) }
+{
+    let Some(header) = held.chunk.header() else {
+        unreachable!()
+    };
+    match claims.get(&header.trace) {
+        Some(claim) => claim.group,
+        None => unreachable!(),
+    }
+}
+
+fn add_crumb(claims: &mut IndexMap<TraceId, Claim>, crumb: Crumb) -> bool
+    requires claimed { IsSome (claim_in claims.old.entries crumb.trace) }
+    requires node { crumb.node.0 < 16 }
+    ensures { AddsCrumb claims.old.entries claims.new.entries crumb.trace crumb.node.0 result }
+{
+    let Some(claim) = claims.get_mut(&crumb.trace) else {
+        unreachable!()
+    };
+    let fresh = !claim.crumbs.contains(crumb.node);
+    claim.crumbs = claim.crumbs.with(crumb.node);
+    fresh
+}
