@@ -1,4 +1,3 @@
 pub mod LateralsLemmas
 pub mod NodeSetLemmas
 pub mod RankLemmas
-pub mod TextLemmas

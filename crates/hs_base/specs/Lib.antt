@@ -5,9 +5,3 @@ pub mod NodeSets
 pub mod Ranks
 pub mod Outside
 pub mod InMemory
-pub mod Text
-pub mod Plain
-pub mod Records
-pub mod Pages
-pub mod LineFaults
-pub mod TextLaws

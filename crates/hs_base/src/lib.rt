@@ -10,7 +10,6 @@ mod node_set;
 mod outside;
 mod rank;
 mod settings;
-pub mod text;
 mod told;
 
 pub use ids::{ClientId, Failed, GroupId, Memory, NodeId, Rank, RecordId, TraceId, TriggerId};

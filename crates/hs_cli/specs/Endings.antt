@@ -2,7 +2,7 @@
 -- `left` and `written` are before and after the call.
 use Rattle.std.specs.Prelude.{◌≡◌, ℕ, List, Option, Some}
 use Rattle.hs_base.specs.Outside.{Rose, Gains}
-use Rattle.hs_base.specs.Plain.{PlainWorkload}
+use Rattle.hs_records.specs.Plain.{PlainWorkload}
 use Rattle.hs_workload.specs.declared.refusal.Refusal.{Refusal}
 use Rattle.hs_workload.specs.Validity.{Reads}
 use Rattle.hs_workload.specs.Faults.{first_fault}

@@ -1,7 +1,7 @@
 -- The words that are a command, and the texts that are written in place of an output.
 use Rattle.std.specs.Prelude.{◌≡◌, ℕ, List, [], ◌∷◌, ◌++◌, codes, decimal, refl}
 use Rattle.std.specs.Fmt.{digits}
-use Rattle.hs_base.specs.Text.{line_of, text_of}
+use Rattle.hs_text.specs.Text.{line_of, text_of}
 use Rattle.hs_workload.specs.declared.refusal.Reason.{Reason}
 use Rattle.hs_workload.specs.declared.refusal.Reason.TheVariants.{Truncated, Byte, Spaces, Word, Count, Number, Hex, Range, Order, Unknown, Open, NoTrace, StillOpen, TooMany}
 

@@ -2,7 +2,7 @@
 
 ghost use Rattle.std.specs.Prelude.{◌≡◌, ◌<◌, ◌≤◌, ◌⊎◌, ℕ, List, map, length, string_bytes, Some, ◌↔◌, IsTrue};
 ghost use Rattle.hs_base.specs.Outside.{Rose, Gains};
-ghost use Rattle.hs_base.specs.Plain.{PlainWorkload};
+ghost use Rattle.hs_records.specs.Plain.{PlainWorkload};
 ghost use Rattle.hs_workload.specs.Validity.{Reads};
 ghost use Rattle.hs_cli.specs.Input.{input_limit};
 ghost use Rattle.hs_cli.specs.Messages.{IsCommand, usage_text, too_long_text};

@@ -1,8 +1,8 @@
 -- Runs of pieces as they grow, and that they are the longest runs.
 use Rattle.std.proofs.Common.{◌≡◌, ℕ, zero, suc, ◌+◌, ◌-◌, ◌<◌, ◌≤◌, Bool, true, false, nat_le, List, [], ◌∷◌, ◌++◌, length, take, drop, map, refl, sym, ap, ap₂, ◌∙◌, subst, arith, length-append, append_assoc}
 use Rattle.std.proofs.lemmas.Bool.{le-leb, leb-true}
-use Rattle.hs_base.specs.Records.{Piece}
-use Rattle.hs_base.specs.Pages.{longest_run, cost_of, page_room, fits, runs_within, runs_of}
+use Rattle.hs_records.specs.Records.{Piece}
+use Rattle.hs_records.specs.Pages.{longest_run, cost_of, page_room, fits, runs_within, runs_of}
 
 abbrev pub costs : List Piece → ℕ
 costs [] = 0

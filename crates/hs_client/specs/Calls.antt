@@ -6,8 +6,8 @@ use Rattle.std.specs.Option.{option_to_list}
 use Rattle.std.specs.List.{flat_map}
 use Rattle.hs_base.specs.declared.ids.TraceId.{TraceId}
 use Rattle.hs_base.specs.declared.ids.ClientId.{ClientId}
-use Rattle.hs_base.specs.Records.{Piece, Segment}
-use Rattle.hs_base.specs.Pages.{PlainPage, segment_pages, first_record}
+use Rattle.hs_records.specs.Records.{Piece, Segment}
+use Rattle.hs_records.specs.Pages.{PlainPage, segment_pages, first_record}
 use Rattle.hs_journal.specs.declared.journal.Draw.{Draw}
 use Rattle.hs_journal.specs.declared.books.PageNote.{PageNote}
 use Rattle.hs_words.specs.Pages.{Sheet}

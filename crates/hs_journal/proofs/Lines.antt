@@ -4,9 +4,9 @@ use Rattle.std.specs.Prelude.{decimal, option_and_then, option_map, if◌then◌
 use Rattle.std.specs.List.{find, list_all, AllByRecursion}
 use Rattle.std.specs.Str.{bytes_eq}
 use Rattle.std.proofs.lemmas.Slice.Eq.{bytes_eq-Decides}
-use Rattle.hs_base.specs.Text.{words_of, line_of, number_of, has_bad_byte, has_bad_spaces}
-use Rattle.hs_base.specs.declared.text.reading.LineFault.TheVariants as line_faults
-use Rattle.hs_base.specs.TextLaws.{is_word, number_of-decimal, decimal-number_of, is_word-decimal, words_of-line_of, line_of-words_of, line_fault_of-line_of}
+use Rattle.hs_text.specs.Text.{words_of, line_of, number_of, has_bad_byte, has_bad_spaces}
+use Rattle.hs_text.specs.declared.reading.LineFault.TheVariants as line_faults
+use Rattle.hs_text.specs.TextLaws.{is_word, number_of-decimal, decimal-number_of, is_word-decimal, words_of-line_of, line_of-words_of, line_fault_of-line_of}
 use Rattle.hs_journal.specs.declared.refusal.JournalReason.{JournalReason}
 use Rattle.hs_journal.specs.declared.refusal.JournalReason.TheVariants as reasons
 use Rattle.hs_journal.specs.declared.word.Keyword.{Keyword}

@@ -2,7 +2,7 @@
 use Rattle.std.proofs.Common.{◌≡◌, ℕ, ◌+◌, ◌≤◌, ◌<◌, suc, List, [], ◌∷◌, ◌++◌, length, map, drop, drop-cons, add-one, get_or, refl, sym, ap, ◌∙◌, append_assoc}
 use Rattle.std.proofs.lemmas.List.{append-nil, drop_all}
 use Rattle.std.specs.Prelude.{decimal}
-use Rattle.hs_base.specs.Text.{line_of}
+use Rattle.hs_text.specs.Text.{line_of}
 use Rattle.hs_journal.specs.Statements.{Statement, statement_line}
 use Rattle.hs_journal.specs.Grammar.{statements_text, head_statement, coordinator_statement, end_statement}
 

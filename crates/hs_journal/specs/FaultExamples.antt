@@ -1,6 +1,6 @@
 -- Worked examples of the faults of texts and of lines after the lines before them.
 use Rattle.std.specs.Prelude.{◌≡◌, ℕ, List, [], ◌∷◌, ◌++◌, take, codes, Some, None, refl}
-use Rattle.hs_base.specs.Text.{text_of}
+use Rattle.hs_text.specs.Text.{text_of}
 use Rattle.hs_journal.specs.declared.refusal.JournalReason.TheVariants as reasons
 use Rattle.hs_journal.specs.Statements.{keyword_of}
 use Rattle.hs_journal.specs.Grammar.{second_draw_empty_lines}

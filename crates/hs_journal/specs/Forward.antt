@@ -2,7 +2,7 @@
 -- own functions are stated by these. That they agree with the look back over the earlier lines is proved apart.
 use Rattle.std.specs.Prelude.{◌≡◌, ℕ, ◌==◌, ◌<◌, ◌≤◌, Bool, true, false, not, List, [], ◌∷◌, ◌++◌, length, map, drop, Option, Some, None, Result, Ok, Err, ⊤, codes, refl}
 use Rattle.std.specs.Borrow.{Bor}
-use Rattle.hs_base.specs.Text.{words_of, has_bad_byte, has_bad_spaces, number_of}
+use Rattle.hs_text.specs.Text.{words_of, has_bad_byte, has_bad_spaces, number_of}
 use Rattle.hs_base.specs.declared.ids.NodeId.{NodeId}
 use Rattle.hs_journal.specs.declared.journal.Draw.{Draw}
 use Rattle.hs_journal.specs.declared.journal.Draw.TheVariants as draws

@@ -1,12 +1,12 @@
 //! The numbers of lines.
 
 ghost use Rattle.std.specs.Prelude.{◌≡◌, ◌∷◌, [], IfSome};
-ghost use Rattle.hs_base.specs.Text.{words_of, number_of};
+ghost use Rattle.hs_text.specs.Text.{words_of, number_of};
 ghost use Rattle.hs_journal.specs.Forward.{Gives, words_behind, words_left, next_number, three_numbers};
 
 use crate::refusal::JournalReason;
 use crate::stop::Stop;
-use hs_base::text::{number, split_word};
+use hs_text::{number, split_word};
 
 /// The numbers behind the first word of a line, with 0 in the place of one that it does not have.
 #[derive(Clone, Copy, Debug, PartialEq, Eq)]

@@ -13,7 +13,7 @@ use crate::place::Place;
 use crate::refusal::JournalReason;
 use crate::stop::Stop;
 use crate::word::{Keyword, keyword_in};
-use hs_base::text::{LineFault, count_words, line_fault, split_word};
+use hs_text::{LineFault, count_words, line_fault, split_word};
 use hs_base::{List, Memory, NodeId};
 use std::alloc::Global;
 

@@ -10,7 +10,7 @@ use crate::journal::Journal;
 use crate::reader::Reader;
 use crate::refusal::{JournalError, JournalReason, JournalRefusal};
 use crate::stop::Stop;
-use hs_base::text::split_line;
+use hs_text::split_line;
 use std::alloc::Global;
 
 /// The refusal of a line, from 1.

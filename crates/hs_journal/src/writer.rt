@@ -7,7 +7,7 @@ ghost use Rattle.hs_journal.specs.Grammar.{IsJournal, draw_statements, log_state
 
 use crate::journal::{Draw, Journal, Step};
 use crate::word::Keyword;
-use hs_base::text::push_number;
+use hs_text::push_number;
 use hs_base::{Bytes, List, Memory, NodeId};
 use std::alloc::Global;
 

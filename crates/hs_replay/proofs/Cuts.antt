@@ -4,7 +4,7 @@ use Rattle.std.proofs.Math.Nat.{add-div_right, mul-zero}
 use Rattle.std.proofs.lemmas.Nat.{div_below, le-div}
 use Rattle.std.proofs.lemmas.List.{drop-drop, take_all}
 use Rattle.std.specs.List.{range_with_len}
-use Rattle.hs_base.specs.Records.{Piece, Segment, piece_limit, piece_count, record_pieces}
+use Rattle.hs_records.specs.Records.{Piece, Segment, piece_limit, piece_count, record_pieces}
 use Rattle.hs_replay.specs.declared.seat.Seat.{Seat}
 use Rattle.hs_replay.specs.Seats.{IsSound, Goes, Plan, IsPlaying, PlaysPieces}
 use Rattle.hs_replay.proofs.Playing.{piece_of}

@@ -6,9 +6,9 @@ use Rattle.std.specs.List.{flat_map}
 use Rattle.hs_base.specs.declared.ids.ClientId.{ClientId}
 use Rattle.hs_base.specs.declared.ids.TraceId.{TraceId}
 use Rattle.hs_base.specs.declared.told.Fate.TheVariants.{Live}
-use Rattle.hs_base.specs.Plain.{Operation}
-use Rattle.hs_base.specs.Records.{segments_of}
-use Rattle.hs_base.specs.Pages.{PlainPage, segment_pages, pages_of}
+use Rattle.hs_records.specs.Plain.{Operation}
+use Rattle.hs_records.specs.Records.{segments_of}
+use Rattle.hs_records.specs.Pages.{PlainPage, segment_pages, pages_of}
 use Rattle.hs_journal.specs.declared.books.Standing.{Standing}
 use Rattle.hs_journal.specs.declared.books.ClientBook.{ClientBook}
 use Rattle.hs_journal.specs.declared.books.AgentBook.{AgentBook}

@@ -2,7 +2,7 @@
 use Rattle.std.proofs.Common.{◌≡◌, ℕ, ◌≤◌, false, List, [], ◌∷◌, map, slice_get, Some, refl, sym, ap, ◌∙◌, subst, arith}
 use Rattle.std.specs.List.{AllByRecursion}
 use Rattle.hs_base.specs.Listing.{Listing}
-use Rattle.hs_base.specs.Plain.{Operation}
+use Rattle.hs_records.specs.Plain.{Operation}
 use Rattle.hs_journal.specs.declared.books.ClientBook.{ClientBook}
 use Rattle.hs_journal.specs.declared.books.AgentBook.{AgentBook}
 use Rattle.hs_ledger.specs.Books.{BooksFit}

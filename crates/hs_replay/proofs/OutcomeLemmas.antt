@@ -1,6 +1,6 @@
 -- Words behind words.
 use Rattle.std.proofs.Common.{◌≡◌, ℕ, List, [], ◌∷◌, ◌++◌, decimal, codes, refl, sym, ap, ◌∙◌, append_assoc, append-nil}
-use Rattle.hs_base.specs.Text.{line_of}
+use Rattle.hs_text.specs.Text.{line_of}
 use Rattle.hs_ledger.specs.declared.ledger.Entry.{Entry}
 use Rattle.hs_ledger.specs.declared.ledger.Totals.{Totals}
 use Rattle.hs_replay.specs.OutcomeText.{spaced, trace_word, fate_words, entry_line, total_line}

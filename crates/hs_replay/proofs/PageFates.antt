@@ -7,8 +7,8 @@ use Rattle.std.specs.List.{AllByRecursion, find, list_any, position_from, range_
 use Rattle.hs_base.specs.declared.ids.TraceId.{TraceId}
 use Rattle.hs_base.specs.declared.told.Fate.{Fate}
 use Rattle.hs_base.specs.declared.told.Fate.TheVariants.{Null, Live}
-use Rattle.hs_base.specs.Records.{Record, Piece}
-use Rattle.hs_base.specs.Pages.{PlainPage, first_record}
+use Rattle.hs_records.specs.Records.{Record, Piece}
+use Rattle.hs_records.specs.Pages.{PlainPage, first_record}
 use Rattle.hs_journal.specs.declared.books.PageNote.{PageNote}
 use Rattle.hs_client.specs.Calls.{note_of}
 use Rattle.hs_ledger.specs.declared.ledger.Entry.{Entry}

@@ -5,9 +5,9 @@ use Rattle.std.proofs.lemmas.Bool.{le-leb, leb-true}
 use Rattle.std.proofs.lemmas.List.{map-append}
 use Rattle.std.specs.List.{AllByRecursion}
 use Rattle.hs_base.specs.declared.ids.TraceId.{TraceId}
-use Rattle.hs_base.specs.Plain.{Operation, Begin, Point, Crumb, End, Fire, Sample}
-use Rattle.hs_base.specs.Records.{Record, Piece, records_in, records_of, pieces_until_end, segments_from}
-use Rattle.hs_base.specs.Pages.{PlainPage, first_record, longest_run, cost_of, page_room, runs_within, segment_pages}
+use Rattle.hs_records.specs.Plain.{Operation, Begin, Point, Crumb, End, Fire, Sample}
+use Rattle.hs_records.specs.Records.{Record, Piece, records_in, records_of, pieces_until_end, segments_from}
+use Rattle.hs_records.specs.Pages.{PlainPage, first_record, longest_run, cost_of, page_room, runs_within, segment_pages}
 use Rattle.hs_journal.specs.declared.books.PageNote.{PageNote}
 use Rattle.hs_workload.specs.Validity.{AreBracketed}
 use Rattle.hs_client.specs.Calls.{note_of}

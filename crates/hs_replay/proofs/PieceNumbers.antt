@@ -3,9 +3,9 @@
 use Rattle.std.proofs.Common.{◌≡◌, ◌⊎◌, ℕ, zero, suc, ◌+◌, ◌-◌, ◌*◌, ◌/◌, ◌%◌, ◌<◌, ◌≤◌, max, min, true, List, [], ◌∷◌, ◌++◌, map, length, take, drop, Option, Some, option_map, refl, sym, ap, ◌∙◌, subst, arith, length-take, length-drop, mul_comm, div-add-mod', mod-lt, true≢false, inl, inr}
 use Rattle.std.specs.List.{AllByRecursion, range_with_len, slice_get}
 use Rattle.hs_base.specs.declared.ids.TraceId.{TraceId}
-use Rattle.hs_base.specs.Plain.{Operation, Begin, Point, Crumb, End, Fire, Sample}
-use Rattle.hs_base.specs.Records.{Record, Piece, records_in, piece_limit, piece_count, record_pieces, pieces_until_end}
-use Rattle.hs_base.specs.Pages.{cost_of, page_room}
+use Rattle.hs_records.specs.Plain.{Operation, Begin, Point, Crumb, End, Fire, Sample}
+use Rattle.hs_records.specs.Records.{Record, Piece, records_in, piece_limit, piece_count, record_pieces, pieces_until_end}
+use Rattle.hs_records.specs.Pages.{cost_of, page_room}
 use Rattle.hs_workload.specs.Validity.{AreBracketed}
 
 -- a piece has the next number, or that of the one before it, which fills a page

@@ -7,9 +7,9 @@ use Rattle.std.specs.List.{AllByRecursion, find, slice_get}
 use Rattle.hs_base.specs.declared.ids.TraceId.{TraceId}
 use Rattle.hs_base.specs.declared.ids.ClientId.{ClientId}
 use Rattle.hs_base.specs.declared.told.Fate.TheVariants.{Live}
-use Rattle.hs_base.specs.Plain.{Operation, Begin, Point, Crumb, End, Fire, Sample}
-use Rattle.hs_base.specs.Records.{Record, records_in, records_of}
-use Rattle.hs_base.specs.Pages.{PlainPage, pages_of}
+use Rattle.hs_records.specs.Plain.{Operation, Begin, Point, Crumb, End, Fire, Sample}
+use Rattle.hs_records.specs.Records.{Record, records_in, records_of}
+use Rattle.hs_records.specs.Pages.{PlainPage, pages_of}
 use Rattle.hs_journal.specs.declared.journal.Draw.{Draw}
 use Rattle.hs_journal.specs.declared.journal.Draw.TheVariants.{Got}
 use Rattle.hs_journal.specs.declared.books.PageNote.{PageNote}

@@ -3,8 +3,8 @@ use Rattle.std.proofs.Common.{◌≡◌, ℕ, zero, suc, ◌+◌, ◌-◌, ◌<�
 use Rattle.std.specs.Option.{option_to_list}
 use Rattle.std.proofs.lemmas.List.FromFn.{length-map-range_with_len}
 use Rattle.std.specs.List.{range_with_len, AllByRecursion}
-use Rattle.hs_base.specs.Plain.{Operation}
-use Rattle.hs_base.specs.Records.{segments_from, segments_of}
+use Rattle.hs_records.specs.Plain.{Operation}
+use Rattle.hs_records.specs.Records.{segments_from, segments_of}
 use Rattle.hs_words.specs.Chunks.{Contents, clear_chunk, clear_chunks}
 use Rattle.hs_workload.specs.Validity.{AreBracketed, client_pieces}
 use Rattle.hs_client.specs.Core.{Core, new_core, handed, buffer_of}

@@ -6,9 +6,9 @@ use Rattle.std.specs.List.{list_any, position_from}
 use Rattle.hs_base.specs.declared.ids.TraceId.{TraceId}
 use Rattle.hs_base.specs.declared.told.Fate.{Fate}
 use Rattle.hs_base.specs.declared.told.Fate.TheVariants.{Null, Live}
-use Rattle.hs_base.specs.Plain.{Operation, Begin, Point, End, PlainWorkload}
-use Rattle.hs_base.specs.Records.{Record, records_of}
-use Rattle.hs_base.specs.Pages.{PlainPage, pages_of}
+use Rattle.hs_records.specs.Plain.{Operation, Begin, Point, End, PlainWorkload}
+use Rattle.hs_records.specs.Records.{Record, records_of}
+use Rattle.hs_records.specs.Pages.{PlainPage, pages_of}
 use Rattle.hs_ledger.specs.declared.ledger.Entry.{Entry}
 
 -- whether a page has a piece of the record of this number

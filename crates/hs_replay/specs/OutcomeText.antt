@@ -5,8 +5,8 @@ use Rattle.std.specs.Fmt.{digits}
 use Rattle.hs_base.specs.declared.ids.TraceId.{TraceId}
 use Rattle.hs_base.specs.declared.told.Fate.{Fate}
 use Rattle.hs_base.specs.declared.told.Fate.TheVariants.{Null, Live, Reported, Evicted, Abandoned}
-use Rattle.hs_base.specs.Plain.{Operation, Begin, Point, End, PlainWorkload}
-use Rattle.hs_base.specs.Text.{line_of, text_of, hex_text, trace_digits}
+use Rattle.hs_records.specs.Plain.{Operation, Begin, Point, End, PlainWorkload}
+use Rattle.hs_text.specs.Text.{line_of, text_of, hex_text, trace_digits}
 use Rattle.hs_ledger.specs.declared.ledger.Entry.{Entry}
 use Rattle.hs_ledger.specs.declared.ledger.Totals.{Totals}
 use Rattle.hs_replay.specs.Fates.{entries_of}

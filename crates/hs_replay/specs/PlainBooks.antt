@@ -3,8 +3,8 @@
 use Rattle.std.specs.Prelude.{◌≡◌, ℕ, zero, suc, ◌+◌, nat_lt, List, [], ◌∷◌, length, map, if◌then◌else◌, refl}
 use Rattle.hs_base.specs.declared.ids.ClientId.{ClientId}
 use Rattle.hs_base.specs.declared.told.Fate.TheVariants.{Live}
-use Rattle.hs_base.specs.Plain.{Operation}
-use Rattle.hs_base.specs.Pages.{pages_of}
+use Rattle.hs_records.specs.Plain.{Operation}
+use Rattle.hs_records.specs.Pages.{pages_of}
 use Rattle.hs_journal.specs.declared.journal.Draw.{Draw}
 use Rattle.hs_journal.specs.declared.journal.Draw.TheVariants.{Got, Empty}
 use Rattle.hs_journal.specs.declared.books.Standing.{Standing}

@@ -6,8 +6,8 @@ use Rattle.std.specs.Option.{option_to_list}
 use Rattle.std.specs.List.{flat_map, range_with_len}
 use Rattle.hs_base.specs.declared.ids.TraceId.{TraceId}
 use Rattle.hs_base.specs.declared.told.Fate.TheVariants.{Live}
-use Rattle.hs_base.specs.Plain.{Operation, Begin, Point, End}
-use Rattle.hs_base.specs.Records.{Piece, Segment, pieces_until_end, segments_from, segments_of}
+use Rattle.hs_records.specs.Plain.{Operation, Begin, Point, End}
+use Rattle.hs_records.specs.Records.{Piece, Segment, pieces_until_end, segments_from, segments_of}
 use Rattle.hs_journal.specs.declared.books.Standing.{Standing}
 use Rattle.hs_journal.specs.declared.books.ClientBook.{ClientBook}
 use Rattle.hs_journal.specs.declared.books.AgentBook.{AgentBook}

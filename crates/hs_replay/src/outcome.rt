@@ -1,11 +1,11 @@
 //! The text of an outcome.
 
 ghost use Rattle.std.specs.Prelude.{◌≡◌, [], ◌∷◌, ◌++◌, decimal, map, IfOk, OnOk};
-ghost use Rattle.hs_base.specs.Text.{text_of, hex_text};
+ghost use Rattle.hs_text.specs.Text.{text_of, hex_text};
 ghost use Rattle.hs_replay.specs.OutcomeText.{spaced, trace_word, fate_words, entry_line, total_line, ledger_text};
 
 use crate::one_client::Outcome;
-use hs_base::text::{push_hex, push_number};
+use hs_text::{push_hex, push_number};
 use hs_base::{Bytes, Fate, Memory, RecordId, TraceId, TriggerId};
 use hs_ledger::{Entry, Ledger, Totals};
 use std::alloc::Global;

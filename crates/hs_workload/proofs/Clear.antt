@@ -1,11 +1,11 @@
 -- A line has no fault exactly where it spells something that is allowed after the lines before it.
 use Rattle.std.proofs.Common.{◌≡◌, ℕ, Bool, true, false, cond, not, List, [], ◌∷◌, Option, Some, None, Result, Ok, Err, refl, sym, ap, subst, ◌∙◌}
 use Rattle.std.specs.Prelude.{IfSome, option_and_then}
-use Rattle.hs_base.specs.Text.{words_of, line_of, has_bad_byte, has_bad_spaces, trace_digits}
-use Rattle.hs_base.specs.Plain.{Begin, Point, Crumb, End, Fire, Sample}
-use Rattle.hs_base.specs.TextLaws.{number_of-decimal, hex_of-hex_text, payload_of-payload_text, line_of-words_of, words_of-line_of, line_fault_of-line_of}
-use Rattle.hs_base.specs.LineFaults.{line_fault_of}
-use Rattle.hs_base.specs.declared.text.reading.LineFault.TheVariants as faults
+use Rattle.hs_text.specs.Text.{words_of, line_of, has_bad_byte, has_bad_spaces, trace_digits}
+use Rattle.hs_records.specs.Plain.{Begin, Point, Crumb, End, Fire, Sample}
+use Rattle.hs_text.specs.TextLaws.{number_of-decimal, hex_of-hex_text, payload_of-payload_text, line_of-words_of, words_of-line_of, line_fault_of-line_of}
+use Rattle.hs_text.specs.LineFaults.{line_fault_of}
+use Rattle.hs_text.specs.declared.reading.LineFault.TheVariants as faults
 use Rattle.hs_workload.specs.declared.refusal.Reason.{Reason}
 use Rattle.hs_workload.specs.declared.word.Keyword.{Keyword}
 use Rattle.hs_workload.specs.Statements.{Statement, Put, Start, Operate, Finish, keyword_text, keyword_of, says, words_say, statement_of, statement_words, statement_line}

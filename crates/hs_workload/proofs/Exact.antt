@@ -3,9 +3,9 @@
 use Rattle.std.proofs.Common.{◌≡◌, ℕ, suc, ◌+◌, Bool, true, false, not, ◌||◌, nat_lt, nat_eq, List, [], ◌∷◌, length, Option, Some, None, Result, Ok, Err, refl, ap, arith}
 use Rattle.std.specs.Prelude.{is_none, option_map, option_and_then}
 use borrow.Author.Tests.{ne_eqb}
-use Rattle.hs_base.specs.Text.{words_of, has_bad_byte, has_bad_spaces, number_of, hex_of, trace_digits, payload_of}
-use Rattle.hs_base.specs.Records.{piece_count}
-use Rattle.hs_base.specs.Plain.{Begin, Point, End}
+use Rattle.hs_text.specs.Text.{words_of, has_bad_byte, has_bad_spaces, number_of, hex_of, trace_digits, payload_of}
+use Rattle.hs_records.specs.Records.{piece_count}
+use Rattle.hs_records.specs.Plain.{Begin, Point, End}
 use Rattle.hs_workload.specs.declared.refusal.Reason.{Reason}
 use Rattle.hs_workload.specs.declared.refusal.Reason.TheVariants as reasons
 use Rattle.hs_workload.specs.declared.word.Setting.{Setting}

@@ -8,8 +8,8 @@ use Rattle.std.proofs.lemmas.List.{append_cancel_right}
 use Rattle.std.proofs.lemmas.List.Elements.{All-cons, All-nil}
 use Rattle.std.proofs.lemmas.List.Splits.{join_with_byte-slice_split}
 use Rattle.std.proofs.lemmas.Bool.{and_parts}
-use Rattle.hs_base.specs.Text.{text_of, has_bad_byte}
-use Rattle.hs_base.specs.Plain.{PlainWorkload}
+use Rattle.hs_text.specs.Text.{text_of, has_bad_byte}
+use Rattle.hs_records.specs.Plain.{PlainWorkload}
 use Rattle.hs_workload.specs.declared.refusal.Reason.{Reason}
 use Rattle.hs_workload.specs.declared.refusal.Reason.TheVariants as reasons
 use Rattle.hs_workload.specs.declared.refusal.Refusal.{Refusal}

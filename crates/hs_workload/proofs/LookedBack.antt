@@ -1,6 +1,6 @@
 -- Looking back over one line more is going one line forward.
 use Rattle.std.proofs.Common.{◌≡◌, List, ◌∷◌, refl}
-use Rattle.hs_base.specs.Plain.{Begin, Point, Crumb, End, Fire, Sample}
+use Rattle.hs_records.specs.Plain.{Begin, Point, Crumb, End, Fire, Sample}
 use Rattle.hs_workload.specs.declared.word.Setting.TheVariants as settings
 use Rattle.hs_workload.specs.Statements.{Statement, Put, Start, Operate, Finish}
 use Rattle.hs_workload.specs.LookBack.{draft_said}

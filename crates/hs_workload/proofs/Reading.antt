@@ -3,8 +3,8 @@ use Rattle.std.proofs.Common.{◌≡◌, ◌≢◌, ℕ, ◌+◌, ◌&&◌, nat_
 use Rattle.std.specs.Prelude.{IfOk, IfErr, MatchResult}
 use Rattle.std.specs.List.{All}
 use Rattle.std.proofs.lemmas.Bool.{and_parts}
-use Rattle.hs_base.specs.Text.{text_of}
-use Rattle.hs_base.specs.Plain.{PlainWorkload}
+use Rattle.hs_text.specs.Text.{text_of}
+use Rattle.hs_records.specs.Plain.{PlainWorkload}
 use Rattle.hs_workload.specs.declared.refusal.ReadError.{ReadError}
 use Rattle.hs_workload.specs.declared.refusal.ReadError.TheVariants as errors
 use Rattle.hs_workload.specs.declared.stop.Stop.{Stop}

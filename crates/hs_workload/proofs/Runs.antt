@@ -1,6 +1,6 @@
 -- Statements in the order of their lines, each allowed after those before it.
 use Rattle.std.proofs.Common.{◌≡◌, ℕ, ◌+◌, Bool, List, [], ◌∷◌, ◌++◌, length, map, refl, sym, ap, subst, ◌∙◌, append_assoc, append-nil, arith}
-use Rattle.hs_base.specs.Plain.{Operation}
+use Rattle.hs_records.specs.Plain.{Operation}
 use Rattle.hs_workload.specs.Statements.{Statement, Operate, statement_line}
 use Rattle.hs_workload.specs.LookBack.{Draft, draft_said}
 use Rattle.hs_workload.specs.Validity.{client_pieces}

@@ -1,7 +1,7 @@
 -- Allowed statements that end with `done` are those of a workload.
 use Rattle.std.proofs.Common.{◌≡◌, ℕ, zero, suc, ◌+◌, ◌/◌, ◌%◌, ◌≤◌, Bool, true, false, not, nat_eq, List, [], ◌∷◌, ◌++◌, map, refl, sym, ap, subst, ◌∙◌, append_assoc, drop, arith}
 use borrow.Author.Tests.{eqb-true}
-use Rattle.hs_base.specs.Plain.{Operation, PlainWorkload}
+use Rattle.hs_records.specs.Plain.{Operation, PlainWorkload}
 use Rattle.hs_workload.specs.declared.word.Setting.{Setting}
 use Rattle.hs_workload.specs.declared.word.Setting.TheVariants as settings
 use Rattle.hs_workload.specs.Statements.{Statement, Put, Start, Operate, Finish, setting_line}

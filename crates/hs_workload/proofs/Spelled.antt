@@ -4,9 +4,9 @@ use Rattle.std.specs.Prelude.{IfSome, option_map, option_and_then, decimal, ⊤}
 use Rattle.std.specs.List.{All, find, list_all}
 use Rattle.std.specs.Str.{bytes_eq}
 use Rattle.std.proofs.lemmas.Slice.Eq.{bytes_eq-Decides}
-use Rattle.hs_base.specs.Text.{number_of, hex_of, trace_digits, payload_of, payload_text}
-use Rattle.hs_base.specs.TextLaws.{is_word, number_of-decimal, decimal-number_of, hex_of-hex_text, hex_text-hex_of, payload_of-payload_text, payload_text-payload_of, is_word-decimal, is_word-hex_text, is_word-payload_text}
-use Rattle.hs_base.specs.Plain.{Operation, Begin, Point, Crumb, End, Fire, Sample}
+use Rattle.hs_text.specs.Text.{number_of, hex_of, trace_digits, payload_of, payload_text}
+use Rattle.hs_text.specs.TextLaws.{is_word, number_of-decimal, decimal-number_of, hex_of-hex_text, hex_text-hex_of, payload_of-payload_text, payload_text-payload_of, is_word-decimal, is_word-hex_text, is_word-payload_text}
+use Rattle.hs_records.specs.Plain.{Operation, Begin, Point, Crumb, End, Fire, Sample}
 use Rattle.hs_workload.specs.declared.word.Setting.{Setting}
 use Rattle.hs_workload.specs.declared.word.Setting.TheVariants as settings
 use Rattle.hs_workload.specs.declared.word.Keyword.{Keyword}

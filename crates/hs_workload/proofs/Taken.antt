@@ -5,7 +5,7 @@ use Rattle.std.specs.Prelude.{option_map}
 use Rattle.std.specs.Option.{option_or}
 use Rattle.std.specs.List.{All, cons_option}
 use Rattle.std.proofs.lemmas.List.Splits.{slice_split_at, slice_split_none}
-use Rattle.hs_base.specs.Text.{text_of}
+use Rattle.hs_text.specs.Text.{text_of}
 use Rattle.hs_workload.specs.declared.refusal.Reason.{Reason}
 use Rattle.hs_workload.specs.declared.refusal.Reason.TheVariants as reasons
 use Rattle.hs_workload.specs.declared.refusal.Refusal.{Refusal}

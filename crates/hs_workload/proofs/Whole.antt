@@ -2,8 +2,8 @@
 -- other workload.
 use Rattle.std.proofs.Common.{◌≡◌, ℕ, ◌+◌, Bool, true, cond, nat_eq, List, [], ◌∷◌, ◌++◌, map, refl, sym, ap, subst, ◌∙◌, append_assoc, append-nil, arith}
 use borrow.Author.Tests.{ne_eqb}
-use Rattle.hs_base.specs.Text.{text_of}
-use Rattle.hs_base.specs.Plain.{Operation, PlainWorkload}
+use Rattle.hs_text.specs.Text.{text_of}
+use Rattle.hs_records.specs.Plain.{Operation, PlainWorkload}
 use Rattle.hs_workload.specs.Statements.{Statement, Put, Start, Operate, Finish, statement_line}
 use Rattle.hs_workload.specs.Grammar.{client_statements, workload_statements, workload_lines}
 use Rattle.hs_workload.specs.Validity.{IsValid, Reads}

@@ -1,7 +1,7 @@
 -- A line has at least one word.
 use Rattle.std.proofs.Common.{◌≡◌, ℕ, Bool, true, false, cond, eqb, List, [], ◌∷◌, Err, refl, ap}
 use Rattle.std.specs.List.{slice_split, onto_first}
-use Rattle.hs_base.specs.Text.{words_of}
+use Rattle.hs_text.specs.Text.{words_of}
 use Rattle.hs_workload.specs.declared.refusal.Reason.TheVariants as reasons
 use Rattle.hs_workload.specs.Forward.{no_word, only_word, both_words}
 

@@ -3,8 +3,8 @@
 use Rattle.std.specs.Prelude.{◌≡◌, ℕ, ◌+◌, ◌*◌, ◌/◌, ◌%◌, ◌==◌, nat_lt, nat_le, Bool, true, false, not, ◌&&◌, ◌||◌, List, [], ◌∷◌, ◌++◌, length, codes, Option, Some, None, is_none, option_map, reverse, take, if◌then◌else◌, replicate, refl}
 use Rattle.std.specs.List.{list_any, zip, slice_split}
 use Rattle.std.specs.Option.{option_or}
-use Rattle.hs_base.specs.Text.{words_of, has_bad_byte, has_bad_spaces, number_of, hex_of, trace_digits, payload_of, text_of}
-use Rattle.hs_base.specs.Plain.{Begin, Point, Crumb, End, Fire, Sample}
+use Rattle.hs_text.specs.Text.{words_of, has_bad_byte, has_bad_spaces, number_of, hex_of, trace_digits, payload_of, text_of}
+use Rattle.hs_records.specs.Plain.{Begin, Point, Crumb, End, Fire, Sample}
 use Rattle.hs_workload.specs.declared.refusal.Reason.{Reason}
 use Rattle.hs_workload.specs.declared.refusal.Reason.TheVariants as reasons
 use Rattle.hs_workload.specs.declared.refusal.Refusal.{Refusal}

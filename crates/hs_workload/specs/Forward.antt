@@ -1,9 +1,9 @@
 -- A line at a time, forward: what is read so far, and what the next line makes of it or why it is refused. The reader's
 -- own functions are stated by these. That they agree with the look back over the earlier lines is proved apart.
 use Rattle.std.specs.Prelude.{◌≡◌, ℕ, ◌+◌, ◌==◌, ◌<◌, ◌≤◌, nat_lt, Bool, true, false, not, List, [], ◌∷◌, ◌++◌, length, map, drop, Option, Some, None, Result, Ok, Err, if◌then◌else◌}
-use Rattle.hs_base.specs.Text.{words_of, has_bad_byte, has_bad_spaces, number_of, hex_of, trace_digits, payload_of}
-use Rattle.hs_base.specs.Records.{piece_count}
-use Rattle.hs_base.specs.Plain.{Operation, Begin, Point, Crumb, End, Fire, Sample, PlainWorkload}
+use Rattle.hs_text.specs.Text.{words_of, has_bad_byte, has_bad_spaces, number_of, hex_of, trace_digits, payload_of}
+use Rattle.hs_records.specs.Records.{piece_count}
+use Rattle.hs_records.specs.Plain.{Operation, Begin, Point, Crumb, End, Fire, Sample, PlainWorkload}
 use Rattle.hs_workload.specs.declared.refusal.Reason.{Reason}
 use Rattle.hs_workload.specs.declared.refusal.Reason.TheVariants as reasons
 use Rattle.hs_workload.specs.declared.refusal.ReadError.{ReadError}

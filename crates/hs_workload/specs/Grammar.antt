@@ -3,8 +3,8 @@
 use Rattle.std.specs.Prelude.{◌≡◌, ℕ, ◌+◌, ◌/◌, ◌%◌, ◌^◌, List, [], ◌∷◌, ◌++◌, map, codes, replicate, refl}
 use Rattle.std.specs.Fmt.{digits}
 use Rattle.hex.specs.Hex.{encode_with}
-use Rattle.hs_base.specs.Text.{text_of}
-use Rattle.hs_base.specs.Plain.{Operation, Begin, Point, End, PlainSettings, PlainWorkload}
+use Rattle.hs_text.specs.Text.{text_of}
+use Rattle.hs_records.specs.Plain.{Operation, Begin, Point, End, PlainSettings, PlainWorkload}
 use Rattle.hs_workload.specs.declared.word.Setting.TheVariants as settings
 use Rattle.hs_workload.specs.Statements.{Statement, Put, Start, Operate, Finish, statement_line}
 

@@ -2,10 +2,10 @@
 -- newest first.
 use Rattle.std.specs.Prelude.{◌≡◌, ℕ, ◌+◌, ◌==◌, Bool, true, false, List, [], ◌∷◌, ◌++◌, length, if◌then◌else◌, replicate, refl}
 use Rattle.std.specs.List.{cons_option}
-use Rattle.hs_base.specs.Plain.{Operation, Begin, Point, Crumb, End, Fire, Sample}
+use Rattle.hs_records.specs.Plain.{Operation, Begin, Point, Crumb, End, Fire, Sample}
 use Rattle.hs_base.specs.declared.settings.TriggerRule.{TriggerRule}
 use Rattle.hs_base.specs.declared.settings.AutoRule.{AutoRule}
-use Rattle.hs_base.specs.Records.{piece_count}
+use Rattle.hs_records.specs.Records.{piece_count}
 use Rattle.hs_workload.specs.declared.word.Setting.{Setting}
 use Rattle.hs_workload.specs.declared.word.Setting.TheVariants as settings
 use Rattle.hs_workload.specs.Statements.{Statement, Put, Start, Operate, Finish, setting_line, statement_of}

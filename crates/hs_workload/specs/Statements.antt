@@ -3,8 +3,8 @@
 use Rattle.std.specs.Prelude.{◌≡◌, ℕ, List, [], ◌∷◌, map, codes, decimal, Option, Some, None, option_and_then, option_map, refl}
 use Rattle.std.specs.List.{find}
 use Rattle.std.specs.Str.{bytes_eq}
-use Rattle.hs_base.specs.Text.{words_of, line_of, number_of, hex_of, hex_text, trace_digits, payload_of, payload_text}
-use Rattle.hs_base.specs.Plain.{Operation, Begin, Point, Crumb, End, Fire, Sample}
+use Rattle.hs_text.specs.Text.{words_of, line_of, number_of, hex_of, hex_text, trace_digits, payload_of, payload_text}
+use Rattle.hs_records.specs.Plain.{Operation, Begin, Point, Crumb, End, Fire, Sample}
 use Rattle.hs_workload.specs.declared.word.Setting.{Setting}
 use Rattle.hs_workload.specs.declared.word.Setting.TheVariants as settings
 use Rattle.hs_workload.specs.declared.word.Keyword.{Keyword}

@@ -1,8 +1,8 @@
 -- Which workloads have a text, and when a text reads as a workload: it is that workload's text.
 use Rattle.std.specs.Prelude.{◌≡◌, ℕ, ◌+◌, ◌*◌, ◌^◌, ◌<◌, ◌≤◌, List, [], ◌∷◌, length, Bool, true, false, ⊤}
 use Rattle.std.specs.List.{All, AllByRecursion}
-use Rattle.hs_base.specs.Text.{trace_digits}
-use Rattle.hs_base.specs.Plain.{Operation, Begin, Point, Crumb, End, Fire, Sample, PlainWorkload}
+use Rattle.hs_text.specs.Text.{trace_digits}
+use Rattle.hs_records.specs.Plain.{Operation, Begin, Point, Crumb, End, Fire, Sample, PlainWorkload}
 use Rattle.hs_workload.specs.Grammar.{workload_text}
 use Rattle.hs_workload.specs.LookBack.{operation_pieces}
 

@@ -1,8 +1,8 @@
 -- A workload without where it lies in memory.
 use Rattle.std.specs.Prelude.{List, map}
 use Rattle.hs_base.specs.Listing.{Listing}
-use Rattle.hs_base.specs.Plain.{Operation, PlainWorkload, settings_of}
-use Rattle.hs_base.specs.Plain as plain
+use Rattle.hs_records.specs.Plain.{Operation, PlainWorkload, settings_of}
+use Rattle.hs_records.specs.Plain as plain
 use Rattle.hs_workload.specs.declared.operation.Op.{Op}
 use Rattle.hs_workload.specs.declared.operation.Op.TheVariants as ops
 use Rattle.hs_workload.specs.declared.operation.Workload.{Workload}

@@ -1,8 +1,8 @@
 //! A workload as far as it has been read, and what each kind of line makes of it.
 
 ghost use Rattle.std.specs.Prelude.{◌≡◌, ◌==◌, ◌&&◌, ◌<◌, ◌≤◌, ◌*◌, [], length, true, OnOk, IfOk};
-ghost use Rattle.hs_base.specs.Text.{trace_digits};
-ghost use Rattle.hs_base.specs.Records.{piece_count};
+ghost use Rattle.hs_text.specs.Text.{trace_digits};
+ghost use Rattle.hs_records.specs.Records.{piece_count};
 ghost use Rattle.hs_workload.specs.Views.{operation_of, workload_of};
 ghost use Rattle.hs_workload.specs.LookBack.{draft_said};
 ghost use Rattle.hs_workload.specs.Faults.{all_clients, may_stand, least, most};
@@ -14,7 +14,7 @@ use crate::stop::Stop;
 use crate::word::{
     Keyword, Setting, both_words, hex_in, keyword_in, no_word, number_in, only_word, payload_length,
 };
-use hs_base::text::{LineFault, decode_payload, line_fault, split_word};
+use hs_text::{LineFault, decode_payload, line_fault, split_word};
 use hs_base::{List, Memory, Settings, TraceId};
 use std::alloc::Global;
 

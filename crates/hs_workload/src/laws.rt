@@ -1,7 +1,7 @@
 //! Laws of the grammar and its refusals, each the contract of a function that does nothing.
 
 ghost use Rattle.std.specs.Prelude.{◌≡◌, ℕ, List, None};
-ghost use Rattle.hs_base.specs.Plain.{PlainWorkload};
+ghost use Rattle.hs_records.specs.Plain.{PlainWorkload};
 ghost use Rattle.hs_workload.specs.Validity.{IsValid, Reads};
 ghost use Rattle.hs_workload.specs.Grammar.{workload_text};
 ghost use Rattle.hs_workload.specs.Faults.{first_fault};

@@ -1,7 +1,7 @@
 //! Reading a workload, a line at a time.
 
 ghost use Rattle.std.specs.Prelude.{◌≡◌, None, IfOk, IfErr, OnOk, MatchResult};
-ghost use Rattle.hs_base.specs.Plain.{PlainWorkload};
+ghost use Rattle.hs_records.specs.Plain.{PlainWorkload};
 ghost use Rattle.hs_workload.specs.Views.{workload_of};
 ghost use Rattle.hs_workload.specs.Validity.{Reads};
 ghost use Rattle.hs_workload.specs.Faults.{first_fault, Refuses};
@@ -12,7 +12,7 @@ use crate::draft::Reader;
 use crate::operation::Workload;
 use crate::refusal::{ReadError, Reason, Refusal};
 use crate::stop::Stop;
-use hs_base::text::split_line;
+use hs_text::split_line;
 use std::alloc::Global;
 
 /// The error for what ended the reading of this line.

@@ -3,14 +3,14 @@
 ghost use Rattle.std.specs.Prelude.{◌≡◌, ◌≤◌, [], MatchOption, OnOk, IsTrue};
 ghost use Rattle.std.specs.List.{find};
 ghost use Rattle.std.specs.Str.{bytes_eq};
-ghost use Rattle.hs_base.specs.Text.{words_of, number_of, hex_of, is_payload};
+ghost use Rattle.hs_text.specs.Text.{words_of, number_of, hex_of, is_payload};
 ghost use Rattle.hs_workload.specs.Statements.{keyword_of, keyword_text, setting_line};
 ghost use Rattle.hs_workload.specs.Forward.{Gives, words_behind, no_word, only_word, both_words, value_or, payload_length};
 ghost use Rattle.hs_workload.specs.declared.refusal.Reason.TheVariants.{Number, Hex};
 
 use crate::refusal::Reason;
 use crate::stop::Stop;
-use hs_base::text::{hex_number, is_payload, number, payload_len, split_word};
+use hs_text::{hex_number, is_payload, number, payload_len, split_word};
 
 /// A number of the head, which stands on lines 1 to 9.
 #[derive(Clone, Copy, Debug, PartialEq, Eq)]

@@ -1,5 +1,5 @@
 use Rattle.std.proofs.Common.{◌≡◌, ◌++◌, take, map}
-use Rattle.hs_base.specs.Text.{text_of}
+use Rattle.hs_text.specs.Text.{text_of}
 use Rattle.hs_replay.specs.OutcomeText.{entry_line}
 use Rattle.hs_replay.proofs.outcome.push_entries.Given as goal
 

@@ -1,6 +1,6 @@
 use Rattle.std.proofs.Common.{◌≡◌, List, ℕ, ◌++◌, OnOk, decimal, sym, ap, ◌∙◌, subst}
 use Rattle.hs_base.specs.declared.told.Fate.{Fate}
-use Rattle.hs_base.specs.Text.{hex_text}
+use Rattle.hs_text.specs.Text.{hex_text}
 use Rattle.hs_replay.specs.OutcomeText.{spaced, trace_word, fate_words}
 use Rattle.hs_replay.proofs.OutcomeLemmas.{abandoned_written}
 use Rattle.hs_replay.proofs.outcome.push_fate.Goals as goal

@@ -1,6 +1,6 @@
 -- The reader stands where the lines so far say that it does.
 use Rattle.std.proofs.Common.{◌+◌, ℕ, sym, subst, ◌∙◌}
-use Rattle.hs_base.specs.Plain.{PlainWorkload}
+use Rattle.hs_records.specs.Plain.{PlainWorkload}
 use Rattle.hs_workload.specs.declared.refusal.ReadError.{ReadError}
 use Rattle.hs_workload.specs.declared.refusal.Reason.TheVariants.{Truncated}
 use Rattle.hs_workload.specs.declared.stop.Stop.TheVariants.{Fault}

@@ -1,5 +1,0 @@
-use Rattle.hs_base.proofs.TextLemmas.{payload_length}
-use Rattle.hs_base.proofs.text.reading.payload_len.Goals as goal
-
-pub returns : goal.returns
-returns c = payload_length c.args.word.now c.requires

@@ -1,0 +1,11 @@
+use Rattle.std.proofs.Common.{nat_eq, length, rules}
+use Rattle.std.proofs.lemmas.Iterator.Search.{any_from_yields_List}
+use Rattle.std.proofs.lemmas.Iterator.Splits.{YieldsList-from_slice_split}
+use borrow.Author.Tests.{tests}
+use Rattle.hs_text.proofs.reading.has_bad_spaces.Goals as goal
+
+pub returns : goal.returns
+returns c =
+    any_from_yields_List (λ word. nat_eq (length word) 0) _ _ _ c.any.ensures.ran
+    (YieldsList-from_slice_split _ (λ b. nat_eq b 32) c.args.line.now c.split.ensures.rest c.split.ensures.done c.split.ensures.closure (λ x b q k. search (rules, tests)))
+    (λ x b q k. search (rules, tests))

@@ -1,0 +1,159 @@
+//! Lines, words and what a word says.
+
+ghost use Rattle.std.specs.Prelude.{◌≡◌, ◌≢◌, ◌<◌, ◌≤◌, ◌∷◌, [], ◌++◌, length, Some, None, IfOk, IfSome, IfNone, IsTrue, if◌then◌else◌};
+ghost use Rattle.std.specs.List.{All, list_all};
+ghost use Rattle.hs_text.specs.Text.{has_bad_byte, has_bad_spaces, words_of, number_of, hex_of, is_hex_digit, hex_digit_of, is_payload, payload_of};
+ghost use Rattle.hs_text.specs.LineFaults.{line_fault_of};
+
+use hs_base::Memory;
+use hs_base::{Bytes, List};
+use hex::FromHexError;
+use std::alloc::Global;
+
+/// What is wrong with a line, whatever its words are.
+#[derive(Clone, Copy, Debug, PartialEq, Eq)]
+pub enum LineFault {
+    /// It has a byte that does not print.
+    Byte,
+    /// It is empty, begins or ends with a space, or has two spaces together.
+    Spaces,
+}
+
+/// The first line without its newline, and what follows the newline. `None` where there is none.
+pub fn split_line(text: &[u8]) -> Option<(&[u8], &[u8])>
+    ensures some { IfSome result (λ parts. text.now ≡ parts.0.now ++ 10 ∷ parts.1.now) }
+    ensures line { IfSome result (λ parts. All (λ b. b ≢ 10) parts.0.now) }
+    ensures none { IfNone result (All (λ b. b ≢ 10) text.now) }
+{
+    let end = text.iter().position(|byte| *byte == b'\n')?;
+    Some((&text[..end], &text[end + 1..]))
+}
+
+/// Whether a line has a byte that does not print.
+fn has_bad_byte(line: &[u8]) -> bool
+    ensures { result ≡ has_bad_byte line.now }
+{
+    line.iter().any(|byte| *byte < b' ' || b'~' < *byte)
+}
+
+/// Whether a line has an empty word.
+fn has_bad_spaces(line: &[u8]) -> bool
+    ensures { result ≡ has_bad_spaces line.now }
+{
+    line.split(|byte| *byte == b' ').any(|word| word.is_empty())
+}
+
+/// What is wrong with a line, a byte before spaces.
+pub fn line_fault(line: &[u8]) -> Option<LineFault>
+    ensures { result ≡ line_fault_of line.now }
+{
+    if has_bad_byte(line) {
+        Some(LineFault::Byte)
+    } else if has_bad_spaces(line) {
+        Some(LineFault::Spaces)
+    } else {
+        None
+    }
+}
+
+/// How many words a line has: one more than it has spaces.
+pub fn count_words(line: &[u8]) -> usize
+    ensures { result ≡ length (words_of line.now) }
+{
+    line.split(|byte| *byte == b' ').count()
+}
+
+/// The first word of a line, and what follows the space behind it, where there is one.
+pub fn split_word(line: &[u8]) -> (&[u8], Option<&[u8]>)
+    ensures more { IfSome result.1 (λ rest. words_of line.now ≡ result.0.now ∷ words_of rest.now) }
+    ensures last { IfNone result.1 (words_of line.now ≡ result.0.now ∷ []) }
+    ensures shorter { IfSome result.1 (λ rest. length rest.now < length line.now) }
+{
+    match line.iter().position(|byte| *byte == b' ') {
+        Some(end) => (&line[..end], Some(&line[end + 1..])),
+        None => (line, None),
+    }
+}
+
+/// The number that a word is, or `None` where it is not one.
+pub fn number(word: &[u8]) -> Option<u64>
+    ensures { result ≡ number_of word.now }
+{
+    let first = *word.first()?;
+    if !first.is_ascii_digit() {
+        return None;
+    }
+    if first == b'0' && word.len() != 1 {
+        return None;
+    }
+    std::str::from_utf8(word).ok()?.parse().ok()
+}
+
+/// What a digit of lower-case hexadecimal stands for, or `None` for another byte.
+fn hex_digit(byte: u8) -> Option<u8>
+    ensures { result ≡ (if is_hex_digit byte then Some (hex_digit_of byte) else None) }
+{
+    match byte {
+        b'0'..=b'9' => Some(byte - b'0'),
+        b'a'..=b'f' => Some(byte - b'a' + 10),
+        _ => None,
+    }
+}
+
+/// Whether each byte is a digit of lower-case hexadecimal.
+fn is_hex(word: &[u8]) -> bool
+    ensures { result ≡ list_all is_hex_digit word.now }
+{
+    word.iter()
+        .all(|byte| matches!(*byte, b'0'..=b'9' | b'a'..=b'f'))
+}
+
+/// The number that a word of so many digits is, or `None` where it is not one.
+pub fn hex_number(word: &[u8], digits: u32) -> Option<u128>
+    requires { digits ≤ 32 }
+    ensures { result ≡ hex_of digits word.now }
+{
+    if word.len() != digits as usize {
+        return None;
+    }
+    let mut number: u128 = 0;
+    for byte in word {
+        number = 16 * number + u128::from(hex_digit(*byte)?);
+    }
+    Some(number)
+}
+
+/// Whether a word is a payload.
+pub fn is_payload(word: &[u8]) -> bool
+    ensures { result ≡ is_payload word.now }
+{
+    if word.len() == 1 {
+        return word[0] == b'-';
+    }
+    !word.is_empty() && word.len() % 2 == 0 && is_hex(word)
+}
+
+/// How many bytes a payload has.
+pub fn payload_len(word: &[u8]) -> usize
+    requires { IsTrue (is_payload word.now) }
+    ensures { IfSome (payload_of word.now) (λ bytes. result ≡ length bytes) }
+{
+    word.len() / 2
+}
+
+/// The bytes of a payload.
+pub fn decode_payload(alloc: Global, word: &[u8]) -> Result<Bytes, Memory>
+    requires { IsTrue (is_payload word.now) }
+    ensures { IfOk result (λ bytes. payload_of word.now ≡ Some bytes.items) }
+{
+    if word.len() == 1 {
+        return Ok(List::new(alloc));
+    }
+    match hex::decode(alloc, word) {
+        Ok(bytes) => Ok(List::from_vec(bytes)),
+        Err(error) => match error {
+            FromHexError::OutOfMemory => Err(Memory),
+            _ => unreachable!(),
+        },
+    }
+}
