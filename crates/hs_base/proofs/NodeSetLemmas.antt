@@ -1,71 +1,65 @@
--- The bits of a set of nodes, after each operation.
-use Rattle.std.proofs.Common.{◌≡◌, ℕ, zero, suc, ◌*◌, ◌-◌, ◌%◌, ◌^◌, ◌<◌, ◌≤◌, min, max, true, false, not, ◌||◌, ◌&&◌, nat_eq, bit_and, bit_or, eq-eqb, sym, ap, refl, ◌∙◌, arith, ⊎_elim}
-use Rattle.std.specs.Int.{bit_at, w16}
-use Rattle.std.proofs.lemmas.Bool.{cases_eq, cases_lt}
+-- The least node of a set, and the nodes behind it.
+use Rattle.std.proofs.Common.{◌≡◌, ℕ, zero, suc, ◌+◌, ◌^◌, ◌*◌, ◌%◌, ◌<◌, ◌≤◌, List, Bool, true, false, not, ◌&&◌, nat_eq, cond, [], ◌∷◌, filter, eq-eqb, sym, ap, subst, refl, ◌∙◌, arith, ⊎_elim}
+use Rattle.std.specs.List.{range_with_len}
+use Rattle.std.proofs.lemmas.Bool.{cases_eq}
+use Rattle.std.proofs.Math.Pow.{pow-lt}
 use Rattle.std.proofs.lemmas.Grind.{one_shifted}
-use Rattle.std.proofs.lemmas.Nat.Bits.{bit_at-lt, bit_at_above, bit_at_or, bit_at_and, bit_at_not, bit_at-pow_same, bit_at-pow_other, bit_at-zero, same_from_bits}
-use borrow.Author.Tests.{eqb-true, ne_eqb}
+use borrow.Author.Tests.{ne_eqb}
+use Rattle.hs_base.specs.declared.ids.NodeId.{NodeId}
+use Rattle.hs_base.specs.declared.node_set.NodeSet.{NodeSet}
+use Rattle.hs_base.specs.NodeSets.{has_node, nodes_of, one_node, without}
+use Rattle.hs_base.specs.NodeSetLaws.{has-one_node, has-without}
 
--- whether either of two bits is 1
-max_bits : (a b : ℕ) → a < 2 → b < 2 → nat_eq (max a b) 1 ≡ (nat_eq a 1 || nat_eq b 1)
-max_bits zero zero p q = refl
-max_bits zero (suc zero) p q = refl
-max_bits (suc zero) zero p q = refl
-max_bits (suc zero) (suc zero) p q = refl
-max_bits (suc (suc a)) b p q = absurd (omega arith)
-max_bits zero (suc (suc b)) p q = absurd (omega arith)
-max_bits (suc zero) (suc (suc b)) p q = absurd (omega arith)
+-- the set of one node, as it is shifted
+pub shifted : (node : NodeId) → node.0 < 16 → 1 * 2 ^ node.0 % 65536 ≡ 2 ^ node.0
+shifted node within = (one_shifted node.0 65535 refl within).0
 
--- whether one bit is 1 and the other is not
-min_bits : (a b : ℕ) → a < 2 → b < 2 → nat_eq (min a (1 - b)) 1 ≡ (nat_eq a 1 && not (nat_eq b 1))
-min_bits zero zero p q = refl
-min_bits zero (suc zero) p q = refl
-min_bits (suc zero) zero p q = refl
-min_bits (suc zero) (suc zero) p q = refl
-min_bits (suc (suc a)) b p q = absurd (omega arith)
-min_bits zero (suc (suc b)) p q = absurd (omega arith)
-min_bits (suc zero) (suc (suc b)) p q = absurd (omega arith)
+abbrev picked : ℕ → (ℕ → Bool) → ℕ → Bool → List ℕ
+picked m f a c = cond c (a ∷ filter f (range_with_len (a + 1) m)) (filter f (range_with_len (a + 1) m))
 
-pub either : (a b n : ℕ) → nat_eq (bit_at (bit_or a b) n) 1 ≡ (nat_eq (bit_at a n) 1 || nat_eq (bit_at b n) 1)
-either a b n = ap (λ m. nat_eq m 1) (bit_at_or a b n) ∙ max_bits (bit_at a n) (bit_at b n) (bit_at-lt a n) (bit_at-lt b n)
+filter_none : (p : ℕ → Bool) (a m : ℕ) → ((k : ℕ) → k < a + m → p k ≡ false) → filter p (range_with_len a m) ≡ []
+filter_none p a zero none = refl
+filter_none p a (suc m) none =
+    ap (picked m p a) (none a (omega arith))
+    ∙ filter_none p (a + 1) m (λ k below. none k (omega arith))
 
-this_alone_below : (a b n : ℕ) → b < 65536 → n < 16 → nat_eq (bit_at (bit_and a (65535 - b)) n) 1 ≡ (nat_eq (bit_at a n) 1 && not (nat_eq (bit_at b n) 1))
-this_alone_below a b n fits within =
-    ap (λ m. nat_eq m 1) (bit_at_and a (65535 - b) n ∙ ap (min (bit_at a n)) (bit_at_not w16 b n fits within))
-    ∙ min_bits (bit_at a n) (bit_at b n) (bit_at-lt a n) (bit_at-lt b n)
+filter_same : (p q : ℕ → Bool) (a m : ℕ) → ((k : ℕ) → a ≤ k → p k ≡ q k) → filter p (range_with_len a m) ≡ filter q (range_with_len a m)
+filter_same p q a zero same = refl
+filter_same p q a (suc m) same =
+    let rest : filter p (range_with_len (a + 1) m) ≡ filter q (range_with_len (a + 1) m) = filter_same p q (a + 1) m (λ k above. same k (omega arith)) in
+    ap (picked m p a) (same a (omega arith))
+    ∙ ap (λ xs. cond (q a) (a ∷ xs) xs) rest
 
-no_min : (a : ℕ) → a < 2 → min 0 a ≡ 0
-no_min zero p = refl
-no_min (suc zero) p = refl
-no_min (suc (suc a)) p = absurd (omega arith)
+and_true : (b : Bool) → (b && true) ≡ b
+and_true true = refl
+and_true false = refl
 
--- a set has no node from 16 on
-this_alone_above : (a b n : ℕ) → a < 65536 → 16 ≤ n → nat_eq (bit_at (bit_and a (65535 - b)) n) 1 ≡ (nat_eq (bit_at a n) 1 && not (nat_eq (bit_at b n) 1))
-this_alone_above a b n fits above =
-    let none : bit_at a n ≡ 0 = bit_at_above a 16 n fits above in
-    let zero_bit : bit_at (bit_and a (65535 - b)) n ≡ 0 = bit_at_and a (65535 - b) n ∙ ap (λ m. min m (bit_at (65535 - b) n)) none ∙ no_min (bit_at (65535 - b) n) (bit_at-lt (65535 - b) n) in
-    ap (λ m. nat_eq m 1) zero_bit ∙ sym (ap (λ m. nat_eq m 1 && not (nat_eq (bit_at b n) 1)) none)
+-- the first number that passes, and those that pass behind it
+filter_first : (p q : ℕ → Bool) (n a m : ℕ) → p n ≡ true → ((k : ℕ) → q k ≡ (p k && not (nat_eq k n))) → a ≤ n → n < a + m → ((k : ℕ) → k < n → p k ≡ false)
+    → filter p (range_with_len a m) ≡ n ∷ filter q (range_with_len a m)
+filter_first p q n a zero is rest low high none = absurd (omega arith)
+filter_first p q n a (suc m) is rest low high none = ⊎_elim (λ e. subst (λ b. filter p (range_with_len b (suc m)) ≡ n ∷ filter q (range_with_len b (suc m))) (sym e) here) (λ ne. later ne (filter_first p q n (a + 1) m is rest (omega arith) (omega arith) none)) (cases_eq a n)
+  where
+    here : filter p (range_with_len n (suc m)) ≡ n ∷ filter q (range_with_len n (suc m))
+    here =
+        ap (picked m p n) is
+        ∙ ap (λ xs. n ∷ xs) (filter_same p q (n + 1) m (λ k above. sym (rest k ∙ ap (λ b. p k && not b) (ne_eqb k n (λ e. omega arith)) ∙ and_true (p k))))
+        ∙ sym (ap (λ xs. n ∷ xs) (ap (picked m q n) (rest n ∙ ap (λ b. b && not (nat_eq n n)) is ∙ ap not (eq-eqb n n refl))))
 
-pub this_alone : (a b n : ℕ) → a < 65536 → b < 65536 → nat_eq (bit_at (bit_and a (65535 - b)) n) 1 ≡ (nat_eq (bit_at a n) 1 && not (nat_eq (bit_at b n) 1))
-this_alone a b n fits-a fits-b = ⊎_elim (this_alone_below a b n fits-b) (this_alone_above a b n fits-a) (cases_lt n 16)
+    later : (a ≡ n → ⊥) → filter p (range_with_len (a + 1) m) ≡ n ∷ filter q (range_with_len (a + 1) m) → filter p (range_with_len a (suc m)) ≡ n ∷ filter q (range_with_len a (suc m))
+    later ne more =
+        let before : p a ≡ false = none a (omega arith) in
+        ap (picked m p a) before ∙ more
+        ∙ sym (ap (λ xs. n ∷ xs) (ap (picked m q a) (rest a ∙ ap (λ b. b && not (nat_eq a n)) before)))
 
--- the one node of 1 << k
-pub lone_bit : (k n : ℕ) → k < 16 → nat_eq (bit_at (1 * 2 ^ k % 65536) n) 1 ≡ nat_eq n k
-lone_bit k n within =
-    ap (λ m. nat_eq (bit_at m n) 1) (one_shifted k 65535 refl within).0
-    ∙ ⊎_elim
-    (λ (e : n ≡ k). ap (λ i. nat_eq (bit_at (2 ^ k) i) 1) e ∙ ap (λ m. nat_eq m 1) (bit_at-pow_same k) ∙ sym (eq-eqb n k e))
-    (λ (ne : n ≡ k → ⊥). ap (λ m. nat_eq m 1) (bit_at-pow_other k n ne) ∙ sym (ne_eqb n k ne))
-    (cases_eq n k)
+pub nodes-first : (s : NodeSet) (node : NodeId) → s.0 < 2 ^ 16 → node.0 < 16 → has_node s node.0 ≡ true → ((k : ℕ) → k < node.0 → has_node s k ≡ false)
+    → nodes_of s ≡ node.0 ∷ nodes_of (without s (one_node node))
+unfolding nodes_of
+nodes-first s node fits within is none =
+    filter_first (has_node s) (has_node (without s (one_node node))) node.0 0 16 is
+    (λ k. has-without s (one_node node) k fits (pow-lt within) ∙ ap (λ b. has_node s k && not b) (has-one_node node k))
+    (omega arith) (omega arith) none
 
--- no node is in the set of no bits
-pub no_bit : (s n : ℕ) → nat_eq s 0 ≡ true → nat_eq (bit_at s n) 1 ≡ false
-no_bit s n e = ap (λ m. nat_eq (bit_at m n) 1) (eqb-true s 0 e) ∙ ap (λ m. nat_eq m 1) (bit_at-zero n)
-
-bit_is_zero : (a : ℕ) → a < 2 → nat_eq a 1 ≡ false → a ≡ 0
-bit_is_zero zero p e = refl
-bit_is_zero (suc zero) p e = cc
-bit_is_zero (suc (suc a)) p e = absurd (omega arith)
-
-pub no_nodes : (s : ℕ) → ((n : ℕ) → nat_eq (bit_at s n) 1 ≡ false) → nat_eq s 0 ≡ true
-no_nodes s none = eq-eqb s 0 (same_from_bits s 0 (λ i. bit_is_zero (bit_at s i) (bit_at-lt s i) (none i) ∙ sym (bit_at-zero i)))
+pub nodes-none : (s : NodeSet) → ((k : ℕ) → k < 16 → has_node s k ≡ false) → nodes_of s ≡ []
+unfolding nodes_of
+nodes-none s none = filter_none (has_node s) 0 16 (λ k below. none k (omega arith))

@@ -2,6 +2,8 @@ pub mod Listing
 pub mod Lending
 pub mod Laterals
 pub mod NodeSets
+pub mod NodeSetLaws
 pub mod Ranks
+pub mod Rules
 pub mod Outside
 pub mod InMemory

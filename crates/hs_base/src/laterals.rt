@@ -3,12 +3,13 @@
 ghost use Rattle.std.specs.Prelude.{◌≡◌, ◌<◌, ◌≤◌, ◌↔◌, [], ◌∷◌, ◌++◌, length, slice_get, IsTrue};
 
 use crate::ids::TraceId;
+use crate::limits::MAX_LATERALS;
 use std::marker::Model;
 
-/// At most 32 trace ids, in order. They may repeat each other.
+/// At most 32 trace ids, in the order in which they were added. One may stand there more than once.
 #[derive(Clone, Copy, Debug, PartialEq, Eq)]
 pub struct Laterals {
-    ids: [TraceId; 32],
+    ids: [TraceId; MAX_LATERALS],
     len: u32,
 }
 
@@ -35,14 +36,14 @@ impl Laterals {
         ensures { result ≡ [] }
     {
         Laterals {
-            ids: [TraceId(0); 32],
+            ids: [TraceId(0); MAX_LATERALS],
             len: 0,
         }
     }
 
     /// Adds a trace at the end.
     pub fn push(&mut self, trace: TraceId)
-        requires { length self.old < 32 }
+        requires { length self.old < MAX_LATERALS }
         ensures { self.new ≡ self.old ++ trace ∷ [] }
     {
         self.ids[self.len as usize] = trace;
@@ -52,7 +53,7 @@ impl Laterals {
     /// How many there are, at most 32.
     pub fn len(&self) -> u32
         ensures value { result ≡ length self.now }
-        ensures bound { result ≤ 32 }
+        ensures bound { result ≤ MAX_LATERALS }
     {
         self.len
     }

@@ -4,6 +4,8 @@
 
 mod ids;
 mod laterals;
+mod laws;
+pub mod limits;
 mod list;
 mod memory;
 mod node_set;
@@ -14,6 +16,7 @@ mod told;
 
 pub use ids::{ClientId, Failed, GroupId, Memory, NodeId, Rank, RecordId, TraceId, TriggerId};
 pub use laterals::Laterals;
+pub use laws::same_nodes_are_one_set;
 pub use list::{Bytes, List};
 pub use memory::{MemorySink, MemorySource};
 pub use node_set::NodeSet;

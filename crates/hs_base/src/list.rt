@@ -1,6 +1,6 @@
 //! A list whose spare room contracts can see.
 
-ghost use Rattle.std.specs.Prelude.{◌≡◌, ◌<◌, ◌≤◌, ◌+◌, ◌↔◌, [], ◌∷◌, ◌++◌, length, slice_get, IfOk, OnOk, OnErr, IsTrue, IfSome, IfNone};
+ghost use Rattle.std.specs.Prelude.{◌≡◌, ◌<◌, ◌≤◌, ◌+◌, ◌↔◌, [], ◌∷◌, ◌++◌, length, slice_get, IfOk, OnOk, OnErr, IsTrue, IfSome, IfNone, vec_capacity};
 ghost use Rattle.std.specs.Option.{option_copied};
 ghost use Rattle.std.specs.Borrow.{sem};
 ghost use Rattle.hs_base.specs.Lending.{LendsItems};
@@ -29,19 +29,21 @@ impl<T> Model for List<T> {
 }
 
 impl<T> List<T> {
-    /// An empty list, which takes no memory.
+    /// An empty list with no room, which takes no memory.
     pub fn new(alloc: Global) -> List<T>
-        ensures { result.items ≡ [] }
+        ensures items { result.items ≡ [] }
+        ensures room { result.room ≡ 0 }
     {
         List {
             items: Vec::new(alloc),
         }
     }
 
-    /// An empty list with memory for `room` items.
+    /// An empty list with memory for `room` items. No room takes no memory.
     pub fn with_room(alloc: Global, room: usize) -> Result<List<T>, Memory>
         ensures empty { IfOk result (λ list. list.items ≡ []) }
         ensures room { IfOk result (λ list. list.room ≡ room) }
+        ensures some { OnErr result (0 < room) }
     {
         match Vec::with_capacity(alloc, room) {
             Ok(items) => Ok(List { items }),
@@ -66,7 +68,7 @@ impl<T> List<T> {
         ensures items { self.new.items ≡ self.old.items }
         ensures ok { OnOk result (length self.new.items + more ≤ self.new.room) }
         ensures room { self.old.room ≤ self.new.room }
-        ensures err { OnErr result (self.new.room ≡ self.old.room) }
+        ensures err { OnErr result (self.new ≡ self.old) }
         ensures full { OnErr result (self.old.room < length self.old.items + more) }
     {
         match self.items.reserve(more) {
@@ -75,13 +77,14 @@ impl<T> List<T> {
         }
     }
 
-    /// Adds an item at the end, and takes memory for it where there is no room.
+    /// Adds an item at the end, and takes memory for it only where there is no room.
     pub fn append(&mut self, item: T) -> Result<(), Memory>
     where
         T: Drop,
         ensures ok { OnOk result (self.new.items ≡ self.old.items ++ item ∷ []) }
-        ensures err { OnErr result (self.new.items ≡ self.old.items) }
+        ensures err { OnErr result (self.new ≡ self.old) }
         ensures room { self.old.room ≤ self.new.room }
+        ensures full { OnErr result (self.old.room ≤ length self.old.items) }
     {
         self.reserve(1)?;
         self.push(item);
@@ -133,18 +136,46 @@ impl<T> List<T> {
         self.items.pop()
     }
 
-    /// The items as a vector.
+    /// The items as a vector, with the room as its capacity.
     pub fn into_vec(self) -> Vec<T>
-        ensures { result.items ≡ self.items }
+        ensures items { result.items ≡ self.items }
+        ensures room { vec_capacity result ≡ self.room }
     {
         let List { items } = self;
         items
     }
 
-    /// A vector's items as a list.
+    /// A vector's items as a list, with its capacity as the room.
     pub fn from_vec(items: Vec<T>) -> List<T>
-        ensures { result.items ≡ items.items }
+        ensures items { result.items ≡ items.items }
+        ensures room { result.room ≡ vec_capacity items }
     {
         List { items }
+    }
+}
+
+impl<T: Copy> List<T> {
+    /// Adds a slice's items at the end, as `push` adds one.
+    pub fn push_slice(&mut self, more: &[T])
+        requires { length self.old.items + length more.now ≤ self.old.room }
+        ensures items { self.new.items ≡ self.old.items ++ more.now }
+        ensures room { self.old.room ≤ self.new.room }
+    {
+        match self.items.extend_from_slice(more) {
+            Ok(()) => {}
+            Err(_) => unreachable!(),
+        }
+    }
+
+    /// Adds a slice's items at the end, as `append` adds one.
+    pub fn append_slice(&mut self, more: &[T]) -> Result<(), Memory>
+        ensures ok { OnOk result (self.new.items ≡ self.old.items ++ more.now) }
+        ensures err { OnErr result (self.new ≡ self.old) }
+        ensures room { self.old.room ≤ self.new.room }
+        ensures full { OnErr result (self.old.room < length self.old.items + length more.now) }
+    {
+        self.reserve(more.len())?;
+        self.push_slice(more);
+        Ok(())
     }
 }

@@ -1,4 +1,5 @@
-//! A source and a sink in memory, which fail at chosen calls.
+//! The outside world of a test: input that is known in advance, output that can be looked at, and failures where the
+//! test wants them.
 
 ghost use Rattle.std.specs.Prelude.{◌≡◌, ◌<◌, ◌≤◌, ◌↔◌, [], length, take, Some, IfOk, OnOk, OnErr, IfSome};
 ghost use Rattle.hs_base.specs.Outside.{Rose, Loses, Gains};
@@ -9,7 +10,7 @@ use crate::outside::{Sink, Source};
 use std::alloc::Global;
 use std::marker::Model;
 
-/// A source over bytes in memory. It gives at most so many bytes a call, and fails at chosen calls.
+/// Input that is known in advance. A call gives as much as it may, and some calls fail.
 #[derive(Drop)]
 pub struct MemorySource {
     bytes: Vec<u8>,
@@ -31,8 +32,8 @@ impl Model for MemorySource {
     ghost invariant = { λ a. (a.at ≤ length a.bytes.items) × (0 < a.most) };
 }
 
-/// A sink into memory that it took when it was made. It takes at most so many bytes a call, and fails
-/// at chosen calls and where it is full.
+/// Output that can be looked at. Its memory is there from the start, so no write asks for any; one that finds
+/// it full fails.
 #[derive(Drop)]
 pub struct MemorySink {
     bytes: Vec<u8>,
@@ -62,7 +63,8 @@ fn is_listed(fails: &[u32], call: u64) -> bool
 }
 
 impl MemorySource {
-    /// A source over these bytes. The calls whose numbers, from 0, stand in `fails` fail.
+    /// Input of these bytes, in steps of at most `most`. `fails` lists the calls that fail; the first call
+    /// has number 0.
     pub fn new(
         alloc: Global,
         bytes: &[u8],
@@ -120,8 +122,8 @@ impl Source for MemorySource {
 }
 
 impl MemorySink {
-    /// An empty sink with room for so many bytes, which are taken at once. The calls whose numbers, from
-    /// 0, stand in `fails` fail.
+    /// Output of at most `room` bytes, in steps of at most `most`. `fails` lists the calls that fail; the
+    /// first call has number 0.
     pub fn new(alloc: Global, room: usize, most: usize, fails: &[u32]) -> Result<MemorySink, Memory>
         requires { 0 < most }
         ensures { IfOk result (λ sink. sink ≡ record { written = []; room = room; most = most; fails = fails.now; calls = 0; faults = 0 }) }

@@ -1,4 +1,5 @@
-//! The world outside: where input comes from, where output goes, and who may hold an actor up.
+//! What a run stands on that is not its own: a source, a sink and a gate. They are handed in, so that a test can let any
+//! call fail, cut the bytes anywhere and choose who goes first.
 
 ghost use Rattle.std.specs.Prelude.{◌≡◌, ℕ, ◌<◌, ◌≤◌, ◌↔◌, List, [], Option, length, take, IfOk, OnOk, OnErr, IfSome};
 ghost use Rattle.hs_base.specs.Outside.{Rose, Loses, Gains};
@@ -8,14 +9,15 @@ use std::marker::Sync;
 
 /// Where input comes from.
 pub trait Source {
-    /// The bytes still to come, where the source tells them.
+    /// What is left to read, of a source that claims to know.
     ghost left: { Self → Option (List ℕ) };
 
-    /// How often it has failed: the number of its failed calls, which may stand still at 2^64 - 1.
+    /// A count of failures. A failed call raises it, or finds it at 2^64 - 1 or above; no other call moves
+    /// it.
     ghost faults: { Self → ℕ };
 
-    /// Reads the next bytes into the front of `piece`, which may not be empty, and answers how many.
-    /// The answer 0 is the end of the input.
+    /// Reads into the front of `piece` and answers how far it got. 0 says that there is no more, so
+    /// a piece of no bytes may not be passed.
     fn read(&mut self, piece: &mut [u8]) -> Result<usize, Failed>
         requires { 0 < length piece.old }
         ensures fits { IfOk result (λ k. k ≤ length piece.new) }
@@ -29,14 +31,15 @@ pub trait Source {
 
 /// Where output goes.
 pub trait Sink {
-    /// The bytes written so far, where the sink tells them.
+    /// All that was written, of a sink that claims to know.
     ghost written: { Self → Option (List ℕ) };
 
-    /// How often it has failed: the number of its failed calls, which may stand still at 2^64 - 1.
+    /// A count of failures. A failed call raises it, or finds it at 2^64 - 1 or above; no other call moves
+    /// it.
     ghost faults: { Self → ℕ };
 
-    /// Writes some bytes from the front of `piece`, which may not be empty, and answers how many, at
-    /// least one.
+    /// Takes a front of `piece` and answers its length. It is never 0, so that a loop over the rest
+    /// ends; where nothing can be taken the call fails.
     fn write(&mut self, piece: &[u8]) -> Result<usize, Failed>
         requires { 0 < length piece.now }
         ensures some { IfOk result (λ k. 0 < k) }
@@ -48,12 +51,13 @@ pub trait Sink {
         ensures counted { faults self.old ≤ faults self.new };
 }
 
-/// Asked by each actor of a run before each of its steps. It returns, and says nothing.
+/// Passed by every actor of a run before it takes a step, by its number and the step's. A gate may wait
+/// for another actor; what a run comes to never rests on it.
 pub trait Gate: Sync {
     fn pass(&self, actor: u32, step: u32);
 }
 
-/// A gate that holds nobody up.
+/// A gate that is always open.
 #[derive(Clone, Copy, Debug, PartialEq, Eq)]
 pub struct OpenGate;
 

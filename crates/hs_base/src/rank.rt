@@ -1,16 +1,15 @@
 //! Ranks of traces.
 
 ghost use Rattle.std.specs.Prelude.{◌≡◌};
-ghost use Rattle.hs_base.specs.Ranks.{rank_of_lem};
+ghost use Rattle.hs_base.specs.Ranks.{trace_rank};
 
 use crate::ids::{Rank, TraceId};
 use rand_core::{Rng, SeedableRng};
 use rand_xoshiro::SplitMix64;
 
-/// A trace's rank: the first word of SplitMix64 from a seed that the id makes, and the id
-/// (`docs/RULES.md`, "Ranks").
+/// A trace's rank, which every node computes for itself (`docs/RULES.md`, "Ranks").
 pub fn rank_of(trace: TraceId) -> Rank
-    ensures { result ≡ rank_of_lem trace }
+    ensures { result ≡ trace_rank trace }
 {
     let low = (trace.0 % (1 << 64)) as u64;
     let high = (trace.0 >> 64) as u64;

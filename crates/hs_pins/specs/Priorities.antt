@@ -6,7 +6,7 @@ use Rattle.std.specs.declared.cmp.Ordering.TheVariants.{Less, Greater}
 use Rattle.std.specs.Ordering.{nat_cmp, ordering_then, is_eq}
 use Rattle.hs_base.specs.declared.told.Group.{Group}
 use Rattle.hs_base.specs.declared.ids.TriggerId.{TriggerId}
-use Rattle.hs_base.specs.Ranks.{rank_of_lem}
+use Rattle.hs_base.specs.Ranks.{trace_rank}
 use Rattle.hs_pins.specs.declared.priority.Priority.{Priority}
 use Rattle.hs_pins.specs.declared.priority.Mark.{Mark}
 
@@ -18,7 +18,7 @@ abbrev pub same_priority : Priority → Priority → Bool
 same_priority a b = is_eq (priority_cmp a b)
 
 abbrev pub priority_of : Group → Priority
-priority_of group = record { word = (rank_of_lem group.lead).word; lead = group.lead.0; node = group.id.node; number = group.id.number }
+priority_of group = record { word = (trace_rank group.lead).word; lead = group.lead.0; node = group.id.node; number = group.id.number }
 
 -- the group of a trigger id with this priority
 abbrev pub group_at : TriggerId → Priority → Group

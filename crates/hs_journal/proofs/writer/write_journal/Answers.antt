@@ -11,7 +11,7 @@ returns c =
     let draws = c.in_ok-push_clients.ensures in
     let logs = c.in_ok-push_logs.ensures in
     let told = c.in_ok-push_told.ensures in
-    c.from_vec.ensures
+    c.from_vec.ensures.items
     ∙ written J.nodes J.clients _ _ _ c.new-out.result.items c.push_line.new.out.items c.push_clients.new.out.items c.push_logs.new.out.items c.push_line-2.new.out.items
     c.push_told.new.out.items c.push_line-3.new.out.items c.new-out.ensures.items
     (head ∙ ap (λ n. c.new-out.result.items ++ (statement_line (head_statement n c.from-clients.result) ++ 10 ∷ [])) c.from-nodes.ensures

@@ -25,7 +25,7 @@ of-totals-requires c =
 
 pub returns-clause-entries : goal.returns-clause-entries
 returns-clause-entries c =
-    c.from_vec.ensures
+    c.from_vec.ensures.items
     ∙ all_books c.args.agents.now.items c.args.clients.now.items c.as_slice-book-items.result.now c.loop-book.book-index c.loop-book.entries.items c.as_slice-book-items.ensures c.loop-book-test.false c.loop-book.invariant
 
 pub returns-clause-totals : goal.returns-clause-totals

@@ -1,5 +1,5 @@
-use Rattle.hs_base.proofs.NodeSetLemmas.{either}
+use Rattle.hs_base.specs.NodeSetLaws.{has-either}
 use Rattle.hs_base.proofs.node_set.NodeSet.union.Goals as goal
 
-pub returns : goal.returns
-returns c = λ n. either c.args.self.0 c.args.other.0 n
+pub returns-clause-nodes : goal.returns-clause-nodes
+returns-clause-nodes c = λ n. has-either c.args.self c.args.other n
