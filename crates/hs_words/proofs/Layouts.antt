@@ -7,7 +7,7 @@ use Rattle.std.proofs.lemmas.List.Concat.{flat_map-append}
 use Rattle.hs_words.specs.declared.page.Header.{Header}
 use Rattle.hs_words.specs.declared.layout.Front.{Front}
 use Rattle.hs_words.specs.Pages.{Piece, Sheet, with_piece, FitsHeader, FitsPiece, cost_of, used_by, header_bytes, counts_bytes, piece_bytes, pieces_bytes, page_bytes}
-use Rattle.hs_words.specs.Buffers.{pieces_in, sheet_in, Holds}
+use Rattle.hs_words.specs.ChunkLayout.{pieces_in, sheet_in, Holds}
 use Rattle.hs_words.proofs.Numbers.{again_16, again_64}
 
 -- ---- lengths

@@ -1,13 +1,11 @@
 -- A page's bytes are read in one way: two spellings that begin alike are of the same things.
-use Rattle.std.proofs.Common.{◌≡◌, ℕ, ◌+◌, ◌^◌, ◌<◌, ◌≤◌, List, [], ◌∷◌, ◌++◌, length, take, drop, refl, sym, ap, ◌∙◌, append_assoc, arith}
+use Rattle.std.proofs.Common.{◌≡◌, ℕ, ◌+◌, ◌^◌, ◌<◌, ◌↔◌, List, [], ◌∷◌, ◌++◌, length, take, drop, refl, sym, ap, ◌∙◌, append_assoc, arith}
 use Rattle.std.specs.List.{AllByRecursion}
 use Rattle.std.specs.Int.{w16, w32, w64, w128, to_be_bytes, from_be_bytes}
-use Rattle.std.proofs.lemmas.List.{take_at, drop_at, length-append, append-nil, nil_from_length}
+use Rattle.std.proofs.lemmas.List.{take_at, drop_at, length-append}
 use Rattle.hs_words.specs.Pages.{Piece, Sheet, FitsHeader, FitsPiece, IsPage, used_by, header_bytes, counts_bytes, piece_bytes, pieces_bytes, page_bytes}
 use Rattle.hs_words.specs.declared.page.Header.{Header}
-use Rattle.hs_words.specs.declared.page.PageFault.{PageFault}
-use Rattle.hs_words.specs.declared.page.PageFault.TheVariants.{Short, Used, Count, Memory}
-use Rattle.hs_words.specs.Reading.{BeginsWithPiece, HasPieces, HasNoPiece, LacksPieces, Spells, count_field, used_field}
+use Rattle.hs_words.specs.Reading.{BeginsWithPiece, HasPieces, Spells, count_field, used_field}
 use Rattle.hs_words.proofs.Numbers.{again_16, again_32, again_64, again_128}
 use Rattle.hs_words.proofs.Layouts.{length-piece_bytes, costs_at_least}
 
@@ -67,44 +65,36 @@ piece_same p q x y fits fits' same =
     let rest : x ≡ y = sym (drop_at p.payload x (length p.payload) refl) ∙ ap (drop (length p.payload)) behind ∙ drop_at q.payload y (length p.payload) (sym len) in
     (λ i. record { moment = moment i; payload = payload i }, rest)
 
--- Pieces that stand in front of others' bytes are the first of them.
-pub record Begin (ps qs : List Piece) (rest : List ℕ) : Type 0 where
-  pub more : List Piece
-  pub parts : qs ≡ ps ++ more
-  pub rest_is : rest ≡ pieces_bytes more
-  pub fits : AllByRecursion FitsPiece more
+-- behind a piece there is one fewer
+pub one_fewer : (n m : ℕ) (bytes rest : List ℕ) (p : Piece) → n ≡ m + 1 → FitsPiece p → bytes ≡ piece_bytes p ++ rest → HasPieces n bytes → HasPieces m rest
+one_fewer n m bytes rest p next fits begins ([], fits', many, spelled) = absurd (omega (arith, many, next))
+one_fewer n m bytes rest p next fits begins (q ∷ qs, fits', many, spelled) =
+    (qs, fits'.1, omega (arith, many, next), (piece_same p q rest (pieces_bytes qs) fits fits'.0 (sym begins ∙ spelled)).1)
 
-pub pieces_begin : (ps qs : List Piece) (rest : List ℕ) → AllByRecursion FitsPiece ps → AllByRecursion FitsPiece qs → length ps ≤ length qs → pieces_bytes ps ++ rest ≡ pieces_bytes qs → Begin ps qs rest
-pieces_begin [] qs rest fits fits' le same = record { more = qs; parts = refl; rest_is = same; fits = fits' }
-pieces_begin (p ∷ ps) [] rest fits fits' le same = absurd (omega arith)
-pieces_begin (p ∷ ps) (q ∷ qs) rest fits fits' le same =
-    let first = piece_same p q (pieces_bytes ps ++ rest) (pieces_bytes qs) fits.0 fits'.0 (sym (append_assoc (piece_bytes p) (pieces_bytes ps) rest) ∙ same) in
-    let others = pieces_begin ps qs rest fits.1 fits'.1 (omega arith) first.1 in
-    record { more = others.more; parts = λ i. sym first.0 i ∷ others.parts i; rest_is = others.rest_is; fits = others.fits }
+pub one_more : (n m : ℕ) (bytes rest : List ℕ) (p : Piece) → n ≡ m + 1 → FitsPiece p → bytes ≡ piece_bytes p ++ rest → HasPieces m rest → HasPieces n bytes
+one_more n m bytes rest p next fits begins (ps, fits', many, spelled) =
+    (p ∷ ps, (fits, fits'), omega (arith, many, next), begins ∙ ap (λ xs. piece_bytes p ++ xs) spelled)
 
--- where no piece follows fewer, there are not so many
-none_follows : (count : ℕ) (bytes rest : List ℕ) (ps : List Piece) → AllByRecursion FitsPiece ps → length ps < count → pieces_bytes ps ++ rest ≡ bytes → (BeginsWithPiece rest → ⊥) → HasPieces count bytes → ⊥
-none_follows count bytes rest ps fits few read none (qs, fits', many, spelled) =
-    let b = pieces_begin ps qs rest fits fits' (omega (arith, many, few)) (read ∙ spelled) in
-    next b.more b.parts b.rest_is b.fits
+pub begins_with_one : (n : ℕ) (bytes : List ℕ) → 0 < n → HasPieces n bytes → BeginsWithPiece bytes
+begins_with_one n bytes some ([], fits, many, spelled) = absurd (omega (arith, many, some))
+begins_with_one n bytes some (p ∷ ps, fits, many, spelled) = (p, pieces_bytes ps, fits.0, spelled)
+
+pub none_left : (n : ℕ) (bytes : List ℕ) → n ≡ 0 → HasPieces n bytes ↔ (bytes ≡ [])
+none_left n bytes zero_is = (none, λ is. ([], tt, sym zero_is, is))
   where
-    next : (more : List Piece) → qs ≡ ps ++ more → rest ≡ pieces_bytes more → AllByRecursion FitsPiece more → ⊥
-    next [] parts rest_is all = absurd (omega (arith, many, few, ap length parts, length-append ps []))
-    next (piece ∷ more) parts rest_is all = none (piece, pieces_bytes more, all.0, rest_is)
+    none : HasPieces n bytes → bytes ≡ []
+    none ([], fits, many, spelled) = spelled
+    none (p ∷ ps, fits, many, spelled) = absurd (omega (arith, many, zero_is))
 
-pub no_more : (fault : PageFault) (count : ℕ) (bytes rest : List ℕ) (ps : List Piece) → AllByRecursion FitsPiece ps → length ps < count → pieces_bytes ps ++ rest ≡ bytes → HasNoPiece rest fault → LacksPieces count bytes fault
-no_more Short count bytes rest ps fits few read none = none
-no_more Used count bytes rest ps fits few read none = none
-no_more Count count bytes rest ps fits few read none = none_follows count bytes rest ps fits few read none
-no_more Memory count bytes rest ps fits few read none = tt
-
--- where something follows as many, there are more
-pub too_many : (count : ℕ) (bytes rest : List ℕ) (ps : List Piece) → AllByRecursion FitsPiece ps → length ps ≡ count → 0 < length rest → pieces_bytes ps ++ rest ≡ bytes → HasPieces count bytes → ⊥
-too_many count bytes rest ps fits all some read (qs, fits', many, spelled) =
-    let b = pieces_begin ps qs rest fits fits' (omega (arith, many, all)) (read ∙ spelled) in
-    let none : b.more ≡ [] = nil_from_length b.more (omega (arith, many, all, ap length b.parts, length-append ps b.more)) in
-    let rest_is : rest ≡ [] = b.rest_is ∙ ap (λ (ps : List Piece). pieces_bytes ps) none in
-    absurd (omega (arith, some, ap length rest_is))
+-- as many pieces with the same bytes are the same
+pieces_same : (ps qs : List Piece) → AllByRecursion FitsPiece ps → AllByRecursion FitsPiece qs → length ps ≡ length qs → pieces_bytes ps ≡ pieces_bytes qs → ps ≡ qs
+pieces_same [] [] fits fits' many same = refl
+pieces_same [] (q ∷ qs) fits fits' many same = absurd (omega (arith, many))
+pieces_same (p ∷ ps) [] fits fits' many same = absurd (omega (arith, many))
+pieces_same (p ∷ ps) (q ∷ qs) fits fits' many same =
+    let first = piece_same p q (pieces_bytes ps) (pieces_bytes qs) fits.0 fits'.0 same in
+    let rest = pieces_same ps qs fits.1 fits'.1 (omega (arith, many)) first.1 in
+    λ i. first.0 i ∷ rest i
 
 -- ---- whole pages
 
@@ -171,8 +161,5 @@ page_same p q valid valid' same =
     ∙ append_assoc (header_bytes q.header) (counts_bytes (length q.pieces) (used_by q.pieces)) (pieces_bytes q.pieces) in
     let header : p.header ≡ q.header = header_same p.header q.header _ _ valid.header valid'.header grouped in
     let many : length p.pieces ≡ length q.pieces = sym here.count_is ∙ there.count_is in
-    let spelled : pieces_bytes p.pieces ++ [] ≡ pieces_bytes q.pieces = append-nil (pieces_bytes p.pieces) ∙ sym here.rest_is ∙ there.rest_is in
-    let b = pieces_begin p.pieces q.pieces [] valid.pieces valid'.pieces (omega (arith, many)) spelled in
-    let none : b.more ≡ [] = nil_from_length b.more (omega (arith, many, ap length b.parts, length-append p.pieces b.more)) in
-    let pieces : q.pieces ≡ p.pieces = b.parts ∙ ap (λ (ps : List Piece). p.pieces ++ ps) none ∙ append-nil p.pieces in
-    λ i. record { header = header i; pieces = sym pieces i }
+    let pieces : p.pieces ≡ q.pieces = pieces_same p.pieces q.pieces valid.pieces valid'.pieces many (sym here.rest_is ∙ there.rest_is) in
+    λ i. record { header = header i; pieces = pieces i }

@@ -1,5 +1,6 @@
 pub mod Pages
 pub mod Chunks
+pub mod ChunkLayout
 pub mod Buffers
 pub mod Reading
 pub mod Pools

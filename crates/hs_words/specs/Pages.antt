@@ -1,9 +1,9 @@
--- The layout of a page. A page is a header and the pieces behind it, each with its moment and its payload; its
--- bytes are the spelling of it, with every number big-endian. The used bytes are 24 and the cost of each piece,
--- so the page has 8 bytes more than its used bytes.
+-- How a page is spelled: its header, two counts, and its pieces one behind another, with the highest byte of each number
+-- first. The used bytes are what the page takes of its chunk's size; the header is longer than what is counted of it.
 use Rattle.std.specs.Prelude.{◌≡◌, ℕ, ◌+◌, ◌<◌, ◌^◌, List, [], ◌∷◌, ◌++◌, length, map, sum_by, refl}
 use Rattle.std.specs.List.{flat_map, AllByRecursion}
 use Rattle.std.specs.Int.{w16, w32, w64, w128, to_be_bytes}
+use Rattle.hs_base.specs.declared.limits.TheConstants.{HEADER_COST, PIECE_COST}
 use Rattle.hs_words.specs.declared.page.Header.{Header}
 use Rattle.hs_words.specs.declared.page.Point.{Point}
 use Rattle.hs_words.specs.declared.page.Page.{Page}
@@ -24,13 +24,13 @@ piece_of point = record { moment = point.moment; payload = point.payload.items }
 abbrev pub sheet_of : Page → Sheet
 sheet_of page = record { header = page.header; pieces = map piece_of page.points.items }
 
--- how many bytes a piece takes: 10 and those of its payload
+-- how many bytes a piece takes
 abbrev pub cost_of : Piece → ℕ
-cost_of piece = 10 + length piece.payload
+cost_of piece = PIECE_COST + length piece.payload
 
 -- the used bytes of a page with these pieces
 abbrev pub used_by : List Piece → ℕ
-used_by pieces = 24 + sum_by cost_of pieces
+used_by pieces = HEADER_COST + sum_by cost_of pieces
 
 -- the page with a piece more at its end
 abbrev pub with_piece : Sheet → Piece → Sheet

@@ -1,7 +1,8 @@
 -- What reading bytes as a page answers: the page that they spell, or why they spell none. The reasons exclude
--- each other and the page, so there is one answer to all bytes, but that memory may be refused.
-use Rattle.std.specs.Prelude.{◌≡◌, ◌≢◌, ℕ, ◌+◌, ◌*◌, ◌<◌, ◌≤◌, List, ◌++◌, length, drop, slice_index, Result, Ok, Err, MatchResult, ◌⊎◌}
+-- each other and the page, so there is one answer to all bytes; only the bytes of a page may lack memory.
+use Rattle.std.specs.Prelude.{◌≡◌, ◌≢◌, ℕ, ◌+◌, ◌*◌, ◌<◌, ◌≤◌, List, ◌++◌, length, drop, slice_index, Result, Ok, Err, MatchResult}
 use Rattle.std.specs.List.{AllByRecursion}
+use Rattle.hs_base.specs.declared.limits.TheConstants.{HEADER_BYTES, UNCOUNTED_BYTES}
 use Rattle.hs_words.specs.declared.page.Page.{Page}
 use Rattle.hs_words.specs.declared.page.PageFault.{PageFault}
 use Rattle.hs_words.specs.declared.page.PageFault.TheVariants.{Short, Used, Count, Memory}
@@ -18,28 +19,28 @@ used_field bytes = 256 * slice_index bytes 30 + slice_index bytes 31
 abbrev pub HasPieces : ℕ → List ℕ → Type 0
 HasPieces count bytes = (pieces : List Piece) × AllByRecursion FitsPiece pieces × (length pieces ≡ count) × (bytes ≡ pieces_bytes pieces)
 
--- the used field is not 8 less than the number of bytes
+-- the used field and the number of bytes do not go together
 pub record HasWrongUsed (bytes : List ℕ) : Type 0 where
-  pub whole : 32 ≤ length bytes
-  pub used : used_field bytes + 8 ≢ length bytes
+  pub whole : HEADER_BYTES ≤ length bytes
+  pub used : used_field bytes + UNCOUNTED_BYTES ≢ length bytes
 
 -- the used field is right, and the count field is 0 or not the number of pieces
 pub record HasWrongCount (bytes : List ℕ) : Type 0 where
-  pub whole : 32 ≤ length bytes
-  pub used : used_field bytes + 8 ≡ length bytes
-  pub count : 0 < count_field bytes → HasPieces (count_field bytes) (drop 32 bytes) → ⊥
-
--- these bytes have this fault; a refusal of memory is no fault of theirs
-abbrev pub HasFault : List ℕ → PageFault → Type 0
-HasFault bytes Short = length bytes < 32
-HasFault bytes Used = HasWrongUsed bytes
-HasFault bytes Count = HasWrongCount bytes
-HasFault bytes Memory = Unit {0}
+  pub whole : HEADER_BYTES ≤ length bytes
+  pub used : used_field bytes + UNCOUNTED_BYTES ≡ length bytes
+  pub count : 0 < count_field bytes → HasPieces (count_field bytes) (drop HEADER_BYTES bytes) → ⊥
 
 -- these bytes are those of this page
 pub record Spells (sheet : Sheet) (bytes : List ℕ) : Type 0 where
   pub valid : IsPage sheet
   pub bytes_are : bytes ≡ page_bytes sheet
+
+-- These bytes may be answered with this fault. Memory is asked for only where they are those of a page.
+abbrev pub HasFault : List ℕ → PageFault → Type 0
+HasFault bytes Short = length bytes < HEADER_BYTES
+HasFault bytes Used = HasWrongUsed bytes
+HasFault bytes Count = HasWrongCount bytes
+HasFault bytes Memory = (sheet : Sheet) × Spells sheet bytes
 
 -- what reading the bytes may answer
 abbrev pub Answers : List ℕ → Result Page PageFault → Type 0
@@ -50,27 +51,8 @@ abbrev pub Gives : Sheet → Result Page PageFault → Type 0
 Gives sheet (Ok page) = sheet_of page ≡ sheet
 Gives sheet (Err fault) = fault ≡ Memory
 
--- the answer is this fault, unless memory is refused
-abbrev pub IsFault : PageFault → Result Page PageFault → Type 0
-IsFault fault (Ok page) = ⊥
-IsFault fault (Err other) = (other ≡ fault) ⊎ (other ≡ Memory)
-
 -- ---- parts
 
 -- The bytes begin with a whole piece.
 abbrev pub BeginsWithPiece : List ℕ → Type 0
 BeginsWithPiece bytes = (piece : Piece) × (rest : List ℕ) × FitsPiece piece × (bytes ≡ piece_bytes piece ++ rest)
-
--- why no piece is read from the front
-abbrev pub HasNoPiece : List ℕ → PageFault → Type 0
-HasNoPiece bytes Short = ⊥
-HasNoPiece bytes Used = ⊥
-HasNoPiece bytes Count = BeginsWithPiece bytes → ⊥
-HasNoPiece bytes Memory = Unit {0}
-
--- why so many pieces are not read
-abbrev pub LacksPieces : ℕ → List ℕ → PageFault → Type 0
-LacksPieces count bytes Short = ⊥
-LacksPieces count bytes Used = ⊥
-LacksPieces count bytes Count = HasPieces count bytes → ⊥
-LacksPieces count bytes Memory = Unit {0}

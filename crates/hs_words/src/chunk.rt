@@ -6,6 +6,7 @@ ghost use Rattle.hs_words.specs.Chunks.{clear_chunks, header_in, used_in, with_p
 
 use crate::layout::{Front, extend_page, start_page};
 use crate::page::Header;
+use hs_base::limits::{MAX_BUFFERS, MAX_SIZE, MIN_SIZE, PIECE_COST, UNCOUNTED_BYTES};
 use hs_base::{List, Memory};
 use std::alloc::Global;
 use std::marker::Model;
@@ -23,11 +24,11 @@ impl Model for Chunk {
 
     ghost Value = { Contents };
 
-    ghost use Rattle.hs_words.specs.Buffers.{contents_of, IsInOrder};
+    ghost use Rattle.hs_words.specs.ChunkLayout.{contents_of, IsChunk};
 
     ghost view = { contents_of };
 
-    ghost invariant = { IsInOrder };
+    ghost invariant = { IsChunk };
 }
 
 /// Whether a piece was added.
@@ -45,7 +46,7 @@ impl Chunk {
         self.number
     }
 
-    /// The used bytes of the page, which has 8 bytes more; 0 where the chunk is clear.
+    /// How much of the size the page takes, in bytes; 0 where the chunk is clear.
     pub fn used(&self) -> u32
         ensures value { result ≡ used_in self.now }
         ensures bound { result ≤ self.now.size }
@@ -83,7 +84,9 @@ impl Chunk {
         let Some(page) = self.page else {
             unreachable!()
         };
-        if self.bytes.len() - 8 - usize::from(page.used) < 10 + payload.len() {
+        if self.bytes.len() - UNCOUNTED_BYTES - usize::from(page.used)
+            < PIECE_COST + payload.len()
+        {
             return Added::NoRoom;
         }
         self.page = Some(extend_page(&mut self.bytes, page, moment, payload));
@@ -95,13 +98,13 @@ impl Chunk {
     pub fn bytes(&self) -> &[u8]
         requires { IsSome self.now.page }
         ensures spelled { IfSome self.now.page (λ sheet. result.now ≡ page_bytes sheet) }
-        ensures len { length result.now ≡ used_in self.now + 8 }
+        ensures len { length result.now ≡ used_in self.now + UNCOUNTED_BYTES }
         ensures valid { IfSome self.now.page (λ sheet. 0 < length sheet.pieces → IsPage sheet) }
     {
         let Some(page) = self.page else {
             unreachable!()
         };
-        &self.bytes[..usize::from(page.used) + 8]
+        &self.bytes[..usize::from(page.used) + UNCOUNTED_BYTES]
     }
 
     /// Clears the chunk. Its number and its size stay.
@@ -116,18 +119,17 @@ impl Chunk {
 pub struct Stock;
 
 impl Stock {
-    /// So many clear chunks of one size, numbered from 0. Each takes its size and 8 bytes of memory, once and
-    /// for all.
+    /// So many clear chunks of one size, numbered from 0. The memory of each is taken here, once and for all.
     pub fn make(alloc: Global, count: u32, size: u32) -> Result<List<Chunk>, Memory>
         requires some { 1 ≤ count }
-        requires few { count ≤ 1024 }
-        requires least { 64 ≤ size }
-        requires most { size ≤ 32768 }
+        requires few { count ≤ MAX_BUFFERS }
+        requires least { MIN_SIZE ≤ size }
+        requires most { size ≤ MAX_SIZE }
         ensures { IfOk result (λ chunks. chunks.items ≡ clear_chunks count size) }
     {
         let mut chunks = List::with_room(alloc, count as usize)?;
         for number in 0..count {
-            let Ok(bytes) = vec![in alloc; 0; size as usize + 8] else {
+            let Ok(bytes) = vec![in alloc; 0; size as usize + UNCOUNTED_BYTES] else {
                 return Err(Memory);
             };
             chunks.push(Chunk {

@@ -2,6 +2,7 @@
 
 ghost use Rattle.std.specs.Prelude.{◌≡◌, ◌≤◌, ◌≢◌, List, [], Result, IfSome};
 ghost use Rattle.std.specs.List.{AllByRecursion};
+ghost use Rattle.hs_base.specs.declared.limits.TheConstants.{MAX_SIZE};
 ghost use Rattle.hs_words.specs.declared.page.Header.{Header};
 ghost use Rattle.hs_words.specs.declared.page.Page.{Page};
 ghost use Rattle.hs_words.specs.declared.page.PageFault.{PageFault as Fault};
@@ -17,6 +18,6 @@ pub fn pages_have_bytes_of_their_own()
 /// What was written into a chunk and has a piece is read again as what was added, unless memory is refused.
 pub fn what_was_added_is_read()
     ensures { (old new : Contents) (header : Header) (pieces : List Piece) (answer : Result Page Fault)
-        → old.size ≤ 32768 → FitsHeader header → AllByRecursion FitsPiece pieces → pieces ≢ [] → Writes old header pieces new
+        → old.size ≤ MAX_SIZE → FitsHeader header → AllByRecursion FitsPiece pieces → pieces ≢ [] → Writes old header pieces new
         → IfSome new.page (λ sheet. Answers (page_bytes sheet) answer → Gives (record { header = header; pieces = pieces }) answer) }
 {}

@@ -1,9 +1,9 @@
-//! Pages as values.
+//! Pages as a reader gets them.
 
 use hs_base::{Bytes, ClientId, List, TraceId};
 
-/// What a page is of: its trace, its client, its number among the client's pages, and the number of the
-/// client's record that its first piece is of. Both numbers count from 0.
+/// Where a page belongs: to this trace, written by this client. `page` counts the client's pages and `first` its
+/// records, up to the one that the page begins in; both from 0.
 #[derive(Clone, Copy, Debug, PartialEq, Eq)]
 pub struct Header {
     pub trace: TraceId,
@@ -12,29 +12,29 @@ pub struct Header {
     pub first: u32,
 }
 
-/// A piece of a record, with the record's moment in microseconds.
+/// What stands on a page of one record, all of it or a part. The moment is in microseconds.
 #[derive(Drop)]
 pub struct Point {
     pub moment: u64,
     pub payload: Bytes,
 }
 
-/// A page: its header and its pieces, in order.
+/// A page that was read. Its points stand in the order in which they were written.
 #[derive(Drop)]
 pub struct Page {
     pub header: Header,
     pub points: List<Point>,
 }
 
-/// Why bytes are no page. The reasons are asked in this order (`docs/FORMATS.md`, "The page").
+/// What is wrong with bytes that are no page, tried in this order (`docs/FORMATS.md`, "The page").
 #[derive(Clone, Copy, Debug, PartialEq, Eq)]
 pub enum PageFault {
-    /// There are fewer bytes than a header has.
+    /// They end within the header.
     Short,
-    /// The used field is not 8 less than the number of bytes.
+    /// The header says another length than theirs.
     Used,
-    /// The bytes behind the header are not as many whole records as the count field says, or it says 0.
+    /// Behind the header are more or fewer pieces than it says, or it says that there is none.
     Count,
-    /// Memory was refused.
+    /// Nothing: they are a page, and there was no memory to hold it.
     Memory,
 }

@@ -1,14 +1,15 @@
 //! Bytes, read as a page.
 
-ghost use Rattle.std.specs.Prelude.{◌≡◌, ◌<◌, ◌^◌, ◌↔◌, ◌++◌, length, map, IfOk, IfErr, IfSome, IfNone};
+ghost use Rattle.std.specs.Prelude.{◌≡◌, ◌<◌, ◌^◌, ◌↔◌, ◌++◌, length, map, IsTrue, IfOk, IfSome, IfNone};
 ghost use Rattle.std.specs.List.{AllByRecursion};
 ghost use Rattle.std.specs.Int.{w16, w32, w64, w128, to_be_bytes};
 ghost use Rattle.hs_words.specs.Pages.{Sheet, FitsHeader, FitsPiece, header_bytes, counts_bytes, piece_of, piece_bytes, pieces_bytes};
-ghost use Rattle.hs_words.specs.Reading.{BeginsWithPiece, HasNoPiece, LacksPieces, Spells, Answers, HasFault, Gives, IsFault};
+ghost use Rattle.hs_words.specs.Reading.{BeginsWithPiece, HasPieces, Spells, Answers, HasFault, Gives};
 
 use crate::layout::Front;
 use crate::page::{Header, Page, PageFault, Point};
-use hs_base::{ClientId, List, TraceId};
+use hs_base::limits::{HEADER_BYTES, UNCOUNTED_BYTES};
+use hs_base::{ClientId, List, Memory, TraceId};
 use std::alloc::Global;
 
 fn split_u16(bytes: &[u8]) -> Option<(u16, &[u8])>
@@ -47,7 +48,7 @@ fn split_u128(bytes: &[u8]) -> Option<(u128, &[u8])>
 fn read_front(bytes: &[u8]) -> Option<(Front, &[u8])>
     ensures some { IfSome result (λ x. bytes.now ≡ header_bytes x.0.header ++ counts_bytes x.0.count x.0.used ++ x.1.now) }
     ensures fits { IfSome result (λ x. FitsHeader x.0.header × (x.0.count < 2 ^ 16) × (x.0.used < 2 ^ 16)) }
-    ensures none { IfNone result (length bytes.now < 32) }
+    ensures none { IfNone result (length bytes.now < HEADER_BYTES) }
 {
     let (trace, rest) = split_u128(bytes)?;
     let (node, rest) = split_u16(rest)?;
@@ -85,66 +86,77 @@ fn split_piece(bytes: &[u8]) -> Option<(u64, &[u8], &[u8])>
     Some((moment, payload, rest))
 }
 
-/// The piece at the front of the bytes, and the bytes behind it.
-fn read_piece(alloc: Global, bytes: &[u8]) -> Result<(Point, &[u8]), PageFault>
-    ensures ok { IfOk result (λ x. FitsPiece (piece_of x.0) × (bytes.now ≡ piece_bytes (piece_of x.0) ++ x.1.now)) }
-    ensures err { IfErr result (HasNoPiece bytes.now) }
+/// Whether the bytes are so many pieces and no more. Takes no memory, and does not look into the payloads.
+fn has_pieces(count: u16, bytes: &[u8]) -> bool
+    ensures { IsTrue result ↔ HasPieces count bytes.now }
 {
-    let Some((moment, payload, rest)) = split_piece(bytes) else {
-        return Err(PageFault::Count);
-    };
-    let Ok(payload) = Vec::from_slice(alloc, payload) else {
-        return Err(PageFault::Memory);
-    };
-    let payload = List::from_vec(payload);
-    Ok((Point { moment, payload }, rest))
-}
-
-/// So many pieces, which are all of the bytes.
-fn read_pieces(alloc: Global, count: u16, bytes: &[u8]) -> Result<List<Point>, PageFault>
-    ensures ok { IfOk result (λ points. AllByRecursion FitsPiece (map piece_of points.items) × (length points.items ≡ count) × (bytes.now ≡ pieces_bytes (map piece_of points.items))) }
-    ensures err { IfErr result (LacksPieces count bytes.now) }
-{
-    let Ok(mut points) = List::with_room(alloc, usize::from(count)) else {
-        return Err(PageFault::Memory);
-    };
     let mut rest = bytes;
     for _number in 0..count {
-        let (point, after) = read_piece(alloc, rest)?;
-        points.push(point);
+        let Some((_, _, after)) = split_piece(rest) else {
+            return false;
+        };
         rest = after;
     }
-    if !rest.is_empty() {
-        return Err(PageFault::Count);
+    rest.is_empty()
+}
+
+/// The so many pieces that the bytes are.
+fn read_pieces(alloc: Global, count: u16, bytes: &[u8]) -> Result<List<Point>, Memory>
+    requires { HasPieces count bytes.now }
+    ensures { IfOk result (λ points. AllByRecursion FitsPiece (map piece_of points.items) × (length points.items ≡ count) × (bytes.now ≡ pieces_bytes (map piece_of points.items))) }
+{
+    let mut points = List::with_room(alloc, usize::from(count))?;
+    let mut rest = bytes;
+    for _number in 0..count {
+        let Some((moment, payload, after)) = split_piece(rest) else {
+            unreachable!()
+        };
+        let payload = List::from_vec(Vec::from_slice(alloc, payload)?);
+        points.push(Point { moment, payload });
+        rest = after;
     }
     Ok(points)
 }
 
-/// The page that the bytes are (`docs/FORMATS.md`, "The page"). One pass; each payload is copied once, and after `Memory` nothing is kept.
-pub fn read_page(alloc: Global, bytes: &[u8]) -> Result<Page, PageFault>
-    // What is read is spelled by the bytes, and where they have a fault it is the one that is answered.
-    ensures answers { Answers bytes.now result }
-
-    // A page is read from its bytes, unless memory is refused.
-    ensures page { (sheet : Sheet) → Spells sheet bytes.now → Gives sheet result }
-
-    // Each fault is answered exactly where the bytes have it; the last may give way to want of memory.
-    ensures short { (result ≡ Err PageFault.Short) ↔ HasFault bytes.now PageFault.Short }
-    ensures used { (result ≡ Err PageFault.Used) ↔ HasFault bytes.now PageFault.Used }
-    ensures count { HasFault bytes.now PageFault.Count → IsFault PageFault.Count result }
+/// The page that the bytes are, or why they are none.
+fn find_page(alloc: Global, bytes: &[u8]) -> Result<Page, PageFault>
+    ensures { Answers bytes.now result }
 {
     let Some((front, rest)) = read_front(bytes) else {
         return Err(PageFault::Short);
     };
-    if usize::from(front.used) + 8 != bytes.len() {
+    if usize::from(front.used) + UNCOUNTED_BYTES != bytes.len() {
         return Err(PageFault::Used);
     }
     if front.count == 0 {
         return Err(PageFault::Count);
     }
-    let points = read_pieces(alloc, front.count, rest)?;
+    if !has_pieces(front.count, rest) {
+        return Err(PageFault::Count);
+    }
+    let Ok(points) = read_pieces(alloc, front.count, rest) else {
+        return Err(PageFault::Memory);
+    };
     Ok(Page {
         header: front.header,
         points,
     })
+}
+
+/// The page that the bytes are (`docs/FORMATS.md`, "The page"). Its pieces are counted before memory is asked
+/// for; then each payload is copied once. After `Memory` nothing is kept.
+pub fn read_page(alloc: Global, bytes: &[u8]) -> Result<Page, PageFault>
+    // What is read is spelled by the bytes, and where they have a fault it is the one that is answered.
+    // Memory may be wanted only for the bytes of a page.
+    ensures answers { Answers bytes.now result }
+
+    // A page is read from its bytes, unless memory is refused.
+    ensures page { (sheet : Sheet) → Spells sheet bytes.now → Gives sheet result }
+
+    // Each fault is answered exactly where the bytes have it.
+    ensures short { (result ≡ Err PageFault.Short) ↔ HasFault bytes.now PageFault.Short }
+    ensures used { (result ≡ Err PageFault.Used) ↔ HasFault bytes.now PageFault.Used }
+    ensures count { (result ≡ Err PageFault.Count) ↔ HasFault bytes.now PageFault.Count }
+{
+    find_page(alloc, bytes)
 }

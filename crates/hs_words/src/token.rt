@@ -1,27 +1,27 @@
-//! Tokens, which say who may write a chunk, and what draws and gives answer.
+//! The right to write a chunk, and what a pool answers when chunks leave it and come back.
 
 ghost use Rattle.std.specs.Prelude.{ℕ, Bool, true, Option, None, IsTrue};
 ghost use Rattle.hs_words.specs.Pools.{PoolName};
 
 use crate::chunk::Chunk;
 
-/// A token says that its holder may write one chunk. It has no calls.
+/// The right to write one chunk, which whoever has the token has. It can only be handed on, so it has no calls.
 pub trait Token: Drop {
-    // Whether the token is for the chunk with this number.
+    // Whether this is the right to write the chunk of this number.
     ghost fits: { Self → ℕ → Bool };
 
-    // The pool that handed the token out, where there is one.
+    // The pool that gave the right, by its name; some rights are nobody's gift.
     ghost pool: { Self → Option PoolName };
 }
 
-/// The empty token fits every number and names no pool.
+/// A right to any chunk, for whoever needs no pool: a test, or a run with one owner.
 impl Token for () {
     ghost fits = { λ _ n. true };
 
     ghost pool = { λ _. None };
 }
 
-/// A chunk with the lease that lets its holder write it.
+/// A chunk in the hands of someone who may write it.
 #[derive(Drop)]
 pub struct Held<L: Token> {
     pub chunk: Chunk,
@@ -29,14 +29,14 @@ pub struct Held<L: Token> {
     pub ghost fits: { IsTrue (L.fits lease chunk.number) },
 }
 
-/// What a draw answers. A stamp is the event's place in the pool's history.
+/// What became of a draw. The stamp says when: the pool's events are numbered from 0 as they happen.
 #[derive(Drop)]
 pub enum Drawn<L: Token> {
     Got { held: Held<L>, stamp: u64 },
     Empty { stamp: u64 },
 }
 
-/// What a give answers. What was not given comes back.
+/// What became of a give. A chunk that the pool did not take comes back with its lease.
 #[derive(Drop)]
 pub enum Given<L: Token> {
     Given { stamp: u64 },
@@ -44,7 +44,7 @@ pub enum Given<L: Token> {
     Unread { held: Held<L> },
 }
 
-/// How many answers of each kind the ends of a pool gave.
+/// The answers that all ends of a pool gave, counted by kind.
 #[derive(Clone, Copy, Debug, PartialEq, Eq)]
 pub struct Tally {
     pub gots: u64,

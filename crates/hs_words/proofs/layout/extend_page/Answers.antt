@@ -2,7 +2,7 @@ use Rattle.std.proofs.Common.{◌≡◌, ◌+◌, ◌-◌, ◌≤◌, ◌++◌, 
 use Rattle.std.proofs.lemmas.List.{take-append-drop, length-take-le, length-append, length-drop}
 use Rattle.hs_words.specs.declared.layout.Front.{Front}
 use Rattle.hs_words.specs.Pages.{Piece, FitsPiece, cost_of, counts_bytes, piece_bytes, with_piece}
-use Rattle.hs_words.specs.Buffers.{sheet_in, Holds}
+use Rattle.hs_words.specs.ChunkLayout.{sheet_in, Holds}
 use Rattle.hs_words.proofs.Parts.{put_next}
 use Rattle.hs_words.proofs.Numbers.{IsBytes-all}
 use Rattle.hs_words.proofs.Layouts.{length-piece_bytes, length-pieces_in, costs_at_least, extends}

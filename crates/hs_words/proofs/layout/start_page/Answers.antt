@@ -1,7 +1,7 @@
 use Rattle.std.proofs.Common.{◌≡◌, ◌-◌, ◌++◌, List, ℕ, [], length, take, drop, refl, ◌∙◌}
 use Rattle.hs_words.specs.declared.page.Header.{Header}
 use Rattle.hs_words.specs.Pages.{FitsHeader, header_bytes, counts_bytes}
-use Rattle.hs_words.specs.Buffers.{sheet_in, Holds}
+use Rattle.hs_words.specs.ChunkLayout.{sheet_in, Holds}
 use Rattle.hs_words.proofs.Parts.{put_next}
 use Rattle.hs_words.proofs.Layouts.{length-header_bytes, empty_page, holds_page}
 use Rattle.hs_words.proofs.layout.start_page.Goals as goal

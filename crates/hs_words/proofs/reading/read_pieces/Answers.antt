@@ -1,24 +1,30 @@
-use Rattle.std.proofs.Common.{◌≡◌, ◌<◌, ℕ, zero, suc, false, nat_eq, length, map, arith}
-use Rattle.std.proofs.lemmas.List.{length-map}
-use Rattle.std.proofs.lemmas.Result.{err_from_is_err_and}
-use Rattle.hs_words.specs.Pages.{piece_of}
-use Rattle.hs_words.proofs.Readings.{no_more, too_many}
+use Rattle.std.proofs.Common.{◌≡◌, ◌+◌, ◌-◌, ◌++◌, [], map, sym, ap, ◌∙◌, arith}
+use Rattle.std.proofs.lemmas.Grind.{common_steps}
+use Rattle.std.proofs.lemmas.List.{append-nil}
+use Rattle.hs_words.specs.Pages.{piece_of, pieces_bytes}
+use Rattle.hs_words.proofs.Readings.{one_fewer, begins_with_one, none_left}
 use Rattle.hs_words.proofs.reading.read_pieces.Goals as goal
 
-not_zero : (n : ℕ) → false ≡ nat_eq n 0 → 0 < n
-not_zero zero is = absurd cc
-not_zero (suc n) is = omega arith
+pub unreachable-requires : goal.unreachable-requires
+unreachable-requires c =
+    c.in_default.ensures.none (begins_with_one (c.args.count - c.loop-number._number) c.loop-number.rest.now (omega (arith, c.loop-number-test.true)) c.loop-number.invariant.left)
 
-pub returns-in_err-point-clause-err : goal.returns-in_err-point-clause-err
-returns-in_err-point-clause-err c =
-    let p = err_from_is_err_and c.from_residual.result c.from_residual.ensures.1 in
-    let i = c.loop-number.invariant in
-    let few : length (map piece_of c.loop-number.points.items) < c.args.count = omega (arith, length-map c.loop-number.points.items piece_of, i.many, c.loop-number-test.true) in
-    rw (p.1, p.2) (no_more c.in_err-point.field-0.0 c.args.count c.args.bytes.now c.loop-number.rest.now (map piece_of c.loop-number.points.items) i.fits few i.read c.in_err-point.ensures.err)
+pub loop-number-preserved : goal.loop-number-preserved
+loop-number-preserved c = record {
+  fits = grind (arith, common_steps);
+  many = grind (arith, common_steps);
+  read = grind (arith, common_steps);
+  room = grind (arith, common_steps);
+  left =
+      one_fewer (c.args.count - c.loop-number._number) (c.args.count - (c.loop-number._number + 1)) c.loop-number.rest.now c.in-Some.after.now _ (omega (arith, c.loop-number-test.true))
+      c.in-Some.ensures.fits c.in-Some.ensures.some c.loop-number.invariant.left;
+}
 
-pub returns-then-not-is_empty-clause-err : goal.returns-then-not-is_empty-clause-err
-returns-then-not-is_empty-clause-err c =
+pub returns : goal.returns
+returns c =
     let i = c.loop-number.invariant in
-    let all : length (map piece_of c.loop-number.points.items) ≡ c.args.count = omega (arith, length-map c.loop-number.points.items piece_of, i.many, c.loop-number-test.false, c.loop-number.auto._number-end) in
-    let some : 0 < length c.loop-number.rest.now = not_zero (length c.loop-number.rest.now) c.if-not-is_empty.ensures in
-    too_many c.args.count c.args.bytes.now c.loop-number.rest.now (map piece_of c.loop-number.points.items) i.fits all some i.read
+    let none : c.loop-number.rest.now ≡ [] = (none_left (c.args.count - c.loop-number._number) c.loop-number.rest.now (omega (arith, c.loop-number-test.false))).0 i.left in (
+      i.fits,
+      omega (arith, i.many, c.loop-number-test.false, c.loop-number.auto._number-end),
+      sym i.read ∙ ap (λ xs. pieces_bytes (map piece_of c.loop-number.points.items) ++ xs) none ∙ append-nil (pieces_bytes (map piece_of c.loop-number.points.items)),
+    )
