@@ -10,7 +10,8 @@ use Rattle.hs_records.specs.Records.{Piece, Segment}
 use Rattle.hs_records.specs.Pages.{PlainPage, segment_pages, first_record}
 use Rattle.hs_journal.specs.declared.books.PageNote.{PageNote}
 use Rattle.hs_words.specs.Chunks.{with_page}
-use Rattle.hs_client.specs.Core.{Core, Current, Buffer, Began, Wrote, Supplied, after_step, closed, handed, all_pages, one_more, current_with, buffer_with, next_page, piece, MaySupply}
+use Rattle.hs_client.specs.Core.{Core, Current, Began, Wrote, Supplied, after_step, closed, handed, all_pages, one_more, current_with, buffer_with, next_page, piece, MaySupply}
+use Rattle.hs_words.specs.Buffers.{Buffer}
 use Rattle.hs_client.specs.Calls.{with_last, note_of, written, filled, filled_chunks}
 use Rattle.hs_client.proofs.Runs.{costs, joined, AreRuns, used_of, runs_of-joined, add_run, grow_run, used_last, joined-append, costs-append}
 

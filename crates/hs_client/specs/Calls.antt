@@ -13,7 +13,8 @@ use Rattle.hs_journal.specs.declared.books.PageNote.{PageNote}
 use Rattle.hs_words.specs.Pages.{Sheet}
 use Rattle.hs_words.specs.Pages as page
 use Rattle.hs_words.specs.Chunks.{with_page, clear_chunk}
-use Rattle.hs_client.specs.Core.{Core, Buffer, Step, Began, Wrote, Needed, Supplied, Ended_, Refused, after_step, new_core, handed, all_pages, draw_of, number_after, IsLeft, IsNarrow, Fits, NeedsPage, MaySupply, IsFresh}
+use Rattle.hs_client.specs.Core.{Core, Step, Began, Wrote, Needed, Supplied, Ended_, Refused, after_step, new_core, handed, all_pages, draw_of, number_after, IsLeft, IsNarrow, Fits, NeedsPage, MaySupply, IsFresh}
+use Rattle.hs_words.specs.Buffers.{Buffer}
 
 -- A core as it is may do this step.
 abbrev pub May : {L : Type 0} → Core L → Step L → Type 0

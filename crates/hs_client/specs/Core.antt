@@ -8,28 +8,18 @@ use Rattle.hs_journal.specs.declared.journal.Draw.{Draw}
 use Rattle.hs_journal.specs.declared.journal.Draw.TheVariants as draws
 use Rattle.hs_journal.specs.declared.books.PageNote.{PageNote}
 use Rattle.hs_words.specs.declared.page.Header.{Header}
-use Rattle.hs_words.specs.declared.token.Held.{Held}
 use Rattle.hs_words.specs.declared.token.Drawn.{Drawn}
 use Rattle.hs_words.specs.declared.token.Drawn.TheVariants as drawn
 use Rattle.hs_words.specs.Pages.{Piece, with_piece}
-use Rattle.hs_words.specs.Chunks.{Contents, with_page}
+use Rattle.hs_words.specs.Chunks.{with_page}
+use Rattle.hs_words.specs.Buffers.{Buffer, buffer_of, buffer_in}
+use Rattle.hs_base.specs.declared.limits.TheConstants.{HEADER_COST, PIECE_COST, FRAME_COST}
 use Rattle.hs_client.specs.declared.answers.Begun.{Begun}
 use Rattle.hs_client.specs.declared.answers.Begun.TheVariants as begun
 use Rattle.hs_client.specs.declared.answers.Pointed.{Pointed}
 use Rattle.hs_client.specs.declared.answers.Pointed.TheVariants as pointed
 use Rattle.hs_client.specs.declared.answers.Ended.{Ended}
 use Rattle.hs_client.specs.declared.answers.Ended.TheVariants as ended
-
--- a chunk with its lease
-pub record Buffer (L : Type 0) : Type 0 where
-  pub chunk : Contents
-  pub lease : L
-
-abbrev pub buffer_of : {L : Type 0} {g : _} → Held L g → Buffer L
-buffer_of held = record { chunk = held.chunk; lease = held.lease }
-
-abbrev pub buffer_in : {L : Type 0} {g : _} → Option (Held L g) → Option (Buffer L)
-buffer_in held = option_map buffer_of held
 
 -- the current page: its note, and its chunk unless it is a null page
 pub record Current (L : Type 0) : Type 0 where
@@ -125,7 +115,7 @@ after_step core (Wrote moment payload more) =
     record core {
       counted = core.counted + 1;
       number = number_after more core.number;
-      used = core.used + (10 + length payload);
+      used = core.used + (PIECE_COST + length payload);
       current = option_map (current_with (piece moment payload)) core.current;
     }
 after_step core (Needed len) = closed core
@@ -133,7 +123,7 @@ after_step core (Supplied buffer stamp moment payload more) =
     record core {
       counted = core.counted + 1;
       number = number_after more core.number;
-      used = 24 + (10 + length payload);
+      used = HEADER_COST + (PIECE_COST + length payload);
       current = option_map (next_page core buffer (piece moment payload)) core.trace;
       draws = core.draws ++ draw_of buffer stamp ∷ [];
     }
@@ -148,15 +138,15 @@ IsLeft core = core.counted < core.calls
 
 -- So many bytes fit a page.
 abbrev pub IsNarrow : {L : Type 0} → Core L → ℕ → Type 0
-IsNarrow core len = 34 + len ≤ core.size
+IsNarrow core len = FRAME_COST + len ≤ core.size
 
 -- There is a current page, and a piece of so many bytes fits it.
 abbrev pub Fits : {L : Type 0} → Core L → ℕ → Type 0
-Fits core len = IsSome core.current × (core.used + (10 + len) ≤ core.size)
+Fits core len = IsSome core.current × (core.used + (PIECE_COST + len) ≤ core.size)
 
 -- There is no current page, or a piece of so many bytes does not fit it.
 abbrev pub NeedsPage : {L : Type 0} → Core L → ℕ → Type 0
-NeedsPage core len = MatchOption core.current (Unit {0}) (λ current. core.size < core.used + (10 + len))
+NeedsPage core len = MatchOption core.current (Unit {0}) (λ current. core.size < core.used + (PIECE_COST + len))
 
 -- A chunk is clear and has the core's size.
 abbrev pub IsFresh : {L : Type 0} → Core L → Option (Buffer L) → Type 0
@@ -167,9 +157,9 @@ pub record MaySupply {L : Type 0} (core : Core L) (len : ℕ) : Type 0 where
   pub left : core.counted < core.calls
   pub opened : IsSome core.trace
   pub none : core.current ≡ None
-  pub narrow : 34 + len ≤ core.size
+  pub narrow : FRAME_COST + len ≤ core.size
   -- where the trace has a page already, the piece does not fit the last one
-  pub full : 0 < core.used → core.size < core.used + (10 + len)
+  pub full : 0 < core.used → core.size < core.used + (PIECE_COST + len)
 
 -- ---- what the calls answer
 
@@ -182,7 +172,7 @@ abbrev pub PointsBy : {L : Type 0} {g : _} → Core L → ℕ → Pointed L g �
 PointsBy core len pointed.Written = IsLeft core × IsSome core.trace × IsNarrow core len × Fits core len
 PointsBy core len pointed.Spent = core.counted ≡ core.calls
 PointsBy core len pointed.NoTrace = IsLeft core × (core.trace ≡ None)
-PointsBy core len pointed.TooWide = IsLeft core × IsSome core.trace × (core.size < 34 + len)
+PointsBy core len pointed.TooWide = IsLeft core × IsSome core.trace × (core.size < FRAME_COST + len)
 PointsBy core len (pointed.NeedPage held) = IsLeft core × IsSome core.trace × IsNarrow core len × NeedsPage core len × (buffer_in held ≡ handed core)
 
 abbrev pub EndsBy : {L : Type 0} {g : _} → Core L → Ended L g → Type 0

@@ -5,8 +5,10 @@ use Rattle.std.specs.Option.{option_map}
 use Rattle.hs_journal.specs.declared.books.PageNote.{PageNote}
 use Rattle.hs_words.specs.declared.token.Held.{Held}
 use Rattle.hs_words.specs.Chunks.{Contents, used_in}
+use Rattle.hs_base.specs.declared.limits.TheConstants.{MIN_SIZE, MAX_SIZE}
 use Rattle.hs_client.specs.declared.client.ClientCore.TheInside.{Inside}
-use Rattle.hs_client.specs.Core.{Core, Current, buffer_in, is_null}
+use Rattle.hs_client.specs.Core.{Core, Current, is_null}
+use Rattle.hs_words.specs.Buffers.{buffer_in}
 
 abbrev pub current_of : {L : Type 0} {g : _} → Option (Held L g) → PageNote → Current L
 current_of held note = record { note = note; buffer = buffer_in held }
@@ -44,9 +46,9 @@ abbrev pub count_in : Option PageNote → ℕ
 count_in None = 0
 count_in (Some note) = note.count
 
-pub record IsInOrder {L : Type 0} {g : _} (a : Inside L g) : Type 0 where
-  pub least : 64 ≤ a.size
-  pub most : a.size ≤ 32768
+pub record IsCore {L : Type 0} {g : _} (a : Inside L g) : Type 0 where
+  pub least : MIN_SIZE ≤ a.size
+  pub most : a.size ≤ MAX_SIZE
   pub within : a.counted ≤ a.calls
   pub numbers : a.record ≤ a.counted
   pub supplies : length a.draws.items ≤ a.counted

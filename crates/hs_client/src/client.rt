@@ -1,21 +1,17 @@
 //! The core of a client.
 
-ghost use Rattle.std.specs.Prelude.{◌≡◌, ◌+◌, ◌-◌, ◌≤◌, ◌<◌, ◌^◌, length, IfOk, false, None, IsSome, IsNone, count_by};
+ghost use Rattle.std.specs.Prelude.{◌≡◌, ◌+◌, ◌-◌, ◌≤◌, ◌<◌, ◌^◌, length, IfOk, OnErr, false, None, IsSome, IsNone, count_by};
 ghost use Rattle.hs_client.specs.Calls.{May};
-ghost use Rattle.hs_client.specs.Core.{new_core, after_step, began, ended_step, pointed_step, supplied, closed, handed, buffer_in, buffer_of, started, piece, BeginsBy, PointsBy, EndsBy, MaySupply, HasClearChunk, is_null};
+ghost use Rattle.hs_client.specs.Core.{new_core, after_step, began, ended_step, pointed_step, supplied, closed, handed, started, piece, BeginsBy, PointsBy, EndsBy, MaySupply, HasClearChunk, is_null};
+ghost use Rattle.hs_words.specs.Buffers.{buffer_in, buffer_of};
 
 use crate::answers::{Begun, Ended, Pointed};
+use hs_base::limits::{FRAME_COST, MAX_SIZE, MIN_SIZE, PIECE_COST};
 use hs_base::{ClientId, List, Memory, TraceId};
 use hs_journal::{ClientBook, Draw, PageNote};
 use hs_words::{Drawn, Header, Held, Token};
 use std::alloc::Global;
 use std::marker::Model;
-
-/// The bytes of a page that are no room for pieces.
-const HEADER: usize = 24;
-
-/// The bytes that a piece takes of a page beside its payload.
-const PIECE: usize = 10;
 
 /// A client's core. It has at most one page at a time, and takes all its memory when it is made.
 #[derive(Drop)]
@@ -39,24 +35,26 @@ impl<L: Token> Model for ClientCore<L> {
 
     ghost Value = { Core L };
 
-    ghost use Rattle.hs_client.specs.Layout.{core_of, IsInOrder};
+    ghost use Rattle.hs_client.specs.Layout.{core_of, IsCore};
 
     ghost view = { core_of };
 
-    ghost invariant = { IsInOrder };
+    ghost invariant = { IsCore };
 }
 
 impl<L: Token> ClientCore<L> {
-    /// A core for a client whose buffers have this size, and for so many calls that are counted.
+    /// A core for a client whose buffers have this size, and for so many calls that are counted. It takes memory
+    /// for these calls alone.
     pub fn make(
         alloc: Global,
         client: ClientId,
         size: u32,
         calls: u32,
     ) -> Result<ClientCore<L>, Memory>
-        requires least { 64 ≤ size }
-        requires most { size ≤ 32768 }
-        ensures { IfOk result (λ core. core ≡ new_core client size calls) }
+        requires least { MIN_SIZE ≤ size }
+        requires most { size ≤ MAX_SIZE }
+        ensures core { IfOk result (λ core. core ≡ new_core client size calls) }
+        ensures some { OnErr result (0 < calls) }
     {
         Ok(ClientCore {
             client,
@@ -105,13 +103,13 @@ impl<L: Token> ClientCore<L> {
         if self.trace.is_none() {
             return Pointed::NoTrace;
         }
-        if payload.len() + (HEADER + PIECE) > self.size as usize {
+        if payload.len() + FRAME_COST > self.size as usize {
             return Pointed::TooWide;
         }
         let Some(page) = self.page else {
             return Pointed::NeedPage(None);
         };
-        let used = self.used as usize + (PIECE + payload.len());
+        let used = self.used as usize + (PIECE_COST + payload.len());
         if used > self.size as usize {
             return Pointed::NeedPage(self.close_page());
         }
@@ -172,7 +170,7 @@ impl<L: Token> ClientCore<L> {
             first: self.record,
             count: 1,
         });
-        self.used = (HEADER + PIECE + payload.len()) as u32;
+        self.used = (FRAME_COST + payload.len()) as u32;
         self.counted += 1;
         if !more {
             self.record += 1;
@@ -241,7 +239,7 @@ impl<L: Token> ClientCore<L> {
 /// Starts a page in a clear chunk, with its first piece.
 fn start_page<L: Token>(held: Held<L>, header: Header, moment: u64, payload: &[u8]) -> Held<L>
     requires clear { held.chunk.page ≡ None }
-    requires narrow { 34 + length payload.now ≤ held.chunk.size }
+    requires narrow { FRAME_COST + length payload.now ≤ held.chunk.size }
     ensures { buffer_of result ≡ started header (piece moment payload.now) (buffer_of held) }
 {
     let Held { mut chunk, lease } = held;

@@ -72,69 +72,69 @@ module _ {L : Type 0} where
         let fewer = length-others ts in
         omega (arith, all, fewer)
 
-  module _ (threshold limit : ℕ) where
-    pub within-not-over : (ts : List (Indexed L)) → count_chunks ts ≤ threshold → length ts ≤ limit → is_over threshold limit ts ≡ false
-    within-not-over ts c l = or-none (nat_lt threshold (count_chunks ts)) (nat_lt limit (length ts)) (le-ltb threshold (count_chunks ts) c) (le-ltb limit (length ts) l)
+  module _ (threshold most : ℕ) where
+    pub within-not-over : (ts : List (Indexed L)) → count_chunks ts ≤ threshold → length ts ≤ most → is_over threshold most ts ≡ false
+    within-not-over ts c l = or-none (nat_lt threshold (count_chunks ts)) (nat_lt most (length ts)) (le-ltb threshold (count_chunks ts) c) (le-ltb most (length ts) l)
 
-    pub over-by-chunks : (ts : List (Indexed L)) → threshold < count_chunks ts → is_over threshold limit ts ≡ true
-    over-by-chunks ts h = ap (λ b. b || nat_lt limit (length ts)) (lt-ltb threshold (count_chunks ts) h)
+    pub over-by-chunks : (ts : List (Indexed L)) → threshold < count_chunks ts → is_over threshold most ts ≡ true
+    over-by-chunks ts h = ap (λ b. b || nat_lt most (length ts)) (lt-ltb threshold (count_chunks ts) h)
 
-    pub over-by-traces : (ts : List (Indexed L)) → limit < length ts → is_over threshold limit ts ≡ true
-    over-by-traces ts h = ap (λ b. nat_lt threshold (count_chunks ts) || b) (lt-ltb limit (length ts) h) ∙ or-right (nat_lt threshold (count_chunks ts))
+    pub over-by-traces : (ts : List (Indexed L)) → most < length ts → is_over threshold most ts ≡ true
+    over-by-traces ts h = ap (λ b. nat_lt threshold (count_chunks ts) || b) (lt-ltb most (length ts) h) ∙ or-right (nat_lt threshold (count_chunks ts))
 
     -- within the limits all stay
-    pub all-stay : (ts : List (Indexed L)) → is_over threshold limit ts ≡ false → kept threshold limit ts ≡ ts
+    pub all-stay : (ts : List (Indexed L)) → is_over threshold most ts ≡ false → kept threshold most ts ≡ ts
     all-stay [] h = refl
-    all-stay (t ∷ ts) h = ap (λ b. cond b (kept threshold limit ts) (t ∷ ts)) h
+    all-stay (t ∷ ts) h = ap (λ b. cond b (kept threshold most ts) (t ∷ ts)) h
 
-    pub none-go : (ts : List (Indexed L)) → is_over threshold limit ts ≡ false → evicted threshold limit ts ≡ []
+    pub none-go : (ts : List (Indexed L)) → is_over threshold most ts ≡ false → evicted threshold most ts ≡ []
     none-go [] h = refl
-    none-go (t ∷ ts) h = ap (λ b. cond b (map (leaving (count_chunks (t ∷ ts)) (length (t ∷ ts))) t.noted.chunks ++ evicted threshold limit ts) []) h
+    none-go (t ∷ ts) h = ap (λ b. cond b (map (leaving (count_chunks (t ∷ ts)) (length (t ∷ ts))) t.noted.chunks ++ evicted threshold most ts) []) h
 
     -- over the limits the first goes
-    pub first-leaves : (t : Indexed L) (ts : List (Indexed L)) → is_over threshold limit (t ∷ ts) ≡ true → kept threshold limit (t ∷ ts) ≡ kept threshold limit ts
-    first-leaves t ts h = ap (λ b. cond b (kept threshold limit ts) (t ∷ ts)) h
+    pub first-leaves : (t : Indexed L) (ts : List (Indexed L)) → is_over threshold most (t ∷ ts) ≡ true → kept threshold most (t ∷ ts) ≡ kept threshold most ts
+    first-leaves t ts h = ap (λ b. cond b (kept threshold most ts) (t ∷ ts)) h
 
-    pub first-goes : (t : Indexed L) (ts : List (Indexed L)) → is_over threshold limit (t ∷ ts) ≡ true
-        → evicted threshold limit (t ∷ ts) ≡ map (leaving (count_chunks (t ∷ ts)) (length (t ∷ ts))) t.noted.chunks ++ evicted threshold limit ts
-    first-goes t ts h = ap (λ b. cond b (map (leaving (count_chunks (t ∷ ts)) (length (t ∷ ts))) t.noted.chunks ++ evicted threshold limit ts) []) h
+    pub first-goes : (t : Indexed L) (ts : List (Indexed L)) → is_over threshold most (t ∷ ts) ≡ true
+        → evicted threshold most (t ∷ ts) ≡ map (leaving (count_chunks (t ∷ ts)) (length (t ∷ ts))) t.noted.chunks ++ evicted threshold most ts
+    first-goes t ts h = ap (λ b. cond b (map (leaving (count_chunks (t ∷ ts)) (length (t ∷ ts))) t.noted.chunks ++ evicted threshold most ts) []) h
 
     -- a trace without chunks goes alone
-    pub empty-goes : (t : Indexed L) (ts : List (Indexed L)) → is_over threshold limit (t ∷ ts) ≡ true → chunk_count t.noted ≤ 0
-        → evicted threshold limit (t ∷ ts) ≡ evicted threshold limit ts
+    pub empty-goes : (t : Indexed L) (ts : List (Indexed L)) → is_over threshold most (t ∷ ts) ≡ true → chunk_count t.noted ≤ 0
+        → evicted threshold most (t ∷ ts) ≡ evicted threshold most ts
     empty-goes t ts h none =
         first-goes t ts h
-        ∙ ap (λ l. map (leaving (count_chunks (t ∷ ts)) (length (t ∷ ts))) l ++ evicted threshold limit ts) (nil-from-length t.noted.chunks none)
+        ∙ ap (λ l. map (leaving (count_chunks (t ∷ ts)) (length (t ∷ ts))) l ++ evicted threshold most ts) (nil-from-length t.noted.chunks none)
 
     -- after a trace with chunks nothing more goes, where there was one too many at most
-    rest-is-within : (t : Indexed L) (ts : List (Indexed L)) → 0 < chunk_count t.noted → count_chunks (t ∷ ts) ≤ threshold + 1 → length (t ∷ ts) ≤ limit + 1
-        → is_over threshold limit ts ≡ false
+    rest-is-within : (t : Indexed L) (ts : List (Indexed L)) → 0 < chunk_count t.noted → count_chunks (t ∷ ts) ≤ threshold + 1 → length (t ∷ ts) ≤ most + 1
+        → is_over threshold most ts ≡ false
     rest-is-within t ts some c l =
         let whole = count-cons t ts in
         within-not-over ts (omega (arith, whole)) (omega arith)
 
-    pub full-goes : (t : Indexed L) (ts : List (Indexed L)) → is_over threshold limit (t ∷ ts) ≡ true → 0 < chunk_count t.noted → count_chunks (t ∷ ts) ≤ threshold + 1 → length (t ∷ ts) ≤ limit + 1
-        → evicted threshold limit (t ∷ ts) ≡ map (leaving (count_chunks (t ∷ ts)) (length (t ∷ ts))) t.noted.chunks
+    pub full-goes : (t : Indexed L) (ts : List (Indexed L)) → is_over threshold most (t ∷ ts) ≡ true → 0 < chunk_count t.noted → count_chunks (t ∷ ts) ≤ threshold + 1 → length (t ∷ ts) ≤ most + 1
+        → evicted threshold most (t ∷ ts) ≡ map (leaving (count_chunks (t ∷ ts)) (length (t ∷ ts))) t.noted.chunks
     full-goes t ts h some c l =
         first-goes t ts h
         ∙ ap (λ r. map (leaving (count_chunks (t ∷ ts)) (length (t ∷ ts))) t.noted.chunks ++ r) (none-go ts (rest-is-within t ts some c l))
         ∙ append-nil (map (leaving (count_chunks (t ∷ ts)) (length (t ∷ ts))) t.noted.chunks)
 
-    pub full-leaves : (t : Indexed L) (ts : List (Indexed L)) → is_over threshold limit (t ∷ ts) ≡ true → 0 < chunk_count t.noted → count_chunks (t ∷ ts) ≤ threshold + 1 → length (t ∷ ts) ≤ limit + 1
-        → kept threshold limit (t ∷ ts) ≡ ts
+    pub full-leaves : (t : Indexed L) (ts : List (Indexed L)) → is_over threshold most (t ∷ ts) ≡ true → 0 < chunk_count t.noted → count_chunks (t ∷ ts) ≤ threshold + 1 → length (t ∷ ts) ≤ most + 1
+        → kept threshold most (t ∷ ts) ≡ ts
     full-leaves t ts h some c l = first-leaves t ts h ∙ all-stay ts (rest-is-within t ts some c l)
 
     -- what stays is within the limits
-    pub count-kept : (ts : List (Indexed L)) → count_chunks (kept threshold limit ts) ≤ threshold
+    pub count-kept : (ts : List (Indexed L)) → count_chunks (kept threshold most ts) ≤ threshold
     count-kept [] = omega arith
     count-kept (t ∷ ts) =
-        by_answer (is_over threshold limit (t ∷ ts))
+        by_answer (is_over threshold most (t ∷ ts))
         (λ y. subst (λ l. count_chunks l ≤ threshold) (sym (first-leaves t ts y)) (count-kept ts))
-        (λ n. subst (λ l. count_chunks l ≤ threshold) (sym (all-stay (t ∷ ts) n)) (ltb-false threshold (count_chunks (t ∷ ts)) (or-left-false (nat_lt threshold (count_chunks (t ∷ ts))) (nat_lt limit (length (t ∷ ts))) n)))
+        (λ n. subst (λ l. count_chunks l ≤ threshold) (sym (all-stay (t ∷ ts) n)) (ltb-false threshold (count_chunks (t ∷ ts)) (or-left-false (nat_lt threshold (count_chunks (t ∷ ts))) (nat_lt most (length (t ∷ ts))) n)))
 
-    pub length-kept : (ts : List (Indexed L)) → length (kept threshold limit ts) ≤ limit
+    pub length-kept : (ts : List (Indexed L)) → length (kept threshold most ts) ≤ most
     length-kept [] = omega arith
     length-kept (t ∷ ts) =
-        by_answer (is_over threshold limit (t ∷ ts))
-        (λ y. subst (λ l. length l ≤ limit) (sym (first-leaves t ts y)) (length-kept ts))
-        (λ n. subst (λ l. length l ≤ limit) (sym (all-stay (t ∷ ts) n)) (ltb-false limit (length (t ∷ ts)) (or-right-false (nat_lt threshold (count_chunks (t ∷ ts))) (nat_lt limit (length (t ∷ ts))) n)))
+        by_answer (is_over threshold most (t ∷ ts))
+        (λ y. subst (λ l. length l ≤ most) (sym (first-leaves t ts y)) (length-kept ts))
+        (λ n. subst (λ l. length l ≤ most) (sym (all-stay (t ∷ ts) n)) (ltb-false most (length (t ∷ ts)) (or-right-false (nat_lt threshold (count_chunks (t ∷ ts))) (nat_lt most (length (t ∷ ts))) n)))

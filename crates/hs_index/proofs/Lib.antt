@@ -1,5 +1,4 @@
 pub mod Outcomes
-pub mod NodeSets
 pub mod Listed
 pub mod Touching
 pub mod Evicting

@@ -6,10 +6,11 @@ use Rattle.std.proofs.lemmas.List.Folds.{find-append}
 use Rattle.hs_base.specs.declared.ids.TraceId.{TraceId}
 use Rattle.hs_base.specs.declared.ids.NodeId.{NodeId}
 use Rattle.hs_base.specs.NodeSets.{has_node}
-use Rattle.hs_index.specs.Index.{Buffer, Noted, Indexed, same_trace, trace_of, is_of, nothing, noted_of, others, touch, with_chunk, with_crumb, is_over, kept}
+use Rattle.hs_index.specs.Index.{Noted, Indexed, same_trace, trace_of, is_of, nothing, noted_of, others, touch, with_chunk, with_crumb, is_over, kept}
+use Rattle.hs_words.specs.Buffers.{Buffer}
 use Rattle.hs_index.specs.Calls.{Call, Arrived, Crumbed, Claimed, after, touches, last_touch, chunk_in, is_crumb, is_in, is_indexed, chunks_since, has_crumb_since, AreLater, AreInTurn, LooksBack}
 use Rattle.hs_index.proofs.Listed.{by_answer, same_trace_equiv, same_from_test}
-use Rattle.hs_index.proofs.NodeSets.{has-with_node, has-no_nodes}
+use Rattle.hs_base.specs.NodeSetLaws.{has-with_node, has-no_nodes}
 use Rattle.hs_index.proofs.Evicting.{within-not-over, all-stay, first-leaves, count-others, length-others}
 use Rattle.hs_index.proofs.LongestEnd.{within}
 use Rattle.std.proofs.lemmas.Bool.{ltb-false}
@@ -85,13 +86,13 @@ module _ {L : Type 0} where
 
   -- ---- traces in turn
 
-  module _ (threshold limit : ℕ) (when : TraceId → ℕ) where
-    turn-kept : (ts : List (Indexed L)) → AreInTurn when ts → AreInTurn when (kept threshold limit ts)
+  module _ (threshold most : ℕ) (when : TraceId → ℕ) where
+    turn-kept : (ts : List (Indexed L)) → AreInTurn when ts → AreInTurn when (kept threshold most ts)
     turn-kept [] a = tt
     turn-kept (t ∷ ts) a =
-        by_answer (is_over threshold limit (t ∷ ts))
-        (λ y. subst (λ l. AreInTurn when l) (sym (first-leaves threshold limit t ts y)) (turn-kept ts a.1))
-        (λ n. subst (λ l. AreInTurn when l) (sym (all-stay threshold limit (t ∷ ts) n)) a)
+        by_answer (is_over threshold most (t ∷ ts))
+        (λ y. subst (λ l. AreInTurn when l) (sym (first-leaves threshold most t ts y)) (turn-kept ts a.1))
+        (λ n. subst (λ l. AreInTurn when l) (sym (all-stay threshold most (t ∷ ts) n)) a)
 
     -- a trace touched at that moment is not among those touched later
     absent : (trace : TraceId) (moment : ℕ) (ts : List (Indexed L)) → moment ≡ when trace → AreLater when moment ts → find (is_of trace) ts ≡ None
@@ -101,32 +102,32 @@ module _ {L : Type 0} where
         (λ y. absurd (let same : when t.trace ≡ when trace = ap when (same_from_test trace t.trace y) in let less = a.0 in omega (arith, same, is, less)))
         (λ n. ap (λ b. cond b (Some t) (find (is_of trace) ts)) n ∙ absent trace moment ts is a.1)
 
-    none-kept : (trace : TraceId) (ts : List (Indexed L)) → find (is_of trace) ts ≡ None → find (is_of trace) (kept threshold limit ts) ≡ None
+    none-kept : (trace : TraceId) (ts : List (Indexed L)) → find (is_of trace) ts ≡ None → find (is_of trace) (kept threshold most ts) ≡ None
     none-kept trace [] h = refl
     none-kept trace (t ∷ ts) h =
-        by_answer (is_over threshold limit (t ∷ ts))
-        (λ y. ap (find (is_of trace)) (first-leaves threshold limit t ts y)
+        by_answer (is_over threshold most (t ∷ ts))
+        (λ y. ap (find (is_of trace)) (first-leaves threshold most t ts y)
         ∙ none-kept trace ts
         (by_answer (is_of trace t)
         (λ is. absurd (some-is-not-none t (sym (ap (λ b. cond b (Some t) (find (is_of trace) ts)) is) ∙ h)))
         (λ not-is. sym (ap (λ b. cond b (Some t) (find (is_of trace) ts)) not-is) ∙ h)))
-        (λ n. ap (find (is_of trace)) (all-stay threshold limit (t ∷ ts) n) ∙ h)
+        (λ n. ap (find (is_of trace)) (all-stay threshold most (t ∷ ts) n) ∙ h)
 
-    find-kept : (trace : TraceId) (ts : List (Indexed L)) → AreInTurn when ts → is_in trace (kept threshold limit ts) ≡ true
-        → find (is_of trace) (kept threshold limit ts) ≡ find (is_of trace) ts
+    find-kept : (trace : TraceId) (ts : List (Indexed L)) → AreInTurn when ts → is_in trace (kept threshold most ts) ≡ true
+        → find (is_of trace) (kept threshold most ts) ≡ find (is_of trace) ts
     find-kept trace [] a i = refl
     find-kept trace (t ∷ ts) a i =
-        by_answer (is_over threshold limit (t ∷ ts))
-        (λ y. let inside : is_in trace (kept threshold limit ts) ≡ true = sym (ap (is_in trace) (first-leaves threshold limit t ts y)) ∙ i in
-        ap (find (is_of trace)) (first-leaves threshold limit t ts y)
+        by_answer (is_over threshold most (t ∷ ts))
+        (λ y. let inside : is_in trace (kept threshold most ts) ≡ true = sym (ap (is_in trace) (first-leaves threshold most t ts y)) ∙ i in
+        ap (find (is_of trace)) (first-leaves threshold most t ts y)
         ∙ find-kept trace ts a.1 inside
         ∙ by_answer (is_of trace t)
         (λ is. absurd (true≢false (sym inside ∙ ap is_some (none-kept trace ts (absent trace (when t.trace) ts (ap when (same_from_test trace t.trace is)) a.0)))))
         (λ not-is. sym (ap (λ b. cond b (Some t) (find (is_of trace) ts)) not-is)))
-        (λ n. ap (find (is_of trace)) (all-stay threshold limit (t ∷ ts) n))
+        (λ n. ap (find (is_of trace)) (all-stay threshold most (t ∷ ts) n))
 
-    noted-kept : (trace : TraceId) (ts : List (Indexed L)) → AreInTurn when ts → is_in trace (kept threshold limit ts) ≡ true
-        → noted_of trace (kept threshold limit ts) ≡ noted_of trace ts
+    noted-kept : (trace : TraceId) (ts : List (Indexed L)) → AreInTurn when ts → is_in trace (kept threshold most ts) ≡ true
+        → noted_of trace (kept threshold most ts) ≡ noted_of trace ts
     noted-kept trace ts a i = ap (λ o. option_map_or (λ (t : Indexed L). t.noted) o nothing) (find-kept trace ts a i)
 
   -- the moments of the last touch before a call and after it, which differ at the trace u alone
@@ -182,32 +183,32 @@ module _ {L : Type 0} where
   chunk-step true now before since brought e y n = y refl ∙ ap (λ l. l ++ brought) e
   chunk-step false now before since brought e y n = n refl
 
-  same-threshold : (threshold limit : ℕ) (calls : List (Call L)) → (after threshold limit calls).threshold ≡ threshold
-  same-threshold threshold limit [] = refl
-  same-threshold threshold limit (Arrived buffer ∷ earlier) = same-threshold threshold limit earlier
-  same-threshold threshold limit (Crumbed u to ∷ earlier) = same-threshold threshold limit earlier
-  same-threshold threshold limit (Claimed u ∷ earlier) = same-threshold threshold limit earlier
+  same-threshold : (threshold most : ℕ) (calls : List (Call L)) → (after threshold most calls).threshold ≡ threshold
+  same-threshold threshold most [] = refl
+  same-threshold threshold most (Arrived buffer ∷ earlier) = same-threshold threshold most earlier
+  same-threshold threshold most (Crumbed u to ∷ earlier) = same-threshold threshold most earlier
+  same-threshold threshold most (Claimed u ∷ earlier) = same-threshold threshold most earlier
 
-  same-limit : (threshold limit : ℕ) (calls : List (Call L)) → (after threshold limit calls).limit ≡ limit
-  same-limit threshold limit [] = refl
-  same-limit threshold limit (Arrived buffer ∷ earlier) = same-limit threshold limit earlier
-  same-limit threshold limit (Crumbed u to ∷ earlier) = same-limit threshold limit earlier
-  same-limit threshold limit (Claimed u ∷ earlier) = same-limit threshold limit earlier
+  same-most : (threshold most : ℕ) (calls : List (Call L)) → (after threshold most calls).most ≡ most
+  same-most threshold most [] = refl
+  same-most threshold most (Arrived buffer ∷ earlier) = same-most threshold most earlier
+  same-most threshold most (Crumbed u to ∷ earlier) = same-most threshold most earlier
+  same-most threshold most (Claimed u ∷ earlier) = same-most threshold most earlier
 
-  same-kept : (threshold limit : ℕ) (calls : List (Call L)) (touched : List (Indexed L))
-      → kept (after threshold limit calls).threshold (after threshold limit calls).limit touched ≡ kept threshold limit touched
-  same-kept threshold limit calls touched =
-      ap (λ m. kept m (after threshold limit calls).limit touched) (same-threshold threshold limit calls)
-      ∙ ap (λ m. kept threshold m touched) (same-limit threshold limit calls)
+  same-kept : (threshold most : ℕ) (calls : List (Call L)) (touched : List (Indexed L))
+      → kept (after threshold most calls).threshold (after threshold most calls).most touched ≡ kept threshold most touched
+  same-kept threshold most calls touched =
+      ap (λ m. kept m (after threshold most calls).most touched) (same-threshold threshold most calls)
+      ∙ ap (λ m. kept threshold m touched) (same-most threshold most calls)
 
-  module _ (threshold limit : ℕ) (earlier : List (Call L)) (looks : LooksBack threshold limit earlier) where
+  module _ (threshold most : ℕ) (earlier : List (Call L)) (looks : LooksBack threshold most earlier) where
     abbrev ts : List (Indexed L)
-    ts = (after threshold limit earlier).touched
+    ts = (after threshold most earlier).touched
 
     -- after a touch of u, which then has w
     module _ (call : Call L) (u : TraceId) (w : Noted L)
         (touched-now : (trace : TraceId) → touches trace call ≡ same_trace trace u)
-        (is : (after threshold limit (call ∷ earlier)).touched ≡ kept threshold limit (touch u w ts))
+        (is : (after threshold most (call ∷ earlier)).touched ≡ kept threshold most (touch u w ts))
         (chunks-of : (trace : TraceId) → same_trace trace u ≡ true → w.chunks ≡ (noted_of trace ts).chunks ++ chunk_in trace call)
         (no-chunk : (trace : TraceId) → same_trace trace u ≡ false → chunk_in trace call ≡ [])
         (crumbs-of : (trace : TraceId) (node : ℕ) → same_trace trace u ≡ true → has_node w.crumbs node ≡ (has_node (noted_of trace ts).crumbs node || is_crumb trace node call))
@@ -222,42 +223,42 @@ module _ {L : Type 0} where
           omega (arith, most, here))
           ts looks.order
 
-      noted-in : (trace : TraceId) → is_indexed threshold limit trace (call ∷ earlier) ≡ true → noted_of trace (after threshold limit (call ∷ earlier)).touched ≡ noted_of trace (touch u w ts)
-      noted-in trace i = ap (noted_of trace) is ∙ noted-kept threshold limit (last_touch (call ∷ earlier)) trace (touch u w ts) turned (sym (ap (is_in trace) is) ∙ i)
+      noted-in : (trace : TraceId) → is_indexed threshold most trace (call ∷ earlier) ≡ true → noted_of trace (after threshold most (call ∷ earlier)).touched ≡ noted_of trace (touch u w ts)
+      noted-in trace i = ap (noted_of trace) is ∙ noted-kept threshold most (last_touch (call ∷ earlier)) trace (touch u w ts) turned (sym (ap (is_in trace) is) ∙ i)
 
-      touch-step : LooksBack threshold limit (call ∷ earlier)
+      touch-step : LooksBack threshold most (call ∷ earlier)
       touch-step = record {
         chunks = λ trace.
-            chunk-step (is_indexed threshold limit trace (call ∷ earlier)) (noted_of trace (after threshold limit (call ∷ earlier)).touched).chunks (noted_of trace ts).chunks (chunks_since threshold limit trace earlier) (chunk_in trace call)
+            chunk-step (is_indexed threshold most trace (call ∷ earlier)) (noted_of trace (after threshold most (call ∷ earlier)).touched).chunks (noted_of trace ts).chunks (chunks_since threshold most trace earlier) (chunk_in trace call)
             (looks.chunks trace)
             (λ i. ap (λ (n : Noted L). n.chunks) (noted-in trace i)
             ∙ by_answer (same_trace trace u)
             (λ y. ap (λ (n : Noted L). n.chunks) (noted-touch-this trace u y w ts) ∙ chunks-of trace y)
             (λ n. ap (λ (n : Noted L). n.chunks) (noted-touch-other trace u n w ts) ∙ sym (append-nil (noted_of trace ts).chunks) ∙ ap (λ l. (noted_of trace ts).chunks ++ l) (sym (no-chunk trace n))))
-            (λ o. ap (λ (n : Noted L). n.chunks) (noted-out trace (after threshold limit (call ∷ earlier)).touched o));
+            (λ o. ap (λ (n : Noted L). n.chunks) (noted-out trace (after threshold most (call ∷ earlier)).touched o));
         crumbs = λ trace node.
-            bit-step (is_indexed threshold limit trace (call ∷ earlier)) (has_node (noted_of trace (after threshold limit (call ∷ earlier)).touched).crumbs node) (has_node (noted_of trace ts).crumbs node) (has_crumb_since threshold limit trace node earlier) (is_crumb trace node call)
+            bit-step (is_indexed threshold most trace (call ∷ earlier)) (has_node (noted_of trace (after threshold most (call ∷ earlier)).touched).crumbs node) (has_node (noted_of trace ts).crumbs node) (has_crumb_since threshold most trace node earlier) (is_crumb trace node call)
             (looks.crumbs trace node)
             (λ i. ap (λ (n : Noted L). has_node n.crumbs node) (noted-in trace i)
             ∙ by_answer (same_trace trace u)
             (λ y. ap (λ (n : Noted L). has_node n.crumbs node) (noted-touch-this trace u y w ts) ∙ crumbs-of trace node y)
             (λ n. ap (λ (n : Noted L). has_node n.crumbs node) (noted-touch-other trace u n w ts) ∙ sym (or-false (has_node (noted_of trace ts).crumbs node)) ∙ ap (λ b. has_node (noted_of trace ts).crumbs node || b) (sym (no-crumb trace node n))))
-            (λ o. ap (λ (n : Noted L). has_node n.crumbs node) (noted-out trace (after threshold limit (call ∷ earlier)).touched o) ∙ has-no_nodes node);
-        order = subst (λ l. AreInTurn (last_touch (call ∷ earlier)) l) (sym is) (turn-kept threshold limit (last_touch (call ∷ earlier)) (touch u w ts) turned);
-        within = ap (is_over threshold limit) is ∙ within threshold limit (touch u w ts);
+            (λ o. ap (λ (n : Noted L). has_node n.crumbs node) (noted-out trace (after threshold most (call ∷ earlier)).touched o) ∙ has-no_nodes node);
+        order = subst (λ l. AreInTurn (last_touch (call ∷ earlier)) l) (sym is) (turn-kept threshold most (last_touch (call ∷ earlier)) (touch u w ts) turned);
+        within = ap (is_over threshold most) is ∙ within threshold most (touch u w ts);
       }
 
-    arrived-step : (buffer : Buffer L) → LooksBack threshold limit (Arrived buffer ∷ earlier)
+    arrived-step : (buffer : Buffer L) → LooksBack threshold most (Arrived buffer ∷ earlier)
     arrived-step buffer =
-        touch-step (Arrived buffer) (trace_of buffer) (with_chunk (noted_of (trace_of buffer) ts) buffer) (λ trace. refl) (same-kept threshold limit earlier (touch (trace_of buffer) (with_chunk (noted_of (trace_of buffer) ts) buffer) ts))
+        touch-step (Arrived buffer) (trace_of buffer) (with_chunk (noted_of (trace_of buffer) ts) buffer) (λ trace. refl) (same-kept threshold most earlier (touch (trace_of buffer) (with_chunk (noted_of (trace_of buffer) ts) buffer) ts))
         (λ trace y. ap (λ v. (noted_of v ts).chunks ++ buffer ∷ []) (same_from_test trace (trace_of buffer) y) ∙ ap (λ l. (noted_of trace ts).chunks ++ l) (sym (ap (λ b. cond b (buffer ∷ []) []) y)))
         (λ trace n. ap (λ b. cond b (buffer ∷ []) []) n)
         (λ trace node y. ap (λ v. has_node (noted_of v ts).crumbs node) (same_from_test trace (trace_of buffer) y) ∙ sym (or-false (has_node (noted_of trace ts).crumbs node)))
         (λ trace node n. refl)
 
-    crumbed-step : (u : TraceId) (to : NodeId) → LooksBack threshold limit (Crumbed u to ∷ earlier)
+    crumbed-step : (u : TraceId) (to : NodeId) → LooksBack threshold most (Crumbed u to ∷ earlier)
     crumbed-step u to =
-        touch-step (Crumbed u to) u (with_crumb (noted_of u ts) to) (λ trace. refl) (same-kept threshold limit earlier (touch u (with_crumb (noted_of u ts) to) ts))
+        touch-step (Crumbed u to) u (with_crumb (noted_of u ts) to) (λ trace. refl) (same-kept threshold most earlier (touch u (with_crumb (noted_of u ts) to) ts))
         (λ trace y. ap (λ v. (noted_of v ts).chunks) (same_from_test trace u y) ∙ sym (append-nil (noted_of trace ts).chunks))
         (λ trace n. refl)
         (λ trace node y. has-with_node (noted_of u ts).crumbs to node
@@ -265,37 +266,37 @@ module _ {L : Type 0} where
         ∙ ap (λ b. has_node (noted_of trace ts).crumbs node || (b && nat_eq node to.0)) (sym y))
         (λ trace node n. ap (λ b. b && nat_eq node to.0) n)
 
-    claimed-step : (u : TraceId) → LooksBack threshold limit (Claimed u ∷ earlier)
+    claimed-step : (u : TraceId) → LooksBack threshold most (Claimed u ∷ earlier)
     claimed-step u =
         let off = λ (trace : TraceId) (i : is_in trace (others u ts) ≡ true).
         by_answer {P = same_trace trace u ≡ false} (same_trace trace u) (λ y. absurd (true≢false (sym i ∙ others-this-out trace u y ts))) (λ n. n) in
         record {
           chunks = λ trace.
-              chunk-step (is_in trace (others u ts)) (noted_of trace (others u ts)).chunks (noted_of trace ts).chunks (chunks_since threshold limit trace earlier) []
+              chunk-step (is_in trace (others u ts)) (noted_of trace (others u ts)).chunks (noted_of trace ts).chunks (chunks_since threshold most trace earlier) []
               (looks.chunks trace)
               (λ i. ap (λ (n : Noted L). n.chunks) (noted-others-other trace u (off trace i) ts) ∙ sym (append-nil (noted_of trace ts).chunks))
               (λ o. ap (λ (n : Noted L). n.chunks) (noted-out trace (others u ts) o));
           crumbs = λ trace node.
-              bit-step (is_in trace (others u ts)) (has_node (noted_of trace (others u ts)).crumbs node) (has_node (noted_of trace ts).crumbs node) (has_crumb_since threshold limit trace node earlier) false
+              bit-step (is_in trace (others u ts)) (has_node (noted_of trace (others u ts)).crumbs node) (has_node (noted_of trace ts).crumbs node) (has_crumb_since threshold most trace node earlier) false
               (looks.crumbs trace node)
               (λ i. ap (λ (n : Noted L). has_node n.crumbs node) (noted-others-other trace u (off trace i) ts) ∙ sym (or-false (has_node (noted_of trace ts).crumbs node)))
               (λ o. ap (λ (n : Noted L). has_node n.crumbs node) (noted-out trace (others u ts) o) ∙ has-no_nodes node);
           order = turn-others u (last_touch earlier) (last_touch earlier) (λ trace n. refl) ts looks.order;
           within =
-              let chunks = ltb-false threshold (count_chunks ts) (or-left-false (nat_lt threshold (count_chunks ts)) (nat_lt limit (length ts)) looks.within) in
-              let traces = ltb-false limit (length ts) (or-right-false (nat_lt threshold (count_chunks ts)) (nat_lt limit (length ts)) looks.within) in
+              let chunks = ltb-false threshold (count_chunks ts) (or-left-false (nat_lt threshold (count_chunks ts)) (nat_lt most (length ts)) looks.within) in
+              let traces = ltb-false most (length ts) (or-right-false (nat_lt threshold (count_chunks ts)) (nat_lt most (length ts)) looks.within) in
               let fewer = count-others u ts in
               let shorter = length-others u ts in
-              within-not-over threshold limit (others u ts) (omega (arith, chunks, fewer)) (omega (arith, traces, shorter));
+              within-not-over threshold most (others u ts) (omega (arith, chunks, fewer)) (omega (arith, traces, shorter));
         }
 
-  pub look_back : (threshold limit : ℕ) (calls : List (Call L)) → LooksBack threshold limit calls
-  look_back threshold limit [] = record {
+  pub look_back : (threshold most : ℕ) (calls : List (Call L)) → LooksBack threshold most calls
+  look_back threshold most [] = record {
     chunks = λ trace. refl;
     crumbs = λ trace node. has-no_nodes node;
     order = tt;
-    within = within-not-over {L = L} threshold limit [] (omega arith) (omega arith);
+    within = within-not-over {L = L} threshold most [] (omega arith) (omega arith);
   }
-  look_back threshold limit (Arrived buffer ∷ earlier) = arrived-step threshold limit earlier (look_back threshold limit earlier) buffer
-  look_back threshold limit (Crumbed u to ∷ earlier) = crumbed-step threshold limit earlier (look_back threshold limit earlier) u to
-  look_back threshold limit (Claimed u ∷ earlier) = claimed-step threshold limit earlier (look_back threshold limit earlier) u
+  look_back threshold most (Arrived buffer ∷ earlier) = arrived-step threshold most earlier (look_back threshold most earlier) buffer
+  look_back threshold most (Crumbed u to ∷ earlier) = crumbed-step threshold most earlier (look_back threshold most earlier) u to
+  look_back threshold most (Claimed u ∷ earlier) = claimed-step threshold most earlier (look_back threshold most earlier) u

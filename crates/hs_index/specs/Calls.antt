@@ -6,7 +6,8 @@ use Rattle.hs_base.specs.declared.ids.TraceId.{TraceId}
 use Rattle.hs_base.specs.declared.ids.NodeId.{NodeId}
 use Rattle.hs_base.specs.NodeSets.{has_node}
 use Rattle.hs_words.specs.Chunks.{clear_chunk, with_page}
-use Rattle.hs_index.specs.Index.{Buffer, Indexed, Index, new_index, same_trace, is_of, noted_of, is_over, trace_of, arrived, crumbed, claimed, settled, going, leaving}
+use Rattle.hs_index.specs.Index.{Indexed, Index, new_index, same_trace, is_of, noted_of, is_over, trace_of, arrived, crumbed, claimed, settled, going, leaving}
+use Rattle.hs_words.specs.Buffers.{Buffer}
 
 -- A chunk arrived, a crumb of a trace to a node came, or a trace was claimed.
 pub data Call (L : Type 0) : Type 0 where
@@ -22,8 +23,8 @@ after_call index (Claimed trace) = claimed index trace
 
 -- the index with these limits after these calls
 abbrev pub after : {L : Type 0} → ℕ → ℕ → List (Call L) → Index L
-after threshold limit [] = new_index threshold limit
-after threshold limit (call ∷ earlier) = after_call (after threshold limit earlier) call
+after threshold most [] = new_index threshold most
+after threshold most (call ∷ earlier) = after_call (after threshold most earlier) call
 
 -- ---- what the calls were
 
@@ -56,19 +57,19 @@ is_in trace touched = is_some (find (is_of trace) touched)
 
 -- whether the trace is indexed after these calls
 abbrev pub is_indexed : {L : Type 0} → ℕ → ℕ → TraceId → List (Call L) → Bool
-is_indexed threshold limit trace calls = is_in trace (after threshold limit calls).touched
+is_indexed threshold most trace calls = is_in trace (after threshold most calls).touched
 
 -- the trace's chunks that arrived since it was last not indexed, in the order of arrival
 abbrev pub chunks_since : {L : Type 0} → ℕ → ℕ → TraceId → List (Call L) → List (Buffer L)
-chunks_since threshold limit trace [] = []
-chunks_since threshold limit trace (call ∷ earlier) =
-    if is_indexed threshold limit trace (call ∷ earlier) then chunks_since threshold limit trace earlier ++ chunk_in trace call else []
+chunks_since threshold most trace [] = []
+chunks_since threshold most trace (call ∷ earlier) =
+    if is_indexed threshold most trace (call ∷ earlier) then chunks_since threshold most trace earlier ++ chunk_in trace call else []
 
 -- whether a crumb of the trace to the node came since
 abbrev pub has_crumb_since : {L : Type 0} → ℕ → ℕ → TraceId → ℕ → List (Call L) → Bool
-has_crumb_since threshold limit trace node [] = false
-has_crumb_since threshold limit trace node (call ∷ earlier) =
-    if is_indexed threshold limit trace (call ∷ earlier) then has_crumb_since threshold limit trace node earlier || is_crumb trace node call else false
+has_crumb_since threshold most trace node [] = false
+has_crumb_since threshold most trace node (call ∷ earlier) =
+    if is_indexed threshold most trace (call ∷ earlier) then has_crumb_since threshold most trace node earlier || is_crumb trace node call else false
 
 -- These traces were touched later than that.
 abbrev pub AreLater : {L : Type 0} → (TraceId → ℕ) → ℕ → List (Indexed L) → Type 0
@@ -81,17 +82,17 @@ AreInTurn touch [] = Unit {0}
 AreInTurn touch (t ∷ ts) = AreLater touch (touch t.trace) ts × AreInTurn touch ts
 
 -- What an index with these limits holds after these calls.
-pub record LooksBack {L : Type 0} (threshold limit : ℕ) (calls : List (Call L)) : Type 0 where
-  pub chunks : (trace : TraceId) → (noted_of trace (after threshold limit calls).touched).chunks ≡ chunks_since threshold limit trace calls
-  pub crumbs : (trace : TraceId) (node : ℕ) → has_node (noted_of trace (after threshold limit calls).touched).crumbs node ≡ has_crumb_since threshold limit trace node calls
-  pub order : AreInTurn (last_touch calls) (after threshold limit calls).touched
-  pub within : is_over threshold limit (after threshold limit calls).touched ≡ false
+pub record LooksBack {L : Type 0} (threshold most : ℕ) (calls : List (Call L)) : Type 0 where
+  pub chunks : (trace : TraceId) → (noted_of trace (after threshold most calls).touched).chunks ≡ chunks_since threshold most trace calls
+  pub crumbs : (trace : TraceId) (node : ℕ) → has_node (noted_of trace (after threshold most calls).touched).crumbs node ≡ has_crumb_since threshold most trace node calls
+  pub order : AreInTurn (last_touch calls) (after threshold most calls).touched
+  pub within : is_over threshold most (after threshold most calls).touched ≡ false
 
 -- What stays is an end of the list that is within the limits, and each longer end is not.
-pub record IsLongestEnd {L : Type 0} (threshold limit : ℕ) (touched stay : List (Indexed L)) : Type 0 where
+pub record IsLongestEnd {L : Type 0} (threshold most : ℕ) (touched stay : List (Indexed L)) : Type 0 where
   pub rest : (gone : List (Indexed L)) × (touched ≡ gone ++ stay)
-  pub within : is_over threshold limit stay ≡ false
-  pub longest : (front back : List (Indexed L)) → touched ≡ front ++ back → is_over threshold limit back ≡ false → length back ≤ length stay
+  pub within : is_over threshold most stay ≡ false
+  pub longest : (front back : List (Indexed L)) → touched ≡ front ++ back → is_over threshold most back ≡ false → length back ≤ length stay
 
 -- ---- examples
 
@@ -114,10 +115,10 @@ crumb trace node = Crumbed (t trace) (record { 0 = node })
 
 -- the traces from the one touched longest ago
 abbrev traces_after : ℕ → ℕ → List (Call ℕ) → List ℕ
-traces_after threshold limit calls = map (λ (i : Indexed ℕ). i.trace.0) (after threshold limit calls).touched
+traces_after threshold most calls = map (λ (i : Indexed ℕ). i.trace.0) (after threshold most calls).touched
 
 abbrev chunks_after : ℕ → ℕ → List (Call ℕ) → ℕ → List (Buffer ℕ)
-chunks_after threshold limit calls trace = (noted_of (t trace) (after threshold limit calls).touched).chunks
+chunks_after threshold most calls trace = (noted_of (t trace) (after threshold most calls).touched).chunks
 
 -- a second chunk touches its trace
 a_chunk_touches : traces_after 9 9 (chunk 1 2 ∷ chunk 2 1 ∷ chunk 1 0 ∷ []) ≡ 2 ∷ 1 ∷ []

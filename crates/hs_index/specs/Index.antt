@@ -1,23 +1,16 @@
 -- What contracts see of an index: its two limits, and the indexed traces from the one that was touched longest ago to the
 -- one touched last, each with its chunks in the order of arrival and the nodes to which its crumbs lead. A touch moves a
 -- trace to the end. While there are more chunks or more traces than the limits allow, the trace touched longest ago goes.
-use Rattle.std.specs.Prelude.{ℕ, ◌^◌, Bool, if◌then◌else◌, not, ◌||◌, ◌==◌, nat_lt, List, [], ◌∷◌, ◌++◌, length, map, filter, find, sum_by, bit_or}
+use Rattle.std.specs.Prelude.{ℕ, Bool, if◌then◌else◌, not, ◌||◌, ◌==◌, nat_lt, List, [], ◌∷◌, ◌++◌, length, map, filter, find, sum_by}
 use Rattle.std.specs.Option.{option_map_or}
 use Rattle.hs_base.specs.declared.ids.TraceId.{TraceId}
 use Rattle.hs_base.specs.declared.ids.NodeId.{NodeId}
 use Rattle.hs_base.specs.declared.node_set.NodeSet.{NodeSet}
-use Rattle.hs_words.specs.declared.token.Held.{Held}
+use Rattle.hs_base.specs.NodeSets.{no_nodes, with_node}
 use Rattle.hs_words.specs.declared.page.Header.{Header}
-use Rattle.hs_words.specs.Chunks.{Contents, header_in}
+use Rattle.hs_words.specs.Chunks.{header_in}
+use Rattle.hs_words.specs.Buffers.{Buffer, buffer_of}
 use Rattle.hs_index.specs.declared.answers.Gone.{Gone}
-
--- a chunk with its lease
-pub record Buffer (L : Type 0) : Type 0 where
-  pub chunk : Contents
-  pub lease : L
-
-abbrev pub buffer_of : {L : Type 0} {g : _} → Held L g → Buffer L
-buffer_of held = record { chunk = held.chunk; lease = held.lease }
 
 -- what is indexed of a trace: its chunks in the order of arrival, and the nodes to which its crumbs lead
 pub record Noted (L : Type 0) : Type 0 where
@@ -32,23 +25,14 @@ pub record Indexed (L : Type 0) : Type 0 where
 -- the most chunks and traces that stay, and the indexed traces; the one touched longest ago stands first
 pub record Index (L : Type 0) : Type 0 where
   pub threshold : ℕ
-  pub limit : ℕ
+  pub most : ℕ
   pub touched : List (Indexed L)
 
 abbrev pub new_index : {L : Type 0} → ℕ → ℕ → Index L
-new_index threshold limit = record { threshold = threshold; limit = limit; touched = [] }
+new_index threshold most = record { threshold = threshold; most = most; touched = [] }
 
 abbrev pub with_touched : {L : Type 0} → Index L → List (Indexed L) → Index L
-with_touched index touched = record { threshold = index.threshold; limit = index.limit; touched = touched }
-
--- ---- sets of nodes
-
-abbrev pub no_nodes : NodeSet
-no_nodes = record { 0 = 0 }
-
--- the set with a node added: bit n stands for node n
-abbrev pub with_node : NodeSet → NodeId → NodeSet
-with_node nodes node = record { 0 = bit_or nodes.0 (2 ^ node.0) }
+with_touched index touched = record { threshold = index.threshold; most = index.most; touched = touched }
 
 -- ---- what is indexed of a trace
 
@@ -93,7 +77,7 @@ count_chunks touched = sum_by (λ t. chunk_count t.noted) touched
 
 -- whether there are more chunks or more traces than may stay
 abbrev pub is_over : {L : Type 0} → ℕ → ℕ → List (Indexed L) → Bool
-is_over threshold limit touched = nat_lt threshold (count_chunks touched) || nat_lt limit (length touched)
+is_over threshold most touched = nat_lt threshold (count_chunks touched) || nat_lt most (length touched)
 
 -- a chunk that goes, with the counts of the indexed chunks and traces just before its trace went
 pub record Leaving (L : Type 0) : Type 0 where
@@ -109,15 +93,15 @@ leaving chunks traces buffer = record { buffer = buffer; chunks = chunks; traces
 
 -- the traces that stay: the longest end of the list that is not over the limits
 abbrev pub kept : {L : Type 0} → ℕ → ℕ → List (Indexed L) → List (Indexed L)
-kept threshold limit [] = []
-kept threshold limit (oldest ∷ later) = if is_over threshold limit (oldest ∷ later) then kept threshold limit later else oldest ∷ later
+kept threshold most [] = []
+kept threshold most (oldest ∷ later) = if is_over threshold most (oldest ∷ later) then kept threshold most later else oldest ∷ later
 
 -- the chunks that go, trace after trace, and in each in the order of arrival
 abbrev pub evicted : {L : Type 0} → ℕ → ℕ → List (Indexed L) → List (Leaving L)
-evicted threshold limit [] = []
-evicted threshold limit (oldest ∷ later) =
-    if is_over threshold limit (oldest ∷ later)
-    then map (leaving (count_chunks (oldest ∷ later)) (length (oldest ∷ later))) oldest.noted.chunks ++ evicted threshold limit later
+evicted threshold most [] = []
+evicted threshold most (oldest ∷ later) =
+    if is_over threshold most (oldest ∷ later)
+    then map (leaving (count_chunks (oldest ∷ later)) (length (oldest ∷ later))) oldest.noted.chunks ++ evicted threshold most later
     else []
 
 -- ---- what the calls do
@@ -144,8 +128,8 @@ claimed index trace = with_touched index (others trace index.touched)
 
 -- without what goes
 abbrev pub settled : {L : Type 0} → Index L → Index L
-settled index = with_touched index (kept index.threshold index.limit index.touched)
+settled index = with_touched index (kept index.threshold index.most index.touched)
 
 -- what goes
 abbrev pub going : {L : Type 0} → Index L → List (Leaving L)
-going index = evicted index.threshold index.limit index.touched
+going index = evicted index.threshold index.most index.touched

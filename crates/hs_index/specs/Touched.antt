@@ -1,7 +1,8 @@
 -- The indexed traces, as they come of a list of what is indexed under each trace, the one touched last first.
 use Rattle.std.specs.Prelude.{◌≡◌, ℕ, List, [], ◌∷◌, ◌++◌, reverse, map}
 use Rattle.hs_base.specs.declared.ids.TraceId.{TraceId}
-use Rattle.hs_index.specs.Index.{Buffer, Noted, Indexed}
+use Rattle.hs_index.specs.Index.{Noted, Indexed}
+use Rattle.hs_words.specs.Buffers.{Buffer}
 
 -- the indexed traces, with how many may stand there at a time
 pub record Touched (L : Type 0) : Type 0 where

@@ -1,10 +1,12 @@
 //! What is indexed of one trace.
 
 ghost use Rattle.std.specs.Prelude.{◌≡◌, ◌<◌, length, map, OnOk, OnErr, IfErr};
-ghost use Rattle.hs_index.specs.Index.{buffer_of, nothing, with_chunk, with_crumb, leaving, leaving_of};
+ghost use Rattle.hs_index.specs.Index.{nothing, with_chunk, with_crumb, leaving, leaving_of};
+ghost use Rattle.hs_words.specs.Buffers.{buffer_of};
 ghost use Rattle.hs_index.specs.Touched.{IsLast};
 
 use crate::answers::{Gone, Taken};
+use hs_base::limits::MAX_NODES;
 use hs_base::{List, NodeId, NodeSet};
 use hs_words::{Held, Token};
 use std::alloc::Global;
@@ -61,7 +63,7 @@ impl<L: Token> Entry<L> {
 
     /// Adds a node to which a crumb leads.
     pub fn add_crumb(&mut self, node: NodeId)
-        requires { node.0 < 16 }
+        requires { node.0 < MAX_NODES }
         ensures { self.new ≡ with_crumb self.old node }
     {
         self.crumbs = self.crumbs.with(node);

@@ -1,11 +1,13 @@
 //! The index.
 
-ghost use Rattle.std.specs.Prelude.{◌≡◌, ◌<◌, ◌≤◌, length, map, IfOk, IfErr, OnOk, OnErr, IsOk, IsSome};
-ghost use Rattle.hs_index.specs.Index.{buffer_of, leaving_of, new_index, noted_of, count_chunks, arrived, crumbed, going};
+ghost use Rattle.std.specs.Prelude.{◌≡◌, ◌<◌, ◌≤◌, length, map, find, None, IfOk, IfErr, OnOk, OnErr, IsOk, IsSome};
+ghost use Rattle.hs_index.specs.Index.{leaving_of, is_of, new_index, noted_of, count_chunks, arrived, crumbed, going};
+ghost use Rattle.hs_words.specs.Buffers.{buffer_of};
 ghost use Rattle.hs_index.specs.Calls.{after_call, Arrived, Crumbed, Claimed};
 
 use crate::answers::{Gone, Taken};
 use crate::recent::Recent;
+use hs_base::limits::MAX_NODES;
 use hs_base::{Crumb, List, Memory, NodeSet, TraceId};
 use hs_words::{Held, Token};
 use std::alloc::Global;
@@ -15,7 +17,7 @@ use std::marker::Model;
 #[derive(Drop)]
 pub struct TraceIndex<L: Token> {
     threshold: u32,
-    limit: u32,
+    most: u32,
     recent: Recent<L>,
 }
 
@@ -24,11 +26,11 @@ impl<L: Token> Model for TraceIndex<L> {
 
     ghost Value = { Index L };
 
-    ghost use Rattle.hs_index.specs.IndexLayout.{index_in, IsInOrder};
+    ghost use Rattle.hs_index.specs.IndexLayout.{index_in, IsIndex};
 
     ghost view = { index_in };
 
-    ghost invariant = { IsInOrder };
+    ghost invariant = { IsIndex };
 }
 
 impl<L: Token> TraceIndex<L> {
@@ -38,7 +40,7 @@ impl<L: Token> TraceIndex<L> {
     {
         Ok(TraceIndex {
             threshold,
-            limit: traces,
+            most: traces,
             recent: Recent::make(alloc, traces)?,
         })
     }
@@ -56,18 +58,20 @@ impl<L: Token> TraceIndex<L> {
             unreachable!()
         };
         self.recent.add(header.trace, held)?;
-        Ok(self.recent.evict(self.threshold, self.limit))
+        Ok(self.recent.evict(self.threshold, self.most))
     }
 
-    /// Indexes a crumb, which touches its trace. Answers what goes, in order.
+    /// Indexes a crumb, which touches its trace. Answers what goes, in order. Takes memory only where the trace
+    /// is not indexed.
     pub fn crumb(&mut self, crumb: Crumb) -> Result<List<Gone<L>>, Memory>
-        requires node { crumb.node.0 < 16 }
+        requires node { crumb.node.0 < MAX_NODES }
         ensures gone { IfOk result (λ gone. map leaving_of gone.items ≡ going (crumbed self.old crumb.trace crumb.node)) }
         ensures after { OnOk result (self.new ≡ after_call self.old (Crumbed crumb.trace crumb.node)) }
         ensures same { OnErr result (self.new ≡ self.old) }
+        ensures fresh { OnErr result (find (is_of crumb.trace) self.old.touched ≡ None) }
     {
         self.recent.add_crumb(crumb)?;
-        Ok(self.recent.evict(self.threshold, self.limit))
+        Ok(self.recent.evict(self.threshold, self.most))
     }
 
     /// Takes a trace out of the index, with its chunks and crumbs. Takes no memory.
@@ -98,7 +102,7 @@ impl<L: Token> TraceIndex<L> {
     /// The number of indexed traces.
     pub fn traces(&self) -> u32
         ensures value { result ≡ length self.now.touched }
-        ensures within { result ≤ self.now.limit }
+        ensures within { result ≤ self.now.most }
     {
         self.recent.traces()
     }

@@ -1,11 +1,13 @@
 //! The indexed traces in the order of their last touch.
 
 ghost use Rattle.std.specs.Prelude.{◌≡◌, ◌+◌, ◌-◌, ◌<◌, ◌≤◌, ◌^◌, ◌++◌, [], ◌∷◌, length, map, find, IfOk, IfSome, IfNone, IfErr, OnOk, OnErr, None, true};
-ghost use Rattle.hs_index.specs.Index.{buffer_of, leaving_of, is_of, is_over, noted_of, others, touch, with_chunk, with_crumb, chunk_count, count_chunks, kept, evicted};
+ghost use Rattle.hs_index.specs.Index.{leaving_of, is_of, is_over, noted_of, others, touch, with_chunk, with_crumb, chunk_count, count_chunks, kept, evicted};
+ghost use Rattle.hs_words.specs.Buffers.{buffer_of};
 ghost use Rattle.hs_index.specs.Touched.{indexed};
 
 use crate::answers::Gone;
 use crate::entry::Entry;
+use hs_base::limits::MAX_NODES;
 use hs_base::{Crumb, List, Memory, NodeSet, TraceId};
 use hs_words::{Held, Token};
 use lru::LruCache;
@@ -36,12 +38,12 @@ impl<L: Token> Model for Recent<L> {
 }
 
 impl<L: Token> Recent<L> {
-    /// No traces, with room for one more than `limit`. Memory is taken as they come.
-    pub fn make(alloc: Global, limit: u32) -> Result<Recent<L>, Memory>
+    /// No traces, with room for one more than `most`. Memory is taken as they come.
+    pub fn make(alloc: Global, most: u32) -> Result<Recent<L>, Memory>
         ensures none { IfOk result (λ recent. recent.traces ≡ []) }
-        ensures room { IfOk result (λ recent. recent.room ≡ limit + 1) }
+        ensures room { IfOk result (λ recent. recent.room ≡ most + 1) }
     {
-        let room = NonZeroUsize::MIN.saturating_add(limit as usize);
+        let room = NonZeroUsize::MIN.saturating_add(most as usize);
         Ok(Recent {
             chunks: 0,
             cache: LruCache::sparse(alloc, room)?,
@@ -78,18 +80,17 @@ impl<L: Token> Recent<L> {
         }
     }
 
-    /// Adds a crumb to its trace and touches the trace.
+    /// Adds a crumb to its trace and touches the trace. Takes memory only for a trace that is not there.
     pub fn add_crumb(&mut self, crumb: Crumb) -> Result<(), Memory>
         requires room { length self.old.traces < self.old.room }
-        requires node { crumb.node.0 < 16 }
+        requires node { crumb.node.0 < MAX_NODES }
         ensures ok { OnOk result (self.new.traces
             ≡ touch crumb.trace (with_crumb (noted_of crumb.trace self.old.traces) crumb.node) self.old.traces) }
         ensures room { self.new.room ≡ self.old.room }
         ensures err { OnErr result (self.new.traces ≡ self.old.traces) }
+        ensures fresh { OnErr result (find (is_of crumb.trace) self.old.traces ≡ None) }
     {
-        if self.cache.len() >= MOST as usize {
-            return Err(Memory);
-        }
+        let full = self.cache.len() >= MOST as usize;
         match self.cache.peek_mut(&crumb.trace) {
             Some(entry) => {
                 entry.add_crumb(crumb.node);
@@ -97,6 +98,9 @@ impl<L: Token> Recent<L> {
                 Ok(())
             }
             None => {
+                if full {
+                    return Err(Memory);
+                }
                 let mut entry = Entry::new(*self.cache.allocator());
                 entry.add_crumb(crumb.node);
                 match self.insert(crumb.trace, entry) {
@@ -159,14 +163,14 @@ impl<L: Token> Recent<L> {
 
     /// Lets traces go, as long as there are more chunks or more traces than these, which there are by one at
     /// most. Takes no memory.
-    pub fn evict(&mut self, threshold: u32, limit: u32) -> List<Gone<L>>
+    pub fn evict(&mut self, threshold: u32, most: u32) -> List<Gone<L>>
         requires chunks { count_chunks self.old.traces ≤ threshold + 1 }
-        requires traces { length self.old.traces ≤ limit + 1 }
-        ensures gone { map leaving_of result.items ≡ evicted threshold limit self.old.traces }
-        ensures stay { self.new.traces ≡ kept threshold limit self.old.traces }
+        requires traces { length self.old.traces ≤ most + 1 }
+        ensures gone { map leaving_of result.items ≡ evicted threshold most self.old.traces }
+        ensures stay { self.new.traces ≡ kept threshold most self.old.traces }
         ensures room { self.new.room ≡ self.old.room }
     {
-        while self.chunks() > threshold || self.traces() > limit {
+        while self.chunks() > threshold || self.traces() > most {
             let (chunks, traces) = (self.chunks(), self.traces());
             let Some((_, entry)) = self.take_oldest() else {
                 unreachable!()

@@ -11,7 +11,8 @@ use Rattle.std.specs.declared.cmp.Ordering.TheVariants.{Less, Equal, Greater}
 use Rattle.std.specs.Ordering.{is_eq, match_ordering}
 use Rattle.hs_pins.specs.declared.priority.Priority.{Priority}
 use Rattle.hs_pins.specs.Priorities.{priority_cmp, same_priority}
-use Rattle.hs_pins.specs.Buffers.{Buffer, used_of}
+use Rattle.hs_pins.specs.Buffers.{used_of}
+use Rattle.hs_words.specs.Buffers.{Buffer}
 use Rattle.hs_pins.specs.Groups.{Groups, count_of, chunks_of, pinned, next_of, without_first}
 use Rattle.hs_pins.specs.Counting.{HaveChunks, IsCounted}
 

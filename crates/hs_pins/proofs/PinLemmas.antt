@@ -15,7 +15,7 @@ use Rattle.hs_pins.specs.declared.priority.Priority.{Priority}
 use Rattle.hs_pins.specs.declared.priority.Mark.{Mark}
 use Rattle.hs_words.specs.declared.token.Held.{Held}
 use Rattle.hs_pins.specs.Priorities.{priority_of, mark_of, same_mark}
-use Rattle.hs_pins.specs.Buffers.{Buffer, buffer_of}
+use Rattle.hs_words.specs.Buffers.{Buffer, buffer_of}
 use Rattle.hs_pins.specs.Groups.{Groups}
 use Rattle.hs_pins.specs.Lanes.{Lanes, has_lane, same_id, with_groups, pinned_in}
 use Rattle.hs_pins.specs.Pinning.{Pinning, Claims, AreDeclared, claimed, claimed_by, claim_in, claim_for, same_trace, is_abandoned, Arrives, AddsCrumb}

@@ -3,7 +3,7 @@ use Rattle.std.proofs.Common.{◌≡◌, ℕ, ◌+◌, List, [], ◌∷◌, ◌+
 use Rattle.hs_base.specs.declared.ids.TraceId.{TraceId}
 use Rattle.hs_base.specs.declared.told.Group.{Group}
 use Rattle.hs_base.specs.declared.node_set.NodeSet.{NodeSet}
-use Rattle.hs_pins.specs.Buffers.{Buffer}
+use Rattle.hs_words.specs.Buffers.{Buffer}
 use Rattle.hs_pins.specs.Lanes.{Lanes, same_id, has_lane, total_of}
 use Rattle.hs_pins.specs.Pinning.{Pinning, Claims, claim_in, claimed, claimed_by}
 use Rattle.hs_pins.specs.ForTests.{HasClaimed}

@@ -6,7 +6,7 @@ use Rattle.std.specs.Map.{lookup, set_value, remove_entry}
 use Rattle.std.specs.BTreeMap.{insert_entry}
 use Rattle.hs_pins.specs.declared.priority.Priority.{Priority}
 use Rattle.hs_pins.specs.Priorities.{priority_cmp, same_priority}
-use Rattle.hs_pins.specs.Buffers.{Buffer}
+use Rattle.hs_words.specs.Buffers.{Buffer}
 
 abbrev pub Groups : Type 0 → Type 0
 Groups L = List (Priority × List (Buffer L))

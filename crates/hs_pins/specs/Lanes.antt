@@ -5,7 +5,7 @@ use Rattle.std.specs.Map.{lookup, set_value}
 use Rattle.hs_base.specs.declared.ids.TriggerId.{TriggerId}
 use Rattle.hs_base.specs.declared.settings.TriggerRule.{TriggerRule}
 use Rattle.hs_pins.specs.declared.priority.Priority.{Priority}
-use Rattle.hs_pins.specs.Buffers.{Buffer}
+use Rattle.hs_words.specs.Buffers.{Buffer}
 use Rattle.hs_pins.specs.Buckets.{IsLimit}
 use Rattle.hs_pins.specs.Groups.{Groups, count_of, pinned}
 

@@ -21,7 +21,7 @@ use Rattle.hs_pins.specs.declared.claim.Dropped.{Dropped}
 use Rattle.hs_pins.specs.declared.priority.Mark.{Mark}
 use Rattle.hs_pins.specs.declared.priority.Priority.{Priority}
 use Rattle.hs_pins.specs.Priorities.{priority_of, group_at, mark_of, same_mark}
-use Rattle.hs_pins.specs.Buffers.{Buffer, buffer_of}
+use Rattle.hs_words.specs.Buffers.{Buffer, buffer_of}
 use Rattle.hs_pins.specs.Buckets.{Standing, HasTaken, attempted, fresh_bucket}
 use Rattle.hs_pins.specs.Groups.{greatest_of, next_of, without_next}
 use Rattle.hs_pins.specs.Lanes.{Lanes, same_id, has_lane, fresh_lanes, groups_of, with_groups, pinned_in}

@@ -2,7 +2,7 @@
 use Rattle.std.specs.Prelude.{◌≡◌, ℕ, [], ◌∷◌, Some, None, refl}
 use Rattle.hs_words.specs.Chunks.{clear_chunk}
 use Rattle.hs_pins.specs.declared.priority.Priority.{Priority}
-use Rattle.hs_pins.specs.Buffers.{Buffer}
+use Rattle.hs_words.specs.Buffers.{Buffer}
 use Rattle.hs_pins.specs.Groups.{Groups, count_of, chunks_of, pinned, greatest_of, next_of, without_next}
 
 abbrev chunk : ℕ → Buffer (Unit {0})

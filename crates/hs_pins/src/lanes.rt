@@ -1,7 +1,8 @@
 //! The pinned chunks of a node.
 
 ghost use Rattle.std.specs.Prelude.{◌≡◌, ◌+◌, ◌<◌, ◌^◌, [], ◌∷◌, length, map, drop, slice_get, OnOk, OnErr, IfOk, IfErr, IfSome, OnSome, IfNone, IsSome, option_map};
-ghost use Rattle.hs_pins.specs.Buffers.{buffer_of, used_of};
+ghost use Rattle.hs_pins.specs.Buffers.{used_of};
+ghost use Rattle.hs_words.specs.Buffers.{buffer_of};
 ghost use Rattle.hs_pins.specs.Groups.{count_of, greatest_of, next_of, without_next};
 ghost use Rattle.hs_pins.specs.Lanes.{has_lane, groups_of, total_of, with_groups, pinned_in, AreRules, fresh_lanes};
 

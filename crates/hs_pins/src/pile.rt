@@ -1,7 +1,8 @@
 //! The pinned chunks of one group.
 
 ghost use Rattle.std.specs.Prelude.{◌≡◌, ◌+◌, [], ◌∷◌, ◌++◌, length, map, drop, slice_get, OnOk, OnErr, IfErr, option_map, nat_eq};
-ghost use Rattle.hs_pins.specs.Buffers.{buffer_of, used_of};
+ghost use Rattle.hs_pins.specs.Buffers.{used_of};
+ghost use Rattle.hs_words.specs.Buffers.{buffer_of};
 
 use hs_base::List;
 use hs_words::{Held, Token};
@@ -16,7 +17,7 @@ pub struct Pile<L: Token> {
 
 impl<L: Token> Model for Pile<L> {
     ghost use Rattle.std.specs.Prelude.{List, map};
-    ghost use Rattle.hs_pins.specs.Buffers.{Buffer, buffer_of};
+    ghost use Rattle.hs_words.specs.Buffers.{Buffer, buffer_of};
 
     ghost Value = { List (Buffer L) };
 

@@ -3,7 +3,8 @@
 ghost use Rattle.std.specs.Prelude.{◌≡◌, ◌≢◌, ◌+◌, ◌<◌, ◌^◌, [], ◌∷◌, length, map, drop, slice_get, Some, OnOk, OnErr, IfErr, IfSome, OnSome, IfNone, IsSome, option_map};
 ghost use Rattle.std.specs.Map.{lookup};
 ghost use Rattle.std.specs.BTreeMap.{insert_entry};
-ghost use Rattle.hs_pins.specs.Buffers.{buffer_of, used_of};
+ghost use Rattle.hs_pins.specs.Buffers.{used_of};
+ghost use Rattle.hs_words.specs.Buffers.{buffer_of};
 ghost use Rattle.hs_pins.specs.Priorities.{priority_cmp, same_priority};
 ghost use Rattle.hs_pins.specs.Groups.{count_of, chunks_of, pinned, greatest_of, next_of, without_first, without_next};
 ghost use Rattle.hs_pins.specs.Counting.{HaveChunks};

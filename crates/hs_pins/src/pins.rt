@@ -2,7 +2,8 @@
 
 ghost use Rattle.std.specs.Prelude.{◌≡◌, ◌+◌, ◌<◌, ◌≤◌, ◌^◌, ℕ, [], ◌∷◌, ◌++◌, length, map, OnOk, OnErr, IfOk, IfErr, IfSome, OnSome, IfNone, IsSome, IsNone, None, option_map};
 ghost use Rattle.indexmap.specs.IndexMap.{spare};
-ghost use Rattle.hs_pins.specs.Buffers.{buffer_of, used_of};
+ghost use Rattle.hs_pins.specs.Buffers.{used_of};
+ghost use Rattle.hs_words.specs.Buffers.{buffer_of};
 ghost use Rattle.hs_pins.specs.Groups.{next_of};
 ghost use Rattle.hs_pins.specs.Lanes.{AreRules, has_lane, groups_of, total_of};
 ghost use Rattle.hs_pins.specs.Pinning.{claim_in, claim_for, bucket_in, claimed, admission, admitted_after, Attempts, Arrives, AddsCrumb, dropped_of, next_in, without_next_in, fresh_pins, fresh_buckets_of};

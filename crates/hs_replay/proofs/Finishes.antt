@@ -12,7 +12,8 @@ use Rattle.hs_records.specs.Pages.{PlainPage, segment_pages, pages_of}
 use Rattle.hs_journal.specs.declared.books.Standing.{Standing}
 use Rattle.hs_journal.specs.declared.books.ClientBook.{ClientBook}
 use Rattle.hs_journal.specs.declared.books.AgentBook.{AgentBook}
-use Rattle.hs_client.specs.Core.{Core, Buffer, Step, Began, Wrote, Needed, Supplied, Ended_, Refused, all_pages, handed}
+use Rattle.hs_client.specs.Core.{Core, Step, Began, Wrote, Needed, Supplied, Ended_, Refused, all_pages, handed}
+use Rattle.hs_words.specs.Buffers.{Buffer}
 use Rattle.hs_client.specs.Calls.{IsBook, after, open_trace, segments_of_steps, pages_of_steps, filled_chunks, handed_out, note_of}
 use Rattle.hs_replay.specs.declared.seat.Seat.{Seat}
 use Rattle.hs_replay.specs.PlainBooks.{ArePlainBooks, first, plain_draws, live_standings}

@@ -12,7 +12,8 @@ use Rattle.hs_words.specs.declared.token.Drawn.TheVariants as drawn
 use Rattle.hs_words.specs.Chunks.{Contents, clear_chunk}
 use Rattle.hs_words.specs.PoolAnswers.{stamp_drawn}
 use Rattle.hs_pool.specs.Pool.{Pool, Draws}
-use Rattle.hs_client.specs.Core.{Core, Buffer, Step, Began, Wrote, Needed, Supplied, Ended_, after_step, handed, buffer_of, draw_of, number_after, supplied}
+use Rattle.hs_client.specs.Core.{Core, Step, Began, Wrote, Needed, Supplied, Ended_, after_step, handed, draw_of, number_after, supplied}
+use Rattle.hs_words.specs.Buffers.{Buffer, buffer_of}
 use Rattle.hs_client.specs.Calls.{May, after, next_number, segments_of_steps, with_last, chunks_supplied, draws_supplied, handed_out}
 use Rattle.hs_replay.specs.declared.seat.Seat.{Seat}
 use Rattle.hs_replay.specs.PlainBooks.{plain_draw, plain_draws}

@@ -7,7 +7,8 @@ use Rattle.hs_records.specs.Plain.{Operation}
 use Rattle.hs_records.specs.Records.{segments_from, segments_of}
 use Rattle.hs_words.specs.Chunks.{Contents, clear_chunk, clear_chunks}
 use Rattle.hs_workload.specs.Validity.{AreBracketed, client_pieces}
-use Rattle.hs_client.specs.Core.{Core, new_core, handed, buffer_of}
+use Rattle.hs_client.specs.Core.{Core, new_core, handed}
+use Rattle.hs_words.specs.Buffers.{buffer_of}
 use Rattle.hs_pool.specs.Pool.{IsAfter}
 use Rattle.hs_replay.specs.declared.seat.Seat.{Seat}
 use Rattle.hs_replay.specs.PlainBooks.{first, plain_draws}

@@ -13,7 +13,8 @@ use Rattle.hs_journal.specs.declared.books.ClientBook.{ClientBook}
 use Rattle.hs_journal.specs.declared.books.AgentBook.{AgentBook}
 use Rattle.hs_words.specs.declared.page.Header.{Header}
 use Rattle.hs_words.specs.Chunks.{Contents, clear_chunk, header_in}
-use Rattle.hs_client.specs.Core.{Core, Buffer, Step, new_core, handed, buffer_of}
+use Rattle.hs_client.specs.Core.{Core, Step, new_core, handed}
+use Rattle.hs_words.specs.Buffers.{Buffer, buffer_of}
 use Rattle.hs_client.specs.Calls.{AreSteps, after, next_number, segments_of_steps, with_last, chunks_supplied, draws_supplied, handed_out}
 use Rattle.hs_pool.specs.Pool.{HasSize}
 use Rattle.hs_workload.specs.Validity.{AreBracketed, client_pieces}

@@ -3,7 +3,8 @@
 ghost use Rattle.std.specs.Prelude.{◌≡◌, ◌+◌, ◌<◌, ◌≤◌, [], ◌∷◌, ◌++◌, length, map, IfOk, IsSome, IsNone};
 ghost use Rattle.std.specs.Option.{option_to_list};
 ghost use Rattle.hs_records.specs.Records.{piece_count, record_pieces};
-ghost use Rattle.hs_client.specs.Core.{number_after, buffer_of, buffer_in};
+ghost use Rattle.hs_client.specs.Core.{number_after};
+ghost use Rattle.hs_words.specs.Buffers.{buffer_of, buffer_in};
 ghost use Rattle.hs_workload.specs.Views.{operation_of};
 ghost use Rattle.hs_replay.specs.Seats.{IsSound, Goes, IsNext, IsAtStart, PlaysOperation, PlaysBegin, PlaysPieces, PlaysEnd, AreBooksOf, standings_of};
 

@@ -1,5 +1,6 @@
 use Rattle.std.proofs.Common.{◌≡◌, ◌≤◌, length, map}
-use Rattle.hs_index.specs.Index.{buffer_of, leaving, leaving_of}
+use Rattle.hs_index.specs.Index.{leaving, leaving_of}
+use Rattle.hs_words.specs.Buffers.{buffer_of}
 use Rattle.hs_index.proofs.entry.Entry.go.Given as goal
 
 -- the chunks that were moved go, and there is room for the others

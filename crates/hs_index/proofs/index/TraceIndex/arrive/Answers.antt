@@ -1,6 +1,7 @@
 use Rattle.std.proofs.Common.{◌≡◌, ◌+◌, ◌≤◌, ◌∷◌, [], length, ap, subst, List, sym, ◌∙◌, arith}
 use Rattle.std.proofs.lemmas.List.{length-append}
-use Rattle.hs_index.specs.Index.{Indexed, buffer_of, noted_of, with_chunk, chunk_count, count_chunks}
+use Rattle.hs_index.specs.Index.{Indexed, noted_of, with_chunk, chunk_count, count_chunks}
+use Rattle.hs_words.specs.Buffers.{buffer_of}
 use Rattle.hs_index.proofs.Evicting.{count-parts, count-touch, length-touch, count-kept, length-kept}
 use Rattle.hs_index.proofs.index.TraceIndex.arrive.Goals as goal
 
@@ -25,7 +26,7 @@ evict-requires-clause-traces g c =
 
 pub invariant_of-self-2 : goal.invariant_of-self-2
 invariant_of-self-2 g c = record {
-  chunks = subst (λ (l : List (Indexed g.row.L.Denot)). count_chunks l ≤ c.self.inside.threshold) (sym c.evict.ensures.stay) (count-kept c.self.inside.threshold c.self.inside.limit c.add.new.self.traces);
-  traces = subst (λ (l : List (Indexed g.row.L.Denot)). length l ≤ c.self.inside.limit) (sym c.evict.ensures.stay) (length-kept c.self.inside.threshold c.self.inside.limit c.add.new.self.traces);
+  chunks = subst (λ (l : List (Indexed g.row.L.Denot)). count_chunks l ≤ c.self.inside.threshold) (sym c.evict.ensures.stay) (count-kept c.self.inside.threshold c.self.inside.most c.add.new.self.traces);
+  traces = subst (λ (l : List (Indexed g.row.L.Denot)). length l ≤ c.self.inside.most) (sym c.evict.ensures.stay) (length-kept c.self.inside.threshold c.self.inside.most c.add.new.self.traces);
   room = c.evict.ensures.room ∙ c.in_ok-add.ensures.room ∙ c.self.invariant.room;
 }

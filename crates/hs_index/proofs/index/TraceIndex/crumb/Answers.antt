@@ -22,7 +22,7 @@ evict-requires-clause-traces g c =
 
 pub invariant_of-self-2 : goal.invariant_of-self-2
 invariant_of-self-2 g c = record {
-  chunks = subst (λ (l : List (Indexed g.row.L.Denot)). count_chunks l ≤ c.self.inside.threshold) (sym c.evict.ensures.stay) (count-kept c.self.inside.threshold c.self.inside.limit c.add_crumb.new.self.traces);
-  traces = subst (λ (l : List (Indexed g.row.L.Denot)). length l ≤ c.self.inside.limit) (sym c.evict.ensures.stay) (length-kept c.self.inside.threshold c.self.inside.limit c.add_crumb.new.self.traces);
+  chunks = subst (λ (l : List (Indexed g.row.L.Denot)). count_chunks l ≤ c.self.inside.threshold) (sym c.evict.ensures.stay) (count-kept c.self.inside.threshold c.self.inside.most c.add_crumb.new.self.traces);
+  traces = subst (λ (l : List (Indexed g.row.L.Denot)). length l ≤ c.self.inside.most) (sym c.evict.ensures.stay) (length-kept c.self.inside.threshold c.self.inside.most c.add_crumb.new.self.traces);
   room = c.evict.ensures.room ∙ c.in_ok-add_crumb.ensures.room ∙ c.self.invariant.room;
 }

@@ -1,11 +1,11 @@
-use Rattle.std.proofs.Common.{rules, Fits, w32, ◌≡◌, length, None, Some, sym, ap, ◌∙◌, arith}
+use Rattle.std.proofs.Common.{ℕ, List, find, rules, Fits, w32, ◌≡◌, length, None, Some, sym, ap, ◌∙◌, arith}
 use Rattle.std.specs.Prelude.{sum_by}
 use Rattle.std.specs.Map.{values_of, lookup, set_value}
 use Rattle.lru.specs.LruCache.{LruCache, promoted}
 use Rattle.hs_base.specs.declared.ids.TraceId.{TraceId}
-use Rattle.hs_index.specs.Index.{Noted, same_trace, noted_of, touch, with_crumb, chunk_count}
+use Rattle.hs_index.specs.Index.{Noted, Indexed, same_trace, is_of, noted_of, touch, with_crumb, chunk_count}
 use Rattle.hs_index.specs.Touched.{Touched, listed}
-use Rattle.hs_index.proofs.Outcomes.{on_ok}
+use Rattle.hs_index.proofs.Outcomes.{on_ok, on_err}
 use Rattle.hs_index.proofs.Listed.{count-listed, find-missing}
 use Rattle.hs_index.proofs.Touching.{noted-found, noted-missing, touch-missing, touch-found, length-touched, count-touched}
 use Rattle.hs_index.proofs.recent.Recent.add_crumb.Goals as goal
@@ -63,3 +63,16 @@ returns-after-insert-clause-ok g c =
       | in-Ok w ↦ on_ok c.match-insert.result (w.in-Ok.ensures.ok ∙ touch-missing c.args.crumb.trace c.self.inside.cache.entries c.add_crumb-in-None.new.self missing ∙ rest)
       | in-Err w ↦ rw w.result-is tt
     ]
+
+-- the trace is not there
+none_there : {L : Type 0} (trace : TraceId) (old : Touched L) (traces : List (Indexed L)) (room : ℕ) → (let t : Touched L = record { room = room; traces = traces } in t) ≡ old → find (is_of trace) traces ≡ None → find (is_of trace) old.traces ≡ None
+none_there trace old traces room is none = sym (ap (λ t. find (is_of trace) t.traces) is) ∙ none
+
+pub returns-then-full-clause-fresh : goal.returns-then-full-clause-fresh
+returns-then-full-clause-fresh g c =
+    none_there c.args.crumb.trace c.args.self.now _ _ c.self.view_is (find-missing c.args.crumb.trace c.self.inside.cache.entries (sym c.in-None.ensures.value))
+
+pub returns-after-insert-clause-fresh : goal.returns-after-insert-clause-fresh
+returns-after-insert-clause-fresh g c =
+    on_err c.match-insert.result
+    (none_there c.args.crumb.trace c.args.self.now _ _ c.self.view_is (find-missing c.args.crumb.trace c.self.inside.cache.entries (sym c.in-None.ensures.value)))

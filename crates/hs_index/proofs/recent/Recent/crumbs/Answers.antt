@@ -1,13 +1,12 @@
 use Rattle.std.proofs.Common.{sym, ap, ◌∙◌}
 use Rattle.hs_index.specs.Index.{Noted, noted_of}
 use Rattle.hs_index.specs.Touched.{Touched}
-use Rattle.hs_index.proofs.NodeSets.{no_nodes_by_nodes}
 use Rattle.hs_index.proofs.Touching.{noted-found, noted-missing, empty-missing}
 use Rattle.hs_index.proofs.recent.Recent.crumbs.Goals as goal
 
 pub returns-then-len-eq0 : goal.returns-then-len-eq0
 returns-then-len-eq0 g c =
-    no_nodes_by_nodes c.none.result c.none.ensures
+    c.none.ensures.value
     ∙ sym (ap (λ (n : Noted g.row.L.Denot). n.crumbs) (noted-missing c.args.trace c.self.inside.cache.entries (empty-missing c.args.trace c.self.inside.cache.entries (sym c.len.ensures.len ∙ c.if-len-eq0.true))))
     ∙ ap (λ (t : Touched g.row.L.Denot). (noted_of c.args.trace t.traces).crumbs) c.self.view_is
 
@@ -19,6 +18,6 @@ returns-in-Some g c =
 
 pub returns-in-None : goal.returns-in-None
 returns-in-None g c =
-    no_nodes_by_nodes c.none-in-None.result c.none-in-None.ensures
+    c.none-in-None.ensures.value
     ∙ sym (ap (λ (n : Noted g.row.L.Denot). n.crumbs) (noted-missing c.args.trace c.self.inside.cache.entries (sym c.in-None.ensures)))
     ∙ ap (λ (t : Touched g.row.L.Denot). (noted_of c.args.trace t.traces).crumbs) c.self.view_is

@@ -1,5 +1,5 @@
 use Rattle.std.proofs.Common.{[], ◌∷◌, IsSome, sym, subst}
-use Rattle.hs_pins.specs.Buffers.{buffer_of}
+use Rattle.hs_words.specs.Buffers.{buffer_of}
 use Rattle.hs_pins.specs.Pinning.{Pinning, claim_for}
 use Rattle.hs_pins.proofs.PinLemmas.{declared-group, declared-arrived, arrives-back, arrives-kept, arrives-pinned}
 use Rattle.hs_pins.proofs.pins.Pins.arrive.Goals as goal

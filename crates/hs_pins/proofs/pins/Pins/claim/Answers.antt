@@ -1,5 +1,5 @@
 use Rattle.std.proofs.Common.{map, ap, sym, subst, ◌∙◌}
-use Rattle.hs_pins.specs.Buffers.{buffer_of}
+use Rattle.hs_words.specs.Buffers.{buffer_of}
 use Rattle.hs_pins.specs.Lanes.{has_lane, pinned_in}
 use Rattle.hs_pins.specs.Pinning.{Pinning, claimed_by}
 use Rattle.hs_pins.proofs.PinLemmas.{declared-claim, claimed-view}

@@ -1,5 +1,5 @@
 use Rattle.std.proofs.Common.{map, refl, ap, ◌∙◌}
-use Rattle.hs_client.specs.Core.{buffer_of}
+use Rattle.hs_words.specs.Buffers.{buffer_of}
 use Rattle.hs_replay.specs.PlainBooks.{first}
 use Rattle.hs_replay.specs.Seats.{standings_of}
 use Rattle.hs_replay.proofs.Finishes.{finished}
