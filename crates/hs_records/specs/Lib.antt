@@ -1,3 +1,5 @@
+pub mod Fronts
+pub mod Laws
+pub mod Pages
 pub mod Plain
 pub mod Records
-pub mod Pages

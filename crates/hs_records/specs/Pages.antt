@@ -1,8 +1,9 @@
--- A segment is cut into pages from its front: the next page is the longest run of its remaining pieces that fits a
--- page. The pages of a client are those of its segments in order, numbered from 0.
-use Rattle.std.specs.Prelude.{◌≡◌, ℕ, zero, suc, ◌+◌, ◌-◌, nat_le, List, [], ◌∷◌, length, take, drop, map, if◌then◌else◌, replicate, refl}
+-- A segment is cut into pages from its front: the next page takes the longest front of the pieces that are left for
+-- whose costs it has room. The pages of a client are those of its segments in order, numbered from 0.
+use Rattle.std.specs.Prelude.{◌≡◌, ℕ, zero, suc, ◌+◌, ◌-◌, List, [], ◌∷◌, length, take, drop, map, replicate, refl}
 use Rattle.std.specs.List.{flat_map}
 use Rattle.hs_base.specs.declared.ids.TraceId.{TraceId}
+use Rattle.hs_records.specs.Fronts.{count_within}
 use Rattle.hs_records.specs.Plain.{Operation, Begin, Point, End}
 use Rattle.hs_records.specs.Records.{Piece, Segment, segments_of}
 
@@ -10,11 +11,6 @@ use Rattle.hs_records.specs.Records.{Piece, Segment, segments_of}
 pub record PlainPage : Type 0 where
   pub trace : TraceId
   pub pieces : List Piece
-
--- how many numbers stand in the longest front of a list whose sum is at most this much
-abbrev pub longest_run : ℕ → List ℕ → ℕ
-longest_run room [] = 0
-longest_run room (cost ∷ costs) = if nat_le cost room then suc (longest_run (room - cost) costs) else 0
 
 -- what a piece takes of a page: its bytes, and ten for its length and moment
 abbrev pub cost_of : Piece → ℕ
@@ -26,7 +22,7 @@ page_room size = size - 24
 
 -- how many of these pieces the next page takes
 abbrev pub fits : ℕ → List Piece → ℕ
-fits size pieces = longest_run (page_room size) (map cost_of pieces)
+fits size pieces = count_within (page_room size) (map cost_of pieces)
 
 -- the pieces in runs, each of them the longest that fits a page; a page takes at least one piece, so that there are at
 -- most as many as the first number says
@@ -53,9 +49,6 @@ first_record page = first_number page.pieces
     first_number (piece ∷ pieces) = piece.number
 
 -- worked examples, at the least size: a page has room for costs of 40
-two_of_three : longest_run 40 (20 ∷ 20 ∷ 20 ∷ []) ≡ 2
-two_of_three = refl
-
 -- a payload of 30 bytes fills a page
 filled_exactly : map (λ page. length page.pieces) (pages_of 64 (Begin (record { 0 = 1 }) ∷ Point 7 (replicate 30 5) ∷ Point 8 [] ∷ End ∷ [])) ≡ 1 ∷ 1 ∷ []
 filled_exactly = refl

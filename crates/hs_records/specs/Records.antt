@@ -1,14 +1,97 @@
--- The records of a client are its points, numbered from 0, each with the trace then open. A payload that is too
--- long for one page is cut into pieces. A segment is the pieces between a begin and its end.
-use Rattle.std.specs.Prelude.{◌≡◌, ℕ, ◌+◌, ◌-◌, ◌*◌, ◌/◌, max, List, [], ◌∷◌, ◌++◌, length, take, drop, map, replicate, refl}
-use Rattle.std.specs.List.{range_with_len}
+-- The records of a client are its points, numbered from 0, each with the trace then open. A payload that fits a page of
+-- its own is one piece; a longer one gives its front as a piece, and what is left of it is cut again. A segment is the
+-- pieces between a begin and its end.
+use Rattle.std.specs.Prelude.{◌≡◌, ℕ, zero, suc, ◌+◌, ◌-◌, nat_le, Bool, true, false, List, [], ◌∷◌, ◌++◌, length, take, drop, map, replicate, Option, Some, None, refl}
+use Rattle.std.specs.List.{flat_map}
 use Rattle.hs_base.specs.declared.ids.TraceId.{TraceId}
 use Rattle.hs_records.specs.Plain.{Operation, Begin, Point, Crumb, End, Fire, Sample}
+
+-- ---- where operations stand
+
+-- an operation of a client, with its number among them and the trace that is open when it comes
+pub record Placed : Type 0 where
+  pub number : ℕ
+  pub trace : Option TraceId
+  pub operation : Operation
+
+-- the trace that is open behind an operation
+abbrev pub open_behind : Option TraceId → Operation → Option TraceId
+open_behind trace (Begin next) = Some next
+open_behind trace (Point moment payload) = trace
+open_behind trace (Crumb node) = trace
+open_behind trace End = None
+open_behind trace (Fire trigger) = trace
+open_behind trace (Sample moment auto value) = trace
+
+-- operations from this number on, the first of which finds this trace open
+abbrev pub placed_from : ℕ → Option TraceId → List Operation → List Placed
+placed_from number trace [] = []
+placed_from number trace (operation ∷ ops) =
+    record { number = number; trace = trace; operation = operation } ∷ placed_from (number + 1) (open_behind trace operation) ops
+
+-- the operations of a client, which has no trace open before its first begin
+abbrev pub placed_of : List Operation → List Placed
+placed_of ops = placed_from 0 None ops
+
+-- From a client's start or within a trace, a trace is begun where none is open, points stand and it is ended where one
+-- is open, and none is open at the end.
+abbrev pub AreBracketed : Bool → List Operation → Type 0
+AreBracketed is_open [] = is_open ≡ false
+AreBracketed is_open (Begin trace ∷ operations) = (is_open ≡ false) × AreBracketed true operations
+AreBracketed is_open (End ∷ operations) = (is_open ≡ true) × AreBracketed false operations
+AreBracketed is_open (Point moment payload ∷ operations) = (is_open ≡ true) × AreBracketed is_open operations
+AreBracketed is_open (Crumb node ∷ operations) = (is_open ≡ true) × AreBracketed is_open operations
+AreBracketed is_open (Fire trigger ∷ operations) = AreBracketed is_open operations
+AreBracketed is_open (Sample moment auto value ∷ operations) = (is_open ≡ true) × AreBracketed is_open operations
+
+-- ---- records
 
 pub record Record : Type 0 where
   pub trace : TraceId
   pub moment : ℕ
   pub payload : List ℕ
+
+-- the record of a point where a trace is open
+abbrev pub record_in : Option TraceId → Operation → List Record
+record_in None operation = []
+record_in (Some trace) (Point moment payload) = record { trace = trace; moment = moment; payload = payload } ∷ []
+record_in (Some trace) (Begin next) = []
+record_in (Some trace) (Crumb node) = []
+record_in (Some trace) End = []
+record_in (Some trace) (Fire trigger) = []
+record_in (Some trace) (Sample moment auto value) = []
+
+abbrev pub record_at : Placed → List Record
+record_at placed = record_in placed.trace placed.operation
+
+-- the records of a client
+abbrev pub records_of : List Operation → List Record
+records_of ops = flat_map record_at (placed_of ops)
+
+-- ---- pieces
+
+-- the most bytes of a payload that a page holds beside its header and the piece's own ten bytes
+abbrev pub piece_limit : ℕ → ℕ
+piece_limit size = size - 34
+
+-- the pieces of a payload that is cut at most so often
+abbrev pub cut_within : (most limit : ℕ) → List ℕ → List (List ℕ)
+cut_within zero limit payload = payload ∷ []
+cut_within (suc most) limit payload =
+    elim (nat_le (length payload) limit) [ true ↦ payload ∷ [] | false ↦ take limit payload ∷ cut_within most limit (drop limit payload) ]
+
+-- the pieces of a payload: no cut takes less than a byte
+abbrev pub payload_pieces : ℕ → List ℕ → List (List ℕ)
+payload_pieces size payload = cut_within (length payload) (piece_limit size) payload
+
+-- how many pieces there are of so many bytes that are cut at most so often
+abbrev pub count_cut : (most limit bytes : ℕ) → ℕ
+count_cut zero limit bytes = 1
+count_cut (suc most) limit bytes = elim (nat_le bytes limit) [ true ↦ 1 | false ↦ suc (count_cut most limit (bytes - limit)) ]
+
+-- how many pieces a payload of so many bytes has
+abbrev pub piece_count : (size bytes : ℕ) → ℕ
+piece_count size bytes = count_cut bytes (piece_limit size) bytes
 
 -- a part of a record's payload, with the record's number and moment
 pub record Piece : Type 0 where
@@ -16,47 +99,15 @@ pub record Piece : Type 0 where
   pub moment : ℕ
   pub payload : List ℕ
 
-pub record Segment : Type 0 where
-  pub trace : TraceId
-  pub pieces : List Piece
-
--- the records of the operations up to the next begin, where this trace is open
-abbrev mutual
-  pub records_in : TraceId → List Operation → List Record
-  records_in trace [] = []
-  records_in trace (Point moment payload ∷ ops) = record { trace = trace; moment = moment; payload = payload } ∷ records_in trace ops
-  records_in trace (Begin next ∷ ops) = records_in next ops
-  records_in trace (End ∷ ops) = records_of ops
-  records_in trace (Crumb node ∷ ops) = records_in trace ops
-  records_in trace (Fire trigger ∷ ops) = records_in trace ops
-  records_in trace (Sample moment auto value ∷ ops) = records_in trace ops
-
-  -- the records of a client, which has no trace open before its first begin
-  pub records_of : List Operation → List Record
-  records_of [] = []
-  records_of (Begin trace ∷ ops) = records_in trace ops
-  records_of (Point moment payload ∷ ops) = records_of ops
-  records_of (End ∷ ops) = records_of ops
-  records_of (Crumb node ∷ ops) = records_of ops
-  records_of (Fire trigger ∷ ops) = records_of ops
-  records_of (Sample moment auto value ∷ ops) = records_of ops
-
--- the most bytes of a payload that a page holds beside its header and the piece's own ten bytes
-abbrev pub piece_limit : ℕ → ℕ
-piece_limit size = size - 34
-
--- how many pieces a payload of so many bytes has: as many as it fills, a last one that it does not fill, and one at least
-abbrev pub piece_count : ℕ → ℕ → ℕ
-piece_count size bytes = max 1 ((bytes + (piece_limit size - 1)) / piece_limit size)
-
--- the payload's bytes in pieces, cut from its front
-abbrev pub payload_pieces : ℕ → List ℕ → List (List ℕ)
-payload_pieces size payload =
-    map (λ i. take (piece_limit size) (drop (piece_limit size * i) payload)) (range_with_len 0 (piece_count size (length payload)))
-
 -- the pieces of a record
 abbrev pub record_pieces : ℕ → ℕ → ℕ → List ℕ → List Piece
 record_pieces size number moment payload = map (λ bytes. record { number = number; moment = moment; payload = bytes }) (payload_pieces size payload)
+
+-- ---- segments
+
+pub record Segment : Type 0 where
+  pub trace : TraceId
+  pub pieces : List Piece
 
 -- the pieces of the points up to the end, the first of which is the record of this number
 abbrev pub pieces_until_end : ℕ → ℕ → List Operation → List Piece
@@ -82,7 +133,7 @@ abbrev pub segments_of : ℕ → List Operation → List Segment
 segments_of size ops = segments_from size 0 ops
 
 -- worked examples, at the least size: a piece has at most 30 bytes
-one : TraceId
+abbrev one : TraceId
 one = record { 0 = 1 }
 
 whole_in_one_piece : piece_count 64 30 ≡ 1
@@ -97,9 +148,17 @@ two_full_pieces = refl
 cut_in_three : payload_pieces 64 (replicate 70 7) ≡ replicate 30 7 ∷ replicate 30 7 ∷ replicate 10 7 ∷ []
 cut_in_three = refl
 
-empty_segment : segments_of 64 (Begin (record { 0 = 1 }) ∷ End ∷ []) ≡ record { trace = record { 0 = 1 }; pieces = [] } ∷ []
+-- the longest payload, on pages of the least size
+most_pieces : piece_count 64 65535 ≡ 2185
+most_pieces = refl
+
+empty_segment : segments_of 64 (Begin one ∷ End ∷ []) ≡ record { trace = one; pieces = [] } ∷ []
 empty_segment = refl
 
-two_records : records_of (Begin (record { 0 = 1 }) ∷ Point 7 [] ∷ Crumb (record { 0 = 0 }) ∷ Point 8 (5 ∷ []) ∷ End ∷ [])
-    ≡ record { trace = record { 0 = 1 }; moment = 7; payload = [] } ∷ record { trace = record { 0 = 1 }; moment = 8; payload = 5 ∷ [] } ∷ []
+-- the point is the second operation and finds the trace open, and nothing is open behind the end
+open_traces : map (λ placed. placed.trace) (placed_of (Begin one ∷ Point 7 [] ∷ End ∷ Crumb (record { 0 = 0 }) ∷ [])) ≡ None ∷ Some one ∷ Some one ∷ None ∷ []
+open_traces = refl
+
+two_records : records_of (Begin one ∷ Point 7 [] ∷ Crumb (record { 0 = 0 }) ∷ Point 8 (5 ∷ []) ∷ End ∷ [])
+    ≡ record { trace = one; moment = 7; payload = [] } ∷ record { trace = one; moment = 8; payload = 5 ∷ [] } ∷ []
 two_records = refl

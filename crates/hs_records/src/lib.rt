@@ -1,4 +1,13 @@
 //! Workloads as plain data, and what they come to: records, the pieces of their payloads, and pages. The definitions stand
-//! in `specs/`.
+//! in `specs/`, and what holds of them is the contract of a function in `laws`.
 
 #![tactic(auto)]
+
+mod laws;
+mod pieces;
+
+pub use laws::{
+    pages_carry_the_records, payloads_are_cut_from_the_front, pieces_are_counted, pieces_are_full,
+    pieces_join_to_the_payload, the_longest_runs_are_the_pages,
+};
+pub use pieces::piece_count;

@@ -1,0 +1,4 @@
+pub mod Cuts
+pub mod PageNumbers
+pub mod PieceNumbers
+pub mod Runs
