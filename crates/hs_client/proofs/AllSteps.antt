@@ -10,6 +10,7 @@ use Rattle.hs_journal.specs.declared.journal.Draw.{Draw}
 use Rattle.hs_client.specs.Core.{Core, Step, Began, Wrote, Needed, Supplied, Ended_, Refused, after_step, new_core, closed, handed, draw_of, number_after}
 use Rattle.hs_words.specs.Buffers.{Buffer}
 use Rattle.hs_client.specs.Calls.{after, AreSteps, next_number, segments_of_steps, open_trace, chunks_supplied, draws_supplied, handed_out, with_last, pages_of_steps, note_of, filled_chunks, IsBook}
+use Rattle.hs_client.proofs.Runs.{AreLongest}
 use Rattle.hs_client.proofs.Book.{pages_back, pages_in_order, KeepsNone, KeepsLast, numbered, begun, needed, needed_none, wrote, supplied_more}
 
 apart : {A : Type 0} (o : Option A) (a : A) → o ≡ None → o ≡ Some a → ⊥
@@ -23,7 +24,7 @@ the_trace : (o : Option TraceId) → IsSome o → (trace : TraceId) × (o ≡ So
 the_trace None some = absurd cc
 the_trace (Some trace) some = (trace, refl)
 
-module _ {L : Type 0} (client : ClientId) (size calls : ℕ) where
+module _ {L : Type 0} (longest : AreLongest) (client : ClientId) (size calls : ℕ) where
   abbrev new : Core L
   new = new_core client size calls
 
@@ -43,8 +44,8 @@ module _ {L : Type 0} (client : ClientId) (size calls : ℕ) where
 
   ended : (steps : List (Step L)) → Holds steps → KeepsNone client size (closed (after new steps)) (segments_of_steps steps) (chunks_supplied steps) (handed_out new steps ++ option_to_list (handed (after new steps)))
   ended steps is =
-      ⊎_elim (needed_none client size (after new steps) (segments_of_steps steps) (chunks_supplied steps) (handed_out new steps))
-      (needed client size (after new steps) (segments_of_steps steps) (chunks_supplied steps) (handed_out new steps)) is.keeps
+      ⊎_elim (needed_none longest client size (after new steps) (segments_of_steps steps) (chunks_supplied steps) (handed_out new steps))
+      (needed longest client size (after new steps) (segments_of_steps steps) (chunks_supplied steps) (handed_out new steps)) is.keeps
 
   holds : (steps : List (Step L)) → AreSteps new steps → Holds steps
   holds [] are =
@@ -57,7 +58,7 @@ module _ {L : Type 0} (client : ClientId) (size calls : ℕ) where
         trace_is = refl;
         number_is = is.number_is;
         draws_are = is.draws_are;
-        keeps = ⊎_elim (λ none. inl (begun client size (after new earlier) (segments_of_steps earlier) (chunks_supplied earlier) (handed_out new earlier) trace none))
+        keeps = ⊎_elim (λ none. inl (begun longest client size (after new earlier) (segments_of_steps earlier) (chunks_supplied earlier) (handed_out new earlier) trace none))
             (λ last. absurd (apart (after new earlier).trace last.trace are.1.1 last.trace_is)) is.keeps;
       }
   holds (Wrote moment payload more ∷ earlier) are =
@@ -69,7 +70,7 @@ module _ {L : Type 0} (client : ClientId) (size calls : ℕ) where
         number_is = ap (number_after more) is.number_is;
         draws_are = is.draws_are;
         keeps = ⊎_elim (λ none. absurd (lacks (after new earlier).current none.none are.1.3.0))
-            (λ last. inr (wrote client size (after new earlier) (segments_of_steps earlier) (chunks_supplied earlier) (handed_out new earlier) moment payload more (next_number earlier) last
+            (λ last. inr (wrote longest client size (after new earlier) (segments_of_steps earlier) (chunks_supplied earlier) (handed_out new earlier) moment payload more (next_number earlier) last
             (omega (arith, are.1.3.1, is.size_is)))) is.keeps;
       }
   holds (Needed len ∷ earlier) are =
@@ -88,7 +89,7 @@ module _ {L : Type 0} (client : ClientId) (size calls : ℕ) where
         keeps = ⊎_elim
             (λ none.
             inr (subst (λ (n : ℕ). KeepsLast client size (after_step core (Supplied buffer stamp moment payload more)) (with_last (numbered n moment payload) (segments_of_steps earlier)) (chunks_supplied earlier ++ buffer ∷ []) (handed_out new earlier))
-            is.number_is (supplied_more client size core (segments_of_steps earlier) (chunks_supplied earlier) (handed_out new earlier) buffer stamp moment payload more t.0 is.client_is is.size_is t.1 none are.1.0)))
+            is.number_is (supplied_more longest client size core (segments_of_steps earlier) (chunks_supplied earlier) (handed_out new earlier) buffer stamp moment payload more t.0 is.client_is is.size_is t.1 none are.1.0)))
             (λ last. absurd (apart core.current _ are.1.0.none last.current)) is.keeps;
       }
   holds (Ended_ ∷ earlier) are =

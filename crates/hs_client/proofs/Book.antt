@@ -13,7 +13,8 @@ use Rattle.hs_words.specs.Chunks.{with_page}
 use Rattle.hs_client.specs.Core.{Core, Current, Began, Wrote, Supplied, after_step, closed, handed, all_pages, one_more, current_with, buffer_with, next_page, piece, MaySupply}
 use Rattle.hs_words.specs.Buffers.{Buffer}
 use Rattle.hs_client.specs.Calls.{with_last, note_of, written, filled, filled_chunks}
-use Rattle.hs_client.proofs.Runs.{costs, joined, AreRuns, used_of, runs_of-joined, add_run, grow_run, used_last, joined-append, costs-append}
+use Rattle.hs_records.specs.Laws.{costs, joined, AreRuns}
+use Rattle.hs_client.proofs.Runs.{AreLongest, used_of, add_run, grow_run, used_last, joined-append, costs-append}
 
 abbrev pub page_with : TraceId → List Piece → PlainPage
 page_with trace pieces = record { trace = trace; pieces = pieces }
@@ -72,9 +73,9 @@ pages_in_order size (segment ∷ older) =
     ∙ sym (flat_map-append (segment_pages size) (reverse older) (segment ∷ []))
     ∙ ap (flat_map (segment_pages size)) (sym (reverse-append (segment ∷ []) older))
 
-pub pages_with_runs : (size : ℕ) (trace : TraceId) (runs : List (List Piece)) (older : List Segment) → AreRuns size runs
+pub pages_with_runs : AreLongest → (size : ℕ) (trace : TraceId) (runs : List (List Piece)) (older : List Segment) → AreRuns size runs
     → pages_back size (segment_with trace (joined runs) ∷ older) ≡ pages_back size older ++ map (page_with trace) runs
-pages_with_runs size trace runs older are = ap (λ (rs : List (List Piece)). pages_back size older ++ map (page_with trace) rs) (runs_of-joined size runs are)
+pages_with_runs longest size trace runs older are = ap (λ (rs : List (List Piece)). pages_back size older ++ map (page_with trace) rs) (longest size runs are)
 
 last_page : (older : List PlainPage) (trace : TraceId) (front : List (List Piece)) (run : List Piece)
     → older ++ map (page_with trace) (front ++ run ∷ []) ≡ (older ++ map (page_with trace) front) ++ page_with trace run ∷ []
@@ -124,7 +125,7 @@ last_some size (f ∷ front) run are = last_some size front run are.2
 
 -- ---- the steps
 
-module _ {L : Type 0} (client : ClientId) (size : ℕ) (core : Core L) (segments : List Segment) (supplied : List (Option (Buffer L))) (out : List (Buffer L)) where
+module _ {L : Type 0} (longest : AreLongest) (client : ClientId) (size : ℕ) (core : Core L) (segments : List Segment) (supplied : List (Option (Buffer L))) (out : List (Buffer L)) where
   pub begun : (trace : TraceId) → KeepsNone client size core segments supplied out → KeepsNone client size (after_step core (Began trace)) (segment_with trace [] ∷ segments) supplied out
   begun trace is =
       let same : pages_back size (segment_with trace [] ∷ segments) ≡ pages_back size segments = append-nil (pages_back size segments) in
@@ -142,7 +143,7 @@ module _ {L : Type 0} (client : ClientId) (size : ℕ) (core : Core L) (segments
   whole : (is : KeepsLast client size core segments supplied out)
       → pages_back size segments ≡ (pages_back size is.older ++ map (page_with is.trace) is.front) ++ page_with is.trace is.run ∷ []
   whole is =
-      ap (pages_back size) is.segments_are ∙ pages_with_runs size is.trace (is.front ++ is.run ∷ []) is.older is.are ∙ last_page (pages_back size is.older) is.trace is.front is.run
+      ap (pages_back size) is.segments_are ∙ pages_with_runs longest size is.trace (is.front ++ is.run ∷ []) is.older is.are ∙ last_page (pages_back size is.older) is.trace is.front is.run
 
   pub all_noted : (is : KeepsLast client size core segments supplied out) → all_pages core ≡ map note_of (pages_back size segments)
   all_noted is =
@@ -236,7 +237,7 @@ module _ {L : Type 0} (client : ClientId) (size : ℕ) (core : Core L) (segments
       let p = numbered core.number moment payload in
       let last = is.last trace opened in
       let kept = pages_back size last.older ++ map (page_with trace) last.runs in
-      let pages : pages_back size segments ≡ kept = ap (pages_back size) last.segments_are ∙ pages_with_runs size trace last.runs last.older last.are in
+      let pages : pages_back size segments ≡ kept = ap (pages_back size) last.segments_are ∙ pages_with_runs longest size trace last.runs last.older last.are in
       let many : length core.pages ≡ length kept = ap length is.pages ∙ length-map (pages_back size segments) note_of ∙ ap length pages in
       record {
         trace = trace;
