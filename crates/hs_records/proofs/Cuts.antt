@@ -6,7 +6,7 @@ use Rattle.std.proofs.lemmas.List.{append-nil}
 use Rattle.std.proofs.lemmas.Bool.{le-leb, leb-true}
 use Rattle.std.proofs.lemmas.Bool.Decides.{nat_tests}
 use Rattle.std.specs.List.{concat}
-use Rattle.hs_records.specs.Records.{piece_limit, cut_within, payload_pieces, count_cut, piece_count}
+use Rattle.hs_records.specs.Records.{piece_limit, cut_within, payload_pieces, count_cuts, piece_count}
 use Rattle.hs_records.specs.Laws.{AreFullButLast}
 
 not_le : (a b : ℕ) → b < a → nat_le a b ≡ false
@@ -87,28 +87,26 @@ pieces-full size payload wide one = full (length payload) (piece_limit size) pay
 
 -- ---- counted
 
-counted : (most limit : ℕ) (payload : List ℕ) → length (cut_within most limit payload) ≡ count_cut most limit (length payload)
+counted : (most limit : ℕ) (payload : List ℕ) → length (cut_within most limit payload) ≡ count_cuts most limit (length payload) + 1
 counted zero limit payload = refl
-counted (suc most) limit payload = step (counted most limit (drop limit payload) ∙ ap (count_cut most limit) (length-drop limit payload)) (nat_le (length payload) limit)
+counted (suc most) limit payload = step (counted most limit (drop limit payload)) (nat_le (length payload) limit)
   where
-    step : length (cut_within most limit (drop limit payload)) ≡ count_cut most limit (length payload - limit) → (fits : Bool)
+    step : length (cut_within most limit (drop limit payload)) ≡ count_cuts most limit (length (drop limit payload)) + 1 → (fits : Bool)
         → length (elim fits as (λ _. List (List ℕ)) [ true ↦ payload ∷ [] | false ↦ take limit payload ∷ cut_within most limit (drop limit payload) ])
-        ≡ elim fits as (λ _. ℕ) [ true ↦ 1 | false ↦ suc (count_cut most limit (length payload - limit)) ]
+        ≡ elim fits as (λ _. ℕ) [ true ↦ 0 | false ↦ count_cuts most limit (length payload - limit) + 1 ] + 1
     step rest true = refl
-    step rest false = ap suc rest
+    step rest false = let same = ap (count_cuts most limit) (length-drop limit payload) in omega arith
 
 pub pieces-counted : (size : ℕ) (payload : List ℕ) → length (payload_pieces size payload) ≡ piece_count size (length payload)
 pieces-counted size payload = counted (length payload) (piece_limit size) payload
 
--- each piece but the last has as many bytes as fit, so division counts them
-by_division : (most limit bytes : ℕ) → 1 ≤ limit → bytes ≤ most → count_cut most limit bytes ≡ 1 + (bytes - 1) / limit
-by_division zero limit bytes some few =
-    let none : bytes - 1 ≡ 0 = omega arith in
-    let below = div_below (bytes - 1) limit 1 some (omega arith) in
-    omega arith
+-- each piece but the last has as many bytes as fit, so division counts the cuts
+by_division : (most limit bytes : ℕ) → 1 ≤ limit → bytes ≤ most → count_cuts most limit bytes ≡ (bytes - 1) / limit
+by_division zero limit bytes some few = let below = div_below (bytes - 1) limit 1 some (omega arith) in omega arith
 by_division (suc most) limit bytes some few = step (by_division most limit (bytes - limit) some) (nat_le bytes limit) refl
   where
-    step : (bytes - limit ≤ most → count_cut most limit (bytes - limit) ≡ 1 + (bytes - limit - 1) / limit) → (fits : Bool) → nat_le bytes limit ≡ fits → elim fits as (λ _. ℕ) [ true ↦ 1 | false ↦ suc (count_cut most limit (bytes - limit)) ] ≡ 1 + (bytes - 1) / limit
+    step : (bytes - limit ≤ most → count_cuts most limit (bytes - limit) ≡ (bytes - limit - 1) / limit) → (fits : Bool) → nat_le bytes limit ≡ fits
+        → elim fits as (λ _. ℕ) [ true ↦ 0 | false ↦ count_cuts most limit (bytes - limit) + 1 ] ≡ (bytes - 1) / limit
     step counts true e =
         let short : bytes ≤ limit = leb-true bytes limit e in
         let below = div_below (bytes - 1) limit 1 some (omega arith) in
@@ -121,4 +119,4 @@ by_division (suc most) limit bytes some few = step (by_division most limit (byte
         omega arith
 
 pub count_by_division : (size bytes : ℕ) → 64 ≤ size → piece_count size bytes ≡ 1 + (bytes - 1) / piece_limit size
-count_by_division size bytes wide = by_division bytes (piece_limit size) bytes (omega arith) (omega arith)
+count_by_division size bytes wide = let cuts = by_division bytes (piece_limit size) bytes (omega arith) (omega arith) in omega arith

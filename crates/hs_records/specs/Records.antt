@@ -84,14 +84,14 @@ cut_within (suc most) limit payload =
 abbrev pub payload_pieces : ℕ → List ℕ → List (List ℕ)
 payload_pieces size payload = cut_within (length payload) (piece_limit size) payload
 
--- how many pieces there are of so many bytes that are cut at most so often
-abbrev pub count_cut : (most limit bytes : ℕ) → ℕ
-count_cut zero limit bytes = 1
-count_cut (suc most) limit bytes = elim (nat_le bytes limit) [ true ↦ 1 | false ↦ suc (count_cut most limit (bytes - limit)) ]
+-- how often so many bytes are cut
+abbrev pub count_cuts : (most limit bytes : ℕ) → ℕ
+count_cuts zero limit bytes = 0
+count_cuts (suc most) limit bytes = elim (nat_le bytes limit) [ true ↦ 0 | false ↦ count_cuts most limit (bytes - limit) + 1 ]
 
--- how many pieces a payload of so many bytes has
+-- how many pieces a payload of so many bytes has: one more than its cuts
 abbrev pub piece_count : (size bytes : ℕ) → ℕ
-piece_count size bytes = count_cut bytes (piece_limit size) bytes
+piece_count size bytes = count_cuts bytes (piece_limit size) bytes + 1
 
 -- a part of a record's payload, with the record's number and moment
 pub record Piece : Type 0 where

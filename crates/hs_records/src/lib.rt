@@ -10,4 +10,4 @@ pub use laws::{
     pages_carry_the_records, payloads_are_cut_from_the_front, pieces_are_counted, pieces_are_full,
     pieces_join_to_the_payload, the_longest_runs_are_the_pages,
 };
-pub use pieces::piece_count;
+pub use pieces::{piece_count, piece_limit};

@@ -10,10 +10,11 @@ use Rattle.hs_ledger.specs.Fates as ledger
 use Rattle.hs_workload.specs.declared.operation.Op.{Op}
 use Rattle.hs_workload.specs.declared.operation.Workload.{Workload}
 use Rattle.hs_workload.specs.Views.{operation_of, operations_of, workload_of}
-use Rattle.hs_workload.specs.Validity.{IsValid, IsClient, AreBracketed, client_pieces, workload_pieces}
+use Rattle.hs_records.specs.Records.{AreBracketed}
+use Rattle.hs_workload.specs.Validity.{IsValid, IsClient, client_pieces, workload_pieces}
 use Rattle.hs_replay.specs.Fates.{first_entries, client_entries, entries_of}
 use Rattle.hs_replay.specs.PlainBooks.{ArePlainBooks}
-use Rattle.hs_replay.proofs.PlainLedger.{plain_books}
+use Rattle.hs_replay.proofs.PlainLedger.{CarryTheRecords, plain_books}
 
 pub record IsFirst (buffers size : ℕ) (clients : List (Listing Op)) (ops : List Operation) : Type 0 where
   pub bracketed : AreBracketed false ops
@@ -29,10 +30,10 @@ first_client buffers size version (client ∷ clients) first ops each few is ite
     subst (λ items. IsFirst buffers size (client ∷ clients) (map operation_of items)) e (record { bracketed = each.0.bracketed; few = omega arith; entries = refl })
 
 -- the first client's plain books fit, and tell of the workload's records
-pub first_books : (w : Workload) (first : Listing Op) (ops : List Op) (client : ClientBook) (agent : AgentBook) → IsValid (workload_of w) → Some first ≡ slice_get w.clients.items 0 → ops ≡ first.items
+pub first_books : CarryTheRecords → (w : Workload) (first : Listing Op) (ops : List Op) (client : ClientBook) (agent : AgentBook) → IsValid (workload_of w) → Some first ≡ slice_get w.clients.items 0 → ops ≡ first.items
     → ArePlainBooks w.settings.buffers w.settings.size (map operation_of ops) client agent
     → BooksFit (client ∷ []) (agent ∷ []) × (ledger.entries_of (client ∷ []) (agent ∷ []) ≡ entries_of (workload_of w))
-first_books w first ops client agent valid is items are =
+first_books carry w first ops client agent valid is items are =
     let first = first_client w.settings.buffers w.settings.size w.version w.clients.items first ops valid.each valid.few is items in
-    let plain = plain_books w.settings.buffers w.settings.size (map operation_of ops) client agent valid.size.0 first.bracketed first.few are in
+    let plain = plain_books carry w.settings.buffers w.settings.size (map operation_of ops) client agent valid.size.0 first.bracketed first.few are in
     (plain.0, plain.1 ∙ sym first.entries)

@@ -1,5 +1,3 @@
-pub mod PieceNumbers
-pub mod PageNumbers
 pub mod PageFates
 pub mod PlainStandings
 pub mod PlainLedger

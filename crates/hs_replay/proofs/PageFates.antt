@@ -9,16 +9,14 @@ use Rattle.hs_base.specs.declared.told.Fate.{Fate}
 use Rattle.hs_base.specs.declared.told.Fate.TheVariants.{Null, Live}
 use Rattle.hs_records.specs.Records.{Record, Piece}
 use Rattle.hs_records.specs.Pages.{PlainPage, first_record}
-use Rattle.hs_journal.specs.declared.books.PageNote.{PageNote}
+use Rattle.hs_records.specs.Laws.{Traces, traces_of, RiseFrom, IsPage, end_of, AllFollow, AreNumberedFrom, end_from, ArePages}
 use Rattle.hs_client.specs.Calls.{note_of}
 use Rattle.hs_ledger.specs.declared.ledger.Entry.{Entry}
-use Rattle.hs_ledger.specs.Books.{end_of, AllFollow, count_from, record_count}
+use Rattle.hs_ledger.specs.Books.{count_from, record_count}
 use Rattle.hs_ledger.specs.Fates.{FatedPage, is_discarded, record_fate, entry_on, record_entry, book_entries}
 use Rattle.hs_ledger.specs.Fates as ledger
 use Rattle.hs_replay.specs.Fates.{has_piece_of, fate_by, fate_of, entries_from}
 use Rattle.hs_replay.specs.PlainBooks.{first}
-use Rattle.hs_replay.proofs.PieceNumbers.{Traces, Agree}
-use Rattle.hs_replay.proofs.PageNumbers.{Rise, IsPage, AreNumberedFrom, ArePages}
 
 -- the fate of the page of this number
 abbrev pub plain_fate : ℕ → ℕ → Fate
@@ -41,7 +39,7 @@ null_from buffers number k (page ∷ pages) =
 
 -- ---- the pages of a record
 
-is_among : (number start : ℕ) (pieces : List Piece) → Rise start pieces
+is_among : (number start : ℕ) (pieces : List Piece) → RiseFrom start pieces
     → list_any (λ (piece : Piece). piece.number == number) pieces ≡ (nat_le start number && nat_lt number (start + length pieces))
 is_among number start [] rises = grind (arith, nat_tests)
 is_among number start (piece ∷ pieces) rises =
@@ -52,7 +50,7 @@ is_among number start (piece ∷ pieces) rises =
 in_range : (number first last : ℕ) → (nat_le first number && nat_lt number last) ≡ true → (first ≤ number) × (number < last)
 in_range number first last is = (grind (arith, nat_tests), grind (arith, nat_tests))
 
-traced_within : (traces : Traces) (trace : TraceId) (number start : ℕ) (pieces : List Piece) → Rise start pieces → AllByRecursion (λ (piece : Piece). traces piece.number ≡ Some trace) pieces
+traced_within : (traces : Traces) (trace : TraceId) (number start : ℕ) (pieces : List Piece) → RiseFrom start pieces → AllByRecursion (λ (piece : Piece). traces piece.number ≡ Some trace) pieces
     → start ≤ number → number < start + length pieces → traces number ≡ Some trace
 traced_within traces trace number start [] rises traced low high = absurd (omega arith)
 traced_within traces trace number start (piece ∷ pieces) rises traced low high =
@@ -74,15 +72,14 @@ of_trace traces trace number (page ∷ pages) is each = (here, of_trace traces t
         cc
 
 -- each record has a page
-some_behind : (number : ℕ) (before : PageNote) (pages : List PlainPage) → AllFollow before (map note_of pages) → end_of before ≤ number
-    → number < count_from (end_of before) (map note_of pages) → list_any (covers number) pages ≡ true
-some_behind number before [] follow low high = absurd (omega arith)
-some_behind number before (page ∷ pages) follow low high =
+some_behind : (number next : ℕ) (trace : TraceId) (pages : List PlainPage) → AllFollow next trace pages → next ≤ number → number < end_from next pages → list_any (covers number) pages ≡ true
+some_behind number next trace [] follow low high = absurd (omega arith)
+some_behind number next trace (page ∷ pages) follow low high =
     let begins : first_record page ≤ number = elim follow.0 [ inl e ↦ omega arith | inr e ↦ omega (arith, e.1) ] in
     elim (cases_lt number (first_record page + length page.pieces)) [
       | inl within ↦ let has : covers number page ≡ true = grind (arith, nat_tests) in ap (λ b. b || list_any (covers number) pages) has
       | inr past ↦
-          let later = some_behind number (note_of page) pages follow.1 past high in
+          let later = some_behind number (end_of page) page.trace pages follow.1 past high in
           ap (λ b. covers number page || b) later ∙ or_true (covers number page)
     ]
   where
@@ -90,11 +87,9 @@ some_behind number before (page ∷ pages) follow low high =
     or_true true = refl
     or_true false = refl
 
-some_page : (number : ℕ) (pages : List PlainPage) → AreNumberedFrom 0 (map note_of pages) → number < count_from 0 (map note_of pages) → list_any (covers number) pages ≡ true
+some_page : (number : ℕ) (pages : List PlainPage) → AreNumberedFrom 0 pages → number < end_from 0 pages → list_any (covers number) pages ≡ true
 some_page number [] numbered high = absurd (omega arith)
-some_page number (page ∷ pages) numbered high =
-    let before : PageNote = record { trace = page.trace; first = 0; count = 0 } in
-    some_behind number before (page ∷ pages) (inl (omega (arith, numbered.0)), numbered.1) (omega arith) high
+some_page number (page ∷ pages) numbered high = some_behind number 0 page.trace (page ∷ pages) (inl numbered.0, numbered.1) (omega arith) high
 
 -- ---- the fate of a record
 
@@ -179,6 +174,11 @@ fated-notes : (buffers k : ℕ) (pages : List PlainPage) → map (λ (page : Fat
 fated-notes buffers k [] = refl
 fated-notes buffers k (page ∷ pages) = ap (λ notes. note_of page ∷ notes) (fated-notes buffers (k + 1) pages)
 
+-- how many records the notes tell of
+pub count-notes : (number : ℕ) (pages : List PlainPage) → count_from number (map note_of pages) ≡ end_from number pages
+count-notes number [] = refl
+count-notes number (page ∷ pages) = count-notes (end_of page) pages
+
 get-within : (k : ℕ) (r : Record) (records : List Record) → slice_get records k ≡ Some r → k < length records
 get-within k r [] at = absurd (cc)
 get-within zero r (first ∷ records) at = omega arith
@@ -193,19 +193,19 @@ entries_are f fate i (r ∷ records) are =
     (entries_are f fate (i + 1) records
     (λ k s at. let there : i + 1 + k ≡ i + suc k = omega arith in ap f there ∙ are (suc k) s at ∙ sym (ap (λ n. entry_with n s.trace (fate n)) there)))
 
-pub book_is : (buffers : ℕ) (traces : Traces) (pages : List PlainPage) (records : List Record) → ArePages traces 0 pages (0 + length records) → Agree traces 0 records
+pub book_is : (buffers : ℕ) (pages : List PlainPage) (records : List Record) → ArePages (traces_of records) 0 pages (length records)
     → book_entries first (fated buffers 0 pages) ≡ entries_from (fate_of buffers pages) 0 records
-book_is buffers traces pages records are agree =
+book_is buffers pages records are =
     let all : record_count (map (λ (page : FatedPage). page.note) (fated buffers 0 pages)) ≡ length records =
-    ap record_count (fated-notes buffers 0 pages) ∙ are.ends ∙ omega arith in
+    ap record_count (fated-notes buffers 0 pages) ∙ count-notes 0 pages ∙ are.ends in
     ap (λ n. flat_map (record_entry first (fated buffers 0 pages)) (range_with_len 0 n)) all
     ∙ entries_are (record_entry first (fated buffers 0 pages)) (fate_of buffers pages) 0 records by_number
   where
     by_number : (k : ℕ) (r : Record) → slice_get records k ≡ Some r → record_entry first (fated buffers 0 pages) (0 + k) ≡ entry_with (0 + k) r.trace (fate_of buffers pages (0 + k))
     by_number k r at =
-        let here : k ≡ 0 + k = omega arith in
-        let is : traces (0 + k) ≡ Some r.trace = agree k ∙ ap (option_map (λ (r : Record). r.trace)) at in
+        let none : 0 + k ≡ k = omega arith in
+        let is : traces_of records (0 + k) ≡ Some r.trace = ap (traces_of records) none ∙ ap (option_map (λ (r : Record). r.trace)) at in
         let within = get-within k r records at in
         let some = some_page (0 + k) pages are.numbered (omega (arith, are.ends)) in
-        entry_is buffers (0 + k) 0 r.trace pages some (of_trace traces r.trace (0 + k) pages is are.each)
-        ∙ ap (λ f. entry_with (0 + k) r.trace (fate_by f)) (null-pages buffers (0 + k) buffers 0 traces pages (omega arith) are.each)
+        entry_is buffers (0 + k) 0 r.trace pages some (of_trace (traces_of records) r.trace (0 + k) pages is are.each)
+        ∙ ap (λ f. entry_with (0 + k) r.trace (fate_by f)) (null-pages buffers (0 + k) buffers 0 (traces_of records) pages (omega arith) are.each)

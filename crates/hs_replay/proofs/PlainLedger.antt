@@ -1,6 +1,6 @@
 -- The books of a client alone, whose pages that got a buffer all live, fit together, and their ledger has an entry for
 -- each of the client's records, with the fate that the whole list of its pages decides.
-use Rattle.std.proofs.Common.{◌≡◌, ℕ, ◌+◌, ◌<◌, ◌≤◌, ◌^◌, false, List, [], ◌∷◌, All, map, filter, length, option_map, unwrap_or, refl, sym, ap, ◌∙◌, subst, arith, append-nil}
+use Rattle.std.proofs.Common.{◌≡◌, ℕ, ◌+◌, ◌<◌, ◌≤◌, ◌^◌, false, List, [], ◌∷◌, All, map, flat_map, filter, length, length-append, Option, Some, None, option_map, unwrap_or, refl, sym, ap, ◌∙◌, subst, arith, append-nil}
 use Rattle.std.proofs.lemmas.List.{length-map}
 use Rattle.std.proofs.lemmas.List.Elements.{All-from_recursion}
 use Rattle.std.specs.List.{AllByRecursion, find, slice_get}
@@ -8,57 +8,53 @@ use Rattle.hs_base.specs.declared.ids.TraceId.{TraceId}
 use Rattle.hs_base.specs.declared.ids.ClientId.{ClientId}
 use Rattle.hs_base.specs.declared.told.Fate.TheVariants.{Live}
 use Rattle.hs_records.specs.Plain.{Operation, Begin, Point, Crumb, End, Fire, Sample}
-use Rattle.hs_records.specs.Records.{Record, records_in, records_of}
+use Rattle.hs_records.specs.Records.{Record, AreBracketed, placed_from, open_behind, record_in, record_at, records_of}
 use Rattle.hs_records.specs.Pages.{PlainPage, pages_of}
+use Rattle.hs_records.specs.Laws.{Traces, traces_of, IsPage, end_of, AllFollow, AreNumberedFrom, ArePages}
 use Rattle.hs_journal.specs.declared.journal.Draw.{Draw}
 use Rattle.hs_journal.specs.declared.journal.Draw.TheVariants.{Got}
 use Rattle.hs_journal.specs.declared.books.PageNote.{PageNote}
 use Rattle.hs_journal.specs.declared.books.Standing.{Standing}
 use Rattle.hs_journal.specs.declared.books.ClientBook.{ClientBook}
 use Rattle.hs_journal.specs.declared.books.AgentBook.{AgentBook}
-use Rattle.hs_workload.specs.Validity.{AreBracketed, client_pieces}
+use Rattle.hs_workload.specs.LookBack.{operation_pieces}
+use Rattle.hs_workload.specs.Validity.{client_pieces}
 use Rattle.hs_client.specs.Calls.{note_of}
 use Rattle.hs_ledger.specs.Books.{IsOfGotPage, BookFits, BooksFit, is_of, AreNumbered}
+use Rattle.hs_ledger.specs.Books as notes
 use Rattle.hs_ledger.specs.Fates.{FatedPage, fated_pages, book_entries, page_fate}
 use Rattle.hs_ledger.specs.Fates as ledger
 use Rattle.hs_replay.specs.Fates.{client_entries, fate_of, entries_from}
 use Rattle.hs_replay.specs.PlainBooks.{ArePlainBooks, plain_draws, live_standings, first}
-use Rattle.hs_replay.proofs.PieceNumbers.{Traces, Agree}
-use Rattle.hs_replay.proofs.PageNumbers.{AreNumberedFrom, ArePages, IsPage, closed-pages}
-use Rattle.hs_replay.proofs.PageFates.{book_is}
+use Rattle.hs_replay.proofs.PageFates.{book_is, count-notes}
 use Rattle.hs_replay.proofs.PlainStandings.{length-draws, IsLive, all-live, found-live, fated_is, one_standing}
 
 -- ---- the client's records
 
-mutual
-  few_in : (size : ℕ) (trace : TraceId) (ops : List Operation) → length (records_in trace ops) ≤ client_pieces size ops
-  few_in size trace [] = omega arith
-  few_in size trace (Begin next ∷ ops) = let later = few_in size next ops in omega arith
-  few_in size trace (Point moment payload ∷ ops) = let later = few_in size trace ops in omega arith
-  few_in size trace (End ∷ ops) = let later = few_of size ops in omega arith
-  few_in size trace (Crumb node ∷ ops) = let later = few_in size trace ops in omega arith
-  few_in size trace (Fire trigger ∷ ops) = let later = few_in size trace ops in omega arith
-  few_in size trace (Sample moment auto value ∷ ops) = let later = few_in size trace ops in omega arith
+-- a record has at least one piece
+few_from : (size place : ℕ) (trace : Option TraceId) (ops : List Operation) → length (flat_map record_at (placed_from place trace ops)) ≤ client_pieces size ops
+few_from size place trace [] = omega arith
+few_from size place trace (operation ∷ ops) =
+    let later = few_from size (place + 1) (open_behind trace operation) ops in
+    let here = one trace operation in
+    omega (arith, length-append (record_in trace operation) (flat_map record_at (placed_from (place + 1) (open_behind trace operation) ops)))
+  where
+    one : (trace : Option TraceId) (operation : Operation) → length (record_in trace operation) ≤ operation_pieces size operation
+    one None operation = omega arith
+    one (Some trace) (Begin next) = omega arith
+    one (Some trace) (Point moment payload) = omega arith
+    one (Some trace) (Crumb node) = omega arith
+    one (Some trace) End = omega arith
+    one (Some trace) (Fire trigger) = omega arith
+    one (Some trace) (Sample moment auto value) = omega arith
 
-  -- a record has at least one piece
-  few_of : (size : ℕ) (ops : List Operation) → length (records_of ops) ≤ client_pieces size ops
-  few_of size [] = omega arith
-  few_of size (Begin next ∷ ops) = let later = few_in size next ops in omega arith
-  few_of size (Point moment payload ∷ ops) = let later = few_of size ops in omega arith
-  few_of size (End ∷ ops) = let later = few_of size ops in omega arith
-  few_of size (Crumb node ∷ ops) = let later = few_of size ops in omega arith
-  few_of size (Fire trigger ∷ ops) = let later = few_of size ops in omega arith
-  few_of size (Sample moment auto value ∷ ops) = let later = few_of size ops in omega arith
-
-abbrev traces_of : List Record → Traces
-traces_of records number = option_map (λ (r : Record). r.trace) (slice_get records number)
-
-traces-agree : (records : List Record) → Agree (traces_of records) 0 records
-traces-agree records k = let here : 0 + k ≡ k = omega arith in ap (traces_of records) here
-
-numbered : (notes : List PageNote) → AreNumberedFrom 0 notes → AreNumbered notes
+numbered : (pages : List PlainPage) → AreNumberedFrom 0 pages → AreNumbered (map note_of pages)
 numbered [] are = tt
-numbered (note ∷ notes) are = are
+numbered (page ∷ pages) are = (are.0, followed page pages are.1)
+  where
+    followed : (before : PlainPage) (pages : List PlainPage) → AllFollow (end_of before) before.trace pages → notes.AllFollow (note_of before) (map note_of pages)
+    followed before [] follow = tt
+    followed before (page ∷ pages) follow = (follow.0, followed page pages follow.1)
 
 counted : (traces : Traces) (pages : List PlainPage) → AllByRecursion (IsPage traces) pages → AllByRecursion (λ (note : PageNote). 1 ≤ note.count) (map note_of pages)
 counted traces [] each = tt
@@ -107,20 +103,20 @@ books_fit buffers traces pages last client agent few are =
             record {
               drawn = length-draws buffers 0 (length pages) ∙ sym (length-map pages note_of);
               counted = All-from_recursion (λ (note : PageNote). 1 ≤ note.count) (map note_of pages) (counted traces pages are.each);
-              numbered = numbered (map note_of pages) are.numbered;
+              numbered = numbered pages are.numbered;
               standing = λ page buffer stamp got.
                   ap (λ (xs : List Standing). length (filter (is_of first page) xs)) (append-nil standings)
                   ∙ one_standing page 0 page buffer stamp draws (omega arith) got;
             },
             tt,
           );
-      few = omega (arith, are.ends);
+      few = omega (arith, are.ends, count-notes 0 pages);
       got =
           All-from_recursion (λ (b : AgentBook). All (IsOfGotPage (book ∷ []) b.node.0) b.standings.items) agents
           (All-from_recursion (IsOfGotPage (book ∷ []) 0) standings (of_got book standings refl (all-live 0 draws)), tt);
     }
 
-entries_are : (buffers : ℕ) (records : List Record) (pages : List PlainPage) (client : ClientBook) (agent : AgentBook) → ArePages (traces_of records) 0 pages (0 + length records)
+entries_are : (buffers : ℕ) (records : List Record) (pages : List PlainPage) (client : ClientBook) (agent : AgentBook) → ArePages (traces_of records) 0 pages (length records)
     → ledger.entries_of (client_of client buffers pages ∷ []) (agent_of agent buffers pages ∷ []) ≡ entries_from (fate_of buffers pages) 0 records
 entries_are buffers records pages client agent are =
     let draws = plain_draws buffers 0 (length pages) in
@@ -131,23 +127,27 @@ entries_are buffers records pages client agent are =
     ∙ found-live 0 draws (is_of first page) standings (all-live 0 draws) in
     append-nil (book_entries first (fated_pages agents (client_of client buffers pages)))
     ∙ ap (book_entries first) (fated_is buffers 0 (page_fate agents first) pages live (λ page stamp. refl))
-    ∙ book_is buffers (traces_of records) pages records are (traces-agree records)
+    ∙ book_is buffers pages records are
+
+-- what is known of a client's pages
+abbrev pub CarryTheRecords : Type 0
+CarryTheRecords = (size : ℕ) (ops : List Operation) → 64 ≤ size → AreBracketed false ops → ArePages (traces_of (records_of ops)) 0 (pages_of size ops) (length (records_of ops))
 
 abbrev FitAndTell : (buffers size : ℕ) → List Operation → ClientBook → AgentBook → Type 0
 FitAndTell buffers size ops client agent = BooksFit (client ∷ []) (agent ∷ []) × (ledger.entries_of (client ∷ []) (agent ∷ []) ≡ client_entries buffers size ops)
 
-pub plain_books : (buffers size : ℕ) (ops : List Operation) (client : ClientBook) (agent : AgentBook) → 64 ≤ size → AreBracketed false ops → client_pieces size ops ≤ 262144
+pub plain_books : CarryTheRecords → (buffers size : ℕ) (ops : List Operation) (client : ClientBook) (agent : AgentBook) → 64 ≤ size → AreBracketed false ops → client_pieces size ops ≤ 262144
     → ArePlainBooks buffers size ops client agent
     → BooksFit (client ∷ []) (agent ∷ []) × (ledger.entries_of (client ∷ []) (agent ∷ []) ≡ client_entries buffers size ops)
-plain_books buffers size ops client agent wide well few are =
+plain_books carry buffers size ops client agent wide well few are =
     let pages = pages_of size ops in
     let records = records_of ops in
     let draws = plain_draws buffers 0 (length pages) in
     let standings = live_standings first 0 draws in
-    let fewer = few_of size ops in
-    let in_order = closed-pages size (traces_of records) 0 ops wide well (traces-agree records) in
+    let fewer = few_from size 0 None ops in
+    let in_order = carry size ops wide well in
     let here : FitAndTell buffers size ops (client_of client buffers pages) (agent_of agent buffers pages) =
-    (books_fit buffers (traces_of records) pages (0 + length records) client agent (omega arith) in_order, entries_are buffers records pages client agent in_order) in
+    (books_fit buffers (traces_of records) pages (length records) client agent (omega arith) in_order, entries_are buffers records pages client agent in_order) in
     subst (λ c. FitAndTell buffers size ops (client_with client c client.draws.items client.pages.items) (agent_with agent agent.node.0 agent.standings.items)) (sym are.client_is)
     (subst (λ d. FitAndTell buffers size ops (client_with client first d client.pages.items) (agent_with agent agent.node.0 agent.standings.items)) (sym are.draws)
     (subst (λ p. FitAndTell buffers size ops (client_with client first draws p) (agent_with agent agent.node.0 agent.standings.items)) (sym are.pages)

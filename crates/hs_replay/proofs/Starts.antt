@@ -4,9 +4,9 @@ use Rattle.std.specs.Option.{option_to_list}
 use Rattle.std.proofs.lemmas.List.FromFn.{length-map-range_with_len}
 use Rattle.std.specs.List.{range_with_len, AllByRecursion}
 use Rattle.hs_records.specs.Plain.{Operation}
-use Rattle.hs_records.specs.Records.{segments_from, segments_of}
+use Rattle.hs_records.specs.Records.{AreBracketed, piece_limit, segments_from, segments_of}
 use Rattle.hs_words.specs.Chunks.{Contents, clear_chunk, clear_chunks}
-use Rattle.hs_workload.specs.Validity.{AreBracketed, client_pieces}
+use Rattle.hs_workload.specs.Validity.{client_pieces}
 use Rattle.hs_client.specs.Core.{Core, new_core, handed}
 use Rattle.hs_words.specs.Buffers.{buffer_of}
 use Rattle.hs_pool.specs.Pool.{IsAfter}
@@ -24,7 +24,7 @@ pub record IsNew (buffers size calls : ℕ) (seat : Seat) : Type 0 where
   pub after : IsAfter [] seat.pool
   pub kept : seat.kept.items ≡ []
   pub room : seat.kept.room ≡ buffers
-  pub limit : seat.limit ≡ size - 34
+  pub limit : seat.limit ≡ piece_limit size
 
 of_size : (size from count : ℕ) → AllByRecursion (λ (chunk : Contents). chunk.size ≡ size) (map (clear_chunk size) (range_with_len from count))
 of_size size from zero = tt
@@ -40,7 +40,7 @@ new_sound buffers size calls seat wide few is =
     let all_wait : length seat.pool.queue ≡ buffers = ap length is.queue ∙ length-clear_chunks buffers size in
     record {
       least = omega (arith, size_is);
-      limit = is.limit ∙ ap (λ n. n - 34) size_is;
+      limit = is.limit ∙ ap piece_limit size_is;
       few = subst (λ (c : Core (Unit {0})). c.calls < 2 ^ 32) from_new few;
       events = omega (arith, no_event);
       sized = subst (λ queue. AllByRecursion (λ (chunk : Contents). chunk.size ≡ seat.core.size) queue) (sym is.queue) (subst (λ n. AllByRecursion (λ (chunk : Contents). chunk.size ≡ n) (clear_chunks buffers size)) size_is (of_size size 0 buffers));

@@ -7,7 +7,7 @@ use Rattle.std.specs.List.{flat_map, range_with_len}
 use Rattle.hs_base.specs.declared.ids.TraceId.{TraceId}
 use Rattle.hs_base.specs.declared.told.Fate.TheVariants.{Live}
 use Rattle.hs_records.specs.Plain.{Operation, Begin, Point, End}
-use Rattle.hs_records.specs.Records.{Piece, Segment, pieces_until_end, segments_from, segments_of}
+use Rattle.hs_records.specs.Records.{AreBracketed, Piece, Segment, piece_limit, pieces_until_end, segments_from, segments_of}
 use Rattle.hs_journal.specs.declared.books.Standing.{Standing}
 use Rattle.hs_journal.specs.declared.books.ClientBook.{ClientBook}
 use Rattle.hs_journal.specs.declared.books.AgentBook.{AgentBook}
@@ -17,7 +17,7 @@ use Rattle.hs_client.specs.Core.{Core, Step, new_core, handed}
 use Rattle.hs_words.specs.Buffers.{Buffer, buffer_of}
 use Rattle.hs_client.specs.Calls.{AreSteps, after, next_number, segments_of_steps, with_last, chunks_supplied, draws_supplied, handed_out}
 use Rattle.hs_pool.specs.Pool.{HasSize}
-use Rattle.hs_workload.specs.Validity.{AreBracketed, client_pieces}
+use Rattle.hs_workload.specs.Validity.{client_pieces}
 use Rattle.hs_replay.specs.declared.seat.Seat.{Seat}
 use Rattle.hs_replay.specs.PlainBooks.{first, plain_draws, ArePlainBooks}
 
@@ -29,7 +29,7 @@ kept_by seat = map buffer_of seat.kept.items
 -- them. Each draw is counted. A trace that has no page has used no byte of one.
 pub record IsSound (seat : Seat) : Type 0 where
   pub least : 64 ≤ seat.core.size
-  pub limit : seat.limit ≡ seat.core.size - 34
+  pub limit : seat.limit ≡ piece_limit seat.core.size
   pub few : seat.core.calls < 2 ^ 32
   pub events : seat.pool.events ≤ seat.core.counted
   pub sized : HasSize seat.core.size seat.pool

@@ -1,19 +1,21 @@
 //! The replay of a workload of one client, without an agent.
 
 ghost use Rattle.std.specs.Prelude.{◌≡◌, ◌<◌, ◌≤◌, [], ◌∷◌, false, IfOk, map, length};
+ghost use Rattle.hs_records.specs.Records.{AreBracketed};
 ghost use Rattle.hs_workload.specs.Views.{operation_of, workload_of};
 ghost use Rattle.hs_workload.specs.LookBack.{operation_pieces};
-ghost use Rattle.hs_workload.specs.Validity.{IsValid, AreBracketed, client_pieces};
+ghost use Rattle.hs_workload.specs.Validity.{IsValid, client_pieces};
 ghost use Rattle.hs_ledger.specs.Books.{BooksFit};
 ghost use Rattle.hs_ledger.specs.Fates.{entries_of as book_entries_of};
 ghost use Rattle.hs_ledger.specs.Totals.{totals_of};
 ghost use Rattle.hs_replay.specs.Fates.{entries_of};
 ghost use Rattle.hs_replay.specs.PlainBooks.{ArePlainBooks};
 
-use crate::seat::{FRAME, Seat};
+use crate::seat::Seat;
 use hs_base::{List, Memory};
 use hs_journal::{AgentBook, ClientBook};
 use hs_ledger::{Ledger, make_ledger};
+use hs_records::{pages_carry_the_records, piece_count};
 use hs_workload::{Op, Workload};
 use std::alloc::Global;
 
@@ -33,6 +35,7 @@ pub fn replay(alloc: Global, workload: &Workload) -> Result<Outcome, Memory>
     ensures entries { IfOk result (λ outcome. outcome.ledger.entries.items ≡ entries_of (workload_of workload.now)) }
     ensures totals { IfOk result (λ outcome. outcome.ledger.totals ≡ totals_of (entries_of (workload_of workload.now))) }
 {
+    pages_carry_the_records();
     let Some(operations) = workload.clients.get(0) else {
         unreachable!()
     };
@@ -100,10 +103,7 @@ fn calls_of(size: u32, operation: &Op) -> u32
     ensures { result ≡ operation_pieces size (operation_of operation.now) }
 {
     match operation {
-        Op::Point { payload, .. } => {
-            let pieces = payload.len().div_ceil(size as usize - FRAME).max(1);
-            pieces as u32
-        }
+        Op::Point { payload, .. } => { piece_count(size, payload.len()) as u32 }
         _ => 1,
     }
 }

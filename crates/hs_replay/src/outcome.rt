@@ -5,9 +5,9 @@ ghost use Rattle.hs_text.specs.Text.{text_of, hex_text};
 ghost use Rattle.hs_replay.specs.OutcomeText.{spaced, trace_word, fate_words, entry_line, total_line, ledger_text};
 
 use crate::one_client::Outcome;
-use hs_text::{push_hex, push_number};
 use hs_base::{Bytes, Fate, Memory, RecordId, TraceId, TriggerId};
 use hs_ledger::{Entry, Ledger, Totals};
+use hs_text::{push_hex, push_number};
 use std::alloc::Global;
 
 /// How an outcome is written.

@@ -12,12 +12,10 @@ use hs_base::{ClientId, Fate, List, Memory, NodeId, TraceId};
 use hs_client::{Begun, ClientCore, Ended, Pointed, any_steps_make_the_book};
 use hs_journal::{AgentBook, ClientBook, Standing};
 use hs_pool::PlainPool;
+use hs_records::{payloads_are_cut_from_the_front, piece_limit, pieces_are_counted};
 use hs_words::{Held, Stock};
 use hs_workload::Op;
 use std::alloc::Global;
-
-/// The bytes of a page that hold no payload where one piece stands on it.
-pub(crate) const FRAME: usize = 34;
 
 /// A client's core with its node's pool, and the chunks that the core handed out.
 #[derive(Drop)]
@@ -39,11 +37,12 @@ impl Seat {
         ensures sound { IfOk result IsSound }
         ensures start { IfOk result (IsAtStart buffers size calls) }
     {
+        let limit = piece_limit(size);
         Ok(Seat {
             core: ClientCore::make(alloc, ClientId { node: 0, number: 0 }, size, calls)?,
             pool: PlainPool::make(alloc, Stock::make(alloc, buffers, size)?)?,
             kept: List::with_room(alloc, buffers as usize)?,
-            limit: size as usize - FRAME,
+            limit,
         })
     }
 
@@ -86,6 +85,8 @@ impl Seat {
         ensures goes { Goes (piece_count self.old.core.size (length payload.now)) (self.old.core.number + 1) self.old.core.trace self.old.core self.new.core }
         ensures played { PlaysPieces (record_pieces self.old.core.size self.old.core.number moment payload.now) self.old self.new }
     {
+        payloads_are_cut_from_the_front();
+        pieces_are_counted();
         let limit = self.limit;
         let mut rest = payload;
         while rest.len() > limit {

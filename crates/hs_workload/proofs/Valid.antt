@@ -2,6 +2,7 @@
 use Rattle.std.proofs.Common.{◌≡◌, ℕ, zero, suc, ◌+◌, ◌*◌, ◌/◌, ◌%◌, ◌^◌, ◌<◌, ◌≤◌, Bool, true, false, not, nat_eq, nat_lt, nat_le, ◌||◌, ◌&&◌, List, [], ◌∷◌, ◌++◌, length, map, refl, sym, ap, subst, append_assoc, arith, eq-eqb, lt-ltb, le-leb}
 use Rattle.std.specs.List.{AllByRecursion}
 use Rattle.std.proofs.lemmas.Bool.{ltb-false, le-ltb}
+use Rattle.hs_records.specs.Records.{AreBracketed}
 use Rattle.hs_records.specs.Plain.{Operation, Begin, Point, Crumb, End, Fire, Sample, PlainWorkload}
 use Rattle.hs_workload.specs.declared.word.Setting.{Setting}
 use Rattle.hs_workload.specs.declared.word.Setting.TheVariants as settings
@@ -9,7 +10,7 @@ use Rattle.hs_workload.specs.Statements.{Statement, Put, Start, Operate, Finish,
 use Rattle.hs_workload.specs.Grammar.{client_statements, workload_statements}
 use Rattle.hs_workload.specs.LookBack.{Draft, operation_pieces}
 use Rattle.hs_workload.specs.Faults.{least, most}
-use Rattle.hs_workload.specs.Validity.{Within, HasWords, AreBracketed, IsClient, client_pieces, workload_pieces, IsValid}
+use Rattle.hs_workload.specs.Validity.{Within, HasWords, IsClient, client_pieces, workload_pieces, IsValid}
 use Rattle.hs_workload.specs.Forward.{after}
 use Rattle.hs_workload.proofs.Clear.{Allowed}
 use Rattle.hs_workload.proofs.Sound.{sets, starts, ends}

@@ -1,8 +1,9 @@
 -- Which workloads have a text, and when a text reads as a workload: it is that workload's text.
-use Rattle.std.specs.Prelude.{◌≡◌, ℕ, ◌+◌, ◌*◌, ◌^◌, ◌<◌, ◌≤◌, List, [], ◌∷◌, length, Bool, true, false, ⊤}
+use Rattle.std.specs.Prelude.{◌≡◌, ℕ, ◌+◌, ◌*◌, ◌^◌, ◌<◌, ◌≤◌, List, [], ◌∷◌, length, false, ⊤}
 use Rattle.std.specs.List.{All, AllByRecursion}
 use Rattle.hs_text.specs.Text.{trace_digits}
 use Rattle.hs_records.specs.Plain.{Operation, Begin, Point, Crumb, End, Fire, Sample, PlainWorkload}
+use Rattle.hs_records.specs.Records.{AreBracketed}
 use Rattle.hs_workload.specs.Grammar.{workload_text}
 use Rattle.hs_workload.specs.LookBack.{operation_pieces}
 
@@ -17,17 +18,6 @@ HasWords version End = ⊤
 HasWords version (Crumb node) = ⊥
 HasWords version (Fire trigger) = ⊥
 HasWords version (Sample moment auto value) = ⊥
-
--- From a client's start or within a trace, a trace is begun where none is open, points stand and it is ended where one
--- is open, and none is open at the end.
-abbrev pub AreBracketed : Bool → List Operation → Type 0
-AreBracketed is_open [] = is_open ≡ false
-AreBracketed is_open (Begin trace ∷ operations) = (is_open ≡ false) × AreBracketed true operations
-AreBracketed is_open (End ∷ operations) = (is_open ≡ true) × AreBracketed false operations
-AreBracketed is_open (Point moment payload ∷ operations) = (is_open ≡ true) × AreBracketed is_open operations
-AreBracketed is_open (Crumb node ∷ operations) = (is_open ≡ true) × AreBracketed is_open operations
-AreBracketed is_open (Fire trigger ∷ operations) = AreBracketed is_open operations
-AreBracketed is_open (Sample moment auto value ∷ operations) = (is_open ≡ true) × AreBracketed is_open operations
 
 pub record IsClient (version : ℕ) (operations : List Operation) : Type 0 where
   pub words : AllByRecursion (HasWords version) operations

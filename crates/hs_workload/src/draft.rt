@@ -2,7 +2,6 @@
 
 ghost use Rattle.std.specs.Prelude.{◌≡◌, ◌==◌, ◌&&◌, ◌<◌, ◌≤◌, ◌*◌, [], length, true, OnOk, IfOk};
 ghost use Rattle.hs_text.specs.Text.{trace_digits};
-ghost use Rattle.hs_records.specs.Records.{piece_count};
 ghost use Rattle.hs_workload.specs.Views.{operation_of, workload_of};
 ghost use Rattle.hs_workload.specs.LookBack.{draft_said};
 ghost use Rattle.hs_workload.specs.Faults.{all_clients, may_stand, least, most};
@@ -14,8 +13,9 @@ use crate::stop::Stop;
 use crate::word::{
     Keyword, Setting, both_words, hex_in, keyword_in, no_word, number_in, only_word, payload_length,
 };
-use hs_text::{LineFault, decode_payload, line_fault, split_word};
 use hs_base::{List, Memory, Settings, TraceId};
+use hs_records::piece_count;
+use hs_text::{LineFault, decode_payload, line_fault, split_word};
 use std::alloc::Global;
 
 /// The most operations of a workload, a point counted once for each of its pieces.
@@ -243,18 +243,6 @@ impl Reader {
         Ok(())
     }
 
-    /// How many pieces a payload of so many bytes has.
-    fn piece_count(&self, bytes: u32) -> u32
-        requires size { 64 ≤ (draft_of self.now).size }
-        requires limit { (draft_of self.now).size ≤ 32768 }
-        requires bytes { bytes ≤ 65535 }
-        ensures value { result ≡ piece_count (draft_of self.now).size bytes }
-        ensures few { result ≤ 65536 }
-    {
-        let limit = self.settings.size - 34;
-        ((bytes + (limit - 1)) / limit).max(1)
-    }
-
     /// Takes a line that is a record.
     #[tactic(auto, unfolding(crate::specs::Forward::point_step))]
     fn point(&mut self, line: &[u8]) -> Result<(), Stop>
@@ -271,7 +259,7 @@ impl Reader {
         if !self.is_open {
             return Err(Stop::Fault(Reason::NoTrace));
         }
-        let pieces = self.counted(self.piece_count(bytes as u32))?;
+        let pieces = self.counted(piece_count(self.settings.size, bytes) as u32)?;
         let payload = decode_payload(self.alloc, word)?;
         self.add(Op::Point { moment, payload }, pieces)?;
         Ok(())

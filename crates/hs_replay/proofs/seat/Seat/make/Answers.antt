@@ -1,4 +1,4 @@
-use Rattle.std.proofs.Common.{◌-◌, length, refl, ap, sym, ◌∙◌, arith}
+use Rattle.std.proofs.Common.{length, ap, sym, ◌∙◌, arith}
 use Rattle.hs_words.specs.Chunks.{clear_chunks}
 use Rattle.hs_replay.proofs.Starts.{length-clear_chunks, IsNew, new_sound, new_start}
 use Rattle.hs_replay.proofs.seat.Seat.make.Goals as goal
@@ -13,7 +13,7 @@ make-requires-3-clause-clear c =
     let count = ap length c.in_ok-make-2.ensures ∙ length-clear_chunks c.args.buffers c.args.size in
     (c.args.size, c.in_ok-make-2.ensures ∙ ap (λ n. clear_chunks n c.args.size) (sym count))
 
-is_new : (c : goal.In_ok-with_room) → IsNew c.args.buffers c.args.size c.args.calls (record { core = c.in_ok-make.field-0; pool = c.in_ok-make-3.field-0; kept = c.in_ok-with_room.field-0; limit = c.args.size - 34 })
+is_new : (c : goal.In_ok-with_room) → IsNew c.args.buffers c.args.size c.args.calls (record { core = c.in_ok-make.field-0; pool = c.in_ok-make-3.field-0; kept = c.in_ok-with_room.field-0; limit = c.piece_limit-limit.result })
 is_new c =
     record {
       core = c.in_ok-make.ensures;
@@ -21,7 +21,7 @@ is_new c =
       after = c.in_ok-make-3.ensures.after;
       kept = c.in_ok-with_room.ensures.empty;
       room = c.in_ok-with_room.ensures.room;
-      limit = refl;
+      limit = c.piece_limit-limit.ensures;
     }
 
 pub returns-clause-sound : goal.returns-clause-sound
