@@ -4,7 +4,8 @@ use Rattle.std.proofs.Common.{⊎_elim, ◌≡◌, ℕ, suc, ◌+◌, ◌-◌, �
 use Rattle.std.proofs.lemmas.List.Elements.{All-get_or}
 use Rattle.std.proofs.lemmas.List.Sums.{sum_by_more}
 use Rattle.hs_sched.specs.declared.share.Share.{Share}
-use Rattle.hs_sched.specs.Visits.{budget_of, count_within, bytes_within, rest_within, bytes_sent, visited}
+use Rattle.hs_records.specs.Fronts.{count_within}
+use Rattle.hs_sched.specs.Visits.{budget_of, bytes_within, rest_within, bytes_sent, visited}
 use Rattle.hs_sched.specs.Fairness.{IsFairVisit, bytes_over, EachLeaves}
 use Rattle.hs_sched.proofs.PrefixLemmas.{longest_within, rest_emptied, rest_left}
 

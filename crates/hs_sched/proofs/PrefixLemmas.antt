@@ -6,7 +6,8 @@ use Rattle.std.proofs.lemmas.List.{take-take}
 use Rattle.std.proofs.lemmas.List.Sums.{sum_by-cons, sum_by-take-le}
 use Rattle.std.proofs.lemmas.Bool.{cases_lt}
 use Rattle.std.proofs.lemmas.Bool.Decides.{nat_tests}
-use Rattle.hs_sched.specs.Visits.{running_totals, count_within, bytes_within, rest_within}
+use Rattle.hs_records.specs.Fronts.{running_totals, count_within}
+use Rattle.hs_sched.specs.Visits.{bytes_within, rest_within}
 
 pub sum-cons : (c : ℕ) (cs : List ℕ) → sum (c ∷ cs) ≡ c + sum cs
 sum-cons c cs = sum_by-cons (λ x. x) c cs

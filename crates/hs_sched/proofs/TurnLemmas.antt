@@ -10,7 +10,8 @@ use Rattle.std.proofs.lemmas.Grind.{flat_map-append}
 use borrow.Author.Tests.{ne_eqb, eqb-true}
 use Rattle.hs_base.specs.declared.settings.TriggerRule.{TriggerRule}
 use Rattle.hs_sched.specs.declared.share.Share.{Share}
-use Rattle.hs_sched.specs.Visits.{count_within, rest_within, budget_of, count_sent, visited}
+use Rattle.hs_records.specs.Fronts.{count_within}
+use Rattle.hs_sched.specs.Visits.{rest_within, budget_of, count_sent, visited}
 use Rattle.hs_sched.specs.Fairness.{IsFairVisit}
 use Rattle.hs_sched.specs.Turns.{AreRules, shares_of, IsId, IsWeight, IsSize, IsSchedule, Schedule, share_of, after_turn, left_after, sent_ids}
 use Rattle.hs_sched.specs.Sending.{SendsEach, CostAtMost}

@@ -2,7 +2,8 @@
 use Rattle.std.proofs.Common.{add-zero, ◌≡◌, ◌≢◌, ℕ, ◌+◌, ◌-◌, ◌<◌, ◌≤◌, List, [], ◌∷◌, ◌++◌, length, take, drop, get_or, replicate, sum, Some, None, refl, sym, ap, ◌∙◌, arith, subst, slice_get}
 use Rattle.std.proofs.lemmas.List.{length-drop, drop-drop, get_or-drop, replicate_more}
 use Rattle.std.proofs.lemmas.List.Sums.{sum_by_more}
-use Rattle.hs_sched.specs.Visits.{count_within, bytes_within, rest_within}
+use Rattle.hs_records.specs.Fronts.{count_within}
+use Rattle.hs_sched.specs.Visits.{bytes_within, rest_within}
 use Rattle.hs_sched.specs.Sending.{SendsEach}
 use Rattle.hs_sched.proofs.PrefixLemmas.{count_within_is, rest_emptied, rest_left}
 

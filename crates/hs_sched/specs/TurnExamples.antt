@@ -1,7 +1,7 @@
 -- Three turns over two ids that items of 44 bytes wait for, six of weight 2 and three of weight 1, with pages of 64
 -- bytes; and the corners of a visit.
 use Rattle.std.specs.Prelude.{◌≡◌, ℕ, List, [], ◌∷◌, replicate, if◌then◌else◌, ◌==◌, None, refl}
-use Rattle.hs_sched.specs.Visits.{running_totals, count_within, rest_within}
+use Rattle.hs_sched.specs.Visits.{rest_within}
 use Rattle.hs_sched.specs.Turns.{Schedule, share_of, deficit_of, after_turn, sent_for, left_after, sent_ids}
 
 -- ids 1 and 2 with these deficits
@@ -36,13 +36,6 @@ deficits_by_id = (refl, refl)
 -- a deficit is lost where nothing waits
 nothing_waits : (after_turn (with_deficits 40 20) (waits 0 0) ≡ with_deficits 0 0) × (sent_ids (with_deficits 40 20) (waits 0 0) ≡ [])
 nothing_waits = (refl, refl)
-
-totals : running_totals 0 (30 ∷ 40 ∷ 50 ∷ []) ≡ 30 ∷ 70 ∷ 120 ∷ []
-totals = refl
-
--- a prefix may cost the whole budget, and an item behind one that costs too much stays with it
-prefixes : (count_within 70 (30 ∷ 40 ∷ 50 ∷ []) ≡ 2) × (count_within 69 (30 ∷ 40 ∷ 50 ∷ []) ≡ 1) × (count_within 40 (50 ∷ 30 ∷ []) ≡ 0) × (count_within 0 (0 ∷ 1 ∷ []) ≡ 1)
-prefixes = (refl, refl, refl, refl)
 
 -- what is left of the budget stays where an item is left, and else it is lost
 rests : (rest_within 80 (30 ∷ 40 ∷ 50 ∷ []) ≡ 10) × (rest_within 130 (30 ∷ 40 ∷ 50 ∷ []) ≡ 0) × (rest_within 80 [] ≡ 0) × (rest_within 40 (50 ∷ []) ≡ 40)

@@ -1,17 +1,9 @@
 -- One visit of a trigger id, over the costs of what waits for it. The budget is the id's deficit and its weight in
 -- pages. The longest prefix of what waits that costs at most the budget is sent; the rest of the budget is the new
 -- deficit, unless nothing waits any more.
-use Rattle.std.specs.Prelude.{ℕ, ◌+◌, ◌-◌, ◌*◌, List, length, take, sum, nat_le, scan, if◌then◌else◌, ◌==◌}
-use Rattle.std.specs.List.{prefix_len}
+use Rattle.std.specs.Prelude.{ℕ, ◌+◌, ◌-◌, ◌*◌, List, length, take, sum, if◌then◌else◌, ◌==◌}
+use Rattle.hs_records.specs.Fronts.{count_within}
 use Rattle.hs_sched.specs.declared.share.Share.{Share}
-
--- the cost of the first item, of the first two, and so on, each beside what was spent before
-abbrev pub running_totals : ℕ → List ℕ → List ℕ
-running_totals spent costs = scan ◌+◌ ◌+◌ spent costs
-
--- the length of the longest prefix that costs at most the budget: totals only rise
-abbrev pub count_within : ℕ → List ℕ → ℕ
-count_within budget costs = prefix_len (λ total. nat_le total budget) (running_totals 0 costs)
 
 -- what the prefix costs
 abbrev pub bytes_within : ℕ → List ℕ → ℕ
