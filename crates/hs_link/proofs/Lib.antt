@@ -1,0 +1,4 @@
+pub mod Lists
+pub mod Stays
+pub mod Moves
+pub mod Tells

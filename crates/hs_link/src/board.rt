@@ -1,0 +1,53 @@
+//! The table that the two ends share, and what each seat at it knows.
+//!
+//! Word e is 1 while entry e holds an item that was put and not taken, else 0. Slot e holds that item.
+ghost use Rattle.std.specs.Prelude.{List};
+
+use atomic_table::{Seat, Shared, Table, TableRule};
+use std::alloc::Global;
+use std::collections::LinkedList;
+
+/// What all items of a link have in common.
+pub trait Fact<T> {
+    /// The condition, on the link's key and an item.
+    ghost holds: { Self → T → Type 0 };
+}
+
+/// What a seat knows, with the key of the link. No value of it is made.
+pub enum View<T, F> {
+    Nobody,
+    /// Both ends at once, before they are made.
+    Whole(F),
+    /// The sender: what it put, and how many it heard were taken.
+    Sending(F, LinkedList<T>, u64),
+    /// The same, with the slot of the next entry in hand.
+    Laying(F, LinkedList<T>, u64),
+    /// The sender beside a receiver: the receiver's key, and what it received.
+    Meeting(F, LinkedList<T>, u64, F, LinkedList<T>),
+    /// The receiver: what it received, and what it was told was put.
+    Receiving(F, LinkedList<T>, LinkedList<T>),
+    /// The same, with the next item in hand.
+    Taking(F, LinkedList<T>, LinkedList<T>, T),
+    /// A note: what was put.
+    TellsPut(F, LinkedList<T>),
+    /// A note: what was received.
+    TellsTaken(F, LinkedList<T>),
+}
+
+/// The rule of the table.
+pub struct Law;
+
+impl<T, F: Fact<T>> TableRule<Option<T>, View<T, F>, F> for Law {
+    ghost use Rattle.hs_link.specs.Ring.{Ring};
+    ghost use Rattle.hs_link.specs.declared.board.View.TheVariants.{Whole};
+
+    ghost holds = { λ key. Ring F.holds key };
+
+    ghost first = { λ key. Whole key };
+}
+
+pub type Board<T, F> = Table<Option<T>, View<T, F>, F, Law, Global>;
+
+pub type Entries<T, F> = Shared<Option<T>, View<T, F>, F, Law>;
+
+pub type Place<T, F> = Seat<Option<T>, View<T, F>>;
