@@ -1,5 +1,5 @@
 use Rattle.std.proofs.Common.{IsSome}
-use Rattle.bench_pages.proofs.fill.Given as goal
+use Rattle.bench.proofs.pages.fill.Given as goal
 
 abbrev pub invariant-loop-moment : goal.invariant-loop-moment
 invariant-loop-moment l = IsSome l.chunk.page

@@ -1,11 +1,10 @@
-//! Times the reading and the writing of a journal. The one argument is how many lines it has at least; without it
-//! nothing is printed.
-#![tactic(auto)]
+//! The reading and the writing of a journal.
 
+use crate::rate::rate;
 use anyhow::{Context, Result, bail};
 use hs_journal::{read_journal, write_journal};
 use std::alloc::{AllocError, Global};
-use std::env;
+use std::rt::Clock;
 use std::time::Instant;
 
 /// A journal of one client with so many draws.
@@ -19,39 +18,31 @@ fn journal_text(alloc: Global, draws: u32) -> Result<String, AllocError> {
     Ok(text)
 }
 
-/// Bytes a second, for so many bytes in so many nanoseconds.
-fn rate(bytes: usize, nanos: u128) -> u128 {
-    (bytes as u128).saturating_mul(1_000_000_000) / nanos.max(1)
-}
-
-fn main(rt: HostRuntime) -> Result<()> {
-    let Some(word) = env::args(&rt)?.nth(1) else {
-        return Ok(());
-    };
-    let lines: u32 = word.parse().ok().context("lines are a number")?;
+/// Times a journal that has so many lines at least.
+pub(crate) fn run<R: Print + Clock + AllocGlobal>(rt: &R, lines: u32) -> Result<()> {
     let text = journal_text(rt.alloc(), lines)?;
     let bytes = text.as_bytes();
     if bytes.len() >= 4_294_967_295 {
-        return Ok(());
+        bail!("the journal is too long");
     }
-    let start = Instant::now(&rt)?;
+    let start = Instant::now(rt)?;
     let Ok(journal) = read_journal(rt.alloc(), bytes) else {
         bail!("the journal is not read");
     };
-    let nanos = start.elapsed(&rt)?.as_nanos();
+    let nanos = start.elapsed(rt)?.as_nanos();
     println!(rt;
         "read {} us, {} bytes a second",
         nanos / 1000,
-        rate(bytes.len(), nanos)
+        rate(bytes.len() as u128, nanos)
     )?;
 
-    let start = Instant::now(&rt)?;
+    let start = Instant::now(rt)?;
     let written = write_journal(rt.alloc(), &journal).ok().context("memory")?;
-    let nanos = start.elapsed(&rt)?.as_nanos();
+    let nanos = start.elapsed(rt)?.as_nanos();
     println!(rt;
         "wrote {} us, {} bytes a second",
         nanos / 1000,
-        rate(written.len(), nanos)
+        rate(written.len() as u128, nanos)
     )?;
     Ok(())
 }

@@ -1,17 +1,15 @@
-//! Times samples of a percentile and of a category over a window of 1,024. The one argument is how many samples
-//! to give; without it nothing is printed.
-#![tactic(auto)]
+//! Samples of a percentile and of a category over a window of 1,024.
 
 ghost use Rattle.std.specs.Prelude.{◌≤◌};
 
 use anyhow::{Context, Result};
 use hs_auto::{Auto, Sampled};
 use hs_base::{AutoRule, TraceId, TriggerId};
-use std::env;
+use std::rt::Clock;
 use std::time::Instant;
 
 /// Gives an autotrigger so many samples whose values have so many bits, and prints the nanoseconds of one.
-fn time_samples<R: Print + std::rt::Clock>(
+fn time_samples<R: Print + Clock>(
     rt: &R,
     name: &str,
     auto: &mut Auto,
@@ -40,11 +38,8 @@ fn time_samples<R: Print + std::rt::Clock>(
     Ok(())
 }
 
-fn main(rt: HostRuntime) -> Result<()> {
-    let Some(word) = env::args(&rt)?.nth(1) else {
-        return Ok(());
-    };
-    let samples: u32 = word.parse().ok().context("samples are a number")?;
+/// Times so many samples of each.
+pub(crate) fn run<R: Print + Clock + AllocGlobal>(rt: &R, samples: u32) -> Result<()> {
     let trigger = TriggerId(1);
     let percentile = AutoRule::Percentile {
         trigger,
@@ -57,8 +52,7 @@ fn main(rt: HostRuntime) -> Result<()> {
         share: 100,
     };
     let mut auto = Auto::make(rt.alloc(), percentile).ok().context("memory")?;
-    time_samples(&rt, "percentile", &mut auto, samples, 32)?;
+    time_samples(rt, "percentile", &mut auto, samples, 32)?;
     let mut auto = Auto::make(rt.alloc(), category).ok().context("memory")?;
-    time_samples(&rt, "category", &mut auto, samples, 8)?;
-    Ok(())
+    time_samples(rt, "category", &mut auto, samples, 8)
 }

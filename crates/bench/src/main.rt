@@ -1,0 +1,26 @@
+//! Times a part of the product: the first argument is the bench's name, the second how often to run what it
+//! times. Without them nothing is printed.
+#![tactic(auto)]
+
+mod auto;
+mod journal;
+mod pages;
+mod rate;
+
+use anyhow::{Context, Result, bail};
+use std::env;
+
+fn main(rt: HostRuntime) -> Result<()> {
+    let mut words = env::args(&rt)?.skip(1);
+    let Some(name) = words.next() else {
+        return Ok(());
+    };
+    let count = words.next().context("a bench wants a number")?;
+    let count: u32 = count.parse().ok().context("a bench wants a number")?;
+    match name.as_str() {
+        "auto" => auto::run(&rt, count),
+        "journal" => journal::run(&rt, count),
+        "pages" => pages::run(&rt, count),
+        _ => bail!("no bench has this name"),
+    }
+}
