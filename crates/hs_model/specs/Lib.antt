@@ -1,0 +1,13 @@
+pub mod Standings
+pub mod State
+pub mod Evicting
+pub mod Claiming
+pub mod Abandoning
+pub mod Turning
+pub mod Messages
+pub mod Stepping
+pub mod Books
+pub mod Samples
+pub mod EvictionExamples
+pub mod ClaimExamples
+pub mod AbandonExamples

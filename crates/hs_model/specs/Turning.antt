@@ -1,0 +1,72 @@
+-- In a turn the trigger ids are visited in rising order. What waits for an id is its pinned chunks: its groups by falling
+-- priority, and of each group the chunks in the order in which they became pinned. A visit reports the longest front of
+-- them whose used bytes the id's deficit and its weight in pages pay for.
+use Rattle.std.specs.Prelude.{ℕ, Bool, false, not, ◌==◌, List, [], ◌∷◌, ◌++◌, map, filter, take, fold, if◌then◌else◌, slice_get}
+use Rattle.std.specs.Option.{option_map_or}
+use Rattle.hs_base.specs.declared.told.Group.{Group}
+use Rattle.hs_words.specs.Chunks.{used_of}
+use Rattle.hs_records.specs.Plain.{PlainSettings}
+use Rattle.hs_sched.specs.declared.share.Share.{Share}
+use Rattle.hs_sched.specs.Visits.{count_sent, visited}
+use Rattle.hs_model.specs.Standings.{ChunkStanding, Indexed, Pinned, Reported, Evicted, Abandoned, Taken, pinned_for, is_among, moved}
+use Rattle.hs_model.specs.State.{AgentState}
+use Rattle.hs_model.specs.Abandoning.{is_no_greater}
+
+-- whether the chunk at a place is pinned for a group of the trigger id
+abbrev pub is_pinned_for_id : List Taken → ℕ → ℕ → Bool
+is_pinned_for_id taken id place = option_map_or (λ (group : Group). group.trigger.0 == id) (pinned_for taken place) false
+
+-- whether the group of one place is of no greater priority than that of the other
+abbrev pub place_is_no_greater : List Taken → ℕ → ℕ → Bool
+place_is_no_greater taken place other =
+    option_map_or (λ group. option_map_or (is_no_greater group) (pinned_for taken other) false) (pinned_for taken place) false
+
+-- a place stands before the first that is of no greater priority
+abbrev pub put_before : List Taken → ℕ → List ℕ → List ℕ
+put_before taken place [] = place ∷ []
+put_before taken place (other ∷ others) = if place_is_no_greater taken other place then place ∷ other ∷ others else other ∷ put_before taken place others
+
+-- by falling priority, and equal ones in the order in which they stand here
+abbrev pub by_priority : List Taken → List ℕ → List ℕ
+by_priority taken [] = []
+by_priority taken (place ∷ places) = put_before taken place (by_priority taken places)
+
+-- what waits for a trigger id
+abbrev pub order_of : AgentState → ℕ → List ℕ
+order_of state id = by_priority state.taken (filter (is_pinned_for_id state.taken id) state.pinned)
+
+-- the used bytes of the page at a place
+abbrev pub used_at : List Taken → ℕ → ℕ
+used_at taken place = option_map_or (λ (chunk : Taken). used_of chunk.sheet) (slice_get taken place) 0
+
+abbrev pub costs_of : AgentState → ℕ → List ℕ
+costs_of state id = map (used_at state.taken) (order_of state id)
+
+-- a pinned chunk is reported for its group
+abbrev pub reported_standing : ChunkStanding → ChunkStanding
+reported_standing Indexed = Indexed
+reported_standing (Pinned group) = Reported group
+reported_standing (Reported group) = Reported group
+reported_standing (Evicted chunks traces) = Evicted chunks traces
+reported_standing (Abandoned group) = Abandoned group
+
+abbrev pub report : List ℕ → AgentState → AgentState
+report places state =
+    record state {
+      taken = moved places reported_standing state.taken;
+      pinned = filter (λ place. not (is_among places place)) state.pinned;
+      hand = state.hand ++ places;
+      reported = state.reported ++ places;
+    }
+
+-- what a visit of a trigger id reports
+abbrev pub visit : PlainSettings → AgentState → Share → AgentState
+visit settings state share =
+    report (take (count_sent settings.size share (costs_of state share.trigger.0)) (order_of state share.trigger.0)) state
+
+-- the shares after a turn: no id changes what waits for another
+abbrev pub shares_after : PlainSettings → AgentState → List Share
+shares_after settings state = map (λ share. visited settings.size share (costs_of state share.trigger.0)) state.shares
+
+abbrev pub turn : PlainSettings → AgentState → AgentState
+turn settings state = record (fold (visit settings) state state.shares) { shares = shares_after settings state }
