@@ -1,7 +1,7 @@
 -- While more chunks are pinned than may be, a group is abandoned: of the trigger ids the one with most pinned chunks is
 -- chosen, the smallest among equals, and of its groups with a pinned chunk the one of least priority goes. A priority is
 -- the rank of the group's lead, then its node, then its number. All pinned chunks of the group are abandoned.
-use Rattle.std.specs.Prelude.{ℕ, Bool, ◌&&◌, ◌||◌, ◌==◌, nat_lt, nat_le, List, [], ◌∷◌, ◌++◌, length, map, filter, filter_map, count_by, Option, Some, None, if◌then◌else◌, not}
+use Rattle.std.specs.Prelude.{ℕ, Bool, ◌&&◌, ◌||◌, ◌==◌, nat_lt, nat_le, List, [], ◌∷◌, ◌++◌, length, map, filter, filter_map, Option, Some, None, if◌then◌else◌, not}
 use Rattle.std.specs.Option.{option_and_then, option_map_or}
 use Rattle.std.specs.Ordering.{is_le}
 use Rattle.hs_base.specs.declared.told.Group.{Group}
@@ -21,7 +21,7 @@ pinned_groups state = filter_map (pinned_for state.taken) state.pinned
 
 -- how many of these are of the trigger id
 abbrev pub count_of_id : List Group → ℕ → ℕ
-count_of_id groups id = count_by (λ group. group.trigger.0 == id) groups
+count_of_id groups id = length (filter (λ group. group.trigger.0 == id) groups)
 
 -- whether an id goes first: it has more pinned chunks than the other, or as many and is no greater
 abbrev pub id_goes_first : List Group → ℕ → ℕ → Bool

@@ -7,6 +7,7 @@ pub mod Turning
 pub mod Messages
 pub mod Stepping
 pub mod Books
+pub mod Laws
 pub mod Samples
 pub mod EvictionExamples
 pub mod ClaimExamples

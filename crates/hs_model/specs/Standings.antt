@@ -1,8 +1,8 @@
 -- The chunks that an agent took, in the order of arrival, each with its page and where it stands: in the index; pinned,
 -- reported or abandoned for a group; or evicted, with the counts of chunks and traces that were indexed just before. A
 -- chunk is named by its place in that order, from 0.
-use Rattle.std.specs.Prelude.{◌≡◌, ℕ, suc, Bool, true, false, ◌&&◌, ◌==◌, List, [], ◌∷◌, Option, Some, None, slice_get, if◌then◌else◌, refl}
-use Rattle.std.specs.List.{list_any, count_by}
+use Rattle.std.specs.Prelude.{◌≡◌, ℕ, suc, Bool, true, false, ◌&&◌, ◌==◌, List, [], ◌∷◌, length, filter, Option, Some, None, slice_get, if◌then◌else◌, refl}
+use Rattle.std.specs.List.{list_any}
 use Rattle.std.specs.Option.{option_map, option_map_or, option_and_then}
 use Rattle.hs_base.specs.declared.ids.TraceId.{TraceId}
 use Rattle.hs_base.specs.declared.told.Group.{Group}
@@ -46,6 +46,35 @@ pinning_group (Reported group) = None
 pinning_group (Evicted chunks traces) = None
 pinning_group (Abandoned group) = None
 
+-- whether it is pinned, and whether for this group
+abbrev pub is_pinned : ChunkStanding → Bool
+is_pinned Indexed = false
+is_pinned (Pinned group) = true
+is_pinned (Reported group) = false
+is_pinned (Evicted chunks traces) = false
+is_pinned (Abandoned group) = false
+
+abbrev pub is_pinned_to : Group → ChunkStanding → Bool
+is_pinned_to group Indexed = false
+is_pinned_to group (Pinned other) = same_group group other
+is_pinned_to group (Reported other) = false
+is_pinned_to group (Evicted chunks traces) = false
+is_pinned_to group (Abandoned other) = false
+
+abbrev pub is_reported : ChunkStanding → Bool
+is_reported Indexed = false
+is_reported (Pinned group) = false
+is_reported (Reported group) = true
+is_reported (Evicted chunks traces) = false
+is_reported (Abandoned group) = false
+
+abbrev pub is_evicted : ChunkStanding → Bool
+is_evicted Indexed = false
+is_evicted (Pinned group) = false
+is_evicted (Reported group) = false
+is_evicted (Evicted chunks traces) = true
+is_evicted (Abandoned group) = false
+
 -- whether the agent is through with a chunk, so that its buffer is to be given back
 abbrev pub is_let_go : ChunkStanding → Bool
 is_let_go Indexed = false
@@ -64,25 +93,25 @@ is_indexed_of trace chunk = is_indexed chunk.standing && same_trace trace (trace
 abbrev pub is_among : List ℕ → ℕ → Bool
 is_among places place = list_any (λ p. p == place) places
 
--- the standing at a place
-abbrev pub standing_at : List Taken → ℕ → Option ChunkStanding
-standing_at taken place = option_map (λ chunk. chunk.standing) (slice_get taken place)
+-- whether the chunk at a place passes a test
+abbrev pub passes : (Taken → Bool) → List Taken → ℕ → Bool
+passes test taken place = option_map_or test (slice_get taken place) false
 
--- the trace of the chunk at a place
-abbrev pub trace_at : List Taken → ℕ → Option TraceId
-trace_at taken place = option_map trace_of (slice_get taken place)
+-- whether there is a chunk at a place that stands so
+abbrev pub stands : (ChunkStanding → Bool) → List Taken → ℕ → Bool
+stands test taken place = passes (λ chunk. test chunk.standing) taken place
 
 -- the group for which the chunk at a place is pinned
 abbrev pub pinned_for : List Taken → ℕ → Option Group
-pinned_for taken place = option_and_then pinning_group (standing_at taken place)
+pinned_for taken place = option_and_then (λ (chunk : Taken). pinning_group chunk.standing) (slice_get taken place)
 
 -- whether the chunk at a place is pinned for this group
 abbrev pub is_pinned_for : List Taken → Group → ℕ → Bool
-is_pinned_for taken group place = option_map_or (same_group group) (pinned_for taken place) false
+is_pinned_for taken group place = stands (is_pinned_to group) taken place
 
 -- whether the chunk at a place is of this trace
 abbrev pub is_of_trace : List Taken → TraceId → ℕ → Bool
-is_of_trace taken trace place = option_map_or (same_trace trace) (trace_at taken place) false
+is_of_trace taken trace place = passes (λ chunk. same_trace trace (trace_of chunk)) taken place
 
 -- the places of the chunks that pass a test, rising, where the first chunk has this place
 abbrev pub places_from : ℕ → (Taken → Bool) → List Taken → List ℕ
@@ -95,7 +124,7 @@ indexed_places taken trace = places_from 0 (is_indexed_of trace) taken
 
 -- how many chunks are indexed
 abbrev pub indexed_count : List Taken → ℕ
-indexed_count taken = count_by (λ chunk. is_indexed chunk.standing) taken
+indexed_count taken = length (filter (λ chunk. is_indexed chunk.standing) taken)
 
 -- The chunks whose places are among these stand anew, and the others as they stood; the first chunk has this place.
 abbrev pub moved_from : ℕ → List ℕ → (ChunkStanding → ChunkStanding) → List Taken → List Taken

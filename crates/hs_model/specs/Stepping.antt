@@ -50,31 +50,44 @@ next_place state = length state.taken
 abbrev pub touch_trace : TraceId → AgentState → AgentState
 touch_trace trace state = record state { touched = touch trace state.touched }
 
--- a chunk of a trace that nobody claimed
-abbrev pub index_chunk : PlainSettings → Sheet → AgentState → AgentState
-index_chunk settings sheet state = evict settings (touch_trace sheet.header.trace (with_taken sheet Indexed state))
+-- a chunk more is indexed
+abbrev pub with_indexed : Sheet → AgentState → AgentState
+with_indexed sheet state = touch_trace sheet.header.trace (with_taken sheet Indexed state)
+
+-- a chunk more is pinned for the group
+abbrev pub with_pinned : Sheet → Group → AgentState → AgentState
+with_pinned sheet group state = record (with_taken sheet (Pinned group) state) { pinned = state.pinned ++ next_place state ∷ [] }
+
+-- a chunk more of a group that was abandoned
+abbrev pub with_abandoned : Sheet → Group → AgentState → AgentState
+with_abandoned sheet group state = record (with_taken sheet (Abandoned group) state) { hand = state.hand ++ next_place state ∷ [] }
 
 -- a chunk of a trace that the group claimed
 abbrev pub pin_chunk : PlainSettings → Sheet → Group → AgentState → AgentState
 pin_chunk settings sheet group state =
-    if is_abandoned state.abandoned group
-    then record (with_taken sheet (Abandoned group) state) { hand = state.hand ++ next_place state ∷ [] }
-    else abandon settings (record (with_taken sheet (Pinned group) state) { pinned = state.pinned ++ next_place state ∷ [] })
+    if is_abandoned state.abandoned group then with_abandoned sheet group state else abandon settings (with_pinned sheet group state)
 
 abbrev pub take_chunk : PlainSettings → Sheet → AgentState → AgentState
 take_chunk settings sheet state =
-    option_map_or (λ (claim : ClaimedTrace). pin_chunk settings sheet claim.group state) (claim_of state.claims sheet.header.trace) (index_chunk settings sheet state)
+    option_map_or (λ (claim : ClaimedTrace). pin_chunk settings sheet claim.group state) (claim_of state.claims sheet.header.trace) (evict settings (with_indexed sheet state))
 
 abbrev pub remember : Crumb → AgentState → AgentState
 remember crumb state = record state { crumbs = with_crumb state.crumbs crumb }
 
--- a crumb of a claimed trace
+-- a crumb of a trace that nobody claimed
+abbrev pub with_touched : Crumb → AgentState → AgentState
+with_touched crumb state = touch_trace crumb.trace (remember crumb state)
+
+-- a crumb of a claimed trace, to a node that its crumbs did not name before
+abbrev pub tell_late : Crumb → ClaimedTrace → AgentState → AgentState
+tell_late crumb claim state = say (late_of claim crumb) (remember crumb state)
+
 abbrev pub late_crumb : Crumb → ClaimedTrace → AgentState → AgentState
-late_crumb crumb claim state = if has_crumb state.crumbs crumb then state else say (late_of claim crumb) (remember crumb state)
+late_crumb crumb claim state = if has_crumb state.crumbs crumb then state else tell_late crumb claim state
 
 abbrev pub take_crumb : PlainSettings → Crumb → AgentState → AgentState
 take_crumb settings crumb state =
-    option_map_or (λ claim. late_crumb crumb claim state) (claim_of state.claims crumb.trace) (evict settings (touch_trace crumb.trace (remember crumb state)))
+    option_map_or (λ claim. late_crumb crumb claim state) (claim_of state.claims crumb.trace) (evict settings (with_touched crumb state))
 
 -- ---- triggers and asks
 
@@ -106,10 +119,14 @@ claim_for settings ask state = abandon settings (claim_each ask state)
 abbrev pub note_trigger : Trigger → AgentState → AgentState
 note_trigger trigger state = record state { tried = record { trigger = trigger.trigger; moment = trigger.moment } ∷ state.tried }
 
+-- one trigger more was admitted
+abbrev pub count_admitted : AgentState → AgentState
+count_admitted state = record state { admitted = state.admitted + 1 }
+
 abbrev pub admit : PlainSettings → ℕ → Trigger → AgentState → AgentState
 admit settings node trigger state =
     let ask = group_of node state trigger in
-    say (told_of state.crumbs ask Fired) (claim_for settings ask (record state { admitted = state.admitted + 1 }))
+    say (told_of state.crumbs ask Fired) (claim_for settings ask (count_admitted state))
 
 abbrev pub take_trigger : PlainSettings → ℕ → Trigger → AgentState → AgentState
 take_trigger settings node trigger state =
@@ -149,9 +166,12 @@ step_of_answer (Missed stamp) = steps.Missed stamp
 step_of_answer Unread = steps.Unread
 
 -- the first of the hand was given back
+abbrev pub give_place : (stamp place : ℕ) → List ℕ → AgentState → AgentState
+give_place stamp place hand state = record state { hand = hand; given = state.given ++ record { place = place; stamp = stamp } ∷ [] }
+
 abbrev pub give_back : ℕ → List ℕ → AgentState → AgentState
 give_back stamp [] state = state
-give_back stamp (place ∷ hand) state = record state { hand = hand; given = state.given ++ record { place = place; stamp = stamp } ∷ [] }
+give_back stamp (place ∷ hand) state = give_place stamp place hand state
 
 -- a buffer that missed or was unread stays first in the hand
 abbrev pub take_answer : AgentState → Answered → AgentState

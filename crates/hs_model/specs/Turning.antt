@@ -8,13 +8,17 @@ use Rattle.hs_words.specs.Chunks.{used_of}
 use Rattle.hs_records.specs.Plain.{PlainSettings}
 use Rattle.hs_sched.specs.declared.share.Share.{Share}
 use Rattle.hs_sched.specs.Visits.{count_sent, visited}
-use Rattle.hs_model.specs.Standings.{ChunkStanding, Indexed, Pinned, Reported, Evicted, Abandoned, Taken, pinned_for, is_among, moved}
+use Rattle.hs_model.specs.Standings.{ChunkStanding, Indexed, Pinned, Reported, Evicted, Abandoned, Taken, stands, pinned_for, is_among, moved}
 use Rattle.hs_model.specs.State.{AgentState}
 use Rattle.hs_model.specs.Abandoning.{is_no_greater}
 
--- whether the chunk at a place is pinned for a group of the trigger id
-abbrev pub is_pinned_for_id : List Taken → ℕ → ℕ → Bool
-is_pinned_for_id taken id place = option_map_or (λ (group : Group). group.trigger.0 == id) (pinned_for taken place) false
+-- whether a chunk is pinned for a group of the trigger id
+abbrev pub is_pinned_under : ℕ → ChunkStanding → Bool
+is_pinned_under id Indexed = false
+is_pinned_under id (Pinned group) = group.trigger.0 == id
+is_pinned_under id (Reported group) = false
+is_pinned_under id (Evicted chunks traces) = false
+is_pinned_under id (Abandoned group) = false
 
 -- whether the group of one place is of no greater priority than that of the other
 abbrev pub place_is_no_greater : List Taken → ℕ → ℕ → Bool
@@ -33,7 +37,7 @@ by_priority taken (place ∷ places) = put_before taken place (by_priority taken
 
 -- what waits for a trigger id
 abbrev pub order_of : AgentState → ℕ → List ℕ
-order_of state id = by_priority state.taken (filter (is_pinned_for_id state.taken id) state.pinned)
+order_of state id = by_priority state.taken (filter (stands (is_pinned_under id) state.taken) state.pinned)
 
 -- the used bytes of the page at a place
 abbrev pub used_at : List Taken → ℕ → ℕ
@@ -68,5 +72,8 @@ visit settings state share =
 abbrev pub shares_after : PlainSettings → AgentState → List Share
 shares_after settings state = map (λ share. visited settings.size share (costs_of state share.trigger.0)) state.shares
 
+abbrev pub with_shares : List Share → AgentState → AgentState
+with_shares shares state = record state { shares = shares }
+
 abbrev pub turn : PlainSettings → AgentState → AgentState
-turn settings state = record (fold (visit settings) state state.shares) { shares = shares_after settings state }
+turn settings state = with_shares (shares_after settings state) (fold (visit settings) state state.shares)

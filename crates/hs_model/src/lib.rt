@@ -2,3 +2,5 @@
 //! stand in `specs/`; the laws of `laws` hold of every agent that they describe (`docs/RULES.md`, "The
 //! agent's model").
 #![tactic(auto)]
+
+pub mod laws;

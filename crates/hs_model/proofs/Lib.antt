@@ -1,0 +1,4 @@
+pub mod Counts
+pub mod Traversal
+pub mod Placed
+pub mod Partition

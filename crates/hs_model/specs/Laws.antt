@@ -1,0 +1,59 @@
+-- What holds of an agent after any events, whatever they are. Each chunk stands in one way, and the agent's lists have it
+-- once where they should: among the pinned, the reported, and those whose buffers were given back or wait for it. A trace
+-- is claimed at most once, and is not indexed then. Nothing stays beyond the limits, and nothing goes without need.
+use Rattle.std.specs.Prelude.{◌≡◌, ◌⊎◌, ℕ, ◌+◌, ◌<◌, ◌≤◌, Bool, true, false, ◌==◌, List, [], ◌∷◌, ◌++◌, length, map, filter, Option, Some, None, slice_get, if◌then◌else◌}
+use Rattle.std.specs.List.{AllByRecursion, list_any}
+use Rattle.hs_base.specs.declared.ids.TraceId.{TraceId}
+use Rattle.hs_base.specs.declared.told.Group.{Group}
+use Rattle.hs_records.specs.Plain.{PlainSettings}
+use Rattle.hs_model.specs.Standings.{ChunkStanding, Taken, same_trace, is_indexed, is_pinned, is_reported, is_let_go, stands}
+use Rattle.hs_model.specs.State.{AgentState, ClaimedTrace, GivenPlace, is_claimed}
+use Rattle.hs_model.specs.Stepping.{Event, after}
+
+-- ---- places
+
+-- how often a place stands among these
+abbrev pub count_of : List ℕ → ℕ → ℕ
+count_of [] place = 0
+count_of (p ∷ places) place = (if p == place then 1 else 0) + count_of places place
+
+-- These places are those of the chunks that stand so, each once.
+abbrev pub ListsEach : (ChunkStanding → Bool) → List Taken → List ℕ → Type 0
+ListsEach test taken places = (place : ℕ) → count_of places place ≡ (if stands test taken place then 1 else 0)
+
+-- the places of the buffers that were given back
+abbrev pub given_places : AgentState → List ℕ
+given_places state = map (λ (g : GivenPlace). g.place) state.given
+
+-- each list has its chunks: the pinned, the reported, and those that were let go
+pub record ArePlaced (taken : List Taken) (pinned reported gone : List ℕ) : Type 0 where
+  pub pinned_each : ListsEach is_pinned taken pinned
+  pub reported_each : ListsEach is_reported taken reported
+  pub gone_each : ListsEach is_let_go taken gone
+
+abbrev pub PlacesMatch : AgentState → Type 0
+PlacesMatch state = ArePlaced state.taken state.pinned state.reported (given_places state ++ state.hand)
+
+-- The evicted, abandoned and reported chunks are in the hand, each once, until they are given back.
+abbrev pub ListsHaveTheirChunks : Type 0
+ListsHaveTheirChunks = (settings : PlainSettings) (node : ℕ) (events : List Event) → PlacesMatch (after settings node events)
+
+-- Each chunk is either indexed, or once among the pinned, or once among those in the hand or given back.
+abbrev pub IsInOnePlace : AgentState → ℕ → Type 0
+IsInOnePlace state place =
+    (if stands is_indexed state.taken place then 1 else 0) + count_of state.pinned place + count_of (given_places state) place + count_of state.hand place
+    ≡ (if stands (λ _. true) state.taken place then 1 else 0)
+
+abbrev pub StandingsPartition : Type 0
+StandingsPartition = (settings : PlainSettings) (node : ℕ) (events : List Event) (place : ℕ) → IsInOnePlace (after settings node events) place
+
+-- A chunk that is indexed or pinned is not in the hand, and its buffer was not given back.
+pub record IsHeld (state : AgentState) (place : ℕ) : Type 0 where
+  pub hand : count_of state.hand place ≡ 0
+  pub given : count_of (given_places state) place ≡ 0
+
+abbrev pub HeldChunksAreInNoHand : Type 0
+HeldChunksAreInNoHand =
+    (settings : PlainSettings) (node : ℕ) (events : List Event) (place : ℕ)
+    → (stands is_indexed (after settings node events).taken place ≡ true) ⊎ (stands is_pinned (after settings node events).taken place ≡ true)
+    → IsHeld (after settings node events) place

@@ -1,0 +1,19 @@
+//! What holds of an agent after any events. These functions do nothing: their contracts say it.
+
+ghost use Rattle.hs_model.specs.Laws.{ListsHaveTheirChunks, StandingsPartition, HeldChunksAreInNoHand};
+
+/// The pinned and the reported chunks stand in their lists, each once, and the evicted, abandoned and
+/// reported ones in the hand, each once, until they are given back.
+pub fn lists_have_their_chunks()
+    ensures { ListsHaveTheirChunks }
+{}
+
+/// Each chunk is indexed, or pinned, or let go, and only one of these.
+pub fn standings_partition()
+    ensures { StandingsPartition }
+{}
+
+/// The buffer of a chunk that is indexed or pinned is not in the hand, and was not given back.
+pub fn held_chunks_are_in_no_hand()
+    ensures { HeldChunksAreInNoHand }
+{}
