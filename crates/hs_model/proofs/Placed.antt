@@ -73,14 +73,14 @@ lists_moved from test change before after turns taken places some xs ys each cou
     let both : count_of ys p + cond before (count_of places p) 0 ≡ count_of xs p + cond after (count_of places p) 0 = counts p in
     let goal : count_of ys p ≡ one (stands test (moved places change taken) p) = omega arith in goal
 
-indexed_only : (P : ChunkStanding → Type 0) → P Indexed → (s : ChunkStanding) → is_indexed s ≡ true → P s
+pub indexed_only : (P : ChunkStanding → Type 0) → P Indexed → (s : ChunkStanding) → is_indexed s ≡ true → P s
 indexed_only P h Indexed e = h
 indexed_only P h (Pinned g) e = absurd (true≢false (sym e))
 indexed_only P h (Reported g) e = absurd (true≢false (sym e))
 indexed_only P h (Evicted a b) e = absurd (true≢false (sym e))
 indexed_only P h (Abandoned g) e = absurd (true≢false (sym e))
 
-pinned_only : (P : ChunkStanding → Type 0) → ((g : Group) → P (Pinned g)) → (s : ChunkStanding) → is_pinned s ≡ true → P s
+pub pinned_only : (P : ChunkStanding → Type 0) → ((g : Group) → P (Pinned g)) → (s : ChunkStanding) → is_pinned s ≡ true → P s
 pinned_only P h Indexed e = absurd (true≢false (sym e))
 pinned_only P h (Pinned g) e = h g
 pinned_only P h (Reported g) e = absurd (true≢false (sym e))

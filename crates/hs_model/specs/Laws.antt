@@ -2,13 +2,14 @@
 -- once where they should: among the pinned, the reported, and those whose buffers were given back or wait for it. A trace
 -- is claimed at most once, and is not indexed then. Nothing stays beyond the limits, and nothing goes without need.
 use Rattle.std.specs.Prelude.{◌≡◌, ◌⊎◌, ℕ, ◌+◌, ◌<◌, ◌≤◌, Bool, true, false, ◌==◌, List, [], ◌∷◌, ◌++◌, length, map, filter, Option, Some, None, slice_get, if◌then◌else◌}
-use Rattle.std.specs.List.{AllByRecursion, list_any}
+use Rattle.std.specs.List.{AllByRecursion}
+use Rattle.std.specs.Option.{option_map}
 use Rattle.hs_base.specs.declared.ids.TraceId.{TraceId}
 use Rattle.hs_base.specs.declared.told.Group.{Group}
 use Rattle.hs_records.specs.Plain.{PlainSettings}
-use Rattle.hs_model.specs.Standings.{ChunkStanding, Taken, same_trace, is_indexed, is_pinned, is_reported, is_let_go, stands}
-use Rattle.hs_model.specs.State.{AgentState, ClaimedTrace, GivenPlace, is_claimed}
-use Rattle.hs_model.specs.Stepping.{Event, after}
+use Rattle.hs_model.specs.Standings.{ChunkStanding, Indexed, Pinned, Reported, Evicted, Abandoned, Taken, same_trace, trace_of, is_indexed, is_pinned, is_reported, is_evicted, is_let_go, stands, is_of_trace}
+use Rattle.hs_model.specs.State.{AgentState, ClaimedTrace, GivenPlace, claim_of, is_claimed}
+use Rattle.hs_model.specs.Stepping.{Event, after_event, after_from, after}
 
 -- ---- places
 
@@ -57,3 +58,53 @@ HeldChunksAreInNoHand =
     (settings : PlainSettings) (node : ℕ) (events : List Event) (place : ℕ)
     → (stands is_indexed (after settings node events).taken place ≡ true) ⊎ (stands is_pinned (after settings node events).taken place ≡ true)
     → IsHeld (after settings node events) place
+
+-- ---- claims
+
+-- how often a trace stands among these
+abbrev pub count_traces : List TraceId → TraceId → ℕ
+count_traces [] trace = 0
+count_traces (t ∷ traces) trace = (if same_trace trace t then 1 else 0) + count_traces traces trace
+
+abbrev pub claimed_traces : AgentState → List TraceId
+claimed_traces state = map (λ (claim : ClaimedTrace). claim.trace) state.claims
+
+-- A trace is claimed once, or indexed once, or neither. So no trace has two claims, and a claimed trace is not indexed.
+abbrev pub IsClaimedOrTouched : AgentState → TraceId → Type 0
+IsClaimedOrTouched state trace = count_traces (claimed_traces state) trace + count_traces state.touched trace ≤ 1
+
+abbrev pub TracesAreClaimedOnce : Type 0
+TracesAreClaimedOnce = (settings : PlainSettings) (node : ℕ) (events : List Event) (trace : TraceId) → IsClaimedOrTouched (after settings node events) trace
+
+-- Later events only add claims behind those that were made.
+abbrev pub ClaimsHoldForGood : Type 0
+ClaimsHoldForGood =
+    (settings : PlainSettings) (node : ℕ) (events later : List Event)
+    → (more : List ClaimedTrace) × ((after_from settings node (after settings node events) later).claims ≡ (after settings node events).claims ++ more)
+
+-- the group of the claim of a trace, where it is claimed
+abbrev pub claiming_group : List ClaimedTrace → TraceId → Option Group
+claiming_group claims trace = option_map (λ (claim : ClaimedTrace). claim.group) (claim_of claims trace)
+
+-- A chunk is indexed only where nobody claimed its trace, and pinned, reported or abandoned only for the group that did. So
+-- all chunks of a trace that a group took over stand for that group.
+abbrev pub StandsByClaim : List ClaimedTrace → TraceId → ChunkStanding → Type 0
+StandsByClaim claims trace Indexed = is_claimed claims trace ≡ false
+StandsByClaim claims trace (Pinned group) = claiming_group claims trace ≡ Some group
+StandsByClaim claims trace (Reported group) = claiming_group claims trace ≡ Some group
+StandsByClaim claims trace (Evicted chunks traces) = Unit {0}
+StandsByClaim claims trace (Abandoned group) = claiming_group claims trace ≡ Some group
+
+abbrev pub AllStandByClaim : List ClaimedTrace → List Taken → Type 0
+AllStandByClaim claims taken = AllByRecursion (λ (chunk : Taken). StandsByClaim claims (trace_of chunk) chunk.standing) taken
+
+abbrev pub ChunksStandByTheirClaim : Type 0
+ChunksStandByTheirClaim =
+    (settings : PlainSettings) (node : ℕ) (events : List Event) → AllStandByClaim (after settings node events).claims (after settings node events).taken
+
+-- An event evicts no chunk of a trace that was claimed before it.
+abbrev pub NothingClaimedIsEvicted : Type 0
+NothingClaimedIsEvicted =
+    (settings : PlainSettings) (node : ℕ) (events : List Event) (event : Event) (place : ℕ) (trace : TraceId)
+    → is_of_trace (after settings node events).taken trace place ≡ true → is_claimed (after settings node events).claims trace ≡ true
+    → stands is_evicted (after_event settings node (after settings node events) event).taken place ≡ stands is_evicted (after settings node events).taken place

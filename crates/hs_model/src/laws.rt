@@ -1,6 +1,6 @@
 //! What holds of an agent after any events. These functions do nothing: their contracts say it.
 
-ghost use Rattle.hs_model.specs.Laws.{ListsHaveTheirChunks, StandingsPartition, HeldChunksAreInNoHand};
+ghost use Rattle.hs_model.specs.Laws.{ListsHaveTheirChunks, StandingsPartition, HeldChunksAreInNoHand, TracesAreClaimedOnce, ClaimsHoldForGood, ChunksStandByTheirClaim, NothingClaimedIsEvicted};
 
 /// The pinned and the reported chunks stand in their lists, each once, and the evicted, abandoned and
 /// reported ones in the hand, each once, until they are given back.
@@ -16,4 +16,24 @@ pub fn standings_partition()
 /// The buffer of a chunk that is indexed or pinned is not in the hand, and was not given back.
 pub fn held_chunks_are_in_no_hand()
     ensures { HeldChunksAreInNoHand }
+{}
+
+/// A trace has one claim at most, and a claimed trace is not indexed.
+pub fn traces_are_claimed_once()
+    ensures { TracesAreClaimedOnce }
+{}
+
+/// A claim holds for good: later ones stand behind it.
+pub fn claims_hold_for_good()
+    ensures { ClaimsHoldForGood }
+{}
+
+/// The chunks of a trace are pinned, reported and abandoned for the one group that claimed it.
+pub fn chunks_stand_by_their_claim()
+    ensures { ChunksStandByTheirClaim }
+{}
+
+/// No chunk of a claimed trace is evicted.
+pub fn nothing_claimed_is_evicted()
+    ensures { NothingClaimedIsEvicted }
 {}
