@@ -1,3 +1,10 @@
 pub mod Text
 pub mod LineFaults
 pub mod TextLaws
+pub mod Spelling
+pub mod Steps
+pub mod WordsLeft
+pub mod Opening
+pub mod Agreement
+pub mod Judging
+pub mod JudgingLaws

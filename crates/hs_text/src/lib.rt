@@ -3,13 +3,21 @@
 
 #![tactic(auto)]
 
+mod opening;
 mod reading;
+mod spelled;
+mod stop;
 #[cfg(test)]
 mod tests;
+mod words;
 mod writing;
 
+pub use opening::{LineReasons, open_line};
 pub use reading::{
     LineFault, count_words, decode_payload, hex_number, is_payload, line_fault, number,
     payload_len, split_line, split_word,
 };
+pub use spelled::{Spelled, spelled_word};
+pub use stop::Stop;
+pub use words::{Words, hex_in, number_in, payload_length};
 pub use writing::{push_hex, push_number, push_payload};

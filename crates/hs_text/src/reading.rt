@@ -5,9 +5,8 @@ ghost use Rattle.std.specs.List.{All, list_all};
 ghost use Rattle.hs_text.specs.Text.{has_bad_byte, has_bad_spaces, words_of, number_of, hex_of, is_hex_digit, hex_digit_of, is_payload, payload_of};
 ghost use Rattle.hs_text.specs.LineFaults.{line_fault_of};
 
-use hs_base::Memory;
-use hs_base::{Bytes, List};
 use hex::FromHexError;
+use hs_base::{Bytes, List, Memory};
 use std::alloc::Global;
 
 /// What is wrong with a line, whatever its words are.

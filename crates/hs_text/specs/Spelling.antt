@@ -1,0 +1,31 @@
+-- Words of a fixed list, each with its text. A text is that of the first word of the list that has it.
+use Rattle.std.proofs.Common.{◌≡◌, ℕ, Bool, true, false, List, [], ◌∷◌, Option, Some, None, cond, codes, refl}
+use Rattle.std.specs.Str.{bytes_eq}
+use Rattle.std.specs.List.{find}
+use Rattle.std.proofs.lemmas.Slice.Eq.{bytes_eq-Decides}
+
+-- which of these words has this text
+unfoldable pub spelled : {W : Type 0} → (W → List ℕ) → List W → List ℕ → Option W
+spelled text words word = find (λ w. bytes_eq word (text w)) words
+
+found_at : {W : Type 0} (p : W → Bool) (v w : W) (rest : Option W) (b : Bool) → p v ≡ b → (rest ≡ Some w → p w ≡ true) → cond b (Some v) rest ≡ Some w → p w ≡ true
+found_at p v w rest true holds later is = let same : v ≡ w = cc in rw (← same) holds
+found_at p v w rest false holds later is = later is
+
+found : {W : Type 0} (p : W → Bool) (words : List W) (w : W) → find p words ≡ Some w → p w ≡ true
+found p [] w is = cc
+found p (v ∷ words) w is = found_at p v w (find p words) (p v) refl (found p words w) is
+
+-- what is found has this text
+pub spelled-text : {W : Type 0} (text : W → List ℕ) (words : List W) (word : List ℕ) (w : W) → spelled text words word ≡ Some w → word ≡ text w
+unfolding spelled
+spelled-text text words word w is = (bytes_eq-Decides word (text w)).0 (found (λ v. bytes_eq word (text v)) words w is)
+
+-- worked examples: bits by their names
+abbrev bit_name : Bool → List ℕ
+bit_name false = codes "off"
+bit_name true = codes "on"
+
+bits_spelled : (spelled bit_name (false ∷ true ∷ []) (codes "on") ≡ Some true) × (spelled bit_name (false ∷ true ∷ []) (codes "o") ≡ None)
+unfolding spelled
+bits_spelled = (refl, refl)

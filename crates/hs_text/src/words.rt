@@ -1,0 +1,110 @@
+//! The words of a line, taken one after another, and what each says.
+
+ghost use Rattle.std.specs.Prelude.{◌≡◌, ◌≤◌, ◌∷◌, [], length, MatchOption, OnOk, IsTrue};
+ghost use Rattle.hs_text.specs.Text.{words_of, number_of, hex_of, is_payload, payload_of};
+ghost use Rattle.hs_text.specs.Steps.{Gives, value_or};
+ghost use Rattle.hs_text.specs.WordsLeft.{words_in, next_word, last_word, no_word, payload_length};
+
+use crate::reading::{count_words, hex_number, is_payload, number, payload_len, split_word};
+use crate::stop::Stop;
+
+/// The words of a line that were not taken yet.
+#[derive(Clone, Copy, Debug)]
+pub struct Words<'a> {
+    rest: Option<&'a [u8]>,
+}
+
+impl<'a> Words<'a> {
+    /// All words of a line.
+    pub fn of(line: &'a [u8]) -> Words<'a>
+        ensures { words_in result ≡ words_of line.now }
+    {
+        Words { rest: Some(line) }
+    }
+
+    /// How many are left.
+    pub fn count(&self) -> usize
+        ensures { result ≡ length (words_in self.now) }
+    {
+        match self.rest {
+            Some(rest) => count_words(rest),
+            None => 0,
+        }
+    }
+
+    /// Takes the next word, where one is left.
+    pub fn next(&mut self) -> Option<&'a [u8]>
+        ensures { MatchOption result ((words_in self.old ≡ []) × (words_in self.new ≡ []))
+            (λ word. words_in self.old ≡ word.now ∷ words_in self.new) }
+    {
+        let (word, rest) = split_word(self.rest?);
+        self.rest = rest;
+        Some(word)
+    }
+
+    /// Takes the next word, which this reason says is missing where none is left.
+    pub fn take<R: Copy>(&mut self, missing: R) -> Result<&'a [u8], Stop<R>>
+        ensures { Gives (λ word. (word.now, words_in self.new)) result (next_word missing (words_in self.old)) }
+    {
+        match self.next() {
+            Some(word) => Ok(word),
+            None => Err(Stop::Fault(missing)),
+        }
+    }
+
+    /// The one word that is left.
+    #[tactic(auto, using(crate::proofs::WordLemmas::last_word_many))]
+    pub fn last<R: Copy>(mut self, wrong: R) -> Result<&'a [u8], Stop<R>>
+        ensures { Gives (λ word. word.now) result (last_word wrong (words_in self.entry)) }
+    {
+        let word = self.take(wrong)?;
+        match self.rest {
+            None => Ok(word),
+            Some(_) => Err(Stop::Fault(wrong)),
+        }
+    }
+
+    /// That no word is left.
+    #[tactic(auto, using(crate::proofs::WordLemmas::no_word_many))]
+    pub fn end<R: Copy>(self, extra: R) -> Result<(), Stop<R>>
+        ensures { Gives (λ _. tt) result (no_word extra (words_in self.entry)) }
+    {
+        match self.rest {
+            None => Ok(()),
+            Some(_) => Err(Stop::Fault(extra)),
+        }
+    }
+}
+
+/// The number that a word is.
+pub fn number_in<R: Copy>(word: &[u8], wrong: R) -> Result<u64, Stop<R>>
+    ensures { Gives (λ n. n) result (value_or wrong (number_of word.now)) }
+{
+    match number(word) {
+        Some(value) => Ok(value),
+        None => Err(Stop::Fault(wrong)),
+    }
+}
+
+/// The number that a word of so many hexadecimal digits is.
+pub fn hex_in<R: Copy>(word: &[u8], digits: u32, wrong: R) -> Result<u128, Stop<R>>
+    requires { digits ≤ 32 }
+    ensures { Gives (λ n. n) result (value_or wrong (hex_of digits word.now)) }
+{
+    match hex_number(word, digits) {
+        Some(value) => Ok(value),
+        None => Err(Stop::Fault(wrong)),
+    }
+}
+
+/// How many bytes the payload has that a word is.
+pub fn payload_length<R: Copy>(word: &[u8], wrong: R) -> Result<usize, Stop<R>>
+    ensures value { Gives (λ n. n) result (payload_length wrong word.now) }
+    ensures payload { OnOk result (IsTrue (is_payload word.now)) }
+{
+    if is_payload(word) {
+        Ok(payload_len(word))
+    } else {
+        Err(Stop::Fault(wrong))
+    }
+}
