@@ -18,19 +18,14 @@ use Rattle.hs_journal.proofs.Drafts.{all_push, all_onto_last, length-onto_last, 
 
 abbrev pub HasBoth : Place → ℕ → ℕ → Type 0
 HasBoth places.Start nodes clients = ⊤
-HasBoth places.Head nodes clients = (0 < nodes) × (0 < clients)
-HasBoth places.Draws nodes clients = (0 < nodes) × (0 < clients)
-HasBoth places.Logs nodes clients = (0 < nodes) × (0 < clients)
-HasBoth places.Order nodes clients = (0 < nodes) × (0 < clients)
-HasBoth places.Ended nodes clients = (0 < nodes) × (0 < clients)
+HasBoth _ nodes clients = (0 < nodes) × (0 < clients)
 
 abbrev pub Counts : Place → Draft → Type 0
 Counts places.Start d = (d.draws ≡ []) × (d.logs ≡ []) × (d.told ≡ [])
 Counts places.Head d = (d.draws ≡ []) × (d.logs ≡ []) × (d.told ≡ [])
 Counts places.Draws d = (0 < length d.draws) × (length d.draws ≤ d.nodes * d.clients) × (d.logs ≡ []) × (d.told ≡ [])
 Counts places.Logs d = (length d.draws ≡ d.nodes * d.clients) × (0 < length d.logs) × (length d.logs ≤ d.nodes) × (d.told ≡ [])
-Counts places.Order d = (length d.draws ≡ d.nodes * d.clients) × (length d.logs ≡ d.nodes)
-Counts places.Ended d = (length d.draws ≡ d.nodes * d.clients) × (length d.logs ≡ d.nodes)
+Counts _ d = (length d.draws ≡ d.nodes * d.clients) × (length d.logs ≡ d.nodes)
 
 pub record Keeps (d : Draft) : Type 0 where
   pub nodes : d.nodes ≤ 16
@@ -68,27 +63,20 @@ keeps_fresh = record { nodes = omega arith; clients = omega arith; some = tt; co
 
 some_clients : (place : Place) (nodes clients : ℕ) → HasBoth place nodes clients → HasClients place clients
 some_clients places.Start nodes clients both = tt
-some_clients places.Head nodes clients both = both.1
-some_clients places.Draws nodes clients both = both.1
-some_clients places.Logs nodes clients both = both.1
-some_clients places.Order nodes clients both = both.1
-some_clients places.Ended nodes clients both = both.1
+some_clients _ nodes clients both = both.1
 
 few_draws : (place : Place) (d : Draft) → Counts place d → length d.draws ≤ d.nodes * d.clients
 few_draws places.Start d counts = let none = ap length counts.0 in omega (arith, none)
 few_draws places.Head d counts = let none = ap length counts.0 in omega (arith, none)
 few_draws places.Draws d counts = counts.1
-few_draws places.Logs d counts = let all = counts.0 in omega (arith, all)
-few_draws places.Order d counts = let all = counts.0 in omega (arith, all)
-few_draws places.Ended d counts = let all = counts.0 in omega (arith, all)
+few_draws _ d counts = let all = counts.0 in omega (arith, all)
 
 few_logs : (place : Place) (d : Draft) → Counts place d → length d.logs ≤ d.nodes
 few_logs places.Start d counts = let none = ap length counts.1 in omega (arith, none)
 few_logs places.Head d counts = let none = ap length counts.1 in omega (arith, none)
 few_logs places.Draws d counts = let none = ap length counts.2 in omega (arith, none)
 few_logs places.Logs d counts = counts.2
-few_logs places.Order d counts = let all = counts.1 in omega (arith, all)
-few_logs places.Ended d counts = let all = counts.1 in omega (arith, all)
+few_logs _ d counts = let all = counts.1 in omega (arith, all)
 
 pub sound : (d : Draft) → Keeps d → IsSound d
 sound d keeps =
@@ -104,36 +92,20 @@ sound d keeps =
     }
 
 pub in_draws : (place : Place) → is_in_draws place ≡ true → place ≡ places.Draws
-in_draws places.Start is = cc
-in_draws places.Head is = cc
 in_draws places.Draws is = refl
-in_draws places.Logs is = cc
-in_draws places.Order is = cc
-in_draws places.Ended is = cc
+in_draws _ is = cc
 
 pub in_logs : (place : Place) → is_in_logs place ≡ true → place ≡ places.Logs
-in_logs places.Start is = cc
-in_logs places.Head is = cc
-in_logs places.Draws is = cc
 in_logs places.Logs is = refl
-in_logs places.Order is = cc
-in_logs places.Ended is = cc
+in_logs _ is = cc
 
 pub in_order : (place : Place) → is_in_order place ≡ true → place ≡ places.Order
-in_order places.Start is = cc
-in_order places.Head is = cc
-in_order places.Draws is = cc
-in_order places.Logs is = cc
 in_order places.Order is = refl
-in_order places.Ended is = cc
+in_order _ is = cc
 
 pub at_start : (place : Place) → may_begin_journal place ≡ true → place ≡ places.Start
 at_start places.Start is = refl
-at_start places.Head is = cc
-at_start places.Draws is = cc
-at_start places.Logs is = cc
-at_start places.Order is = cc
-at_start places.Ended is = cc
+at_start _ is = cc
 
 -- ---- one statement more
 
@@ -246,10 +218,7 @@ draws_kept places.Draws d keeps place is =
           more_draws _ (draws_at d.clients (length d.draws)) (draw_statements d.clients 0 d.draws) _ (log_statements 0 d.logs) (ap (log_statements 0) counts.2) (draw_statements-begun d.clients d.draws)
           ∙ ap (λ p. statements_at p d ++ draws_at d.clients (length d.draws) ∷ []) (sym place);
     }
-draws_kept places.Start d keeps place is = cc
-draws_kept places.Logs d keeps place is = cc
-draws_kept places.Order d keeps place is = cc
-draws_kept places.Ended d keeps place is = cc
+draws_kept _ d keeps place is = cc
 
 pub log_kept : (place : Place) (d : Draft) → Keeps d → d.place ≡ place → may_begin_log (past_of d) place ≡ true → Kept d (begun_log d) (log_at (length d.logs))
 log_kept places.Draws d keeps place is =
@@ -293,7 +262,4 @@ log_kept places.Logs d keeps place is =
           more_logs _ (log_at (length d.logs)) (draw_statements d.clients 0 d.draws) (log_statements 0 d.logs) _ (log_statements-begun d.logs)
           ∙ ap (λ p. statements_at p d ++ log_at (length d.logs) ∷ []) (sym place);
     }
-log_kept places.Start d keeps place is = cc
-log_kept places.Head d keeps place is = cc
-log_kept places.Order d keeps place is = cc
-log_kept places.Ended d keeps place is = cc
+log_kept _ d keeps place is = cc

@@ -215,12 +215,8 @@ taken_kept d next line keeps taken =
 -- ---- the journal that has ended
 
 pub ended_place : (place : Place) → is_ended place ≡ true → place ≡ places.Ended
-ended_place places.Start is = cc
-ended_place places.Head is = cc
-ended_place places.Draws is = cc
-ended_place places.Logs is = cc
-ended_place places.Order is = cc
 ended_place places.Ended is = refl
+ended_place _ is = cc
 
 pub ended_said : (d : Draft) → is_ended d.place ≡ true → draft_statements d ≡ journal_statements (journal_drafted d)
 ended_said d is =

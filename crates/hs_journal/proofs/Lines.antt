@@ -1,92 +1,30 @@
 -- The words of a line and what it says: each statement has one line, and a line that is taken is that of a statement.
-use Rattle.std.proofs.Common.{◌≡◌, ◌<◌, ◌≤◌, ◌^◌, ℕ, suc, Bool, true, false, not, nat_eq, cond, List, [], ◌∷◌, length, map, Option, Some, None, Result, Ok, Err, refl, sym, ap, ◌∙◌, arith}
-use Rattle.std.specs.Prelude.{decimal, option_and_then, option_map, if◌then◌else◌}
-use Rattle.std.specs.List.{find, list_all, AllByRecursion}
-use Rattle.std.specs.Str.{bytes_eq}
-use Rattle.std.proofs.lemmas.Slice.Eq.{bytes_eq-Decides}
-use Rattle.hs_text.specs.Text.{words_of, line_of, number_of, has_bad_byte, has_bad_spaces}
-use Rattle.hs_text.specs.declared.reading.LineFault.TheVariants as line_faults
-use Rattle.hs_text.specs.TextLaws.{is_word, number_of-decimal, decimal-number_of, is_word-decimal, words_of-line_of, line_of-words_of, line_fault_of-line_of}
+use Rattle.std.proofs.Common.{◌≡◌, ◌<◌, ◌≤◌, ◌^◌, ℕ, suc, Bool, true, false, not, nat_eq, nat_le, cond, List, [], ◌∷◌, length, map, Option, Some, None, Result, Ok, Err, refl, sym, ap, subst, ◌∙◌, arith}
+use borrow.Author.Tests.{leb-true}
+use Rattle.std.specs.Prelude.{decimal, option_and_then, option_map, is_none}
+use Rattle.std.specs.List.{list_all, AllByRecursion}
+use Rattle.hs_text.specs.Text.{line_of, number_of, has_bad_byte}
+use Rattle.hs_text.specs.TextLaws.{is_word, number_of-decimal, decimal-number_of, is_word-decimal, words_of-line_of, line_of-words_of}
+use Rattle.hs_text.specs.Steps.{◌>>=◌, first_that_holds}
+use Rattle.hs_text.specs.Spelling.{spelled-text, spelled-every}
+use Rattle.hs_text.specs.Opening.{line_reasons}
+use Rattle.hs_text.specs.Agreement.{Agrees, NoneHolds, agrees_unless, agrees_opened, agrees_ok, agrees_none, none_hold, none_is_first, line_opened, opened_says, words_spelled}
 use Rattle.hs_journal.specs.declared.refusal.JournalReason.{JournalReason}
 use Rattle.hs_journal.specs.declared.refusal.JournalReason.TheVariants as reasons
 use Rattle.hs_journal.specs.declared.word.Keyword.{Keyword}
-use Rattle.hs_journal.specs.declared.word.Keyword.TheVariants as keywords
 use Rattle.hs_journal.specs.declared.line.Numbers.{Numbers}
-use Rattle.hs_journal.specs.Statements.{keyword_text, number_count, keyword_of, all_keywords, numbers_of, statement_of, statement_line}
-use Rattle.hs_journal.specs.Faults.{numbers_at, may_stand, is_out_of_range, is_out_of_order, statement_fault, numbers_fault, keyword_fault, words_fault, fault_at}
-use Rattle.hs_journal.specs.Forward.{◌>>=◌, unless, three_numbers, Draft, past_of, after, statement_step, place_step, words_step, line_step}
+use Rattle.hs_journal.specs.Statements.{Statement, keyword_text, number_count, keyword_of, all_keywords, keywords_told_apart, numbers_of, says, statement_of, statement_line}
+use Rattle.hs_journal.specs.Faults.{numbers_at, may_stand, is_out_of_range, is_out_of_order, statement_reasons, keyword_reasons, before_words, fault_at}
+use Rattle.hs_journal.specs.Forward.{three_numbers, Draft, past_of, after, statement_step, keyword_step, line_step}
 
 abbrev pub IsSmall : ℕ → Type 0
 IsSmall n = n < 2 ^ 64
 
--- ---- words
-
-found_at : {X : Type 0} (p : X → Bool) (y x : X) (rest : Option X) (b : Bool) → p y ≡ b → (rest ≡ Some x → p x ≡ true) → cond b (Some y) rest ≡ Some x → p x ≡ true
-found_at p y x rest true holds later is = let same : y ≡ x = cc in ap p (sym same) ∙ holds
-found_at p y x rest false holds later is = later is
-
-found : {X : Type 0} (p : X → Bool) (xs : List X) (x : X) → find p xs ≡ Some x → p x ≡ true
-found p [] x is = cc
-found p (y ∷ ys) x is = found_at p y x (find p ys) (p y) refl (found p ys x) is
-
-pub keyword_text-keyword_of : (word : List ℕ) (k : Keyword) → keyword_of word ≡ Some k → word ≡ keyword_text k
-unfolding keyword_of
-keyword_text-keyword_of word k is = (bytes_eq-Decides word (keyword_text k)).0 (found (λ keyword. bytes_eq word (keyword_text keyword)) all_keywords k is)
-
-pub keyword_of-keyword_text : (k : Keyword) → keyword_of (keyword_text k) ≡ Some k
-unfolding keyword_of
-keyword_of-keyword_text keywords.Journal = refl
-keyword_of-keyword_text keywords.Draws = refl
-keyword_of-keyword_text keywords.Got = refl
-keyword_of-keyword_text keywords.Empty = refl
-keyword_of-keyword_text keywords.Log = refl
-keyword_of-keyword_text keywords.Chunk = refl
-keyword_of-keyword_text keywords.Crumb = refl
-keyword_of-keyword_text keywords.Trigger = refl
-keyword_of-keyword_text keywords.Ask = refl
-keyword_of-keyword_text keywords.Turn = refl
-keyword_of-keyword_text keywords.Given = refl
-keyword_of-keyword_text keywords.Missed = refl
-keyword_of-keyword_text keywords.Unread = refl
-keyword_of-keyword_text keywords.Coordinator = refl
-keyword_of-keyword_text keywords.Told = refl
-keyword_of-keyword_text keywords.End = refl
-
 keyword_is_word : (k : Keyword) → is_word (keyword_text k) ≡ true
-keyword_is_word keywords.Journal = refl
-keyword_is_word keywords.Draws = refl
-keyword_is_word keywords.Got = refl
-keyword_is_word keywords.Empty = refl
-keyword_is_word keywords.Log = refl
-keyword_is_word keywords.Chunk = refl
-keyword_is_word keywords.Crumb = refl
-keyword_is_word keywords.Trigger = refl
-keyword_is_word keywords.Ask = refl
-keyword_is_word keywords.Turn = refl
-keyword_is_word keywords.Given = refl
-keyword_is_word keywords.Missed = refl
-keyword_is_word keywords.Unread = refl
-keyword_is_word keywords.Coordinator = refl
-keyword_is_word keywords.Told = refl
-keyword_is_word keywords.End = refl
+keyword_is_word = spelled-every keyword_text all_keywords (λ k. is_word (keyword_text k)) keywords_told_apart refl
 
 few_numbers : (k : Keyword) → number_count k ≤ 3
-few_numbers keywords.Journal = omega arith
-few_numbers keywords.Draws = omega arith
-few_numbers keywords.Got = omega arith
-few_numbers keywords.Empty = omega arith
-few_numbers keywords.Log = omega arith
-few_numbers keywords.Chunk = omega arith
-few_numbers keywords.Crumb = omega arith
-few_numbers keywords.Trigger = omega arith
-few_numbers keywords.Ask = omega arith
-few_numbers keywords.Turn = omega arith
-few_numbers keywords.Given = omega arith
-few_numbers keywords.Missed = omega arith
-few_numbers keywords.Unread = omega arith
-few_numbers keywords.Coordinator = omega arith
-few_numbers keywords.Told = omega arith
-few_numbers keywords.End = omega arith
+few_numbers k = leb-true (number_count k) 3 (spelled-every keyword_text all_keywords (λ w. nat_le (number_count w) 3) keywords_told_apart refl k)
 
 -- ---- numbers
 
@@ -157,48 +95,44 @@ three_numbers-is (a ∷ b ∷ c ∷ d ∷ more) few = absurd (omega (arith, few)
 count_is : (a b : ℕ) → not (nat_eq a b) ≡ false → a ≡ b
 count_is a b is = grind arith
 
--- ---- a step says what the faults say
+-- ---- a step agrees with the reasons, and with what is said
 
-abbrev pub error_of : {A : Type 0} → Result A JournalReason → Option JournalReason
-error_of (Ok x) = None
-error_of (Err reason) = Some reason
+-- what a word says with these numbers
+abbrev stated : Keyword → List ℕ → Statement
+stated k ns = record { keyword = k; numbers = ns }
 
-unless-error : {A : Type 0} (b : Bool) (reason : JournalReason) (next : Result A JournalReason) (fault : Option JournalReason) → (b ≡ false → error_of next ≡ fault)
-    → error_of (unless b reason next) ≡ (if b then Some reason else fault)
-unless-error true reason next fault same = refl
-unless-error false reason next fault same = same refl
+-- the draft after what a line says
+abbrev pub after_said : Draft → Statement → Draft
+after_said d s = after d s.keyword (numbers_at s.numbers)
 
-statement_agrees : (d : Draft) (k : Keyword) (n : Numbers) → error_of (statement_step d k n) ≡ statement_fault (past_of d) k n
-statement_agrees d k n =
-    unless-error (is_out_of_range (past_of d) k n) reasons.Range _ _ (λ _. unless-error (is_out_of_order (past_of d) k n) reasons.Order (Ok (after d k n)) None (λ _. refl))
-
-numbers_agree : (d : Draft) (k : Keyword) (o : Option (List ℕ)) → error_of (number_list o >>= statement_step d k) ≡ numbers_fault (past_of d) k o
+numbers_agree : (d : Draft) (k : Keyword) (o : Option (List ℕ))
+    → Agrees (after_said d) (number_list o >>= statement_step d k) (first_that_holds ((is_none o, reasons.Number) ∷ statement_reasons (past_of d) (option_map (stated k) o))) (option_map (stated k) o)
 numbers_agree d k None = refl
-numbers_agree d k (Some ns) = statement_agrees d k (numbers_at ns)
+numbers_agree d k (Some ns) =
+    agrees_unless (after_said d) (is_out_of_range (past_of d) k (numbers_at ns)) reasons.Range _ _ (Some (stated k ns)) (λ _.
+    agrees_unless (after_said d) (is_out_of_order (past_of d) k (numbers_at ns)) reasons.Order (Ok (after d k (numbers_at ns))) None (Some (stated k ns)) (λ _. refl))
 
-place_agrees : (d : Draft) (o : Option Keyword) (words : List (List ℕ)) → error_of (place_step d o words) ≡ keyword_fault (past_of d) o words
-place_agrees d None words = refl
-place_agrees d (Some k) words =
-    unless-error (not (may_stand (past_of d) k)) reasons.Word _ _ (λ _.
-    unless-error (not (nat_eq (length words) (number_count k))) reasons.Count _ _ (λ counted.
+keyword_agrees : (d : Draft) (k : Keyword) (words : List (List ℕ)) → Agrees (after_said d) (keyword_step d k words) (first_that_holds (keyword_reasons (past_of d) k words)) (says k words)
+keyword_agrees d k words =
+    agrees_unless (after_said d) (not (may_stand (past_of d) k)) reasons.Word _ _ (says k words) (λ _.
+    agrees_unless (after_said d) (not (nat_eq (length words) (number_count k))) reasons.Count _ _ (says k words) (λ counted.
     let few = few_numbers k in
     let count = count_is (length words) (number_count k) counted in
-    ap (λ numbers. error_of (numbers >>= statement_step d k)) (three_numbers-is words (omega arith)) ∙ numbers_agree d k (numbers_of words)))
+    let same : nat_eq (length words) (number_count k) ≡ true = grind arith in
+    let numbers = three_numbers-is words (omega (arith, few, count)) in
+    rw (numbers, same) (numbers_agree d k (numbers_of words))))
 
-words_agree : (d : Draft) (words : List (List ℕ)) → error_of (words_step d words) ≡ words_fault (past_of d) words
-words_agree d [] = refl
-words_agree d (word ∷ words) = place_agrees d (keyword_of word) words
-
-pub line_agrees : (d : Draft) (line : List ℕ) → error_of (line_step d line) ≡ fault_at (past_of d) line
+pub line_agrees : (d : Draft) (line : List ℕ) → Agrees (after_said d) (line_step d line) (fault_at (past_of d) line) (statement_of line)
 unfolding line_step fault_at
-line_agrees d line =
-    unless-error (has_bad_byte line) reasons.Byte _ _ (λ _. unless-error (has_bad_spaces line) reasons.Spaces _ _ (λ _. words_agree d (words_of line)))
+line_agrees d line = agrees_opened (after_said d) before_words keyword_of (keyword_reasons (past_of d)) says (λ found. keyword_step d found.0 found.1) (keyword_agrees d) line
 
 -- ---- a line that is taken
 
 pub record Taken (d : Draft) (line : List ℕ) (next : Draft) : Type 0 where
   pub keyword : Keyword
   pub numbers : List ℕ
+  pub none : fault_at (past_of d) line ≡ None
+  pub prints : has_bad_byte line ≡ false
   pub spelled : line ≡ statement_line (record { keyword = keyword; numbers = numbers })
   pub says : statement_of line ≡ Some (record { keyword = keyword; numbers = numbers })
   pub stands : may_stand (past_of d) keyword ≡ true
@@ -208,62 +142,57 @@ pub record Taken (d : Draft) (line : List ℕ) (next : Draft) : Type 0 where
   pub ordered : is_out_of_order (past_of d) keyword (numbers_at numbers) ≡ false
   pub is : next ≡ after d keyword (numbers_at numbers)
 
-pub unless_ok : {A : Type 0} (b : Bool) (reason : JournalReason) (next : Result A JournalReason) (x : A) → unless b reason next ≡ Ok x → (b ≡ false) × (next ≡ Ok x)
-unless_ok true reason next x is = cc
-unless_ok false reason next x is = (refl, is)
+-- the numbers of what is said
+record IsSaid (k : Keyword) (words : List (List ℕ)) (s : Statement) : Type 0 where
+  numbers : List ℕ
+  are : numbers_of words ≡ Some numbers
+  is : s ≡ stated k numbers
+
+said_numbers : (k : Keyword) (words : List (List ℕ)) (s : Statement) (b : Bool) (o : Option (List ℕ)) → numbers_of words ≡ o → cond b (option_map (stated k) o) None ≡ Some s → IsSaid k words s
+said_numbers k words s true (Some ns) are is = record { numbers = ns; are = are; is = (let same : stated k ns ≡ s = cc in sym same) }
+said_numbers k words s true None are is = cc
+said_numbers k words s false o are is = cc
 
 not_false : (b : Bool) → not b ≡ false → b ≡ true
 not_false true is = refl
-not_false false is = sym is
+not_false false is = cc
 
 length-decimals : (ns : List ℕ) → length (map decimal ns) ≡ length ns
 length-decimals [] = refl
 length-decimals (n ∷ ns) = ap suc (length-decimals ns)
 
-numbers_taken : (d next : Draft) (line word : List ℕ) (words : List (List ℕ)) (k : Keyword) (o : Option (List ℕ)) → words_of line ≡ word ∷ words → keyword_of word ≡ Some k
-    → may_stand (past_of d) k ≡ true → length words ≡ number_count k → numbers_of words ≡ o → (number_list o >>= statement_step d k) ≡ Ok next → Taken d line next
-numbers_taken d next line word words k None parts begun stands count numbers is = cc
-numbers_taken d next line word words k (Some ns) parts begun stands count numbers is =
-    let range = unless_ok (is_out_of_range (past_of d) k (numbers_at ns)) reasons.Range _ next is in
-    let order = unless_ok (is_out_of_order (past_of d) k (numbers_at ns)) reasons.Order _ next range.1 in
-    let decimals = decimals-numbers_of words ns numbers in
-    let counted : nat_eq (length words) (number_count k) ≡ true = grind arith in
+pub line_taken : (d next : Draft) (line : List ℕ) → line_step d line ≡ Ok next → Taken d line next
+unfolding fault_at
+line_taken d next line is =
+    let past = past_of d in
+    let taken = agrees_ok (after_said d) (line_step d line) (fault_at past line) (statement_of line) next (line_agrees d line) is in
+    let none = none_hold (line_reasons before_words keyword_of (keyword_reasons past) line) taken.none in
+    let found = line_opened before_words keyword_of (keyword_reasons past) line none in
+    let k : Keyword = found.word in
+    let words : List (List ℕ) = found.others in
+    let parts = found.are in
+    let begun = found.found in
+    let spoken : says k words ≡ Some taken.statement = sym (opened_says keyword_of (keyword_reasons past) says line found) ∙ taken.says in
+    let said = said_numbers k words taken.statement (nat_eq (length words) (number_count k)) (numbers_of words) refl spoken in
+    let ns : List ℕ = said.numbers in
+    let decimals = decimals-numbers_of words ns said.are in
+    let reasons = subst (λ (o : Option Statement). NoneHolds (statement_reasons past o)) (spoken ∙ ap Some said.is) found.none.1.1.1 in
     record {
       keyword = k;
       numbers = ns;
-      spelled = sym (line_of-words_of line) ∙ ap line_of (parts ∙ ap (λ w. w ∷ words) (keyword_text-keyword_of word k begun) ∙ ap (λ ws. keyword_text k ∷ ws) decimals.words_are);
-      says = rw (parts, begun, counted, numbers) refl;
-      stands = stands;
-      count = sym (length-decimals ns) ∙ ap length (sym decimals.words_are) ∙ count;
+      none = taken.none;
+      prints = none.0;
+      spelled = sym (line_of-words_of line) ∙ ap line_of (parts ∙ ap (λ w. w ∷ words) (spelled-text keyword_text all_keywords found.first k begun) ∙ ap (λ ws. keyword_text k ∷ ws) decimals.words_are);
+      says = taken.says ∙ ap Some said.is;
+      stands = not_false (may_stand past k) found.none.0;
+      count = sym (length-decimals ns) ∙ ap length (sym decimals.words_are) ∙ count_is (length words) (number_count k) found.none.1.0;
       small = decimals.small;
-      within = range.0;
-      ordered = order.0;
-      is = (let same = order.1 in cc);
+      within = reasons.0;
+      ordered = reasons.1.0;
+      is = taken.is ∙ ap (after_said d) said.is;
     }
 
-keyword_taken : (d next : Draft) (line word : List ℕ) (words : List (List ℕ)) (o : Option Keyword) → words_of line ≡ word ∷ words → keyword_of word ≡ o
-    → place_step d o words ≡ Ok next → Taken d line next
-keyword_taken d next line word words None parts begun is = cc
-keyword_taken d next line word words (Some k) parts begun is =
-    let stands = unless_ok (not (may_stand (past_of d) k)) reasons.Word _ next is in
-    let counted = unless_ok (not (nat_eq (length words) (number_count k))) reasons.Count _ next stands.1 in
-    let few = few_numbers k in
-    let count = count_is (length words) (number_count k) counted.0 in
-    numbers_taken d next line word words k (numbers_of words) parts begun (not_false _ stands.0) count refl
-    (ap (λ numbers. numbers >>= statement_step d k) (sym (three_numbers-is words (omega arith))) ∙ counted.1)
-
-words_taken : (d next : Draft) (line : List ℕ) (words : List (List ℕ)) → words_of line ≡ words → words_step d words ≡ Ok next → Taken d line next
-words_taken d next line [] parts is = cc
-words_taken d next line (word ∷ words) parts is = keyword_taken d next line word words (keyword_of word) parts refl is
-
-pub line_taken : (d next : Draft) (line : List ℕ) → line_step d line ≡ Ok next → Taken d line next
-unfolding line_step
-line_taken d next line is =
-    let bytes = unless_ok (has_bad_byte line) reasons.Byte _ next is in
-    let spaces = unless_ok (has_bad_spaces line) reasons.Spaces _ next bytes.1 in
-    words_taken d next line (words_of line) refl spaces.1
-
--- ---- the line of a statement is taken
+-- ---- what is said is taken
 
 decimals_are_words : (ns : List ℕ) → AllByRecursion IsSmall ns → list_all is_word (map decimal ns) ≡ true
 decimals_are_words [] small = refl
@@ -272,39 +201,25 @@ decimals_are_words (n ∷ ns) small =
     let more = decimals_are_words ns small.1 in
     rw (first, more) refl
 
-pub are_words : (k : Keyword) (ns : List ℕ) → AllByRecursion IsSmall ns → list_all is_word (keyword_text k ∷ map decimal ns) ≡ true
-are_words k ns small =
-    let first = keyword_is_word k in
-    let more = decimals_are_words ns small in
-    rw (first, more) refl
-
-no_fault : (bytes spaces : Bool) → (if bytes then Some line_faults.Byte else if spaces then Some line_faults.Spaces else None) ≡ None → (bytes ≡ false) × (spaces ≡ false)
-no_fault true spaces is = cc
-no_fault false true is = cc
-no_fault false false is = (refl, refl)
-
 pub statement_taken : (d : Draft) (k : Keyword) (ns : List ℕ) → AllByRecursion IsSmall ns → length ns ≡ number_count k → may_stand (past_of d) k ≡ true
     → is_out_of_range (past_of d) k (numbers_at ns) ≡ false → is_out_of_order (past_of d) k (numbers_at ns) ≡ false
     → line_step d (statement_line (record { keyword = k; numbers = ns })) ≡ Ok (after d k (numbers_at ns))
-unfolding line_step
+unfolding fault_at
 statement_taken d k ns small count stands within ordered =
-    let words = keyword_text k ∷ map decimal ns in
-    let all = are_words k ns small in
-    let clean = no_fault (has_bad_byte (line_of words)) (has_bad_spaces (line_of words)) (line_fault_of-line_of (keyword_text k) (map decimal ns) all) in
-    let bytes = clean.0 in
-    let spaces = clean.1 in
-    let parts = words_of-line_of (keyword_text k) (map decimal ns) all in
-    let begun = keyword_of-keyword_text k in
+    let past = past_of d in
+    let words = map decimal ns in
+    let line = line_of (keyword_text k ∷ words) in
+    let first = keyword_is_word k in
+    let more = decimals_are_words ns small in
+    let print : list_all is_word (keyword_text k ∷ words) ≡ true = rw (first, more) refl in
     let size = length-decimals ns in
-    let counted : nat_eq (length (map decimal ns)) (number_count k) ≡ true = grind arith in
-    let few = few_numbers k in
-    let numbers : three_numbers (map decimal ns) ≡ Ok (numbers_at ns) = three_numbers-is (map decimal ns) (omega arith) ∙ ap number_list (numbers_of-decimals ns small) in
-    ap (λ b. unless b reasons.Byte (unless (has_bad_spaces (line_of words)) reasons.Spaces (words_step d (words_of (line_of words))))) bytes
-    ∙ ap (λ b. unless b reasons.Spaces (words_step d (words_of (line_of words)))) spaces
-    ∙ ap (words_step d) parts
-    ∙ ap (λ o. place_step d o (map decimal ns)) begun
-    ∙ ap (λ b. unless (not b) reasons.Word (unless (not (nat_eq (length (map decimal ns)) (number_count k))) reasons.Count (three_numbers (map decimal ns) >>= statement_step d k))) stands
-    ∙ ap (λ b. unless (not b) reasons.Count (three_numbers (map decimal ns) >>= statement_step d k)) counted
-    ∙ ap (λ r. r >>= statement_step d k) numbers
-    ∙ ap (λ b. unless b reasons.Range (unless (is_out_of_order (past_of d) k (numbers_at ns)) reasons.Order (Ok (after d k (numbers_at ns))))) within
-    ∙ ap (λ b. unless b reasons.Order (Ok (after d k (numbers_at ns)))) ordered
+    let counted : nat_eq (length words) (number_count k) ≡ true = grind arith in
+    let numbers = numbers_of-decimals ns small in
+    let spoken : says k words ≡ Some (stated k ns) = rw (counted, numbers) refl in
+    let parts = words_of-line_of (keyword_text k) words print in
+    let begun = keywords_told_apart k in
+    let said : statement_of line ≡ Some (stated k ns) = rw (parts, begun) spoken in
+    let reasons : NoneHolds (statement_reasons past (says k words)) = subst (λ (o : Option Statement). NoneHolds (statement_reasons past o)) (sym spoken) (within, (ordered, tt)) in
+    let none : NoneHolds (keyword_reasons past k words) = (ap not stands, (ap not counted, (ap is_none numbers, reasons))) in
+    agrees_none (after_said d) (line_step d line) (fault_at past line) (stated k ns) (subst (λ (o : Option Statement). Agrees (after_said d) (line_step d line) (fault_at past line) o) said (line_agrees d line))
+    (none_is_first (line_reasons before_words keyword_of (keyword_reasons past) line) (words_spelled before_words keyword_of (keyword_reasons past) (keyword_text k) words k print begun none))

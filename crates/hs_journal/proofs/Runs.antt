@@ -15,18 +15,16 @@ use Rattle.hs_journal.specs.Views.{PlainJournal}
 use Rattle.hs_journal.specs.Statements.{Statement, statement_line, draw_statement, step_statement, told_statement}
 use Rattle.hs_journal.specs.Grammar.{head_statement, draw_statements, log_statements, order_statements, coordinator_statement, end_statement, journal_lines, IsDraw, IsStep, IsNodeBelow, IsJournal}
 use Rattle.hs_journal.specs.Faults.{numbers_at, is_out_of_range}
-use Rattle.hs_journal.specs.Forward.{◌>>=◌, Draft, fresh, past_of, onto_last, line_step}
+use Rattle.hs_text.specs.Steps.{◌>>=◌}
+use Rattle.hs_text.specs.JudgingLaws.{run}
+use Rattle.hs_journal.specs.Forward.{Draft, fresh, past_of, onto_last, line_step}
 use Rattle.hs_journal.proofs.Lines.{IsSmall, statement_taken}
 use Rattle.hs_journal.proofs.Drafts.{onto_current, draws_at, log_at}
 
 -- ---- lines, one after another
 
-abbrev pub run : Draft → List (List ℕ) → Result Draft JournalReason
-run d [] = Ok d
-run d (line ∷ lines) = line_step d line >>= λ next. run next lines
-
 abbrev pub run_statements : Draft → List Statement → Result Draft JournalReason
-run_statements d statements = run d (map statement_line statements)
+run_statements d statements = run line_step d (map statement_line statements)
 
 onward : (r : Result Draft JournalReason) (a b : Draft → Result Draft JournalReason) → ((d : Draft) → a d ≡ b d) → (r >>= a) ≡ (r >>= b)
 onward (Ok d) a b same = same d
@@ -247,7 +245,7 @@ head_ordered nodes clients limits =
     grind arith
 
 -- all lines of a journal are taken, and the journal is read
-pub run_journal : (J : PlainJournal) → IsJournal J → run fresh (journal_lines J) ≡ Ok (ended_draft J)
+pub run_journal : (J : PlainJournal) → IsJournal J → run line_step fresh (journal_lines J) ≡ Ok (ended_draft J)
 run_journal J is =
     let limits = limits_of J is in
     let nodes = J.nodes in

@@ -1,8 +1,10 @@
 -- A line at a time, forward: what is read so far, and what the next line makes of it or why it is refused. The reader's
 -- own functions are stated by these. That they agree with the look back over the earlier lines is proved apart.
-use Rattle.std.specs.Prelude.{◌≡◌, ℕ, ◌==◌, ◌<◌, ◌≤◌, Bool, true, false, not, List, [], ◌∷◌, ◌++◌, length, map, drop, Option, Some, None, Result, Ok, Err, ⊤, codes, refl}
-use Rattle.std.specs.Borrow.{Bor}
-use Rattle.hs_text.specs.Text.{words_of, has_bad_byte, has_bad_spaces, number_of}
+use Rattle.std.specs.Prelude.{◌≡◌, ℕ, ◌==◌, ◌<◌, ◌≤◌, Bool, true, false, not, List, [], ◌∷◌, ◌++◌, length, map, Result, Ok, Err, ⊤, codes, refl}
+use Rattle.hs_text.specs.Text.{number_of}
+use Rattle.hs_text.specs.Steps.{◌>>=◌, unless, value_or}
+use Rattle.hs_text.specs.Spelling.{spelled}
+use Rattle.hs_text.specs.Opening.{opened}
 use Rattle.hs_base.specs.declared.ids.NodeId.{NodeId}
 use Rattle.hs_journal.specs.declared.journal.Draw.{Draw}
 use Rattle.hs_journal.specs.declared.journal.Draw.TheVariants as draws
@@ -10,8 +12,6 @@ use Rattle.hs_journal.specs.declared.journal.Step.{Step}
 use Rattle.hs_journal.specs.declared.journal.Step.TheVariants as steps
 use Rattle.hs_journal.specs.declared.refusal.JournalReason.{JournalReason}
 use Rattle.hs_journal.specs.declared.refusal.JournalReason.TheVariants as reasons
-use Rattle.hs_journal.specs.declared.stop.Stop.{Stop}
-use Rattle.hs_journal.specs.declared.stop.Stop.TheVariants as stops
 use Rattle.hs_journal.specs.declared.word.Keyword.{Keyword}
 use Rattle.hs_journal.specs.declared.word.Keyword.TheVariants as keywords
 use Rattle.hs_journal.specs.declared.place.Place.{Place}
@@ -21,46 +21,14 @@ use Rattle.hs_journal.specs.declared.reader.Reader.{Reader}
 use Rattle.hs_journal.specs.Views.{PlainJournal}
 use Rattle.hs_journal.specs.Statements.{number_count, keyword_of}
 use Rattle.hs_journal.specs.LookBack.{Past}
-use Rattle.hs_journal.specs.Faults.{is_in_draws, is_in_logs, may_stand, is_out_of_range, is_out_of_order}
-
-infixl 10 ◌>>=◌
-abbrev pub ◌>>=◌ : {A B : Type 0} → Result A JournalReason → (A → Result B JournalReason) → Result B JournalReason
-(Ok x) >>= f = f x
-(Err e) >>= f = Err e
-
--- What a function returned, seen by view, is what reading gives, unless memory ran out.
-abbrev pub Stops : {Y : Type 0} → Stop → Result Y JournalReason → Type 0
-Stops stops.Memory read = Unit {0}
-Stops (stops.Fault reason) read = read ≡ Err reason
-
-abbrev pub Gives : {X Y : Type 0} → (X → Y) → Result X Stop → Result Y JournalReason → Type 0
-Gives view (Ok x) read = read ≡ Ok (view x)
-Gives view (Err stop) read = Stops stop read
-
-abbrev pub unless : {A : Type 0} → Bool → JournalReason → Result A JournalReason → Result A JournalReason
-unless true reason next = Err reason
-unless false reason next = next
+use Rattle.hs_journal.specs.Faults.{is_in_draws, is_in_logs, may_stand, is_out_of_range, is_out_of_order, before_words}
 
 -- ---- numbers
-
--- the words behind the first
-abbrev pub words_behind : List ℕ → List (List ℕ)
-words_behind line = drop 1 (words_of line)
-
--- the words of what is left of a line
-abbrev pub words_left : Option (Bor (List ℕ)) → List (List ℕ)
-words_left None = []
-words_left (Some rest) = words_of rest.now
-
--- the value of a word, or Number where it is none
-abbrev pub number_or : Option ℕ → Result ℕ JournalReason
-number_or None = Err reasons.Number
-number_or (Some n) = Ok n
 
 -- the number that the next word is, and the words behind it; 0 where no word is left
 abbrev pub next_number : List (List ℕ) → Result (ℕ × List (List ℕ)) JournalReason
 next_number [] = Ok (0, [])
-next_number (word ∷ words) = number_or (number_of word) >>= λ n. Ok (n, words)
+next_number (word ∷ words) = value_or reasons.Number (number_of word) >>= λ n. Ok (n, words)
 
 unfoldable pub three_numbers : List (List ℕ) → Result Numbers JournalReason
 three_numbers words = do
@@ -152,16 +120,8 @@ keyword_step d keyword words =
     unless (not (may_stand (past_of d) keyword)) reasons.Word
     (unless (not (length words == number_count keyword)) reasons.Count (three_numbers words >>= statement_step d keyword))
 
-abbrev pub place_step : Draft → Option Keyword → List (List ℕ) → Result Draft JournalReason
-place_step d None words = Err reasons.Word
-place_step d (Some keyword) words = keyword_step d keyword words
-
-abbrev pub words_step : Draft → List (List ℕ) → Result Draft JournalReason
-words_step d [] = Err reasons.Word
-words_step d (word ∷ words) = place_step d (keyword_of word) words
-
 unfoldable pub line_step : Draft → List ℕ → Result Draft JournalReason
-line_step d line = unless (has_bad_byte line) reasons.Byte (unless (has_bad_spaces line) reasons.Spaces (words_step d (words_of line)))
+line_step d line = opened before_words keyword_of line >>= λ found. keyword_step d found.0 found.1
 
 -- the journal of a draft whose text has ended
 abbrev pub journal_drafted : Draft → PlainJournal
@@ -170,11 +130,7 @@ journal_drafted d = record { nodes = d.nodes; clients = d.clients; draws = d.dra
 -- at each place but the first, there is a client
 abbrev pub HasClients : Place → ℕ → Type 0
 HasClients places.Start clients = ⊤
-HasClients places.Head clients = 0 < clients
-HasClients places.Draws clients = 0 < clients
-HasClients places.Logs clients = 0 < clients
-HasClients places.Order clients = 0 < clients
-HasClients places.Ended clients = 0 < clients
+HasClients _ clients = 0 < clients
 
 -- what bounds the numbers of a draft whose lines had no fault
 pub record IsSound (d : Draft) : Type 0 where
@@ -193,10 +149,10 @@ abbrev two_clients : Draft
 two_clients = record { place = places.Head; nodes = 1; clients = 2; draws = []; logs = []; told = [] }
 
 head_taken : line_step fresh (codes "journal 1 1 2") ≡ Ok two_clients
-unfolding line_step three_numbers keyword_of
+unfolding line_step three_numbers opened spelled
 head_taken = refl
 
 draws_taken : ((line_step two_clients (codes "draws 0 0") >>= λ d. line_step d (codes "got 3 0")) ≡ Ok (record two_clients { place = places.Draws; draws = (draws.Got 3 0 ∷ []) ∷ [] }))
     × (line_step two_clients (codes "draws 0 1") ≡ Err reasons.Order)
-unfolding line_step three_numbers keyword_of
+unfolding line_step three_numbers opened spelled
 draws_taken = (refl, refl)

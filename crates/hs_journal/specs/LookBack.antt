@@ -19,18 +19,10 @@ place_behind keywords.Journal = places.Head
 place_behind keywords.Draws = places.Draws
 place_behind keywords.Got = places.Draws
 place_behind keywords.Empty = places.Draws
-place_behind keywords.Log = places.Logs
-place_behind keywords.Chunk = places.Logs
-place_behind keywords.Crumb = places.Logs
-place_behind keywords.Trigger = places.Logs
-place_behind keywords.Ask = places.Logs
-place_behind keywords.Turn = places.Logs
-place_behind keywords.Given = places.Logs
-place_behind keywords.Missed = places.Logs
-place_behind keywords.Unread = places.Logs
 place_behind keywords.Coordinator = places.Order
 place_behind keywords.Told = places.Order
 place_behind keywords.End = places.Ended
+place_behind _ = places.Logs
 
 abbrev pub is_head_word : Keyword → Bool
 is_head_word keywords.Journal = true
@@ -86,5 +78,5 @@ past_said earlier =
 -- worked examples
 looked_back : past_said (said (codes "empty 5" ∷ codes "got 0 4" ∷ codes "draws 0 1" ∷ codes "draws 0 0" ∷ codes "journal 1 2 3" ∷ []))
     ≡ record { place = places.Draws; nodes = 2; clients = 3; draws = 2; logs = 0 }
-unfolding Rattle.hs_journal.specs.Statements.keyword_of
+unfolding Rattle.hs_text.specs.Spelling.spelled
 looked_back = refl

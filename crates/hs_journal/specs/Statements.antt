@@ -1,9 +1,9 @@
 -- A line of a journal is a word and numbers: it says what that word says of the numbers. Each word has its own count of
 -- numbers, and what a line says has one text.
 use Rattle.std.specs.Prelude.{◌≡◌, ℕ, ◌==◌, List, [], ◌∷◌, length, map, codes, decimal, Option, Some, None, option_and_then, option_map, if◌then◌else◌, refl}
-use Rattle.std.specs.List.{find}
-use Rattle.std.specs.Str.{bytes_eq}
 use Rattle.hs_text.specs.Text.{words_of, line_of, number_of}
+use Rattle.hs_text.specs.Spelling.{spelled}
+use Rattle.hs_text.specs.Opening.{words_say}
 use Rattle.hs_base.specs.declared.ids.NodeId.{NodeId}
 use Rattle.hs_journal.specs.declared.journal.Draw.{Draw}
 use Rattle.hs_journal.specs.declared.journal.Draw.TheVariants as draws
@@ -68,8 +68,27 @@ all_keywords =
     ∷ keywords.Unread ∷ keywords.Told ∷ keywords.Draws ∷ keywords.Log ∷ keywords.Journal ∷ keywords.Coordinator ∷ keywords.End ∷ []
 
 -- which of them a word is
-unfoldable pub keyword_of : List ℕ → Option Keyword
-keyword_of word = find (λ keyword. bytes_eq word (keyword_text keyword)) all_keywords
+abbrev pub keyword_of : List ℕ → Option Keyword
+keyword_of = spelled keyword_text all_keywords
+
+pub keywords_told_apart : (keyword : Keyword) → keyword_of (keyword_text keyword) ≡ Some keyword
+unfolding spelled
+keywords_told_apart keywords.Journal = refl
+keywords_told_apart keywords.Draws = refl
+keywords_told_apart keywords.Got = refl
+keywords_told_apart keywords.Empty = refl
+keywords_told_apart keywords.Log = refl
+keywords_told_apart keywords.Chunk = refl
+keywords_told_apart keywords.Crumb = refl
+keywords_told_apart keywords.Trigger = refl
+keywords_told_apart keywords.Ask = refl
+keywords_told_apart keywords.Turn = refl
+keywords_told_apart keywords.Given = refl
+keywords_told_apart keywords.Missed = refl
+keywords_told_apart keywords.Unread = refl
+keywords_told_apart keywords.Coordinator = refl
+keywords_told_apart keywords.Told = refl
+keywords_told_apart keywords.End = refl
 
 -- the numbers that words are, where each is one
 abbrev pub numbers_of : List (List ℕ) → Option (List ℕ)
@@ -80,13 +99,9 @@ numbers_of (word ∷ words) = option_and_then (λ n. option_map (λ ns. n ∷ ns
 abbrev pub says : Keyword → List (List ℕ) → Option Statement
 says keyword words = if length words == number_count keyword then option_map (λ ns. record { keyword = keyword; numbers = ns }) (numbers_of words) else None
 
-abbrev pub words_say : List (List ℕ) → Option Statement
-words_say [] = None
-words_say (word ∷ words) = option_and_then (λ keyword. says keyword words) (keyword_of word)
-
 -- what a line says
 abbrev pub statement_of : List ℕ → Option Statement
-statement_of line = words_say (words_of line)
+statement_of line = words_say keyword_of says (words_of line)
 
 -- what is said of a draw
 abbrev pub draw_statement : Draw → Statement
@@ -113,9 +128,9 @@ lines_say : (statement_of (codes "journal 1 2 3") ≡ Some (record { keyword = k
     × (statement_of (codes "got 0 7") ≡ Some (draw_statement (draws.Got 0 7)))
     × (statement_of (codes "unread") ≡ Some (step_statement steps.Unread))
     × (statement_of (codes "end") ≡ Some (record { keyword = keywords.End; numbers = [] }))
-unfolding keyword_of
+unfolding spelled
 lines_say = (refl, refl, refl, refl)
 
 lines_say_nothing : (statement_of (codes "got 7") ≡ None) × (statement_of (codes "got 00 7") ≡ None) × (statement_of (codes "gott 0 7") ≡ None) × (statement_of (codes "end 0") ≡ None)
-unfolding keyword_of
+unfolding spelled
 lines_say_nothing = (refl, refl, refl, refl)

@@ -10,7 +10,6 @@ mod place;
 mod reader;
 mod reading;
 mod refusal;
-mod stop;
 #[cfg(test)]
 mod tests;
 mod word;

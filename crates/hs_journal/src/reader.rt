@@ -2,7 +2,8 @@
 
 ghost use Rattle.std.specs.Prelude.{◌≡◌, ◌<◌, ◌≤◌, ◌∷◌, ◌++◌, [], true, false, map, length, OnOk, IfOk};
 ghost use Rattle.hs_journal.specs.Faults.{all_clients, may_stand, is_out_of_range, is_out_of_order, is_in_draws, is_in_logs, is_ended};
-ghost use Rattle.hs_journal.specs.Forward.{Gives, IsSound, draft_of, past_of, after, fresh, entered, with_draw, with_step, line_step, journal_drafted};
+ghost use Rattle.hs_text.specs.Steps.{Gives};
+ghost use Rattle.hs_journal.specs.Forward.{IsSound, draft_of, past_of, after, fresh, entered, with_draw, with_step, line_step, journal_drafted};
 ghost use Rattle.hs_journal.specs.declared.place.Place.TheVariants.{Start};
 ghost use Rattle.hs_journal.specs.declared.word.Keyword.TheVariants.{Journal as JournalWord};
 ghost use Rattle.hs_journal.specs.Views.{journal_of};
@@ -11,10 +12,9 @@ use crate::journal::{Draw, Journal, Step};
 use crate::line::{Numbers, numbers_in};
 use crate::place::Place;
 use crate::refusal::JournalReason;
-use crate::stop::Stop;
-use crate::word::{Keyword, keyword_in};
-use hs_text::{LineFault, count_words, line_fault, split_word};
+use crate::word::Keyword;
 use hs_base::{List, Memory, NodeId};
+use hs_text::{LineReasons, Stop, open_line};
 use std::alloc::Global;
 
 /// The most buffers of a node.
@@ -22,6 +22,13 @@ const BUFFERS: u64 = 1024;
 
 /// The most nodes, and the most clients of a node.
 const MOST: u64 = 16;
+
+/// Why a line is refused before its numbers are looked at.
+const LINE_REASONS: LineReasons<JournalReason> = LineReasons {
+    byte: JournalReason::Byte,
+    spaces: JournalReason::Spaces,
+    word: JournalReason::Word,
+};
 
 /// What the lines so far say.
 #[derive(Drop)]
@@ -263,26 +270,18 @@ impl Reader {
 
     /// Takes the next line.
     #[tactic(auto, unfolding(crate::specs::Forward::line_step))]
-    pub fn read_line(&mut self, line: &[u8]) -> Result<(), Stop>
+    pub fn read_line(&mut self, line: &[u8]) -> Result<(), Stop<JournalReason>>
         requires { IsSound (draft_of self.old) }
         ensures { Gives (λ _. draft_of self.new) result (line_step (draft_of self.old) line.now) }
     {
-        match line_fault(line) {
-            Some(LineFault::Byte) => return Err(Stop::Fault(JournalReason::Byte)),
-            Some(LineFault::Spaces) => return Err(Stop::Fault(JournalReason::Spaces)),
-            None => {}
-        }
-        let (word, _) = split_word(line);
-        let Some(keyword) = keyword_in(word) else {
-            return Err(Stop::Fault(JournalReason::Word));
-        };
+        let (keyword, words) = open_line::<Keyword, JournalReason>(line, LINE_REASONS)?;
         if !self.may_stand(keyword) {
             return Err(Stop::Fault(JournalReason::Word));
         }
-        if count_words(line) != keyword.number_count() + 1 {
+        if words.count() != keyword.number_count() {
             return Err(Stop::Fault(JournalReason::Count));
         }
-        let numbers = numbers_in(line)?;
+        let numbers = numbers_in(words)?;
         if self.is_out_of_range(keyword, numbers) {
             return Err(Stop::Fault(JournalReason::Range));
         }

@@ -9,8 +9,7 @@ ghost use Rattle.hs_journal.specs.declared.refusal.JournalError.TheVariants.{Mem
 use crate::journal::Journal;
 use crate::reader::Reader;
 use crate::refusal::{JournalError, JournalReason, JournalRefusal};
-use crate::stop::Stop;
-use hs_text::split_line;
+use hs_text::{Stop, split_line};
 use std::alloc::Global;
 
 /// The refusal of a line, from 1.

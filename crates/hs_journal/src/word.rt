@@ -1,9 +1,9 @@
 //! The first words of lines.
 
 ghost use Rattle.std.specs.Prelude.{◌≡◌};
-ghost use Rattle.std.specs.List.{find};
-ghost use Rattle.std.specs.Str.{bytes_eq};
-ghost use Rattle.hs_journal.specs.Statements.{keyword_of, keyword_text, number_count};
+ghost use Rattle.hs_journal.specs.Statements.{number_count};
+
+use hs_text::Spelled;
 
 /// The first word of a line.
 #[derive(Clone, Copy, Debug, PartialEq, Eq)]
@@ -46,11 +46,14 @@ const KEYWORDS: [Keyword; 16] = [
     Keyword::End,
 ];
 
-impl Keyword {
-    /// The word.
-    pub fn text(self) -> &'static [u8]
-        ensures { result.now ≡ keyword_text self }
-    {
+impl Spelled for Keyword {
+    ghost use Rattle.hs_journal.specs.Statements.{keyword_text, all_keywords, keywords_told_apart};
+
+    ghost spelling = { keyword_text };
+
+    ghost every = { all_keywords };
+
+    fn text(self) -> &'static [u8] {
         match self {
             Keyword::Journal => b"journal",
             Keyword::Draws => b"draws",
@@ -71,6 +74,14 @@ impl Keyword {
         }
     }
 
+    fn all() -> &'static [Keyword] {
+        &KEYWORDS
+    }
+
+    ghost told_apart = { keywords_told_apart };
+}
+
+impl Keyword {
     /// How many numbers stand behind it.
     pub fn number_count(self) -> usize
         ensures { result ≡ number_count self }
@@ -90,24 +101,4 @@ impl Keyword {
                 0,
         }
     }
-}
-
-/// Which of these words a word is.
-fn find_keyword(word: &[u8], keywords: &[Keyword]) -> Option<Keyword>
-    ensures { result ≡ find (λ keyword. bytes_eq word.now (keyword_text keyword)) keywords.now }
-{
-    for keyword in keywords {
-        if word == keyword.text() {
-            return Some(*keyword);
-        }
-    }
-    None
-}
-
-/// Which word that a line may begin with a word is.
-#[tactic(auto, unfolding(crate::specs::Statements::keyword_of))]
-pub fn keyword_in(word: &[u8]) -> Option<Keyword>
-    ensures { result ≡ keyword_of word.now }
-{
-    find_keyword(word, &KEYWORDS)
 }

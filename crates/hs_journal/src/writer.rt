@@ -7,8 +7,8 @@ ghost use Rattle.hs_journal.specs.Grammar.{IsJournal, draw_statements, log_state
 
 use crate::journal::{Draw, Journal, Step};
 use crate::word::Keyword;
-use hs_text::push_number;
 use hs_base::{Bytes, List, Memory, NodeId};
+use hs_text::{Spelled, push_number};
 use std::alloc::Global;
 
 /// Appends a line of this word and these numbers.

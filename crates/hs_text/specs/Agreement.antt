@@ -40,16 +40,15 @@ none_is_first ((holds, reason) ∷ others) none = ap (λ (b : Bool). if b then S
 
 -- ---- steps put together
 
-pub agrees_unless : {R S D : Type 0} (after : S → D) (b : Bool) (reason : R) (next : Result D R) (others : List (Bool × R)) (said : Option S)
-    → (b ≡ false → Agrees after next (first_that_holds others) said) → Agrees after (unless b reason next) (first_that_holds ((b, reason) ∷ others)) said
-agrees_unless after true reason next others said agrees = refl
-agrees_unless after false reason next others said agrees = agrees refl
+pub agrees_unless : {R S D : Type 0} (after : S → D) (b : Bool) (reason : R) (next : Result D R) (first : Option R) (said : Option S) → (b ≡ false → Agrees after next first said)
+    → Agrees after (unless b reason next) (if b then Some reason else first) said
+agrees_unless after true reason next first said agrees = refl
+agrees_unless after false reason next first said agrees = agrees refl
 
-pub agrees_value : {R S D A : Type 0} (after : S → D) (reason : R) (o : Option A) (step : A → Result D R) (others : Option A → List (Bool × R)) (said : Option A → Option S)
-    → ((x : A) → o ≡ Some x → Agrees after (step x) (first_that_holds (others (Some x))) (said (Some x)))
-    → Agrees after (value_or reason o >>= step) (first_that_holds ((is_none o, reason) ∷ others o)) (said o)
-agrees_value after reason None step others said agrees = refl
-agrees_value after reason (Some x) step others said agrees = agrees x refl
+pub agrees_value : {R S D A : Type 0} (after : S → D) (reason : R) (o : Option A) (step : A → Result D R) (first : Option A → Option R) (said : Option A → Option S)
+    → ((x : A) → o ≡ Some x → Agrees after (step x) (first (Some x)) (said (Some x))) → Agrees after (value_or reason o >>= step) (if is_none o then Some reason else first o) (said o)
+agrees_value after reason None step first said agrees = refl
+agrees_value after reason (Some x) step first said agrees = agrees x refl
 
 word_agrees : {R S D W : Type 0} (after : S → D) (none : R) (asked : W → List (List ℕ) → List (Bool × R)) (says : W → List (List ℕ) → Option S) (step : W × List (List ℕ) → Result D R)
     → ((word : W) (words : List (List ℕ)) → Agrees after (step (word, words)) (first_that_holds (asked word words)) (says word words)) → (found : Option W) (words : List (List ℕ))
@@ -125,6 +124,11 @@ words_opened reason find asked line (first ∷ others) are none = word_opened re
 pub line_opened : {R W : Type 0} (reasons : LineReasons R) (find : List ℕ → Option W) (asked : W → List (List ℕ) → List (Bool × R)) (line : List ℕ)
     → NoneHolds (line_reasons reasons find asked line) → IsOpened find asked line
 line_opened reasons find asked line none = words_opened reasons.word find asked line (words_of line) refl none.1.1
+
+pub opened_says : {R W S : Type 0} (find : List ℕ → Option W) (asked : W → List (List ℕ) → List (Bool × R)) (says : W → List (List ℕ) → Option S) (line : List ℕ) (known : IsOpened find asked line)
+    → words_say find says (words_of line) ≡ says known.word known.others
+opened_says {R} {W} find asked says line known =
+    ap (words_say find says) known.are ∙ ap (λ (o : Option W). option_and_then (λ word. says word known.others) o) known.found
 
 no_line_fault : (byte spaces : Bool) → (if byte then Some faults.Byte else if spaces then Some faults.Spaces else None) ≡ None → (byte ≡ false) × (spaces ≡ false)
 no_line_fault true spaces e = cc

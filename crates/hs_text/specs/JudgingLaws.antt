@@ -68,18 +68,20 @@ nothing_in (b ∷ rest) is = absurd (omega (arith, eqb-true (length (b ∷ rest)
 
 -- ---- texts of lines
 
-text_onto : (earlier more : List (List ℕ)) → text_of (onto earlier more) ≡ text_of (onto earlier []) ++ text_of more
-text_onto [] more = refl
-text_onto (line ∷ earlier) more =
-    text_onto earlier (line ∷ more) ∙ ap (λ (t : List ℕ). text_of (onto earlier []) ++ t) (ap (λ (t : List ℕ). t ++ text_of more) (sym (append-nil (line ++ 10 ∷ []))))
-    ∙ sym (append_assoc (text_of (onto earlier [])) (text_of (line ∷ [])) (text_of more)) ∙ ap (λ (t : List ℕ). t ++ text_of more) (sym (text_onto earlier (line ∷ [])))
+pub onto-append : {A : Type 0} (earlier more : List A) → onto earlier more ≡ onto earlier [] ++ more
+onto-append [] more = refl
+onto-append (x ∷ earlier) more = onto-append earlier (x ∷ more) ∙ sym (append_assoc (onto earlier []) (x ∷ []) more) ∙ ap (λ xs. xs ++ more) (sym (onto-append earlier (x ∷ [])))
+
+pub text_of-append : (lines more : List (List ℕ)) → text_of (lines ++ more) ≡ text_of lines ++ text_of more
+text_of-append [] more = refl
+text_of-append (line ∷ lines) more = ap (λ (t : List ℕ). (line ++ 10 ∷ []) ++ t) (text_of-append lines more) ∙ sym (append_assoc (line ++ 10 ∷ []) (text_of lines) (text_of more))
 
 text_next : (earlier : List (List ℕ)) (line behind : List ℕ) → text_of (onto earlier []) ++ (line ++ 10 ∷ behind) ≡ text_of (onto (line ∷ earlier) []) ++ behind
 text_next earlier line behind =
     let front : List ℕ = text_of (onto earlier []) in
+    let last : text_of (onto (line ∷ earlier) []) ≡ front ++ text_of (line ∷ []) = ap text_of (onto-append earlier (line ∷ [])) ∙ text_of-append (onto earlier []) (line ∷ []) in
     ap (λ (t : List ℕ). front ++ t) (sym (append_assoc line (10 ∷ []) behind)) ∙ sym (append_assoc front (line ++ 10 ∷ []) behind)
-    ∙ ap (λ (t : List ℕ). (front ++ t) ++ behind) (sym (append-nil (line ++ 10 ∷ [])))
-    ∙ ap (λ (t : List ℕ). t ++ behind) (sym (text_onto earlier (line ∷ [])))
+    ∙ ap (λ (t : List ℕ). t ++ behind) (ap (λ (t : List ℕ). front ++ t) (sym (append-nil (line ++ 10 ∷ []))) ∙ sym last)
 
 text_push : (lines : List (List ℕ)) → join_with_byte 10 (lines ++ [] ∷ []) ≡ text_of lines
 text_push [] = refl
