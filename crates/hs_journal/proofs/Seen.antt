@@ -106,5 +106,4 @@ journal_reader =
       refuses = λ d earlier line reason sees is. fault_seen d earlier line sees ∙ agrees_err (after_said d) (line_step d line) (fault_at (past_of d) line) (statement_of line) reason (line_agrees d line) is;
       ends = λ d earlier sees. ap is_ended (sym sees.same.place);
       prints = λ d next line is. (line_taken d next line is).prints;
-      stops = stops;
     }

@@ -13,7 +13,7 @@ use Rattle.hs_journal.specs.Laws.{IsJournalText}
 use Rattle.hs_journal.specs.Faults.{judging, first_fault}
 use Rattle.hs_journal.specs.Forward.{Draft, journal_drafted}
 use Rattle.hs_journal.proofs.Kept.{ended_said, ended_journal}
-use Rattle.hs_journal.proofs.Seen.{journal_reader}
+use Rattle.hs_journal.proofs.Seen.{journal_reader, stops}
 use Rattle.hs_journal.proofs.Runs.{ended_draft, run_journal}
 
 pub first_fault-judged : (text : List ℕ) → first_fault text ≡ first_fault_in judging text
@@ -45,7 +45,7 @@ journal_has_no_fault text J reads =
 
 pub beginnings_same : (J K : PlainJournal) (a b : List ℕ) → IsJournal J → IsJournal K → journal_text J ++ a ≡ journal_text K ++ b → (J ≡ K) × (a ≡ b)
 beginnings_same J K a b is_J is_K text =
-    let same = one_beginning journal_reader (ended_draft J) (ended_draft K) (journal_lines J) (journal_lines K) a b (run_journal J is_J) (run_journal K is_K) refl refl
+    let same = one_beginning journal_reader stops (ended_draft J) (ended_draft K) (journal_lines J) (journal_lines K) a b (run_journal J is_J) (run_journal K is_K) refl refl
     (ap (λ t. t ++ a) (sym (lines_text J)) ∙ text ∙ ap (λ t. t ++ b) (lines_text K)) in
     (ap journal_drafted same.0, same.1)
 

@@ -1,6 +1,6 @@
 -- A step of a reader agrees with the reasons of a line: it refuses the line for the first that holds, and where none does, it
 -- takes the line for what the line says. Steps that agree are put together as the lists of reasons are.
-use Rattle.std.proofs.Common.{◌≡◌, ℕ, Bool, true, false, List, [], ◌∷◌, Option, Some, None, Result, Ok, Err, refl, sym, ap, ◌∙◌}
+use Rattle.std.proofs.Common.{◌≡◌, ◌||◌, ℕ, Bool, true, false, List, [], ◌∷◌, Option, Some, None, Result, Ok, Err, refl, sym, ap, ◌∙◌}
 use Rattle.std.specs.Prelude.{is_none, option_and_then, if◌then◌else◌}
 use Rattle.std.specs.List.{list_all}
 use Rattle.hs_text.specs.declared.reading.LineFault.TheVariants as faults
@@ -45,10 +45,18 @@ pub agrees_unless : {R S D : Type 0} (after : S → D) (b : Bool) (reason : R) (
 agrees_unless after true reason next first said agrees = refl
 agrees_unless after false reason next first said agrees = agrees refl
 
-pub agrees_value : {R S D A : Type 0} (after : S → D) (reason : R) (o : Option A) (step : A → Result D R) (first : Option A → Option R) (said : Option A → Option S)
-    → ((x : A) → o ≡ Some x → Agrees after (step x) (first (Some x)) (said (Some x))) → Agrees after (value_or reason o >>= step) (if is_none o then Some reason else first o) (said o)
-agrees_value after reason None step first said agrees = refl
-agrees_value after reason (Some x) step first said agrees = agrees x refl
+-- a check before the next step
+pub agrees_check : {R S D A : Type 0} (after : S → D) (b : Bool) (reason : R) (x : A) (step : A → Result D R) (first : Option R) (said : Option S) → (b ≡ false → Agrees after (step x) first said)
+    → Agrees after (unless b reason (Ok x) >>= step) (if b then Some reason else first) said
+agrees_check after true reason x step first said agrees = refl
+agrees_check after false reason x step first said agrees = agrees refl
+
+-- the value of a word, where other words may have none for the same reason
+pub agrees_value : {R S D A : Type 0} (after : S → D) (reason : R) (o : Option A) (others : Bool) (step : A → Result D R) (first : Option A → Option R) (said : Option A → Option S)
+    → ((x : A) → o ≡ Some x → Agrees after (step x) (if others then Some reason else first (Some x)) (said (Some x)))
+    → Agrees after (value_or reason o >>= step) (if is_none o || others then Some reason else first o) (said o)
+agrees_value after reason None others step first said agrees = refl
+agrees_value after reason (Some x) others step first said agrees = agrees x refl
 
 word_agrees : {R S D W : Type 0} (after : S → D) (none : R) (asked : W → List (List ℕ) → List (Bool × R)) (says : W → List (List ℕ) → Option S) (step : W × List (List ℕ) → Result D R)
     → ((word : W) (words : List (List ℕ)) → Agrees after (step (word, words)) (first_that_holds (asked word words)) (says word words)) → (found : Option W) (words : List (List ℕ))

@@ -5,6 +5,7 @@ use borrow.Author.Tests.{ne_eqb, eqb-true}
 use Rattle.std.specs.Prelude.{option_map, if◌then◌else◌}
 use Rattle.std.specs.Option.{option_or}
 use Rattle.std.specs.List.{All, slice_split, onto_first, join_with_byte}
+use Rattle.std.proofs.lemmas.List.{append_cancel_right}
 use Rattle.std.proofs.lemmas.Bool.{and_parts}
 use Rattle.std.proofs.lemmas.List.Elements.{All-cons, All-nil}
 use Rattle.std.proofs.lemmas.List.Splits.{slice_split_at, slice_split_none, join_with_byte-slice_split}
@@ -91,7 +92,7 @@ text_push (line ∷ next ∷ lines) = ap (λ (t : List ℕ). line ++ 10 ∷ t) (
 -- ---- a reader
 
 -- A reader keeps a draft, which sees the lines before. The next line is taken where it has no fault after them, and refused
--- for its fault. No line is taken behind the end.
+-- for its fault.
 pub record Reader (R F D : Type 0) : Type 1 where
   pub judging : Judging R F
   pub step : D → List ℕ → Result D R
@@ -103,7 +104,6 @@ pub record Reader (R F D : Type 0) : Type 1 where
   pub refuses : (d : D) (earlier : List (List ℕ)) (line : List ℕ) (reason : R) → Sees d earlier → step d line ≡ Err reason → judging.fault_of earlier line ≡ Some reason
   pub ends : (d : D) (earlier : List (List ℕ)) → Sees d earlier → judging.is_whole earlier ≡ done d
   pub prints : (d next : D) (line : List ℕ) → step d line ≡ Ok next → has_bad_byte line ≡ false
-  pub stops : (d next : D) (line : List ℕ) → done d ≡ true → step d line ≡ Ok next → ⊥
 
 -- the first fault, by the fault of the next line
 abbrev faults_from : {R F : Type 0} → Judging R F → List (List ℕ) → List ℕ → List (List ℕ) → Option R → Option F
@@ -288,26 +288,34 @@ record AreSame {D : Type 0} (d e : D) (ps qs : List (List ℕ)) : Type 0 where
   drafts : d ≡ e
   parts : ps ≡ qs
 
-same_run : {R F D : Type 0} (reader : Reader R F D) (start d e : D) (lines more ps qs : List (List ℕ)) → run reader.step start lines ≡ Ok d → run reader.step start more ≡ Ok e
+same_run : {R F D : Type 0} (reader : Reader R F D) → ((x next : D) (line : List ℕ) → reader.done x ≡ true → reader.step x line ≡ Ok next → ⊥) → (start d e : D) (lines more ps qs : List (List ℕ)) → run reader.step start lines ≡ Ok d → run reader.step start more ≡ Ok e
     → reader.done d ≡ true → reader.done e ≡ true → lines ++ ps ≡ more ++ qs → AreSame d e ps qs
-same_run reader start d e [] [] ps qs first second is also same = record { drafts = cc; parts = same }
-same_run reader start d e [] (line ∷ more) ps qs first second is also same =
+same_run reader stops start d e [] [] ps qs first second is also same = record { drafts = cc; parts = same }
+same_run reader stops start d e [] (line ∷ more) ps qs first second is also same =
     let here : start ≡ d = cc in
-    absurd (after_step (λ next. run reader.step next more) e (reader.step start line) second (λ next step later. reader.stops start next line (ap reader.done here ∙ is) step))
-same_run reader start d e (line ∷ lines) [] ps qs first second is also same =
+    absurd (after_step (λ next. run reader.step next more) e (reader.step start line) second (λ next step later. stops start next line (ap reader.done here ∙ is) step))
+same_run reader stops start d e (line ∷ lines) [] ps qs first second is also same =
     let here : start ≡ e = cc in
-    absurd (after_step (λ next. run reader.step next lines) d (reader.step start line) first (λ next step later. reader.stops start next line (ap reader.done here ∙ also) step))
-same_run reader start d e (line ∷ lines) (other ∷ more) ps qs first second is also same =
+    absurd (after_step (λ next. run reader.step next lines) d (reader.step start line) first (λ next step later. stops start next line (ap reader.done here ∙ also) step))
+same_run reader stops start d e (line ∷ lines) (other ∷ more) ps qs first second is also same =
     let head : line ≡ other = cc in
     let tail : lines ++ ps ≡ more ++ qs = cc in
     after_step (λ next. run reader.step next lines) d (reader.step start line) first (λ next step later.
     let second_rest : run reader.step next more ≡ Ok e = ap (λ r. r >>= λ x. run reader.step x more) (sym step) ∙ ap (λ l. reader.step start l >>= λ x. run reader.step x more) head ∙ second in
-    same_run reader next d e lines more ps qs later second_rest is also tail)
+    same_run reader stops next d e lines more ps qs later second_rest is also tail)
 
--- texts that begin with lines up to the end of each: the drafts are one, and so is what stands behind
-pub one_beginning : {R F D : Type 0} (reader : Reader R F D) (d e : D) (lines more : List (List ℕ)) (a b : List ℕ) → run reader.step reader.start lines ≡ Ok d → run reader.step reader.start more ≡ Ok e
+-- Where no line is taken behind the end, texts that begin alike with lines up to the end of each have one draft, and what
+-- stands behind is one too.
+pub one_beginning : {R F D : Type 0} (reader : Reader R F D) → ((x next : D) (line : List ℕ) → reader.done x ≡ true → reader.step x line ≡ Ok next → ⊥) → (d e : D) (lines more : List (List ℕ)) (a b : List ℕ) → run reader.step reader.start lines ≡ Ok d → run reader.step reader.start more ≡ Ok e
     → reader.done d ≡ true → reader.done e ≡ true → text_of lines ++ a ≡ text_of more ++ b → (d ≡ e) × (a ≡ b)
-one_beginning reader d e lines more a b first second is also text =
+one_beginning reader stops d e lines more a b first second is also text =
     let parts : lines ++ parts_of a ≡ more ++ parts_of b = sym (run_parts reader reader.start d lines a first) ∙ ap parts_of text ∙ run_parts reader reader.start e more b second in
-    let same = same_run reader reader.start d e lines more (parts_of a) (parts_of b) first second is also parts in
+    let same = same_run reader stops reader.start d e lines more (parts_of a) (parts_of b) first second is also parts in
     (same.drafts, sym (join_with_byte-slice_split 10 a) ∙ ap (join_with_byte 10) same.parts ∙ join_with_byte-slice_split 10 b)
+
+-- lines that are taken have a text of their own
+pub same_lines : {R F D : Type 0} (reader : Reader R F D) (d e : D) (lines more : List (List ℕ)) → run reader.step reader.start lines ≡ Ok d → run reader.step reader.start more ≡ Ok e
+    → text_of lines ≡ text_of more → lines ≡ more
+same_lines reader d e lines more first second text =
+    append_cancel_right lines more ([] ∷ [])
+    (sym (run_parts reader reader.start d lines [] first) ∙ ap (λ (t : List ℕ). parts_of (t ++ [])) text ∙ run_parts reader reader.start e more [] second)

@@ -1,40 +1,37 @@
 -- What the reader answers, from where it stands.
-use Rattle.std.proofs.Common.{◌≡◌, ◌≢◌, ℕ, ◌+◌, ◌&&◌, nat_eq, true, List, [], ◌∷◌, ◌++◌, length, Result, Ok, Err, refl, sym, ap, subst, ◌∙◌, append-nil}
+use Rattle.std.proofs.Common.{◌≡◌, ℕ, ◌+◌, List, Result, Ok, Err, refl, subst, ◌∙◌}
 use Rattle.std.specs.Prelude.{IfOk, IfErr, MatchResult}
-use Rattle.std.specs.List.{All}
-use Rattle.std.proofs.lemmas.Bool.{and_parts}
-use Rattle.hs_text.specs.Text.{text_of}
+use Rattle.hs_text.specs.Steps.{Stops}
+use Rattle.hs_text.specs.JudgingLaws.{IsReading, IsNext, reading_goes_on, line_refused}
+use Rattle.hs_text.specs.declared.stop.Stop.{Stop}
+use Rattle.hs_text.specs.declared.stop.Stop.TheVariants as stops
 use Rattle.hs_records.specs.Plain.{PlainWorkload}
+use Rattle.hs_workload.specs.declared.refusal.Reason.{Reason}
 use Rattle.hs_workload.specs.declared.refusal.ReadError.{ReadError}
 use Rattle.hs_workload.specs.declared.refusal.ReadError.TheVariants as errors
-use Rattle.hs_workload.specs.declared.stop.Stop.{Stop}
-use Rattle.hs_workload.specs.declared.stop.Stop.TheVariants as stops
 use Rattle.hs_workload.specs.declared.operation.Workload.{Workload}
 use Rattle.hs_workload.specs.Views.{workload_of}
 use Rattle.hs_workload.specs.Validity.{Reads}
-use Rattle.hs_workload.specs.LookBack.{Draft, draft_said}
+use Rattle.hs_workload.specs.LookBack.{Draft}
 use Rattle.hs_workload.specs.Faults.{first_fault, Refuses}
-use Rattle.hs_workload.specs.Forward.{IsSound, Stops, error_at, line_step, workload_drafted}
-use Rattle.hs_workload.proofs.Taken.{IsAt, onto, sound_taken, at_fault}
-use Rattle.hs_workload.proofs.Whole.{reads_taken}
-use Rattle.hs_workload.proofs.Faultless.{empty, reads_clean, reads_once}
+use Rattle.hs_workload.specs.Forward.{error_at, line_step}
+use Rattle.hs_workload.proofs.Taken.{workload_reader, numbered}
+use Rattle.hs_workload.proofs.Faultless.{first_fault-judged, reads_clean, reads_once}
 
-pub sound_at : (text rest : List ℕ) (d : Draft) → IsAt text d rest → IsSound d
-sound_at text rest d a = subst IsSound (sym a.drafted) (sound_taken a.earlier a.statements a.taken)
+-- where a reader stands in a text, by its draft alone
+abbrev pub IsAt : List ℕ → List ℕ → Draft → Type 0
+IsAt text rest d = IsReading workload_reader text rest (d.lines + 1) d
+
+pub at_next : (text rest line behind : List ℕ) (d next : Draft) → IsAt text rest d → IsNext rest line behind → line_step d line ≡ Ok next → IsAt text behind next
+at_next text rest line behind d next at is step =
+    let reading = reading_goes_on workload_reader text rest line behind (d.lines + 1) d next at is step in
+    subst (λ (n : ℕ). IsReading workload_reader text behind n next) (numbered text behind (d.lines + 1 + 1) next reading) reading
 
 -- a line that stopped the reader
-pub stopped : (text rest line behind : List ℕ) (d : Draft) (stop : Stop) → IsAt text d rest → rest ≡ line ++ 10 ∷ behind → All (λ b. b ≢ 10) line
-    → Stops stop (line_step d line) → Refuses (first_fault text) (error_at (d.lines + 1) stop)
-stopped text rest line behind d stops.Memory a e whole s = tt
-stopped text rest line behind d (stops.Fault reason) a e whole s = at_fault text rest line behind d reason a e whole s
-
--- a text that has ended
-pub reads_ended : (text rest : List ℕ) (d : Draft) → IsAt text d rest → (nat_eq (length rest) 0 && d.is_done) ≡ true → Reads text (workload_drafted d)
-reads_ended text rest d a e =
-    let parts = and_parts (nat_eq (length rest) 0) d.is_done e in
-    let whole : text ≡ text_of (onto a.earlier []) = a.before ∙ ap (λ (r : List ℕ). text_of (onto a.earlier []) ++ r) (empty rest parts.0) ∙ append-nil (text_of (onto a.earlier [])) in
-    let reads = reads_taken a.earlier a.statements a.taken (ap (λ (x : Draft). x.is_done) (sym a.drafted) ∙ parts.1) in
-    subst (λ (x : Draft). Reads text (workload_drafted x)) (sym a.drafted) (subst (λ (t : List ℕ). Reads t (workload_drafted (draft_said a.statements))) (sym whole) reads)
+pub stopped : (text rest line behind : List ℕ) (d : Draft) (stop : Stop Reason) → IsAt text rest d → IsNext rest line behind → Stops stop (line_step d line)
+    → Refuses (first_fault text) (error_at (d.lines + 1) stop)
+stopped text rest line behind d stops.Memory at is step = tt
+stopped text rest line behind d (stops.Fault reason) at is step = first_fault-judged text ∙ line_refused workload_reader text rest line behind (d.lines + 1) d reason at is step
 
 -- a workload's text is read as that workload
 pub only_this : (text : List ℕ) (r : Result Workload ReadError) → IfOk r (λ w. Reads text (workload_of w)) → IfErr r (Refuses (first_fault text))

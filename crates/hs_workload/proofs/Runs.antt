@@ -1,18 +1,21 @@
 -- Statements in the order of their lines, each allowed after those before it.
-use Rattle.std.proofs.Common.{◌≡◌, ℕ, ◌+◌, Bool, List, [], ◌∷◌, ◌++◌, length, map, refl, sym, ap, subst, ◌∙◌, append_assoc, append-nil, arith}
+use Rattle.std.proofs.Common.{◌≡◌, ℕ, ◌+◌, Bool, List, [], ◌∷◌, ◌++◌, length, map, Ok, refl, sym, ap, subst, ◌∙◌, append_assoc, append-nil, arith}
+use Rattle.hs_text.specs.Steps.{◌>>=◌}
+use Rattle.hs_text.specs.Judging.{onto}
+use Rattle.hs_text.specs.JudgingLaws.{run}
 use Rattle.hs_records.specs.Plain.{Operation}
 use Rattle.hs_workload.specs.Statements.{Statement, Operate, statement_line}
 use Rattle.hs_workload.specs.LookBack.{Draft, draft_said}
 use Rattle.hs_workload.specs.Validity.{client_pieces}
-use Rattle.hs_workload.specs.Forward.{after, open_after}
+use Rattle.hs_workload.specs.Forward.{after, open_after, line_step}
 use Rattle.hs_workload.proofs.LookedBack.{after_said}
 use Rattle.hs_workload.proofs.Spelled.{Form}
-use Rattle.hs_workload.proofs.Clear.{Allowed, IsClear}
-use Rattle.hs_workload.proofs.Taken.{AreTaken, onto}
+use Rattle.hs_workload.proofs.Clear.{Allowed, statement_taken}
+use Rattle.hs_workload.proofs.Taken.{AreTaken}
 
-abbrev pub run : Draft → List Statement → Draft
-run d [] = d
-run d (s ∷ more) = run (after d s) more
+abbrev pub after_all : Draft → List Statement → Draft
+after_all d [] = d
+after_all d (s ∷ more) = after_all (after d s) more
 
 abbrev pub AllowedFrom : Draft → List Statement → Type 0
 AllowedFrom d [] = Unit {0}
@@ -29,17 +32,17 @@ SpelledFrom d (line ∷ lines) (s ∷ more) = (line ≡ statement_line d.version
 abbrev pub start : Draft
 start = draft_said []
 
-pub run-append : (d : Draft) (xs ys : List Statement) → run d (xs ++ ys) ≡ run (run d xs) ys
-run-append d [] ys = refl
-run-append d (s ∷ xs) ys = run-append (after d s) xs ys
+pub after_all-append : (d : Draft) (xs ys : List Statement) → after_all d (xs ++ ys) ≡ after_all (after_all d xs) ys
+after_all-append d [] ys = refl
+after_all-append d (s ∷ xs) ys = after_all-append (after d s) xs ys
 
-pub allowed_split : (d : Draft) (xs ys : List Statement) → AllowedFrom d (xs ++ ys) → AllowedFrom d xs × AllowedFrom (run d xs) ys
+pub allowed_split : (d : Draft) (xs ys : List Statement) → AllowedFrom d (xs ++ ys) → AllowedFrom d xs × AllowedFrom (after_all d xs) ys
 allowed_split d [] ys a = (tt, a)
 allowed_split d (s ∷ xs) ys a =
     let parts = allowed_split (after d s) xs ys a.2 in
     ((a.0, a.1, parts.0), parts.1)
 
-pub allowed_join : (d : Draft) (xs ys : List Statement) → AllowedFrom d xs → AllowedFrom (run d xs) ys → AllowedFrom d (xs ++ ys)
+pub allowed_join : (d : Draft) (xs ys : List Statement) → AllowedFrom d xs → AllowedFrom (after_all d xs) ys → AllowedFrom d (xs ++ ys)
 allowed_join d [] ys a b = b
 allowed_join d (s ∷ xs) ys a b = (a.0, a.1, allowed_join (after d s) xs ys a.2 b)
 
@@ -60,22 +63,17 @@ forward_spelled (line ∷ earlier) lines [] more t a = absurd t
 forward_spelled (line ∷ earlier) lines (s ∷ ss) more t a =
     forward_spelled earlier (line ∷ lines) ss (s ∷ more) t.1 (t.0.spelled, subst (λ (d : Draft). SpelledFrom d lines more) (after_said ss s) a)
 
-pub forward_run : (ss more : List Statement) → run start (onto ss more) ≡ run (draft_said ss) more
+pub forward_run : (ss more : List Statement) → after_all start (onto ss more) ≡ after_all (draft_said ss) more
 forward_run [] more = refl
-forward_run (s ∷ ss) more = forward_run ss (s ∷ more) ∙ ap (λ (d : Draft). run d more) (sym (after_said ss s))
+forward_run (s ∷ ss) more = forward_run ss (s ∷ more) ∙ ap (λ (d : Draft). after_all d more) (sym (after_said ss s))
 
--- ---- to the newest first
-
-pub backward : (earlier lines : List (List ℕ)) (ss more : List Statement) → AreTaken earlier ss → SpelledFrom (draft_said ss) lines more → AllowedFrom (draft_said ss) more
-    → AreTaken (onto lines earlier) (onto more ss)
-backward earlier [] ss [] t l a = t
-backward earlier [] ss (s ∷ more) t l a = absurd l
-backward earlier (line ∷ lines) ss [] t l a = absurd l
-backward earlier (line ∷ lines) ss (s ∷ more) t l a =
-    let here : IsClear (draft_said ss) line s = record { form = a.0; spelled = l.0; allowed = a.1 } in
-    backward (line ∷ earlier) lines (s ∷ ss) more (here, t)
-    (subst (λ (d : Draft). SpelledFrom d lines more) (sym (after_said ss s)) l.1)
-    (subst (λ (d : Draft). AllowedFrom d more) (sym (after_said ss s)) a.2)
+-- lines of statements that are allowed are taken one after another
+pub lines_run : (d : Draft) (lines : List (List ℕ)) (ss : List Statement) → SpelledFrom d lines ss → AllowedFrom d ss → run line_step d lines ≡ Ok (after_all d ss)
+lines_run d [] [] l a = refl
+lines_run d [] (s ∷ more) l a = absurd l
+lines_run d (line ∷ lines) [] l a = absurd l
+lines_run d (line ∷ lines) (s ∷ more) l a =
+    ap (λ r. r >>= λ next. run line_step next lines) (ap (line_step d) l.0 ∙ statement_taken d s a.0 a.1) ∙ lines_run (after d s) lines more l.1 a.2
 
 -- ---- the operations of a client
 
@@ -92,16 +90,16 @@ operated d operations =
       is_open = opened d.is_open operations;
     }
 
-pub run-operations : (d : Draft) (operations : List Operation) → run d (map Operate operations) ≡ operated d operations
-run-operations d [] =
+pub after_all-operations : (d : Draft) (operations : List Operation) → after_all d (map Operate operations) ≡ operated d operations
+after_all-operations d [] =
     let current = append-nil d.current in
     let lines : d.lines ≡ d.lines + 0 = omega arith in
     let pieces : d.pieces ≡ d.pieces + 0 = omega arith in
     λ i. record d { lines = lines i; current = sym current i; pieces = pieces i }
-run-operations d (operation ∷ operations) =
+after_all-operations d (operation ∷ operations) =
     let next : Draft = after d (Operate operation) in
     let lines : d.lines + 1 + length operations ≡ d.lines + length (operation ∷ operations) = omega arith in
     let current : (d.current ++ operation ∷ []) ++ operations ≡ d.current ++ operation ∷ operations = append_assoc d.current (operation ∷ []) operations in
     let pieces : next.pieces + client_pieces d.size operations ≡ d.pieces + client_pieces d.size (operation ∷ operations) = omega arith in
-    run-operations next operations
+    after_all-operations next operations
     ∙ (λ i. record d { lines = lines i; current = current i; pieces = pieces i; is_open = opened d.is_open (operation ∷ operations) })

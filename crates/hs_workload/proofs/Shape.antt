@@ -9,7 +9,7 @@ use Rattle.hs_workload.specs.Grammar.{head_statements, client_statements, worklo
 use Rattle.hs_workload.specs.LookBack.{Draft}
 use Rattle.hs_workload.specs.Forward.{after, with_setting}
 use Rattle.hs_workload.proofs.Sound.{sets, follows, starts, ends, or_false}
-use Rattle.hs_workload.proofs.Runs.{run, AllowedFrom, start}
+use Rattle.hs_workload.proofs.Runs.{after_all, AllowedFrom, start}
 
 setting_at : ℕ → Setting
 setting_at zero = settings.Version
@@ -55,10 +55,10 @@ record Peeled (d : Draft) (setting : Setting) (ss : List Statement) : Type 0 whe
   rest : List Statement
   are : ss ≡ Put setting n ∷ rest
   allowed : AllowedFrom (with_setting d setting n) rest
-  done : (run (with_setting d setting n) rest).is_done ≡ true
+  done : (after_all (with_setting d setting n) rest).is_done ≡ true
 
 peel : (d : Draft) (setting : Setting) (ss : List Statement) → d.lines + 1 ≡ setting_line setting → d.started ≡ 0 → d.is_done ≡ false
-    → AllowedFrom d ss → (run d ss).is_done ≡ true → Peeled d setting ss
+    → AllowedFrom d ss → (after_all d ss).is_done ≡ true → Peeled d setting ss
 peel d setting [] line none undone a done = absurd cc
 peel d setting (Put k n ∷ rest) line none undone a done =
     let here = sets d k n a.1 in
@@ -68,7 +68,7 @@ peel d setting (Put k n ∷ rest) line none undone a done =
       rest = rest;
       are = ap (λ (x : Setting). Put x n ∷ rest) k-is;
       allowed = subst (λ (x : Setting). AllowedFrom (with_setting d x n) rest) k-is a.2;
-      done = subst (λ (x : Setting). (run (with_setting d x n) rest).is_done ≡ true) k-is done;
+      done = subst (λ (x : Setting). (after_all (with_setting d x n) rest).is_done ≡ true) k-is done;
     }
 peel d setting (Start v n ∷ rest) line none undone a done = absurd (omega (arith, (starts d a.1.stands).lines, line, nine_lines setting))
 peel d setting (Operate operation ∷ rest) line none undone a done = absurd (omega (arith, (follows d operation a.1.stands).started, none))
@@ -92,7 +92,7 @@ not_false : (b : Bool) → not b ≡ false → b ≡ true
 not_false true e = refl
 not_false false e = cc
 
-body : (d : Draft) (ss : List Statement) → 9 ≤ d.lines → d.is_done ≡ false → AllowedFrom d ss → (run d ss).is_done ≡ true → Body d ss
+body : (d : Draft) (ss : List Statement) → 9 ≤ d.lines → d.is_done ≡ false → AllowedFrom d ss → (after_all d ss).is_done ≡ true → Body d ss
 body d [] lines undone a done = absurd cc
 body d (Put k n ∷ rest) lines undone a done = absurd (omega (arith, (sets d k n a.1).line, lines, nine_lines k))
 body d (Start v n ∷ rest) lines undone a done =
@@ -149,7 +149,7 @@ record InHead (k : ℕ) (d : Draft) (ss : List Statement) : Type 0 where
   none : d.started ≡ 0
   undone : d.is_done ≡ false
   allowed : AllowedFrom d ss
-  done : (run d ss).is_done ≡ true
+  done : (after_all d ss).is_done ≡ true
 
 tail9 : (d : Draft) (ss : List Statement) → InHead 9 d ss → (W : PlainWorkload) × Tail 9 d.clients W ss
 unfolding nothing_set
@@ -234,7 +234,7 @@ pub record Shaped (ss : List Statement) : Type 0 where
   pub triggers : workload.settings.triggers ≡ []
   pub autos : workload.settings.autos ≡ []
 
-pub shaped : (ss : List Statement) → AllowedFrom start ss → (run start ss).is_done ≡ true → Shaped ss
+pub shaped : (ss : List Statement) → AllowedFrom start ss → (after_all start ss).is_done ≡ true → Shaped ss
 shaped ss a done =
     let t = tail0 start ss (record { line = refl; none = refl; undone = refl; allowed = a; done = done }) in
     record { workload = t.0; are = t.1.are; triggers = t.1.triggers; autos = t.1.autos }

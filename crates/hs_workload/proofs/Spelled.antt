@@ -1,26 +1,22 @@
 -- What a line says is spelled by the line, and a spelled line says what it spells.
-use Rattle.std.proofs.Common.{◌≡◌, ℕ, ◌^◌, ◌<◌, Bool, true, false, cond, nat_eq, ◌&&◌, List, [], ◌∷◌, drop, Option, Some, None, refl, sym, ap, subst, ◌∙◌, arith}
+use Rattle.std.proofs.Common.{◌≡◌, ℕ, ◌^◌, ◌<◌, Bool, true, false, cond, nat_eq, ◌&&◌, List, [], ◌∷◌, drop, Option, Some, None, refl, sym, ap, ◌∙◌, arith}
 use Rattle.std.specs.Prelude.{IfSome, option_map, option_and_then, decimal, ⊤}
-use Rattle.std.specs.List.{All, find, list_all}
-use Rattle.std.specs.Str.{bytes_eq}
-use Rattle.std.proofs.lemmas.Slice.Eq.{bytes_eq-Decides}
+use Rattle.std.specs.List.{All, list_all}
+use Rattle.hs_text.specs.Spelling.{spelled-every}
 use Rattle.hs_text.specs.Text.{number_of, hex_of, trace_digits, payload_of, payload_text}
 use Rattle.hs_text.specs.TextLaws.{is_word, number_of-decimal, decimal-number_of, hex_of-hex_text, hex_text-hex_of, payload_of-payload_text, payload_text-payload_of, is_word-decimal, is_word-hex_text, is_word-payload_text}
-use Rattle.hs_records.specs.Plain.{Operation, Begin, Point, Crumb, End, Fire, Sample}
+use Rattle.hs_records.specs.Plain.{Operation, Begin, Point, End}
 use Rattle.hs_workload.specs.declared.word.Setting.{Setting}
-use Rattle.hs_workload.specs.declared.word.Setting.TheVariants as settings
 use Rattle.hs_workload.specs.declared.word.Keyword.{Keyword}
 use Rattle.hs_workload.specs.declared.word.Keyword.TheVariants as keywords
-use Rattle.hs_workload.specs.Statements.{Statement, Put, Start, Operate, Finish, setting_text, keyword_text, all_keywords, keyword_of, says, statement_words}
+use Rattle.hs_workload.specs.Statements.{Statement, Put, Start, Operate, Finish, setting_text, keyword_text, all_keywords, keywords_told_apart, says, statement_words}
 
 -- what has words
 abbrev pub OperationForm : ℕ → Operation → Type 0
 OperationForm version (Begin trace) = trace.0 < 16 ^ trace_digits version
 OperationForm version (Point moment payload) = (moment < 2 ^ 64) × All (λ b. b < 256) payload
 OperationForm version End = ⊤
-OperationForm version (Crumb node) = ⊥
-OperationForm version (Fire trigger) = ⊥
-OperationForm version (Sample moment auto value) = ⊥
+OperationForm version _ = ⊥
 
 abbrev pub Form : ℕ → Statement → Type 0
 Form version (Put setting n) = n < 2 ^ 64
@@ -33,48 +29,13 @@ abbrev pub operation_keyword : Operation → Keyword
 operation_keyword (Begin trace) = keywords.Begin
 operation_keyword (Point moment payload) = keywords.Point
 operation_keyword End = keywords.End
-operation_keyword (Crumb node) = keywords.Done
-operation_keyword (Fire trigger) = keywords.Done
-operation_keyword (Sample moment auto value) = keywords.Done
+operation_keyword _ = keywords.Done
 
 abbrev pub keyword_said : Statement → Keyword
 keyword_said (Put setting n) = keywords.Setting setting
 keyword_said (Start node number) = keywords.Client
 keyword_said (Operate operation) = operation_keyword operation
 keyword_said Finish = keywords.Done
-
--- ---- keywords
-
-find_here : {A : Type 0} (p : A → Bool) (y : A) (next : Option A) (b : Bool) → p y ≡ b → IfSome next (λ x. p x ≡ true) → IfSome (cond b (Some y) next) (λ x. p x ≡ true)
-find_here p y next true t e = t
-find_here p y next false t e = e
-
-find_passes : {A : Type 0} (p : A → Bool) (xs : List A) → IfSome (find p xs) (λ x. p x ≡ true)
-find_passes p [] = tt
-find_passes p (y ∷ xs) = find_here p y (find p xs) (p y) refl (find_passes p xs)
-
-pub keyword_spelled : (word : List ℕ) (keyword : Keyword) → keyword_of word ≡ Some keyword → word ≡ keyword_text keyword
-unfolding keyword_of
-keyword_spelled word keyword e =
-    (bytes_eq-Decides word (keyword_text keyword)).0
-    (subst (λ (o : Option Keyword). IfSome o (λ k. bytes_eq word (keyword_text k) ≡ true)) e (find_passes (λ k. bytes_eq word (keyword_text k)) all_keywords))
-
-pub keyword_read : (keyword : Keyword) → keyword_of (keyword_text keyword) ≡ Some keyword
-unfolding keyword_of
-keyword_read (keywords.Setting settings.Version) = refl
-keyword_read (keywords.Setting settings.Nodes) = refl
-keyword_read (keywords.Setting settings.Clients) = refl
-keyword_read (keywords.Setting settings.Buffers) = refl
-keyword_read (keywords.Setting settings.Size) = refl
-keyword_read (keywords.Setting settings.Threshold) = refl
-keyword_read (keywords.Setting settings.Traces) = refl
-keyword_read (keywords.Setting settings.Pins) = refl
-keyword_read (keywords.Setting settings.Stride) = refl
-keyword_read keywords.Client = refl
-keyword_read keywords.Begin = refl
-keyword_read keywords.Point = refl
-keyword_read keywords.End = refl
-keyword_read keywords.Done = refl
 
 -- ---- what words say is spelled by them
 
@@ -124,24 +85,13 @@ point_spelled version v w (Some m) (Some bytes) e f =
     }
 
 pub says_spelled : (version : ℕ) (keyword : Keyword) (words : List (List ℕ)) → IfSome (says version keyword words) (IsSpelled version keyword words)
-says_spelled version (keywords.Setting setting) [] = tt
 says_spelled version (keywords.Setting setting) (v ∷ []) = set_spelled version setting v (number_of v) refl
-says_spelled version (keywords.Setting setting) (v ∷ w ∷ words) = tt
-says_spelled version keywords.Client [] = tt
-says_spelled version keywords.Client (v ∷ []) = tt
 says_spelled version keywords.Client (v ∷ w ∷ []) = start_spelled version v w (number_of v) (number_of w) refl refl
-says_spelled version keywords.Client (v ∷ w ∷ x ∷ words) = tt
-says_spelled version keywords.Begin [] = tt
 says_spelled version keywords.Begin (v ∷ []) = begin_spelled version v (hex_of (trace_digits version) v) refl
-says_spelled version keywords.Begin (v ∷ w ∷ words) = tt
-says_spelled version keywords.Point [] = tt
-says_spelled version keywords.Point (v ∷ []) = tt
 says_spelled version keywords.Point (v ∷ w ∷ []) = point_spelled version v w (number_of v) (payload_of w) refl refl
-says_spelled version keywords.Point (v ∷ w ∷ x ∷ words) = tt
 says_spelled version keywords.End [] = record { form = tt; said = refl; spelled = refl }
-says_spelled version keywords.End (v ∷ words) = tt
 says_spelled version keywords.Done [] = record { form = tt; said = refl; spelled = refl }
-says_spelled version keywords.Done (v ∷ words) = tt
+says_spelled version _ words = tt
 
 -- ---- spelled words say what they spell
 
@@ -161,16 +111,8 @@ pub record IsRead (version : ℕ) (s : Statement) : Type 0 where
   pub print : list_all is_word (keyword_text (keyword_said s) ∷ words_said version s) ≡ true
   pub said : says version (keyword_said s) (words_said version s) ≡ Some s
 
-setting_prints : (setting : Setting) → is_word (setting_text setting) ≡ true
-setting_prints settings.Version = refl
-setting_prints settings.Nodes = refl
-setting_prints settings.Clients = refl
-setting_prints settings.Buffers = refl
-setting_prints settings.Size = refl
-setting_prints settings.Threshold = refl
-setting_prints settings.Traces = refl
-setting_prints settings.Pins = refl
-setting_prints settings.Stride = refl
+keyword_prints : (keyword : Keyword) → is_word (keyword_text keyword) ≡ true
+keyword_prints = spelled-every keyword_text all_keywords (λ k. is_word (keyword_text k)) keywords_told_apart refl
 
 both : (a b : Bool) → a ≡ true → b ≡ true → (a && b) ≡ true
 both true true p q = refl
@@ -181,7 +123,7 @@ pub read : (version : ℕ) (s : Statement) → Form version s → IsRead version
 read version (Put setting n) f =
     record {
       words = refl;
-      print = both _ _ (setting_prints setting) (both _ _ (is_word-decimal n f) refl);
+      print = both _ _ (keyword_prints (keywords.Setting setting)) (both _ _ (is_word-decimal n f) refl);
       said = ap (option_map (λ (m : ℕ). Put setting m)) (number_of-decimal n f);
     }
 read version (Start a b) f =
@@ -205,7 +147,5 @@ read version (Operate (Point m bytes)) f =
           ∙ ap (option_map (λ (p : List ℕ). Operate (Point m p))) (payload_of-payload_text bytes f.1);
     }
 read version (Operate End) f = record { words = refl; print = refl; said = refl }
-read version (Operate (Crumb node)) f = absurd f
-read version (Operate (Fire trigger)) f = absurd f
-read version (Operate (Sample moment auto value)) f = absurd f
 read version Finish f = record { words = refl; print = refl; said = refl }
+read version (Operate _) f = absurd f

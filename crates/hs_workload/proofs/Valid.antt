@@ -14,7 +14,7 @@ use Rattle.hs_workload.specs.Validity.{Within, HasWords, IsClient, client_pieces
 use Rattle.hs_workload.specs.Forward.{after}
 use Rattle.hs_workload.proofs.Clear.{Allowed}
 use Rattle.hs_workload.proofs.Sound.{sets, starts, ends}
-use Rattle.hs_workload.proofs.Runs.{run, AllowedFrom, start, allowed_split, opened, operated, run-operations}
+use Rattle.hs_workload.proofs.Runs.{after_all, AllowedFrom, start, allowed_split, opened, operated, after_all-operations}
 
 -- ---- allowed, so valid
 
@@ -71,7 +71,7 @@ clients_valid d (operations ∷ clients) within few a =
     subst (λ (xs : List Statement). AllowedFrom next xs) (append_assoc (map Operate operations) (client_statements d.clients (d.started + 1) clients) (Finish ∷ [])) a.2 in
     let parts = allowed_split next (map Operate operations) tail rest in
     let behind : Draft = operated next operations in
-    let more : AllowedFrom behind tail = subst (λ (x : Draft). AllowedFrom x tail) (run-operations next operations) parts.1 in
+    let more : AllowedFrom behind tail = subst (λ (x : Draft). AllowedFrom x tail) (after_all-operations next operations) parts.1 in
     let here = few_pieces next operations few parts.0 in
     let r : AreClients behind clients = clients_valid behind clients (omega (arith, left)) here more in
     let unopened : d.is_open ≡ false = a.1.left in
@@ -164,7 +164,7 @@ put_allowed d setting n line w =
     }
 
 operations_allowed : (d : Draft) (operations : List Operation) (tail : List Statement) → 0 < d.started → d.is_done ≡ false → AllByRecursion (HasWords d.version) operations
-    → AreBracketed d.is_open operations → d.pieces + client_pieces d.size operations ≤ 262144 → AllowedFrom (run d (map Operate operations)) tail
+    → AreBracketed d.is_open operations → d.pieces + client_pieces d.size operations ≤ 262144 → AllowedFrom (after_all d (map Operate operations)) tail
     → AllowedFrom d (map Operate operations ++ tail)
 operations_allowed d [] tail started undone words brackets few rest = rest
 operations_allowed d (Begin trace ∷ operations) tail started undone words brackets few rest = (
@@ -274,7 +274,7 @@ clients_allowed d (operations ∷ clients) w =
       few = omega (arith, w.few);
     }) in
     let rest : AllowedFrom next (map Operate operations ++ tail) =
-    operations_allowed next operations tail (omega arith) w.undone client.words brackets (omega (arith, w.few)) (subst (λ (x : Draft). AllowedFrom x tail) (sym (run-operations next operations)) more) in (
+    operations_allowed next operations tail (omega arith) w.undone client.words brackets (omega (arith, w.few)) (subst (λ (x : Draft). AllowedFrom x tail) (sym (after_all-operations next operations)) more) in (
       (omega (arith, quotient_small d.started d.clients, w.small), omega (arith, rest_small d.started d.clients, w.small)),
       record {
         stands = both_true (nat_le 9 d.lines && nat_lt d.started (d.nodes * d.clients)) (not d.is_done)

@@ -9,8 +9,9 @@ use Rattle.hs_workload.specs.Grammar.{client_statements, workload_statements, wo
 use Rattle.hs_workload.specs.Validity.{IsValid, Reads}
 use Rattle.hs_workload.specs.LookBack.{Draft, draft_said}
 use Rattle.hs_workload.specs.Forward.{after, closed, workload_drafted}
-use Rattle.hs_workload.proofs.Taken.{AreTaken, onto}
-use Rattle.hs_workload.proofs.Runs.{run, AllowedFrom, SpelledFrom, start, run-append, forward_allowed, forward_spelled, forward_run, operated, run-operations}
+use Rattle.hs_text.specs.Judging.{onto}
+use Rattle.hs_workload.proofs.Taken.{AreTaken}
+use Rattle.hs_workload.proofs.Runs.{after_all, AllowedFrom, SpelledFrom, start, after_all-append, forward_allowed, forward_spelled, forward_run, operated, after_all-operations}
 use Rattle.hs_workload.proofs.Shape.{Shaped, shaped}
 use Rattle.hs_workload.proofs.Valid.{headed, valid}
 
@@ -21,24 +22,24 @@ closed_next : (d : Draft) (operations : List Operation)
 closed_next d operations = ap (λ (b : Bool). cond b (closed d) (closed d ++ operations ∷ [])) (ne_eqb (d.started + 1) 0 (λ e. omega arith))
 
 clients_drafted : (d : Draft) (clients : List (List Operation))
-    → workload_drafted (run d (client_statements d.clients d.started clients)) ≡ record (workload_drafted d) { clients = closed d ++ clients }
+    → workload_drafted (after_all d (client_statements d.clients d.started clients)) ≡ record (workload_drafted d) { clients = closed d ++ clients }
 clients_drafted d [] = ap (λ (cs : List (List Operation)). record (workload_drafted d) { clients = cs }) (sym (append-nil (closed d)))
 clients_drafted d (operations ∷ clients) =
     let next : Draft = record d { lines = d.lines + 1; started = d.started + 1; finished = closed d; current = [] } in
     let behind : Draft = operated next operations in
     let tail : List Statement = client_statements d.clients (d.started + 1) clients in
-    let runs : run next (map Operate operations ++ tail) ≡ run behind tail = run-append next (map Operate operations) tail ∙ ap (λ (x : Draft). run x tail) (run-operations next operations) in
+    let runs : after_all next (map Operate operations ++ tail) ≡ after_all behind tail = after_all-append next (map Operate operations) tail ∙ ap (λ (x : Draft). after_all x tail) (after_all-operations next operations) in
     let both : closed behind ++ clients ≡ closed d ++ operations ∷ clients = ap (λ (cs : List (List Operation)). cs ++ clients) (closed_next d operations) ∙ append_assoc (closed d) (operations ∷ []) clients in
     ap workload_drafted runs ∙ clients_drafted behind clients ∙ ap (λ (cs : List (List Operation)). record (workload_drafted d) { clients = cs }) both
 
-pub drafted : (W : PlainWorkload) → W.settings.triggers ≡ [] → W.settings.autos ≡ [] → workload_drafted (run start (workload_statements W)) ≡ W
+pub drafted : (W : PlainWorkload) → W.settings.triggers ≡ [] → W.settings.autos ≡ [] → workload_drafted (after_all start (workload_statements W)) ≡ W
 drafted W triggers autos =
     let clients : List Statement = client_statements W.settings.clients 0 W.clients in
-    ap workload_drafted (run-append (headed W) clients (Finish ∷ [])) ∙ clients_drafted (headed W) W.clients
+    ap workload_drafted (after_all-append (headed W) clients (Finish ∷ [])) ∙ clients_drafted (headed W) W.clients
     ∙ (λ i. record W { settings = record W.settings { triggers = sym triggers i; autos = sym autos i } })
 
-pub done_last : (W : PlainWorkload) → (run start (workload_statements W)).is_done ≡ true
-done_last W = ap (λ (d : Draft). d.is_done) (run-append (headed W) (client_statements W.settings.clients 0 W.clients) (Finish ∷ []))
+pub done_last : (W : PlainWorkload) → (after_all start (workload_statements W)).is_done ≡ true
+done_last W = ap (λ (d : Draft). d.is_done) (after_all-append (headed W) (client_statements W.settings.clients 0 W.clients) (Finish ∷ []))
 
 -- ---- lines and what they spell
 
@@ -96,10 +97,10 @@ pub reads_taken : (earlier : List (List ℕ)) (ss : List Statement) → AreTaken
 reads_taken earlier ss t done =
     let a : AllowedFrom start (onto ss []) = forward_allowed earlier ss [] t tt in
     let l : SpelledFrom start (onto earlier []) (onto ss []) = forward_spelled earlier [] ss [] t tt in
-    let runs : run start (onto ss []) ≡ draft_said ss = forward_run ss [] in
+    let runs : after_all start (onto ss []) ≡ draft_said ss = forward_run ss [] in
     let shape : Shaped (onto ss []) = shaped (onto ss []) a (ap (λ (d : Draft). d.is_done) runs ∙ done) in
     let W : PlainWorkload = shape.workload in
-    let is : workload_drafted (draft_said ss) ≡ W = ap workload_drafted (sym runs ∙ ap (run start) shape.are) ∙ drafted W shape.triggers shape.autos in
+    let is : workload_drafted (draft_said ss) ≡ W = ap workload_drafted (sym runs ∙ ap (after_all start) shape.are) ∙ drafted W shape.triggers shape.autos in
     let here : IsValid W = valid W shape.triggers shape.autos (subst (AllowedFrom start) shape.are a) in
     let lines : onto earlier [] ≡ workload_lines W = lines_known start W.version (onto earlier []) (workload_statements W) (speaks W) (subst (SpelledFrom start (onto earlier [])) shape.are l) in
     let reads : Reads (text_of (onto earlier [])) W = record { valid = here; spelled = ap text_of lines } in

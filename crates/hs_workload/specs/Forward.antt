@@ -1,15 +1,18 @@
 -- A line at a time, forward: what is read so far, and what the next line makes of it or why it is refused. The reader's
 -- own functions are stated by these. That they agree with the look back over the earlier lines is proved apart.
-use Rattle.std.specs.Prelude.{◌≡◌, ℕ, ◌+◌, ◌==◌, ◌<◌, ◌≤◌, nat_lt, Bool, true, false, not, List, [], ◌∷◌, ◌++◌, length, map, drop, Option, Some, None, Result, Ok, Err, if◌then◌else◌}
-use Rattle.hs_text.specs.Text.{words_of, has_bad_byte, has_bad_spaces, number_of, hex_of, trace_digits, payload_of}
+use Rattle.std.specs.Prelude.{◌≡◌, ℕ, ◌+◌, ◌==◌, ◌<◌, ◌≤◌, nat_lt, Bool, true, false, not, List, [], ◌∷◌, ◌++◌, map, Option, Some, None, Result, Ok, Err, if◌then◌else◌}
+use Rattle.hs_text.specs.Text.{number_of, hex_of, trace_digits, payload_of}
 use Rattle.hs_records.specs.Records.{piece_count}
-use Rattle.hs_records.specs.Plain.{Operation, Begin, Point, Crumb, End, Fire, Sample, PlainWorkload}
+use Rattle.hs_records.specs.Plain.{Operation, Begin, Point, End, PlainWorkload}
 use Rattle.hs_workload.specs.declared.refusal.Reason.{Reason}
 use Rattle.hs_workload.specs.declared.refusal.Reason.TheVariants as reasons
 use Rattle.hs_workload.specs.declared.refusal.ReadError.{ReadError}
 use Rattle.hs_workload.specs.declared.refusal.ReadError.TheVariants as errors
-use Rattle.hs_workload.specs.declared.stop.Stop.{Stop}
-use Rattle.hs_workload.specs.declared.stop.Stop.TheVariants as stops
+use Rattle.hs_text.specs.declared.stop.Stop.{Stop}
+use Rattle.hs_text.specs.declared.stop.Stop.TheVariants as stops
+use Rattle.hs_text.specs.Steps.{◌>>=◌, unless, value_or}
+use Rattle.hs_text.specs.WordsLeft.{next_word, last_word, no_word, payload_length}
+use Rattle.hs_text.specs.Opening.{opened}
 use Rattle.hs_workload.specs.declared.word.Setting.TheVariants as settings
 use Rattle.hs_workload.specs.declared.word.Setting.{Setting}
 use Rattle.hs_workload.specs.declared.word.Keyword.{Keyword}
@@ -18,24 +21,10 @@ use Rattle.hs_workload.specs.declared.draft.Reader.{Reader}
 use Rattle.hs_workload.specs.Views.{operations_of}
 use Rattle.hs_workload.specs.Statements.{Statement, Put, Start, Operate, Finish, keyword_of}
 use Rattle.hs_workload.specs.LookBack.{Draft, operation_pieces}
-use Rattle.hs_workload.specs.Faults.{may_stand, is_out_of_range, is_out_of_order}
-
-infixl 10 ◌>>=◌
-abbrev pub ◌>>=◌ : {A B : Type 0} → Result A Reason → (A → Result B Reason) → Result B Reason
-(Ok x) >>= f = f x
-(Err e) >>= f = Err e
-
--- What a function returned, seen by view, is what reading gives, unless memory ran out.
-abbrev pub Stops : {Y : Type 0} → Stop → Result Y Reason → Type 0
-Stops stops.Memory read = Unit {0}
-Stops (stops.Fault reason) read = read ≡ Err reason
-
-abbrev pub Gives : {X Y : Type 0} → (X → Y) → Result X Stop → Result Y Reason → Type 0
-Gives view (Ok x) read = read ≡ Ok (view x)
-Gives view (Err stop) read = Stops stop read
+use Rattle.hs_workload.specs.Faults.{may_stand, is_out_of_range, is_out_of_order, before_words}
 
 -- the error for what ended the reading of this line
-abbrev pub error_at : ℕ → Stop → ReadError
+abbrev pub error_at : ℕ → Stop Reason → ReadError
 error_at line stops.Memory = errors.Memory
 error_at line (stops.Fault reason) = errors.Refused (record { line = line; reason = reason })
 
@@ -70,10 +59,7 @@ closed d = if d.started == 0 then d.finished else d.finished ++ d.current ∷ []
 abbrev pub open_after : Bool → Operation → Bool
 open_after is_open (Begin trace) = true
 open_after is_open End = false
-open_after is_open (Point moment payload) = is_open
-open_after is_open (Crumb node) = is_open
-open_after is_open (Fire trigger) = is_open
-open_after is_open (Sample moment auto value) = is_open
+open_after is_open _ = is_open
 
 abbrev pub with_setting : Draft → Setting → ℕ → Draft
 with_setting d settings.Version n = record d { lines = d.lines + 1; version = n }
@@ -94,54 +80,23 @@ after d (Operate operation) =
     record d { lines = d.lines + 1; current = d.current ++ operation ∷ []; pieces = d.pieces + operation_pieces d.size operation; is_open = open_after d.is_open operation }
 after d Finish = record d { lines = d.lines + 1; is_done = true }
 
--- the words behind the first
-abbrev pub words_behind : List ℕ → List (List ℕ)
-words_behind line = drop 1 (words_of line)
-
-abbrev pub no_word : List (List ℕ) → Result (Unit {0}) Reason
-no_word [] = Ok tt
-no_word (a ∷ words) = Err reasons.Count
-
-abbrev pub only_word : List (List ℕ) → Result (List ℕ) Reason
-only_word [] = Err reasons.Count
-only_word (a ∷ []) = Ok a
-only_word (a ∷ b ∷ words) = Err reasons.Count
-
-abbrev pub both_words : List (List ℕ) → Result (List ℕ × List ℕ) Reason
-both_words [] = Err reasons.Count
-both_words (a ∷ []) = Err reasons.Count
-both_words (a ∷ b ∷ []) = Ok (a, b)
-both_words (a ∷ b ∷ c ∷ words) = Err reasons.Count
-
--- the value of a word, or this reason where it has none
-abbrev pub value_or : {A : Type 0} → Reason → Option A → Result A Reason
-value_or reason None = Err reason
-value_or reason (Some a) = Ok a
-
-abbrev pub unless : {A : Type 0} → Bool → Reason → Result A Reason → Result A Reason
-unless true reason next = Err reason
-unless false reason next = next
-
 -- that no trace is open, where a client ends
 abbrev pub shut : Bool → Result (Unit {0}) Reason
 shut is_open = unless is_open reasons.StillOpen (Ok tt)
 
 unfoldable pub set_step : Draft → Setting → List (List ℕ) → Result Draft Reason
 set_step d setting words = do
-  word ← only_word words
+  word ← last_word reasons.Count words
   n ← value_or reasons.Number (number_of word)
   unless (is_out_of_range d (Put setting n)) reasons.Range (Ok (with_setting d setting n))
 
 unfoldable pub start_step : Draft → List (List ℕ) → Result Draft Reason
 start_step d words = do
-  both ← both_words words
-  node ← value_or reasons.Number (number_of both.0)
-  number ← value_or reasons.Number (number_of both.1)
+  first ← next_word reasons.Count words
+  second ← last_word reasons.Count first.1
+  node ← value_or reasons.Number (number_of first.0)
+  number ← value_or reasons.Number (number_of second)
   unless (is_out_of_order d (Start node number)) reasons.Order (unless d.is_open reasons.StillOpen (Ok (after d (Start node number))))
-
--- how many bytes the payload has that a word is
-abbrev pub payload_length : List ℕ → Result ℕ Reason
-payload_length word = value_or reasons.Hex (payload_of word) >>= λ bytes. Ok (length bytes)
 
 -- the operations with so many more
 abbrev pub counted : ℕ → ℕ → Result ℕ Reason
@@ -157,26 +112,27 @@ with_payload d moment pieces (Some bytes) = Ok (with_operation d (Point moment b
 
 unfoldable pub begin_step : Draft → List (List ℕ) → Result Draft Reason
 begin_step d words = do
-  word ← only_word words
+  word ← last_word reasons.Count words
   id ← value_or reasons.Hex (hex_of (trace_digits d.version) word)
   unless d.is_open reasons.Open (counted d.pieces 1 >>= λ pieces. Ok (record (with_operation d (Begin (record { 0 = id })) pieces) { is_open = true }))
 
 unfoldable pub point_step : Draft → List (List ℕ) → Result Draft Reason
 point_step d words = do
-  both ← both_words words
-  moment ← value_or reasons.Number (number_of both.0)
-  bytes ← payload_length both.1
+  first ← next_word reasons.Count words
+  second ← last_word reasons.Count first.1
+  moment ← value_or reasons.Number (number_of first.0)
+  bytes ← payload_length reasons.Hex second
   unless (nat_lt 65535 bytes) reasons.Range
-      (unless (not d.is_open) reasons.NoTrace (counted d.pieces (piece_count d.size bytes) >>= λ pieces. with_payload d moment pieces (payload_of both.1)))
+      (unless (not d.is_open) reasons.NoTrace (counted d.pieces (piece_count d.size bytes) >>= λ pieces. with_payload d moment pieces (payload_of second)))
 
 unfoldable pub end_step : Draft → List (List ℕ) → Result Draft Reason
 end_step d words = do
-  none ← no_word words
+  none ← no_word reasons.Count words
   unless (not d.is_open) reasons.NoTrace (counted d.pieces 1 >>= λ pieces. Ok (record (with_operation d End pieces) { is_open = false }))
 
 unfoldable pub finish_step : Draft → List (List ℕ) → Result Draft Reason
 finish_step d words = do
-  none ← no_word words
+  none ← no_word reasons.Count words
   unless d.is_open reasons.StillOpen (Ok (after d Finish))
 
 abbrev pub keyword_step : Draft → Keyword → List (List ℕ) → Result Draft Reason
@@ -187,16 +143,11 @@ keyword_step d keywords.Point words = point_step d words
 keyword_step d keywords.End words = end_step d words
 keyword_step d keywords.Done words = finish_step d words
 
-abbrev pub place_step : Draft → Option Keyword → List (List ℕ) → Result Draft Reason
-place_step d None words = Err reasons.Word
-place_step d (Some keyword) words = unless (not (may_stand d keyword)) reasons.Word (keyword_step d keyword words)
-
-abbrev pub words_step : Draft → List (List ℕ) → Result Draft Reason
-words_step d [] = Err reasons.Word
-words_step d (word ∷ words) = place_step d (keyword_of word) words
+abbrev pub found_step : Draft → Keyword × List (List ℕ) → Result Draft Reason
+found_step d found = unless (not (may_stand d found.0)) reasons.Word (keyword_step d found.0 found.1)
 
 unfoldable pub line_step : Draft → List ℕ → Result Draft Reason
-line_step d line = unless (has_bad_byte line) reasons.Byte (unless (has_bad_spaces line) reasons.Spaces (words_step d (words_of line)))
+line_step d line = opened before_words keyword_of line >>= found_step d
 
 -- the workload of a draft whose text has ended
 abbrev pub workload_drafted : Draft → PlainWorkload

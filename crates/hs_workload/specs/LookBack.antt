@@ -2,7 +2,7 @@
 -- newest first.
 use Rattle.std.specs.Prelude.{◌≡◌, ℕ, ◌+◌, ◌==◌, Bool, true, false, List, [], ◌∷◌, ◌++◌, length, if◌then◌else◌, replicate, refl}
 use Rattle.std.specs.List.{cons_option}
-use Rattle.hs_records.specs.Plain.{Operation, Begin, Point, Crumb, End, Fire, Sample}
+use Rattle.hs_records.specs.Plain.{Operation, Begin, Point, End}
 use Rattle.hs_base.specs.declared.settings.TriggerRule.{TriggerRule}
 use Rattle.hs_base.specs.declared.settings.AutoRule.{AutoRule}
 use Rattle.hs_records.specs.Records.{piece_count}
@@ -14,9 +14,7 @@ use Rattle.hs_workload.specs.Statements.{Statement, Put, Start, Operate, Finish,
 abbrev pub setting_said : Setting → List Statement → ℕ
 setting_said asked [] = 0
 setting_said asked (Put setting number ∷ earlier) = if setting_line setting == setting_line asked then number else setting_said asked earlier
-setting_said asked (Start node number ∷ earlier) = setting_said asked earlier
-setting_said asked (Operate operation ∷ earlier) = setting_said asked earlier
-setting_said asked (Finish ∷ earlier) = setting_said asked earlier
+setting_said asked (_ ∷ earlier) = setting_said asked earlier
 
 -- what lines say, in a text whose version stands among them
 abbrev pub said : List (List ℕ) → List Statement
@@ -31,63 +29,44 @@ lines_said (statement ∷ earlier) = lines_said earlier + 1
 abbrev pub clients_said : List Statement → ℕ
 clients_said [] = 0
 clients_said (Start node number ∷ earlier) = clients_said earlier + 1
-clients_said (Put setting number ∷ earlier) = clients_said earlier
-clients_said (Operate operation ∷ earlier) = clients_said earlier
-clients_said (Finish ∷ earlier) = clients_said earlier
+clients_said (_ ∷ earlier) = clients_said earlier
 
 -- whether a trace is open: the newest line that begins or ends one began it
 abbrev pub is_open_said : List Statement → Bool
 is_open_said [] = false
 is_open_said (Operate (Begin trace) ∷ earlier) = true
 is_open_said (Operate End ∷ earlier) = false
-is_open_said (Operate (Point moment payload) ∷ earlier) = is_open_said earlier
-is_open_said (Operate (Crumb node) ∷ earlier) = is_open_said earlier
-is_open_said (Operate (Fire trigger) ∷ earlier) = is_open_said earlier
-is_open_said (Operate (Sample moment auto value) ∷ earlier) = is_open_said earlier
-is_open_said (Put setting number ∷ earlier) = is_open_said earlier
-is_open_said (Start node number ∷ earlier) = is_open_said earlier
-is_open_said (Finish ∷ earlier) = is_open_said earlier
+is_open_said (_ ∷ earlier) = is_open_said earlier
 
 -- how often an operation counts: a point once for each of its pieces
 abbrev pub operation_pieces : ℕ → Operation → ℕ
 operation_pieces size (Point moment payload) = piece_count size (length payload)
-operation_pieces size (Begin trace) = 1
-operation_pieces size (Crumb node) = 1
-operation_pieces size End = 1
-operation_pieces size (Fire trigger) = 1
-operation_pieces size (Sample moment auto value) = 1
+operation_pieces size _ = 1
 
 -- the operations so far, counted so
 abbrev pub pieces_said : List Statement → ℕ
 pieces_said [] = 0
 pieces_said (Operate operation ∷ earlier) = pieces_said earlier + operation_pieces (setting_said settings.Size earlier) operation
-pieces_said (Put setting number ∷ earlier) = pieces_said earlier
-pieces_said (Start node number ∷ earlier) = pieces_said earlier
-pieces_said (Finish ∷ earlier) = pieces_said earlier
+pieces_said (_ ∷ earlier) = pieces_said earlier
 
 -- whether `done` was read
 abbrev pub is_done_said : List Statement → Bool
 is_done_said [] = false
 is_done_said (Finish ∷ earlier) = true
-is_done_said (Put setting number ∷ earlier) = is_done_said earlier
-is_done_said (Start node number ∷ earlier) = is_done_said earlier
-is_done_said (Operate operation ∷ earlier) = is_done_said earlier
+is_done_said (_ ∷ earlier) = is_done_said earlier
 
 -- the operations of the client that began last
 abbrev pub current_said : List Statement → List Operation
 current_said [] = []
 current_said (Start node number ∷ earlier) = []
 current_said (Operate operation ∷ earlier) = current_said earlier ++ operation ∷ []
-current_said (Put setting number ∷ earlier) = current_said earlier
-current_said (Finish ∷ earlier) = current_said earlier
+current_said (_ ∷ earlier) = current_said earlier
 
 -- the operations of the clients before it
 abbrev pub finished_said : List Statement → List (List Operation)
 finished_said [] = []
 finished_said (Start node number ∷ earlier) = if clients_said earlier == 0 then finished_said earlier else finished_said earlier ++ current_said earlier ∷ []
-finished_said (Operate operation ∷ earlier) = finished_said earlier
-finished_said (Put setting number ∷ earlier) = finished_said earlier
-finished_said (Finish ∷ earlier) = finished_said earlier
+finished_said (_ ∷ earlier) = finished_said earlier
 
 -- all of it
 pub record Draft : Type 0 where

@@ -1,9 +1,9 @@
 -- A line of a workload says one of four things: it sets a number of the head, begins a client, is an operation of that
 -- client, or ends the text. What it says has one list of words. The version changes only how many digits a trace has.
 use Rattle.std.specs.Prelude.{◌≡◌, ℕ, List, [], ◌∷◌, map, codes, decimal, Option, Some, None, option_and_then, option_map, refl}
-use Rattle.std.specs.List.{find}
-use Rattle.std.specs.Str.{bytes_eq}
 use Rattle.hs_text.specs.Text.{words_of, line_of, number_of, hex_of, hex_text, trace_digits, payload_of, payload_text}
+use Rattle.hs_text.specs.Spelling.{spelled}
+use Rattle.hs_text.specs.Opening.{words_say}
 use Rattle.hs_records.specs.Plain.{Operation, Begin, Point, Crumb, End, Fire, Sample}
 use Rattle.hs_workload.specs.declared.word.Setting.{Setting}
 use Rattle.hs_workload.specs.declared.word.Setting.TheVariants as settings
@@ -76,8 +76,25 @@ all_keywords =
     ∷ keywords.Setting settings.Traces ∷ keywords.Setting settings.Pins ∷ keywords.Setting settings.Stride ∷ []
 
 -- which of them a word is
-unfoldable pub keyword_of : List ℕ → Option Keyword
-keyword_of word = find (λ keyword. bytes_eq word (keyword_text keyword)) all_keywords
+abbrev pub keyword_of : List ℕ → Option Keyword
+keyword_of = spelled keyword_text all_keywords
+
+pub keywords_told_apart : (keyword : Keyword) → keyword_of (keyword_text keyword) ≡ Some keyword
+unfolding spelled
+keywords_told_apart (keywords.Setting settings.Version) = refl
+keywords_told_apart (keywords.Setting settings.Nodes) = refl
+keywords_told_apart (keywords.Setting settings.Clients) = refl
+keywords_told_apart (keywords.Setting settings.Buffers) = refl
+keywords_told_apart (keywords.Setting settings.Size) = refl
+keywords_told_apart (keywords.Setting settings.Threshold) = refl
+keywords_told_apart (keywords.Setting settings.Traces) = refl
+keywords_told_apart (keywords.Setting settings.Pins) = refl
+keywords_told_apart (keywords.Setting settings.Stride) = refl
+keywords_told_apart keywords.Client = refl
+keywords_told_apart keywords.Begin = refl
+keywords_told_apart keywords.Point = refl
+keywords_told_apart keywords.End = refl
+keywords_told_apart keywords.Done = refl
 
 -- what a line says whose first word is this, by its other words; nothing where they are not of that form
 abbrev pub says : ℕ → Keyword → List (List ℕ) → Option Statement
@@ -89,13 +106,9 @@ says version keywords.End [] = Some (Operate End)
 says version keywords.Done [] = Some Finish
 says version keyword words = None
 
-abbrev pub words_say : ℕ → List (List ℕ) → Option Statement
-words_say version [] = None
-words_say version (word ∷ words) = option_and_then (λ keyword. says version keyword words) (keyword_of word)
-
 -- what a line says
 abbrev pub statement_of : ℕ → List ℕ → Option Statement
-statement_of version line = words_say version (words_of line)
+statement_of version line = words_say keyword_of (says version) (words_of line)
 
 -- worked examples
 begin_of_each_version : (statement_line 1 (Operate (Begin (record { 0 = 175 }))) ≡ codes "begin 00000000000000af")
@@ -105,10 +118,10 @@ begin_of_each_version = (refl, refl)
 said_by_lines : (statement_of 1 (codes "size 64") ≡ Some (Put settings.Size 64)) × (statement_of 1 (codes "client 0 12") ≡ Some (Start 0 12))
     × (statement_of 1 (codes "point 7 00ff") ≡ Some (Operate (Point 7 (0 ∷ 255 ∷ [])))) × (statement_of 1 (codes "point 7 -") ≡ Some (Operate (Point 7 [])))
     × (statement_of 1 (codes "end") ≡ Some (Operate End)) × (statement_of 1 (codes "done") ≡ Some Finish)
-unfolding keyword_of
+unfolding spelled
 said_by_lines = (refl, refl, refl, refl, refl, refl)
 
 said_by_none : (statement_of 1 (codes "crumb 0") ≡ None) × (statement_of 1 (codes "size 064") ≡ None) × (statement_of 2 (codes "begin 00000000000000af") ≡ None)
     × (statement_of 1 (codes "end 1") ≡ None)
-unfolding keyword_of
+unfolding spelled
 said_by_none = (refl, refl, refl, refl)

@@ -2,7 +2,7 @@
 use Rattle.std.specs.Prelude.{◌≡◌, ℕ, ◌+◌, ◌*◌, ◌^◌, ◌<◌, ◌≤◌, List, [], ◌∷◌, length, false, ⊤}
 use Rattle.std.specs.List.{All, AllByRecursion}
 use Rattle.hs_text.specs.Text.{trace_digits}
-use Rattle.hs_records.specs.Plain.{Operation, Begin, Point, Crumb, End, Fire, Sample, PlainWorkload}
+use Rattle.hs_records.specs.Plain.{Operation, Begin, Point, End, PlainWorkload}
 use Rattle.hs_records.specs.Records.{AreBracketed}
 use Rattle.hs_workload.specs.Grammar.{workload_text}
 use Rattle.hs_workload.specs.LookBack.{operation_pieces}
@@ -15,9 +15,7 @@ abbrev pub HasWords : ℕ → Operation → Type 0
 HasWords version (Begin trace) = trace.0 < 16 ^ trace_digits version
 HasWords version (Point moment payload) = (moment < 2 ^ 64) × (length payload ≤ 65535) × All (λ b. b < 256) payload
 HasWords version End = ⊤
-HasWords version (Crumb node) = ⊥
-HasWords version (Fire trigger) = ⊥
-HasWords version (Sample moment auto value) = ⊥
+HasWords version _ = ⊥
 
 pub record IsClient (version : ℕ) (operations : List Operation) : Type 0 where
   pub words : AllByRecursion (HasWords version) operations

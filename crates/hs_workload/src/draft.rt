@@ -2,20 +2,21 @@
 
 ghost use Rattle.std.specs.Prelude.{◌≡◌, ◌==◌, ◌&&◌, ◌<◌, ◌≤◌, ◌*◌, [], length, true, OnOk, IfOk};
 ghost use Rattle.hs_text.specs.Text.{trace_digits};
+ghost use Rattle.hs_text.specs.Steps.{Gives};
+ghost use Rattle.hs_text.specs.WordsLeft.{words_in};
 ghost use Rattle.hs_workload.specs.Views.{operation_of, workload_of};
 ghost use Rattle.hs_workload.specs.LookBack.{draft_said};
 ghost use Rattle.hs_workload.specs.Faults.{all_clients, may_stand, least, most};
-ghost use Rattle.hs_workload.specs.Forward.{Gives, shut, IsSound, draft_of, with_setting, closed, words_behind, with_operation, counted, set_step, start_step, begin_step, point_step, end_step, finish_step, keyword_step, line_step, workload_drafted};
+ghost use Rattle.hs_workload.specs.Forward.{shut, IsSound, draft_of, with_setting, closed, with_operation, counted, set_step, start_step, begin_step, point_step, end_step, finish_step, keyword_step, line_step, workload_drafted};
 
 use crate::operation::{Op, Workload};
 use crate::refusal::Reason;
-use crate::stop::Stop;
-use crate::word::{
-    Keyword, Setting, both_words, hex_in, keyword_in, no_word, number_in, only_word, payload_length,
-};
+use crate::word::{Keyword, Setting};
 use hs_base::{List, Memory, Settings, TraceId};
 use hs_records::piece_count;
-use hs_text::{LineFault, decode_payload, line_fault, split_word};
+use hs_text::{
+    LineReasons, Stop, Words, decode_payload, hex_in, number_in, open_line, payload_length,
+};
 use std::alloc::Global;
 
 /// The most operations of a workload, a point counted once for each of its pieces.
@@ -23,6 +24,13 @@ const OPERATION_LIMIT: u32 = 262_144;
 
 /// The most bytes of a payload.
 const PAYLOAD_LIMIT: usize = 65_535;
+
+/// Why a line is refused before the words behind its first are looked at.
+const LINE_REASONS: LineReasons<Reason> = LineReasons {
+    byte: Reason::Byte,
+    spaces: Reason::Spaces,
+    word: Reason::Word,
+};
 
 /// What the lines so far say.
 #[derive(Drop)]
@@ -135,12 +143,12 @@ impl Reader {
 
     /// Takes a line of the head.
     #[tactic(auto, unfolding(crate::specs::Forward::set_step))]
-    fn set(&mut self, setting: Setting, line: &[u8]) -> Result<(), Stop>
+    fn set(&mut self, setting: Setting, words: Words<'_>) -> Result<(), Stop<Reason>>
         requires { IsSound (draft_of self.old) }
         ensures { Gives (λ _. draft_of self.new) result
-            (set_step (draft_of self.old) setting (words_behind line.now)) }
+            (set_step (draft_of self.old) setting (words_in words.entry)) }
     {
-        let number = number_in(only_word(line)?)?;
+        let number = number_in(words.last(Reason::Count)?, Reason::Number)?;
         let (least, most) = self.range_of(setting);
         if number < u64::from(least) || u64::from(most) < number {
             return Err(Stop::Fault(Reason::Range));
@@ -162,7 +170,7 @@ impl Reader {
     }
 
     /// That no trace is open, where a client ends.
-    fn check_shut(&self) -> Result<(), Stop>
+    fn check_shut(&self) -> Result<(), Stop<Reason>>
         ensures { Gives (λ _. tt) result (shut (draft_of self.now).is_open) }
     {
         if !self.is_open {
@@ -173,14 +181,15 @@ impl Reader {
 
     /// Takes the line of a client.
     #[tactic(auto, using(crate::proofs::Numbers::factor_positive), unfolding(crate::specs::Forward::start_step))]
-    fn start_client(&mut self, line: &[u8]) -> Result<(), Stop>
+    fn start_client(&mut self, mut words: Words<'_>) -> Result<(), Stop<Reason>>
         requires sound { IsSound (draft_of self.old) }
         requires left { (draft_of self.old).started < all_clients (draft_of self.old) }
-        ensures { Gives (λ _. draft_of self.new) result (start_step (draft_of self.old) (words_behind line.now)) }
+        ensures { Gives (λ _. draft_of self.new) result (start_step (draft_of self.old) (words_in words.entry)) }
     {
-        let (node, number) = both_words(line)?;
-        let node = number_in(node)?;
-        let number = number_in(number)?;
+        let node = words.take(Reason::Count)?;
+        let number = words.last(Reason::Count)?;
+        let node = number_in(node, Reason::Number)?;
+        let number = number_in(number, Reason::Number)?;
         let clients = u32::from(self.settings.clients);
         if node != u64::from(self.started / clients)
             || number != u64::from(self.started % clients)
@@ -203,7 +212,7 @@ impl Reader {
     }
 
     /// The operations so far with so many more.
-    fn counted(&self, more: u32) -> Result<u32, Stop>
+    fn counted(&self, more: u32) -> Result<u32, Stop<Reason>>
         requires sound { IsSound (draft_of self.now) }
         requires few { more ≤ 65536 }
         ensures { Gives (λ n. n) result (counted (draft_of self.now).pieces more) }
@@ -228,11 +237,11 @@ impl Reader {
 
     /// Takes a line that begins a trace.
     #[tactic(auto, unfolding(crate::specs::Forward::begin_step))]
-    fn begin(&mut self, line: &[u8]) -> Result<(), Stop>
+    fn begin(&mut self, words: Words<'_>) -> Result<(), Stop<Reason>>
         requires { IsSound (draft_of self.old) }
-        ensures { Gives (λ _. draft_of self.new) result (begin_step (draft_of self.old) (words_behind line.now)) }
+        ensures { Gives (λ _. draft_of self.new) result (begin_step (draft_of self.old) (words_in words.entry)) }
     {
-        let trace = hex_in(only_word(line)?, self.trace_digits())?;
+        let trace = hex_in(words.last(Reason::Count)?, self.trace_digits(), Reason::Hex)?;
         if self.is_open {
             return Err(Stop::Fault(Reason::Open));
         }
@@ -245,14 +254,15 @@ impl Reader {
 
     /// Takes a line that is a record.
     #[tactic(auto, unfolding(crate::specs::Forward::point_step))]
-    fn point(&mut self, line: &[u8]) -> Result<(), Stop>
+    fn point(&mut self, mut words: Words<'_>) -> Result<(), Stop<Reason>>
         requires sound { IsSound (draft_of self.old) }
         requires started { 0 < (draft_of self.old).started }
-        ensures { Gives (λ _. draft_of self.new) result (point_step (draft_of self.old) (words_behind line.now)) }
+        ensures { Gives (λ _. draft_of self.new) result (point_step (draft_of self.old) (words_in words.entry)) }
     {
-        let (moment, word) = both_words(line)?;
-        let moment = number_in(moment)?;
-        let bytes = payload_length(word)?;
+        let moment = words.take(Reason::Count)?;
+        let word = words.last(Reason::Count)?;
+        let moment = number_in(moment, Reason::Number)?;
+        let bytes = payload_length(word, Reason::Hex)?;
         if PAYLOAD_LIMIT < bytes {
             return Err(Stop::Fault(Reason::Range));
         }
@@ -267,11 +277,11 @@ impl Reader {
 
     /// Takes a line that ends a trace.
     #[tactic(auto, unfolding(crate::specs::Forward::end_step))]
-    fn end(&mut self, line: &[u8]) -> Result<(), Stop>
+    fn end(&mut self, words: Words<'_>) -> Result<(), Stop<Reason>>
         requires { IsSound (draft_of self.old) }
-        ensures { Gives (λ _. draft_of self.new) result (end_step (draft_of self.old) (words_behind line.now)) }
+        ensures { Gives (λ _. draft_of self.new) result (end_step (draft_of self.old) (words_in words.entry)) }
     {
-        no_word(line)?;
+        words.end(Reason::Count)?;
         if !self.is_open {
             return Err(Stop::Fault(Reason::NoTrace));
         }
@@ -283,11 +293,11 @@ impl Reader {
 
     /// Takes the last line.
     #[tactic(auto, unfolding(crate::specs::Forward::finish_step))]
-    fn finish(&mut self, line: &[u8]) -> Result<(), Stop>
+    fn finish(&mut self, words: Words<'_>) -> Result<(), Stop<Reason>>
         requires { IsSound (draft_of self.old) }
-        ensures { Gives (λ _. draft_of self.new) result (finish_step (draft_of self.old) (words_behind line.now)) }
+        ensures { Gives (λ _. draft_of self.new) result (finish_step (draft_of self.old) (words_in words.entry)) }
     {
-        no_word(line)?;
+        words.end(Reason::Count)?;
         self.check_shut()?;
         self.is_done = true;
         self.lines += 1;
@@ -295,40 +305,32 @@ impl Reader {
     }
 
     /// Takes a line whose first word may stand here.
-    fn take(&mut self, keyword: Keyword, line: &[u8]) -> Result<(), Stop>
+    fn take(&mut self, keyword: Keyword, words: Words<'_>) -> Result<(), Stop<Reason>>
         requires sound { IsSound (draft_of self.old) }
         requires stands { may_stand (draft_of self.old) keyword ≡ true }
-        ensures { Gives (λ _. draft_of self.new) result (keyword_step (draft_of self.old) keyword (words_behind line.now)) }
+        ensures { Gives (λ _. draft_of self.new) result (keyword_step (draft_of self.old) keyword (words_in words.entry)) }
     {
         match keyword {
-            Keyword::Setting(setting) => self.set(setting, line),
-            Keyword::Client => self.start_client(line),
-            Keyword::Begin => self.begin(line),
-            Keyword::Point => self.point(line),
-            Keyword::End => self.end(line),
-            Keyword::Done => self.finish(line),
+            Keyword::Setting(setting) => self.set(setting, words),
+            Keyword::Client => self.start_client(words),
+            Keyword::Begin => self.begin(words),
+            Keyword::Point => self.point(words),
+            Keyword::End => self.end(words),
+            Keyword::Done => self.finish(words),
         }
     }
 
     /// Takes the next line.
     #[tactic(auto, unfolding(crate::specs::Forward::line_step))]
-    pub fn read_line(&mut self, line: &[u8]) -> Result<(), Stop>
+    pub fn read_line(&mut self, line: &[u8]) -> Result<(), Stop<Reason>>
         requires { IsSound (draft_of self.old) }
         ensures { Gives (λ _. draft_of self.new) result (line_step (draft_of self.old) line.now) }
     {
-        match line_fault(line) {
-            Some(LineFault::Byte) => return Err(Stop::Fault(Reason::Byte)),
-            Some(LineFault::Spaces) => return Err(Stop::Fault(Reason::Spaces)),
-            None => {}
-        }
-        let (word, _) = split_word(line);
-        let Some(keyword) = keyword_in(word) else {
-            return Err(Stop::Fault(Reason::Word));
-        };
+        let (keyword, words) = open_line::<Keyword, Reason>(line, LINE_REASONS)?;
         if !self.may_stand(keyword) {
             return Err(Stop::Fault(Reason::Word));
         }
-        self.take(keyword, line)
+        self.take(keyword, words)
     }
 
     /// How many lines were read.

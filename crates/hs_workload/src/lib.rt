@@ -7,7 +7,6 @@ mod laws;
 mod operation;
 mod reader;
 mod refusal;
-mod stop;
 #[cfg(test)]
 mod tests;
 mod word;

@@ -11,12 +11,11 @@ ghost use Rattle.hs_workload.specs.declared.refusal.ReadError.TheVariants.{Memor
 use crate::draft::Reader;
 use crate::operation::Workload;
 use crate::refusal::{ReadError, Reason, Refusal};
-use crate::stop::Stop;
-use hs_text::split_line;
+use hs_text::{Stop, split_line};
 use std::alloc::Global;
 
 /// The error for what ended the reading of this line.
-fn error_at(line: u32, stop: Stop) -> ReadError
+fn error_at(line: u32, stop: Stop<Reason>) -> ReadError
     ensures { result ≡ error_at line stop }
 {
     match stop {

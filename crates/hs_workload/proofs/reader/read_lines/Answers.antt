@@ -1,52 +1,59 @@
 -- The reader stands where the lines so far say that it does.
 use Rattle.std.proofs.Common.{◌+◌, ℕ, sym, subst, ◌∙◌}
+use Rattle.hs_text.specs.JudgingLaws.{reading_starts, text_cut_off, text_read}
+use Rattle.hs_text.specs.declared.stop.Stop.TheVariants.{Fault}
 use Rattle.hs_records.specs.Plain.{PlainWorkload}
 use Rattle.hs_workload.specs.declared.refusal.ReadError.{ReadError}
 use Rattle.hs_workload.specs.declared.refusal.Reason.TheVariants.{Truncated}
-use Rattle.hs_workload.specs.declared.stop.Stop.TheVariants.{Fault}
 use Rattle.hs_workload.specs.LookBack.{Draft}
 use Rattle.hs_workload.specs.Faults.{first_fault, Refuses}
 use Rattle.hs_workload.specs.Validity.{Reads}
 use Rattle.hs_workload.specs.Forward.{draft_of, error_at}
-use Rattle.hs_workload.proofs.Taken.{IsAt, at_start, at_next, at_end, at_done}
-use Rattle.hs_workload.proofs.Reading.{sound_at, stopped, reads_ended}
+use Rattle.hs_workload.proofs.Taken.{workload_reader, sound_seen}
+use Rattle.hs_workload.proofs.Faultless.{first_fault-judged, made_reads}
+use Rattle.hs_workload.proofs.Reading.{IsAt, at_next, stopped}
 use Rattle.hs_workload.proofs.reader.read_lines.Goals as goal
 
 pub loop-line-init : goal.loop-line-init
 loop-line-init c =
     record {
-      at = subst (λ (d : Draft). IsAt c.args.text.now d c.args.text.now) (sym c.new-reader.ensures.draft) (at_start c.args.text.now);
+      at = subst (λ (d : Draft). IsAt c.args.text.now c.args.text.now d) (sym c.new-reader.ensures.draft) (reading_starts workload_reader c.args.text.now);
       sound = c.new-reader.ensures.sound;
     }
 
 pub loop-line-preserved : goal.loop-line-preserved
 loop-line-preserved c =
     let next : Draft = draft_of c.read_line.new.self in
-    let at : IsAt c.args.text.now next c.in-Some.behind.now =
-    at_next c.args.text.now c.loop-line.rest.now c.in-Some.line.now c.in-Some.behind.now (draft_of c.loop-line.reader) next c.loop-line.invariant.at c.in-Some.ensures.some
-    c.in-Some.ensures.line c.in_default-read_line.ensures in
-    record { at = at; sound = sound_at c.args.text.now c.in-Some.behind.now next at }
+    let at : IsAt c.args.text.now c.in-Some.behind.now next =
+    at_next c.args.text.now c.loop-line.rest.now c.in-Some.line.now c.in-Some.behind.now (draft_of c.loop-line.reader) next c.loop-line.invariant.at
+    (record { split = c.in-Some.ensures.some; one = c.in-Some.ensures.line }) c.in_default-read_line.ensures in
+    record { at = at; sound = sound_seen next at.earlier at.sees }
 
 pub returns-in-Err-clause-refused : goal.returns-in-Err-clause-refused
 returns-in-Err-clause-refused c =
     let fault = first_fault c.args.text.now in
     let refuses = stopped c.args.text.now c.loop-line.rest.now c.in-Some.line.now c.in-Some.behind.now (draft_of c.loop-line.reader) c.in-Err.stop c.loop-line.invariant.at
-    c.in-Some.ensures.some c.in-Some.ensures.line c.in-Err.ensures in
+    (record { split = c.in-Some.ensures.some; one = c.in-Some.ensures.line }) c.in-Err.ensures in
     subst (λ (e : ReadError). Refuses fault e) (sym c.error_at.ensures) (subst (λ (n : ℕ). Refuses fault (error_at (n + 1) c.in-Err.stop)) (sym c.lines-number.ensures) refuses)
 
 pub returns-then-not-has_ended-clause-refused : goal.returns-then-not-has_ended-clause-refused
 returns-then-not-has_ended-clause-refused c =
     let fault = first_fault c.args.text.now in
-    let refuses = at_end c.args.text.now c.loop-line.rest.now (draft_of c.loop-line.reader) c.loop-line.invariant.at c.in_default.ensures.none
-    (sym c.has_ended.ensures ∙ c.if-not-has_ended.true) in
+    let draft : Draft = draft_of c.loop-line.reader in
+    let refuses = first_fault-judged c.args.text.now ∙ text_cut_off workload_reader c.args.text.now c.loop-line.rest.now (draft.lines + 1) draft c.loop-line.invariant.at
+    c.in_default.ensures.none (sym c.has_ended.ensures ∙ c.if-not-has_ended.true) in
     subst (λ (e : ReadError). Refuses fault e) (sym c.error_at-then-not-has_ended.ensures) (subst (λ (n : ℕ). Refuses fault (error_at (n + 1) (Fault Truncated))) (sym c.lines.ensures) refuses)
 
 pub returns-in-Ok-clause-found : goal.returns-in-Ok-clause-found
 returns-in-Ok-clause-found c =
-    subst (λ (W : PlainWorkload). Reads c.args.text.now W) (sym c.in-Ok.ensures)
-    (reads_ended c.args.text.now c.loop-line.rest.now (draft_of c.loop-line.reader) c.loop-line.invariant.at (sym c.has_ended.ensures ∙ c.if-not-has_ended.false))
+    let draft : Draft = draft_of c.loop-line.reader in
+    let read = text_read workload_reader c.args.text.now c.loop-line.rest.now (draft.lines + 1) draft c.loop-line.invariant.at c.in_default.ensures.none
+    (sym c.has_ended.ensures ∙ c.if-not-has_ended.false) in
+    subst (λ (W : PlainWorkload). Reads c.args.text.now W) (sym c.in-Ok.ensures) (made_reads c.args.text.now draft read.0)
 
 pub returns-in-Ok-clause-clean : goal.returns-in-Ok-clause-clean
 returns-in-Ok-clause-clean c =
-    at_done c.args.text.now c.loop-line.rest.now (draft_of c.loop-line.reader) c.loop-line.invariant.at c.in_default.ensures.none
-    (sym c.has_ended.ensures ∙ c.if-not-has_ended.false)
+    let draft : Draft = draft_of c.loop-line.reader in
+    let read = text_read workload_reader c.args.text.now c.loop-line.rest.now (draft.lines + 1) draft c.loop-line.invariant.at c.in_default.ensures.none
+    (sym c.has_ended.ensures ∙ c.if-not-has_ended.false) in
+    first_fault-judged c.args.text.now ∙ read.1

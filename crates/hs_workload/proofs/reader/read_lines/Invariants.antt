@@ -1,10 +1,10 @@
 use Rattle.std.proofs.Common.{length}
 use Rattle.hs_workload.specs.Forward.{IsSound, draft_of}
-use Rattle.hs_workload.proofs.Taken.{IsAt}
+use Rattle.hs_workload.proofs.Reading.{IsAt}
 use Rattle.hs_workload.proofs.reader.read_lines.Given as goal
 
 abbrev pub invariant-loop-line : goal.invariant-loop-line
-invariant-loop-line l = record { at : IsAt l.text (draft_of l.reader) l.rest; sound : IsSound (draft_of l.reader) }
+invariant-loop-line l = record { at : IsAt l.text l.rest (draft_of l.reader); sound : IsSound (draft_of l.reader) }
 
 abbrev pub decreases-loop-line : goal.decreases-loop-line
 decreases-loop-line l = length l.rest
