@@ -8,7 +8,7 @@ use Rattle.hs_text.specs.JudgingLaws.{Makes, faultless_made, run_clean, one_begi
 use Rattle.hs_journal.specs.declared.refusal.JournalRefusal.{JournalRefusal}
 use Rattle.hs_journal.specs.Views.{PlainJournal}
 use Rattle.hs_journal.specs.Statements.{statement_line}
-use Rattle.hs_journal.specs.Grammar.{statements_text, journal_lines, journal_text, IsJournal, Reads}
+use Rattle.hs_journal.specs.Grammar.{journal_lines, journal_text, IsJournal, Reads}
 use Rattle.hs_journal.specs.Laws.{IsJournalText}
 use Rattle.hs_journal.specs.Faults.{judging, first_fault}
 use Rattle.hs_journal.specs.Forward.{Draft, journal_drafted}
@@ -21,12 +21,10 @@ unfolding first_fault
 first_fault-judged text = refl
 
 lines_text : (J : PlainJournal) → journal_text J ≡ text_of (journal_lines J)
-unfolding statements_text
 lines_text J = refl
 
 -- what the reader makes of a text is the journal of the text
 pub made_reads : (text : List ℕ) (d : Draft) → Makes journal_reader text d → Reads text (journal_drafted d)
-unfolding statements_text
 made_reads text d made =
     record {
       journal = ended_journal d made.sees.keeps made.ended;

@@ -1,52 +1,19 @@
 -- The text of what is said, a line after the other.
-use Rattle.std.proofs.Common.{◌≡◌, ℕ, ◌+◌, ◌≤◌, ◌<◌, suc, List, [], ◌∷◌, ◌++◌, length, map, drop, drop-cons, add-one, get_or, refl, sym, ap, ◌∙◌, append_assoc}
+use Rattle.std.proofs.Common.{◌≡◌, ℕ, ◌+◌, ◌≤◌, ◌<◌, suc, List, [], ◌∷◌, ◌++◌, length, drop, drop-cons, add-one, get_or, refl, sym, ap, ◌∙◌, append_assoc}
 use Rattle.std.proofs.lemmas.List.{append-nil, drop_all}
-use Rattle.std.specs.Prelude.{decimal}
-use Rattle.hs_text.specs.Text.{line_of}
 use Rattle.hs_journal.specs.Statements.{Statement, statement_line}
 use Rattle.hs_journal.specs.Grammar.{statements_text, head_statement, coordinator_statement, end_statement}
 
--- numbers, each behind a space
-abbrev pub spaced : List ℕ → List ℕ
-spaced [] = []
-spaced (n ∷ ns) = 32 ∷ (decimal n ++ spaced ns)
-
-pub line_of-spaced : (word : List ℕ) (ns : List ℕ) → line_of (word ∷ map decimal ns) ≡ word ++ spaced ns
-line_of-spaced word [] = sym (append-nil word)
-line_of-spaced word (n ∷ ns) = ap (λ rest. word ++ (32 ∷ rest)) (line_of-spaced (decimal n) ns)
-
-pub statements_text-nil : statements_text [] ≡ []
-unfolding statements_text
-statements_text-nil = refl
-
-pub statements_text-cons : (s : Statement) (ss : List Statement) → statements_text (s ∷ ss) ≡ (statement_line s ++ 10 ∷ []) ++ statements_text ss
-unfolding statements_text
-statements_text-cons s ss = refl
-
 pub statements_text-append : (ss ts : List Statement) → statements_text (ss ++ ts) ≡ statements_text ss ++ statements_text ts
-statements_text-append [] ts = ap (λ text. text ++ statements_text ts) (sym statements_text-nil)
+statements_text-append [] ts = refl
 statements_text-append (s ∷ ss) ts =
-    statements_text-cons s (ss ++ ts) ∙ ap (λ text. (statement_line s ++ 10 ∷ []) ++ text) (statements_text-append ss ts)
-    ∙ sym (append_assoc (statement_line s ++ 10 ∷ []) (statements_text ss) (statements_text ts))
-    ∙ ap (λ text. text ++ statements_text ts) (sym (statements_text-cons s ss))
-
--- one more line of those that are left
-pub next_line : {A : Type 0} (f : A → Statement) (out text whole : List ℕ) (items : List A) (i : ℕ) (d : A) → i < length items
-    → out ++ statements_text (map f (drop i items)) ≡ whole → text ≡ out ++ (statement_line (f (get_or items i d)) ++ 10 ∷ [])
-    → text ++ statements_text (map f (drop (i + 1) items)) ≡ whole
-next_line f out text whole items i d within so_far is =
-    let item = get_or items i d in
-    let more = statements_text (map f (drop (i + 1) items)) in
-    ap (λ t. t ++ more) is ∙ append_assoc out (statement_line (f item) ++ 10 ∷ []) more
-    ∙ ap (λ t. out ++ t) (sym (statements_text-cons (f item) (map f (drop (i + 1) items))))
-    ∙ ap (λ rest. out ++ statements_text (map f rest)) (sym (drop-cons items i d within ∙ ap (λ n. get_or items i d ∷ drop n items) (sym (add-one i))))
-    ∙ so_far
+    ap (λ text. (statement_line s ++ 10 ∷ []) ++ text) (statements_text-append ss ts) ∙ sym (append_assoc (statement_line s ++ 10 ∷ []) (statements_text ss) (statements_text ts))
 
 -- nothing is left
 pub no_line : {A : Type 0} (f : List A → List Statement) (out whole : List ℕ) (items : List A) (i : ℕ) → f [] ≡ [] → length items ≤ i
     → out ++ statements_text (f (drop i items)) ≡ whole → out ≡ whole
 no_line f out whole items i none past so_far =
-    sym (append-nil out) ∙ ap (λ t. out ++ t) (sym (ap statements_text none ∙ statements_text-nil) ∙ ap (λ rest. statements_text (f rest)) (sym (drop_all i items past))) ∙ so_far
+    sym (append-nil out) ∙ ap (λ t. out ++ t) (sym (ap statements_text none) ∙ ap (λ rest. statements_text (f rest)) (sym (drop_all i items past))) ∙ so_far
 
 -- the lines of one more list of those that are left
 pub next_lines : (first : Statement) (these more : List Statement) (out text new whole : List ℕ)
@@ -58,27 +25,14 @@ next_lines first these more out text new whole so_far begun is =
     ∙ append_assoc (out ++ line) (statements_text these) (statements_text more)
     ∙ append_assoc out line (statements_text these ++ statements_text more)
     ∙ ap (λ t. out ++ (line ++ t)) (sym (statements_text-append these more))
-    ∙ ap (λ t. out ++ t) (sym (statements_text-cons first (these ++ more))) ∙ so_far
+    ∙ so_far
 
 -- where one is left, those that are left begin with it
 pub drop_next : {A : Type 0} (items : List A) (i : ℕ) (x : A) → i < length items → x ≡ get_or items i x → drop i items ≡ x ∷ drop (i + 1) items
 drop_next items i x within is = drop-cons items i x within ∙ ap (λ y. y ∷ drop (suc i) items) (sym is) ∙ ap (λ n. x ∷ drop n items) (sym (add-one i))
 
--- all numbers are written
-pub spaced_done : (word ns : List ℕ) (i : ℕ) (before begun out text : List ℕ) → length ns ≤ i → begun ≡ before ++ word
-    → out ++ spaced (drop i ns) ≡ begun ++ spaced ns → text ≡ out ++ 10 ∷ []
-    → text ≡ before ++ (line_of (word ∷ map decimal ns) ++ 10 ∷ [])
-spaced_done word ns i before begun out text past is so_far ended =
-    let whole : out ≡ before ++ (word ++ spaced ns) =
-    sym (append-nil out) ∙ ap (λ rest. out ++ spaced rest) (sym (drop_all i ns past)) ∙ so_far ∙ ap (λ t. t ++ spaced ns) is ∙ append_assoc before word (spaced ns) in
-    ended ∙ ap (λ t. t ++ 10 ∷ []) (whole ∙ ap (λ line. before ++ line) (sym (line_of-spaced word ns))) ∙ append_assoc before (line_of (word ∷ map decimal ns)) (10 ∷ [])
-
 regroup : (h d l c t e : List ℕ) → ((((h ++ d) ++ l) ++ c) ++ t) ++ e ≡ h ++ (d ++ (l ++ (c ++ (t ++ e))))
 regroup h d l c t e = simp append_assoc
-
--- a line by itself
-pub one_line : (s : Statement) → statements_text (s ∷ []) ≡ statement_line s ++ 10 ∷ []
-one_line s = statements_text-cons s [] ∙ ap (λ t. (statement_line s ++ 10 ∷ []) ++ t) statements_text-nil ∙ append-nil (statement_line s ++ 10 ∷ [])
 
 -- the parts of a journal, one behind the other
 pub written : (nodes clients : ℕ) (D L T : List Statement) (a b d e f g h : List ℕ) → a ≡ []
@@ -90,9 +44,9 @@ written nodes clients D L T a b d e f g h a_is b_is d_is e_is f_is g_is h_is =
     let middle = statement_line coordinator_statement ++ 10 ∷ [] in
     let last = statement_line end_statement ++ 10 ∷ [] in
     let from_told : statements_text (T ++ end_statement ∷ []) ≡ statements_text T ++ last =
-    statements_text-append T (end_statement ∷ []) ∙ ap (λ t. statements_text T ++ t) (one_line end_statement) in
+    statements_text-append T (end_statement ∷ []) ∙ ap (λ t. statements_text T ++ t) (append-nil last) in
     let from_middle : statements_text (coordinator_statement ∷ (T ++ end_statement ∷ [])) ≡ middle ++ (statements_text T ++ last) =
-    statements_text-cons coordinator_statement (T ++ end_statement ∷ []) ∙ ap (λ t. middle ++ t) from_told in
+    ap (λ t. middle ++ t) from_told in
     let from_logs : statements_text (L ++ (coordinator_statement ∷ (T ++ end_statement ∷ []))) ≡ statements_text L ++ (middle ++ (statements_text T ++ last)) =
     statements_text-append L (coordinator_statement ∷ (T ++ end_statement ∷ [])) ∙ ap (λ t. statements_text L ++ t) from_middle in
     let from_draws : statements_text (D ++ (L ++ (coordinator_statement ∷ (T ++ end_statement ∷ [])))) ≡ statements_text D ++ (statements_text L ++ (middle ++ (statements_text T ++ last))) =
@@ -101,4 +55,4 @@ written nodes clients D L T a b d e f g h a_is b_is d_is e_is f_is g_is h_is =
     h_is ∙ ap (λ t. t ++ last) (g_is ∙ ap (λ t. t ++ statements_text T) (f_is ∙ ap (λ t. t ++ middle) (e_is ∙ ap (λ t. t ++ statements_text L)
     (d_is ∙ ap (λ t. t ++ statements_text D) (b_is ∙ ap (λ t. t ++ head) a_is))))) in
     text ∙ regroup head (statements_text D) (statements_text L) middle (statements_text T) last
-    ∙ sym (statements_text-cons (head_statement nodes clients) (D ++ (L ++ (coordinator_statement ∷ (T ++ end_statement ∷ [])))) ∙ ap (λ t. head ++ t) from_draws)
+    ∙ sym (ap (λ t. head ++ t) from_draws)

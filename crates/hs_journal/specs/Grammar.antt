@@ -44,7 +44,7 @@ journal_statements J =
     head_statement J.nodes J.clients ∷ (draw_statements J.clients 0 J.draws ++ (log_statements 0 J.logs ++ (order_statements J.told ++ end_statement ∷ [])))
 
 -- the text of the lines that say this
-unfoldable pub statements_text : List Statement → List ℕ
+abbrev pub statements_text : List Statement → List ℕ
 statements_text statements = text_of (map statement_line statements)
 
 abbrev pub journal_lines : PlainJournal → List (List ℕ)

@@ -8,7 +8,7 @@ ghost use Rattle.hs_journal.specs.Grammar.{IsJournal, draw_statements, log_state
 use crate::journal::{Draw, Journal, Step};
 use crate::word::Keyword;
 use hs_base::{Bytes, List, Memory, NodeId};
-use hs_text::{Spelled, push_number};
+use hs_text::{Spelled, end_line, push_spaced_numbers};
 use std::alloc::Global;
 
 /// Appends a line of this word and these numbers.
@@ -16,11 +16,8 @@ fn push_line(out: &mut Vec<u8>, keyword: Keyword, numbers: &[u64]) -> Result<(),
     ensures { OnOk result (out.new.items ≡ out.old.items ++ (statement_line (record { keyword = keyword; numbers = numbers.now }) ++ 10 ∷ [])) }
 {
     out.extend_from_slice(keyword.text())?;
-    for number in numbers {
-        out.push(b' ')?;
-        push_number(out, *number)?;
-    }
-    out.push(b'\n')?;
+    push_spaced_numbers(out, numbers)?;
+    end_line(out)?;
     Ok(())
 }
 

@@ -8,3 +8,4 @@ pub mod Opening
 pub mod Agreement
 pub mod Judging
 pub mod JudgingLaws
+pub mod Writing

@@ -20,4 +20,8 @@ pub use reading::{
 pub use spelled::{Spelled, spelled_word};
 pub use stop::Stop;
 pub use words::{Words, hex_in, number_in, payload_length};
-pub use writing::{push_hex, push_number, push_payload};
+pub use writing::{
+    end_line, push_hex, push_number, push_payload, push_spaced, push_spaced_hex,
+    push_spaced_number, push_spaced_numbers, push_spaced_payload, push_spaced_trace,
+    push_spaced_traces,
+};

@@ -1,9 +1,10 @@
 //! Words as they are written.
 
-ghost use Rattle.std.specs.Prelude.{◌≡◌, ◌≤◌, ◌++◌, decimal, OnOk, OnErr};
+ghost use Rattle.std.specs.Prelude.{◌≡◌, ◌≤◌, ◌++◌, ◌∷◌, [], decimal, map, OnOk, OnErr};
 ghost use Rattle.hs_text.specs.Text.{hex_text, payload_text};
+ghost use Rattle.hs_text.specs.Writing.{spaced, trace_word};
 
-use hs_base::Memory;
+use hs_base::{Memory, TraceId};
 
 const HEX_DIGITS: [u8; 16] = *b"0123456789abcdef";
 
@@ -52,4 +53,74 @@ pub fn push_payload(out: &mut Vec<u8>, bytes: &[u8]) -> Result<(), Memory>
         Ok(()) => Ok(()),
         Err(_) => unreachable!(),
     }
+}
+
+/// Appends a word behind a space. After an `Err` of this call and of those below, the text may have grown.
+pub fn push_spaced(out: &mut Vec<u8>, word: &[u8]) -> Result<(), Memory>
+    ensures { OnOk result (out.new.items ≡ out.old.items ++ 32 ∷ word.now) }
+{
+    out.extend_from_slice(b" ")?;
+    out.extend_from_slice(word)?;
+    Ok(())
+}
+
+/// Appends a number behind a space.
+pub fn push_spaced_number(out: &mut Vec<u8>, number: u64) -> Result<(), Memory>
+    ensures { OnOk result (out.new.items ≡ out.old.items ++ 32 ∷ decimal number) }
+{
+    out.extend_from_slice(b" ")?;
+    push_number(out, number)
+}
+
+/// Appends the lowest hexadecimal digits of a number, so many of them, behind a space.
+pub fn push_spaced_hex(out: &mut Vec<u8>, digits: u32, number: u128) -> Result<(), Memory>
+    requires { digits ≤ 32 }
+    ensures { OnOk result (out.new.items ≡ out.old.items ++ 32 ∷ hex_text digits number) }
+{
+    out.extend_from_slice(b" ")?;
+    push_hex(out, digits, number)
+}
+
+/// Appends a trace behind a space, in as many digits as the version has.
+pub fn push_spaced_trace(out: &mut Vec<u8>, version: u8, trace: TraceId) -> Result<(), Memory>
+    ensures { OnOk result (out.new.items ≡ out.old.items ++ 32 ∷ trace_word version trace) }
+{
+    let digits = if version == 1 { 16 } else { 32 };
+    push_spaced_hex(out, digits, trace.0)
+}
+
+/// Appends a payload behind a space.
+pub fn push_spaced_payload(out: &mut Vec<u8>, bytes: &[u8]) -> Result<(), Memory>
+    ensures { OnOk result (out.new.items ≡ out.old.items ++ 32 ∷ payload_text bytes.now) }
+{
+    out.extend_from_slice(b" ")?;
+    push_payload(out, bytes)
+}
+
+/// Appends numbers, each behind a space.
+pub fn push_spaced_numbers(out: &mut Vec<u8>, numbers: &[u64]) -> Result<(), Memory>
+    ensures { OnOk result (out.new.items ≡ out.old.items ++ spaced (map decimal numbers.now)) }
+{
+    for number in numbers {
+        push_spaced_number(out, *number)?;
+    }
+    Ok(())
+}
+
+/// Appends traces, each behind a space, in as many digits as the version has.
+pub fn push_spaced_traces(out: &mut Vec<u8>, version: u8, traces: &[TraceId]) -> Result<(), Memory>
+    ensures { OnOk result (out.new.items ≡ out.old.items ++ spaced (map (trace_word version) traces.now)) }
+{
+    for trace in traces {
+        push_spaced_trace(out, version, *trace)?;
+    }
+    Ok(())
+}
+
+/// Ends a line.
+pub fn end_line(out: &mut Vec<u8>) -> Result<(), Memory>
+    ensures { OnOk result (out.new.items ≡ out.old.items ++ 10 ∷ []) }
+{
+    out.extend_from_slice(b"\n")?;
+    Ok(())
 }
