@@ -1,26 +1,23 @@
 -- A trace is claimed once, and its chunks stand for the group that did.
-use Rattle.std.proofs.Common.{◌≡◌, ℕ, zero, suc, ◌+◌, ◌≤◌, Bool, true, false, cond, not, List, [], ◌∷◌, ◌++◌, length, take, map, refl, sym, ap, ◌∙◌, arith, inl, inr, Option, Some, None, subst, true≢false, append_assoc, append-nil}
-use Rattle.std.specs.Prelude.{◌⊎◌, ◌&&◌, filter, slice_get}
+use Rattle.std.proofs.Common.{◌≡◌, ℕ, suc, ◌+◌, ◌≤◌, Bool, true, false, cond, List, [], ◌∷◌, ◌++◌, length, take, map, refl, sym, ap, ◌∙◌, arith, Some, subst, true≢false, append_assoc, append-nil}
+use Rattle.std.specs.Prelude.{◌&&◌, filter, slice_get}
 use Rattle.std.specs.Option.{option_map, option_map_or}
 use Rattle.std.specs.List.{AllByRecursion}
-use Rattle.std.proofs.lemmas.Bool.{cases_Bool}
 use Rattle.std.proofs.lemmas.List.{map-append}
 use Rattle.hs_base.specs.declared.ids.TraceId.{TraceId}
 use Rattle.hs_base.specs.declared.told.Ask.{Ask}
 use Rattle.hs_base.specs.declared.told.Group.{Group}
 use Rattle.hs_records.specs.Plain.{PlainSettings}
-use Rattle.hs_sched.specs.declared.share.Share.{Share}
 use Rattle.hs_sched.specs.Visits.{count_sent}
-use Rattle.hs_words.specs.Pages.{Sheet}
-use Rattle.hs_model.specs.Standings.{ChunkStanding, Indexed, Pinned, Reported, Evicted, Abandoned, Taken, same_trace, same_group, trace_of, is_indexed, is_pinned_to, is_indexed_of, is_pinned_for, indexed_places, indexed_count, places_from, passes, stands, is_among, moved_from, moved}
+use Rattle.hs_model.specs.Standings.{ChunkStanding, Indexed, Pinned, Reported, Evicted, Abandoned, Taken, same_trace, trace_of, is_indexed, is_pinned_to, is_indexed_of, is_pinned_for, indexed_places, indexed_count, places_from, passes, is_among, moved_from}
 use Rattle.hs_model.specs.State.{AgentState, ClaimedTrace, start, claim_of, is_claimed}
 use Rattle.hs_model.specs.Evicting.{evict_trace}
 use Rattle.hs_model.specs.Claiming.{claim_trace}
 use Rattle.hs_model.specs.Abandoning.{abandon_group}
-use Rattle.hs_model.specs.Turning.{order_of, costs_of, reported_standing, report, visit}
-use Rattle.hs_model.specs.Stepping.{Event, after, after_from}
+use Rattle.hs_model.specs.Turning.{order_of, costs_of, reported_standing, report}
+use Rattle.hs_model.specs.Stepping.{after}
 use Rattle.hs_model.specs.Laws.{count_of, count_traces, claimed_traces, claiming_group, StandsByClaim, AllStandByClaim, IsClaimedOrTouched, TracesAreClaimedOnce, ClaimsHoldForGood, ChunksStandByTheirClaim}
-use Rattle.hs_model.proofs.Counts.{one, count-filter, among_counted, not_among_counted, counted_one, places_counted_at}
+use Rattle.hs_model.proofs.Counts.{one, count-filter, among_counted, not_among_counted, places_counted_at}
 use Rattle.hs_model.proofs.Traces.{same_trace-refl, same_trace-true, same_group-true, traces-append, traces-without, traces-touch, unclaimed-counted, claim_of-none, claiming-append, claiming-new, claimed-append, same_trace-sym}
 use Rattle.hs_model.proofs.Traversal.{IsKept, kept_after, kept_from}
 
@@ -126,7 +123,7 @@ claims_hold_for_good settings node events later =
 -- ---- standings follow claims
 
 -- the chunks that move pass a test of their own, and those that stay another
-all_moved : (P Q : Taken → Type 0) (change : ChunkStanding → ChunkStanding) (places : List ℕ) (k : ℕ) (taken : List Taken) → AllByRecursion P taken
+pub all_moved : (P Q : Taken → Type 0) (change : ChunkStanding → ChunkStanding) (places : List ℕ) (k : ℕ) (taken : List Taken) → AllByRecursion P taken
     → ((p : ℕ) (c : Taken) → slice_get taken p ≡ Some c → P c → Q (cond (is_among places (k + p)) (record c { standing = change c.standing }) c))
     → AllByRecursion Q (moved_from k places change taken)
 all_moved P Q change places k [] all h = tt
@@ -134,7 +131,7 @@ all_moved P Q change places k (c ∷ taken) all h =
     let z : k + 0 ≡ k = omega arith in
     (rw z at (h 0 c refl all.0), all_moved P Q change places (suc k) taken all.1 (λ p d e m. let n : k + suc p ≡ suc k + p = omega arith in rw n at (h (suc p) d e m)))
 
-all_more : (P : Taken → Type 0) (taken : List Taken) (c : Taken) → AllByRecursion P taken → P c → AllByRecursion P (taken ++ c ∷ [])
+pub all_more : (P : Taken → Type 0) (taken : List Taken) (c : Taken) → AllByRecursion P taken → P c → AllByRecursion P (taken ++ c ∷ [])
 all_more P [] c all p = (p, tt)
 all_more P (x ∷ taken) c all p = (all.0, all_more P taken c all.1 p)
 

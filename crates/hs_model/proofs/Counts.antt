@@ -1,9 +1,8 @@
 -- How often a place stands in a list, and what the chunks at places pass.
-use Rattle.std.proofs.Common.{◌≡◌, ℕ, zero, suc, ◌+◌, ◌<◌, ◌≤◌, Bool, true, false, cond, not, ◌||◌, List, [], ◌∷◌, ◌++◌, length, take, refl, sym, ap, ◌∙◌, arith, rules, ⊎_elim, inl, inr, add-one, Some, None, slice_get, subst, length-append}
-use Rattle.std.specs.Prelude.{◌==◌, ◌⊎◌, filter}
-use Rattle.std.specs.Option.{option_map_or}
-use Rattle.std.proofs.lemmas.Bool.{cases_Bool, cases_lt, cases_order, true≢false, eqb-true, eqb-false, eq-eqb, ne_eqb, or_parts}
-use Rattle.hs_model.specs.Standings.{ChunkStanding, Taken, passes, stands, is_among, places_from, moved_from, moved}
+use Rattle.std.proofs.Common.{◌≡◌, ℕ, zero, suc, ◌+◌, ◌<◌, ◌≤◌, Bool, true, false, cond, not, List, [], ◌∷◌, ◌++◌, length, take, refl, sym, ap, ◌∙◌, arith, inl, inr, length-append}
+use Rattle.std.specs.Prelude.{◌==◌, filter}
+use Rattle.std.proofs.lemmas.Bool.{cases_Bool, cases_order, true≢false, eqb-true, eq-eqb, ne_eqb, or_parts}
+use Rattle.hs_model.specs.Standings.{ChunkStanding, Taken, passes, is_among, places_from, moved_from, moved}
 use Rattle.hs_model.specs.Laws.{count_of}
 
 abbrev pub one : Bool → ℕ

@@ -5,3 +5,5 @@ pub mod Partition
 pub mod Traces
 pub mod Claims
 pub mod Unevicted
+pub mod Least
+pub mod Limits

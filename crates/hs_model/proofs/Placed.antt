@@ -1,8 +1,7 @@
 -- Each step leaves every list with its chunks, each once.
-use Rattle.std.proofs.Common.{◌≡◌, ℕ, zero, suc, ◌+◌, ◌<◌, ◌≤◌, Bool, true, false, cond, not, ◌||◌, List, [], ◌∷◌, ◌++◌, length, take, map, refl, sym, ap, ◌∙◌, arith, rules, inl, inr, Option, Some, None, subst, append_assoc}
-use Rattle.std.specs.Prelude.{◌==◌, ◌⊎◌, filter, fold, nat_lt}
-use Rattle.std.specs.Option.{option_map_or}
-use Rattle.std.proofs.lemmas.Bool.{cases_Bool, true≢false, or_parts, and_parts, not_from_true, not_from_false}
+use Rattle.std.proofs.Common.{◌≡◌, ℕ, ◌+◌, ◌≤◌, Bool, true, false, cond, not, List, [], ◌∷◌, ◌++◌, length, take, map, refl, sym, ap, ◌∙◌, arith, inl, inr}
+use Rattle.std.specs.Prelude.{◌==◌, filter}
+use Rattle.std.proofs.lemmas.Bool.{cases_Bool, true≢false, and_parts}
 use Rattle.std.proofs.lemmas.List.{map-append}
 use Rattle.hs_base.specs.declared.ids.TraceId.{TraceId}
 use Rattle.hs_base.specs.declared.told.Group.{Group}
@@ -11,15 +10,14 @@ use Rattle.hs_records.specs.Plain.{PlainSettings}
 use Rattle.hs_sched.specs.declared.share.Share.{Share}
 use Rattle.hs_sched.specs.Visits.{count_sent}
 use Rattle.hs_words.specs.Pages.{Sheet}
-use Rattle.hs_model.specs.Standings.{ChunkStanding, Indexed, Pinned, Reported, Evicted, Abandoned, Taken, is_indexed, is_pinned, is_reported, is_let_go, is_pinned_to, is_indexed_of, is_pinned_for, indexed_places, passes, stands, is_among, moved}
-use Rattle.hs_model.specs.State.{AgentState, ClaimedTrace, GivenPlace, start, claim_of, is_claimed, is_abandoned}
-use Rattle.hs_model.specs.Evicting.{is_over, evict_trace, evict_from, evict}
-use Rattle.hs_model.specs.Claiming.{claim_trace, claim_unclaimed, claim_each}
-use Rattle.hs_model.specs.Abandoning.{pinned_groups, next_to_go, abandon_group, abandon_within, abandon}
-use Rattle.hs_model.specs.Turning.{is_pinned_under, place_is_no_greater, put_before, by_priority, order_of, costs_of, reported_standing, report, visit, turn}
+use Rattle.hs_model.specs.Standings.{ChunkStanding, Indexed, Pinned, Reported, Evicted, Abandoned, Taken, is_indexed, is_pinned, is_reported, is_let_go, is_indexed_of, is_pinned_for, indexed_places, passes, stands, is_among, moved}
+use Rattle.hs_model.specs.State.{AgentState, GivenPlace, start}
+use Rattle.hs_model.specs.Evicting.{evict_trace}
+use Rattle.hs_model.specs.Claiming.{claim_trace}
+use Rattle.hs_model.specs.Abandoning.{abandon_group}
+use Rattle.hs_model.specs.Turning.{is_pinned_under, place_is_no_greater, put_before, by_priority, order_of, costs_of, reported_standing, report, visit}
 use Rattle.hs_model.specs.Stepping.{with_indexed, with_abandoned, with_pinned, give_place}
 use Rattle.hs_model.proofs.Traversal.{IsKept}
-use Rattle.hs_model.specs.Messages.{has_crumb}
 use Rattle.hs_model.specs.Laws.{count_of, ListsEach, given_places, ArePlaced, PlacesMatch}
 use Rattle.hs_model.proofs.Counts.{one, count-append, count-filter, count-take, among_counted, not_among_counted, one-le, counted_one, passes_too, passes_moved_at, passes_more, places_counted_at, count-split, count-filter-le}
 

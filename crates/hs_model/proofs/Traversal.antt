@@ -1,5 +1,5 @@
 -- What every small step keeps holds after any events.
-use Rattle.std.proofs.Common.{◌≡◌, ℕ, ◌+◌, Bool, true, false, cond, List, [], ◌∷◌, ◌++◌, length, refl, Option, Some, None, inl, inr}
+use Rattle.std.proofs.Common.{◌≡◌, ℕ, Bool, true, false, cond, List, [], ◌∷◌, length, refl, Option, Some, None}
 use Rattle.std.specs.Prelude.{fold, nat_lt}
 use Rattle.std.specs.Option.{option_map_or}
 use Rattle.hs_base.specs.declared.ids.TraceId.{TraceId}
@@ -16,9 +16,9 @@ use Rattle.hs_model.specs.State.{AgentState, ClaimedTrace, start, claim_of, is_c
 use Rattle.hs_model.specs.Evicting.{is_over, evict_trace, evict_from, evict}
 use Rattle.hs_model.specs.Claiming.{claim_trace, claim_unclaimed, traces_of, claim_each}
 use Rattle.hs_model.specs.Abandoning.{pinned_groups, next_to_go, abandon_group, abandon_within, abandon}
-use Rattle.hs_model.specs.Turning.{visit, with_shares, shares_after, turn}
+use Rattle.hs_model.specs.Turning.{visit, with_shares, shares_after}
 use Rattle.hs_model.specs.Messages.{has_crumb, say, told_of}
-use Rattle.hs_model.specs.Stepping.{Input, Chunk, Crumbed, Triggered, Asked, Turn, Answered, Given, Missed, Unread, Event, Took, Gave, with_indexed, with_pinned, with_abandoned, pin_chunk, take_chunk, with_touched, tell_late, late_crumb, take_crumb, admits, group_of, claim_for, note_trigger, count_admitted, admit, take_trigger, take_ask, note, take_input, give_place, give_back, take_answer, after_event, after_from, after}
+use Rattle.hs_model.specs.Stepping.{Input, Chunk, Crumbed, Triggered, Asked, Turn, Answered, Given, Missed, Unread, Event, Took, Gave, with_indexed, with_pinned, with_abandoned, pin_chunk, with_touched, tell_late, late_crumb, admits, group_of, claim_for, note_trigger, count_admitted, admit, take_trigger, note, take_input, give_place, give_back, take_answer, after_event, after_from, after}
 
 -- What is kept by each small step of a node's agent.
 pub record IsKept (settings : PlainSettings) (node : ℕ) (P : AgentState → Type 0) : Type 0 where
@@ -38,39 +38,60 @@ pub record IsKept (settings : PlainSettings) (node : ℕ) (P : AgentState → Ty
   pub notes : (step : Step) (s : AgentState) → P s → P (note step s)
   pub gives : (stamp place : ℕ) (hand : List ℕ) (s : AgentState) → s.hand ≡ place ∷ hand → P s → P (give_place stamp place hand s)
 
-module _ (settings : PlainSettings) (node : ℕ) (P : AgentState → Type 0) (kept : IsKept settings node P) where
-  evict_if : (trace : TraceId) (later : List TraceId) (s : AgentState) → s.touched ≡ trace ∷ later → ((u : AgentState) → u.touched ≡ later → P u → P (evict_from settings later u))
-      → (over : Bool) → is_over settings s ≡ over → P s → P (cond over (evict_from settings later (evict_trace trace later s)) s)
-  evict_if trace later s e next true over p = next (evict_trace trace later s) refl (kept.evicts trace later s e over p)
-  evict_if trace later s e next false over p = p
+-- ---- the loops, for what one step of them keeps
 
-  kept_evicting : (traces : List TraceId) (s : AgentState) → s.touched ≡ traces → P s → P (evict_from settings traces s)
-  kept_evicting [] s e p = p
-  kept_evicting (trace ∷ later) s e p = evict_if trace later s e (kept_evicting later) (is_over settings s) refl p
+module _ (settings : PlainSettings) (P : AgentState → Type 0) where
+  module _ (step : (trace : TraceId) (later : List TraceId) (s : AgentState) → s.touched ≡ trace ∷ later → is_over settings s ≡ true → P s → P (evict_trace trace later s)) where
+    evict_if : (trace : TraceId) (later : List TraceId) (s : AgentState) → s.touched ≡ trace ∷ later → ((u : AgentState) → u.touched ≡ later → P u → P (evict_from settings later u))
+        → (over : Bool) → is_over settings s ≡ over → P s → P (cond over (evict_from settings later (evict_trace trace later s)) s)
+    evict_if trace later s e next true over p = next (evict_trace trace later s) refl (step trace later s e over p)
+    evict_if trace later s e next false over p = p
 
+    pub evict_loop : (traces : List TraceId) (s : AgentState) → s.touched ≡ traces → P s → P (evict_from settings traces s)
+    evict_loop [] s e p = p
+    evict_loop (trace ∷ later) s e p = evict_if trace later s e (evict_loop later) (is_over settings s) refl p
+
+  module _ (step : (group : Group) (s : AgentState) → next_to_go (pinned_groups s) ≡ Some group → P s → P (abandon_group group s)) where
+    abandon_if : (places : List ℕ) (s : AgentState) → ((u : AgentState) → P u → P (abandon_within settings places u))
+        → (chosen : Option Group) → next_to_go (pinned_groups s) ≡ chosen → P s → P (option_map_or (λ group. abandon_within settings places (abandon_group group s)) chosen s)
+    abandon_if places s next None e p = p
+    abandon_if places s next (Some group) e p = next (abandon_group group s) (step group s e p)
+
+    pub abandon_loop : (places : List ℕ) (s : AgentState) → P s → P (abandon_within settings places s)
+    abandon_loop [] s p = p
+    abandon_loop (place ∷ places) s p =
+        elim (nat_lt settings.pins (length s.pinned))
+        as (λ b. P (cond b (option_map_or (λ group. abandon_within settings places (abandon_group group s)) (next_to_go (pinned_groups s)) s) s))
+        [ true ↦ abandon_if places s (abandon_loop places) (next_to_go (pinned_groups s)) refl p | false ↦ p ]
+
+  module _ (step : (s : AgentState) (share : Share) → P s → P (visit settings s share)) where
+    pub visit_loop : (shares : List Share) (s : AgentState) → P s → P (fold (visit settings) s shares)
+    visit_loop [] s p = p
+    visit_loop (share ∷ shares) s p = visit_loop shares (visit settings s share) (step s share p)
+
+module _ (P : AgentState → Type 0) (step : (ask : Ask) (trace : TraceId) (s : AgentState) → is_claimed s.claims trace ≡ false → P s → P (claim_trace ask trace s)) where
   claim_if : (ask : Ask) (s : AgentState) (trace : TraceId) (claimed : Bool) → is_claimed s.claims trace ≡ claimed → P s → P (cond claimed s (claim_trace ask trace s))
   claim_if ask s trace true e p = p
-  claim_if ask s trace false e p = kept.claims ask trace s e p
+  claim_if ask s trace false e p = step ask trace s e p
 
-  kept_claims : (ask : Ask) (traces : List TraceId) (s : AgentState) → P s → P (fold (claim_unclaimed ask) s traces)
-  kept_claims ask [] s p = p
-  kept_claims ask (trace ∷ traces) s p = kept_claims ask traces (claim_unclaimed ask s trace) (claim_if ask s trace (is_claimed s.claims trace) refl p)
+  pub claim_loop : (ask : Ask) (traces : List TraceId) (s : AgentState) → P s → P (fold (claim_unclaimed ask) s traces)
+  claim_loop ask [] s p = p
+  claim_loop ask (trace ∷ traces) s p = claim_loop ask traces (claim_unclaimed ask s trace) (claim_if ask s trace (is_claimed s.claims trace) refl p)
 
-  abandon_if : (places : List ℕ) (s : AgentState) → ((u : AgentState) → P u → P (abandon_within settings places u))
-      → (chosen : Option Group) → next_to_go (pinned_groups s) ≡ chosen → P s → P (option_map_or (λ group. abandon_within settings places (abandon_group group s)) chosen s)
-  abandon_if places s next None e p = p
-  abandon_if places s next (Some group) e p = next (abandon_group group s) (kept.abandons group s e p)
+-- ---- events
 
-  kept_abandoning : (places : List ℕ) (s : AgentState) → P s → P (abandon_within settings places s)
-  kept_abandoning [] s p = p
-  kept_abandoning (place ∷ places) s p =
-      elim (nat_lt settings.pins (length s.pinned))
-      as (λ b. P (cond b (option_map_or (λ group. abandon_within settings places (abandon_group group s)) (next_to_go (pinned_groups s)) s) s))
-      [ true ↦ abandon_if places s (kept_abandoning places) (next_to_go (pinned_groups s)) refl p | false ↦ p ]
+module _ (settings : PlainSettings) (node : ℕ) (P : AgentState → Type 0) (kept : IsKept settings node P) where
+  pub kept_evicting : (traces : List TraceId) (s : AgentState) → s.touched ≡ traces → P s → P (evict_from settings traces s)
+  kept_evicting traces s e p = evict_loop settings P kept.evicts traces s e p
+
+  pub kept_claims : (ask : Ask) (traces : List TraceId) (s : AgentState) → P s → P (fold (claim_unclaimed ask) s traces)
+  kept_claims ask traces s p = claim_loop P kept.claims ask traces s p
+
+  pub kept_abandoning : (places : List ℕ) (s : AgentState) → P s → P (abandon_within settings places s)
+  kept_abandoning places s p = abandon_loop settings P kept.abandons places s p
 
   kept_visits : (shares : List Share) (s : AgentState) → P s → P (fold (visit settings) s shares)
-  kept_visits [] s p = p
-  kept_visits (share ∷ shares) s p = kept_visits shares (visit settings s share) (kept.visits s share p)
+  kept_visits shares s p = visit_loop settings P kept.visits shares s p
 
   pin_if : (sheet : Sheet) (claim : ClaimedTrace) (s : AgentState) → claim_of s.claims sheet.header.trace ≡ Some claim → (gone : Bool) → is_abandoned s.abandoned claim.group ≡ gone → P s
       → P (cond gone (with_abandoned sheet claim.group s) (abandon settings (with_pinned sheet claim.group s)))

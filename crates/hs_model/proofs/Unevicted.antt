@@ -1,18 +1,13 @@
 -- No chunk of a claimed trace is evicted.
-use Rattle.std.proofs.Common.{◌≡◌, ℕ, zero, suc, ◌+◌, ◌<◌, ◌≤◌, Bool, true, false, cond, List, [], ◌∷◌, ◌++◌, length, take, filter, refl, sym, ap, ◌∙◌, arith, inl, inr, subst, true≢false}
-use Rattle.std.specs.Prelude.{◌⊎◌, ◌&&◌}
-use Rattle.std.proofs.lemmas.Bool.{cases_Bool, cases_lt, and_right}
+use Rattle.std.proofs.Common.{◌≡◌, ℕ, ◌+◌, ◌<◌, ◌≤◌, Bool, true, false, cond, List, [], ◌∷◌, ◌++◌, length, take, filter, refl, sym, ap, ◌∙◌, arith, inl, inr, subst, true≢false}
+use Rattle.std.proofs.lemmas.Bool.{cases_lt, and_right}
 use Rattle.hs_base.specs.declared.ids.TraceId.{TraceId}
-use Rattle.hs_base.specs.declared.told.Ask.{Ask}
-use Rattle.hs_base.specs.declared.told.Group.{Group}
 use Rattle.hs_records.specs.Plain.{PlainSettings}
 use Rattle.hs_sched.specs.Visits.{count_sent}
-use Rattle.hs_model.specs.Standings.{ChunkStanding, Indexed, Pinned, Evicted, Abandoned, Taken, same_trace, trace_of, is_indexed, is_pinned, is_evicted, is_indexed_of, is_of_trace, is_pinned_for, indexed_places, passes, stands, is_among, moved}
-use Rattle.hs_model.specs.State.{AgentState, ClaimedTrace, is_claimed}
+use Rattle.hs_model.specs.Standings.{ChunkStanding, Pinned, Evicted, Abandoned, Taken, same_trace, trace_of, is_indexed, is_pinned, is_evicted, is_indexed_of, is_of_trace, is_pinned_for, indexed_places, passes, stands, is_among, moved}
+use Rattle.hs_model.specs.State.{AgentState, is_claimed}
 use Rattle.hs_model.specs.Evicting.{evict_trace}
-use Rattle.hs_model.specs.Claiming.{claim_trace}
-use Rattle.hs_model.specs.Abandoning.{abandon_group}
-use Rattle.hs_model.specs.Turning.{order_of, costs_of, reported_standing, report}
+use Rattle.hs_model.specs.Turning.{order_of, costs_of, reported_standing}
 use Rattle.hs_model.specs.Stepping.{after}
 use Rattle.hs_model.specs.Laws.{count_of, count_traces, claimed_traces, PlacesMatch, NothingClaimedIsEvicted}
 use Rattle.hs_model.proofs.Counts.{one, among_counted, passes_too, passes_moved_at, passes_before, passes_past, places_counted_at, count-filter-le}

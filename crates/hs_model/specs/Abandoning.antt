@@ -1,19 +1,20 @@
 -- While more chunks are pinned than may be, a group is abandoned: of the trigger ids the one with most pinned chunks is
 -- chosen, the smallest among equals, and of its groups with a pinned chunk the one of least priority goes. A priority is
 -- the rank of the group's lead, then its node, then its number. All pinned chunks of the group are abandoned.
-use Rattle.std.specs.Prelude.{ℕ, Bool, ◌&&◌, ◌||◌, ◌==◌, nat_lt, nat_le, List, [], ◌∷◌, ◌++◌, length, map, filter, filter_map, Option, Some, None, if◌then◌else◌, not}
+use Rattle.std.specs.Prelude.{ℕ, Bool, ◌==◌, nat_lt, List, [], ◌∷◌, ◌++◌, length, map, filter, filter_map, Option, Some, None, if◌then◌else◌, not}
 use Rattle.std.specs.Option.{option_and_then, option_map_or}
-use Rattle.std.specs.Ordering.{is_le}
+use Rattle.std.specs.declared.cmp.Ordering.{Ordering}
+use Rattle.std.specs.Ordering.{nat_cmp, ordering_then, is_le}
 use Rattle.hs_base.specs.declared.told.Group.{Group}
 use Rattle.hs_pins.specs.Priorities.{priority_cmp, priority_of}
 use Rattle.hs_records.specs.Plain.{PlainSettings}
 use Rattle.hs_model.specs.Standings.{Abandoned, pinned_for, is_pinned_for, moved}
 use Rattle.hs_model.specs.State.{AgentState}
 
--- the first of the least by a comparison
-abbrev pub least : {X : Type 0} → (X → X → Bool) → List X → Option X
-least le [] = None
-least le (x ∷ xs) = Some (option_map_or (λ y. if le x y then x else y) (least le xs) x)
+-- the least by a comparison, the first among equals
+abbrev pub least : {X : Type 0} → (X → X → Ordering) → List X → Option X
+least cmp [] = None
+least cmp (x ∷ xs) = Some (option_map_or (λ y. if is_le (cmp x y) then x else y) (least cmp xs) x)
 
 -- the groups of the pinned chunks, each as often as it has one
 abbrev pub pinned_groups : AgentState → List Group
@@ -23,21 +24,25 @@ pinned_groups state = filter_map (pinned_for state.taken) state.pinned
 abbrev pub count_of_id : List Group → ℕ → ℕ
 count_of_id groups id = length (filter (λ group. group.trigger.0 == id) groups)
 
--- whether an id goes first: it has more pinned chunks than the other, or as many and is no greater
-abbrev pub id_goes_first : List Group → ℕ → ℕ → Bool
-id_goes_first groups id other = nat_lt (count_of_id groups other) (count_of_id groups id) || (count_of_id groups id == count_of_id groups other && nat_le id other)
+-- the order of ids: the one with more pinned chunks first, and of equal ones the smaller
+abbrev pub id_cmp : List Group → ℕ → ℕ → Ordering
+id_cmp groups id other = ordering_then (nat_cmp (count_of_id groups other) (count_of_id groups id)) (nat_cmp id other)
 
 -- the id with most pinned chunks, the smallest among equals
 abbrev pub fullest_id : List Group → Option ℕ
-fullest_id groups = least (id_goes_first groups) (map (λ group. group.trigger.0) groups)
+fullest_id groups = least (id_cmp groups) (map (λ group. group.trigger.0) groups)
+
+-- the order of groups by priority
+abbrev pub group_cmp : Group → Group → Ordering
+group_cmp group other = priority_cmp (priority_of group) (priority_of other)
 
 -- whether a group's priority is no greater than the other's
 abbrev pub is_no_greater : Group → Group → Bool
-is_no_greater group other = is_le (priority_cmp (priority_of group) (priority_of other))
+is_no_greater group other = is_le (group_cmp group other)
 
 -- the group of least priority among those of the trigger id
 abbrev pub least_of_id : List Group → ℕ → Option Group
-least_of_id groups id = least is_no_greater (filter (λ group. group.trigger.0 == id) groups)
+least_of_id groups id = least group_cmp (filter (λ group. group.trigger.0 == id) groups)
 
 -- the group that goes, where these have pinned chunks
 abbrev pub next_to_go : List Group → Option Group

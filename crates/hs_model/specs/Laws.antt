@@ -1,14 +1,15 @@
 -- What holds of an agent after any events, whatever they are. Each chunk stands in one way, and the agent's lists have it
 -- once where they should: among the pinned, the reported, and those whose buffers were given back or wait for it. A trace
 -- is claimed at most once, and is not indexed then. Nothing stays beyond the limits, and nothing goes without need.
-use Rattle.std.specs.Prelude.{◌≡◌, ◌⊎◌, ℕ, ◌+◌, ◌<◌, ◌≤◌, Bool, true, false, ◌==◌, List, [], ◌∷◌, ◌++◌, length, map, filter, Option, Some, None, slice_get, if◌then◌else◌}
-use Rattle.std.specs.List.{AllByRecursion}
+use Rattle.std.specs.Prelude.{◌≡◌, ◌⊎◌, ℕ, ◌+◌, ◌<◌, ◌≤◌, Bool, true, false, ◌==◌, List, [], ◌∷◌, ◌++◌, length, map, Option, Some, None, if◌then◌else◌}
+use Rattle.std.specs.List.{AllByRecursion, list_any}
 use Rattle.std.specs.Option.{option_map}
 use Rattle.hs_base.specs.declared.ids.TraceId.{TraceId}
 use Rattle.hs_base.specs.declared.told.Group.{Group}
 use Rattle.hs_records.specs.Plain.{PlainSettings}
-use Rattle.hs_model.specs.Standings.{ChunkStanding, Indexed, Pinned, Reported, Evicted, Abandoned, Taken, same_trace, trace_of, is_indexed, is_pinned, is_reported, is_evicted, is_let_go, stands, is_of_trace}
+use Rattle.hs_model.specs.Standings.{ChunkStanding, Indexed, Pinned, Reported, Evicted, Abandoned, Taken, same_trace, same_group, trace_of, indexed_count, is_indexed, is_pinned, is_reported, is_evicted, is_let_go, stands, is_of_trace}
 use Rattle.hs_model.specs.State.{AgentState, ClaimedTrace, GivenPlace, claim_of, is_claimed}
+use Rattle.hs_model.specs.Abandoning.{count_of_id, is_no_greater, next_to_go}
 use Rattle.hs_model.specs.Stepping.{Event, after_event, after_from, after}
 
 -- ---- places
@@ -108,3 +109,34 @@ NothingClaimedIsEvicted =
     (settings : PlainSettings) (node : ℕ) (events : List Event) (event : Event) (place : ℕ) (trace : TraceId)
     → is_of_trace (after settings node events).taken trace place ≡ true → is_claimed (after settings node events).claims trace ≡ true
     → stands is_evicted (after_event settings node (after settings node events) event).taken place ≡ stands is_evicted (after settings node events).taken place
+
+-- ---- what goes
+
+-- The id of one group has more pinned chunks than that of the other, or as many and is no greater.
+abbrev pub GoesBefore : List Group → Group → Group → Type 0
+GoesBefore groups group other =
+    (count_of_id groups other.trigger.0 < count_of_id groups group.trigger.0) ⊎ ((count_of_id groups other.trigger.0 ≡ count_of_id groups group.trigger.0) × (group.trigger.0 ≤ other.trigger.0))
+
+-- A group with a pinned chunk, of the trigger id with most pinned chunks, the smallest among equals; and no group of that
+-- id with a pinned chunk has less priority.
+pub record IsNextToGo (groups : List Group) (group : Group) : Type 0 where
+  pub among : list_any (same_group group) groups ≡ true
+  pub fullest : AllByRecursion (λ (other : Group). GoesBefore groups group other) groups
+  pub least : AllByRecursion (λ (other : Group). group.trigger.0 ≡ other.trigger.0 → is_no_greater group other ≡ true) groups
+
+-- Where chunks are pinned for some groups, one of them is next to go, and it is such a one.
+abbrev pub MatchNextToGo : List Group → Option Group → Type 0
+MatchNextToGo groups None = groups ≡ []
+MatchNextToGo groups (Some group) = IsNextToGo groups group
+
+abbrev pub TheLeastGoes : Type 0
+TheLeastGoes = (groups : List Group) → MatchNextToGo groups (next_to_go groups)
+
+-- No more is indexed and no more is pinned than may be.
+pub record IsWithin (settings : PlainSettings) (state : AgentState) : Type 0 where
+  pub chunks : indexed_count state.taken ≤ settings.threshold
+  pub traces : length state.touched ≤ settings.traces
+  pub pins : length state.pinned ≤ settings.pins
+
+abbrev pub LimitsHold : Type 0
+LimitsHold = (settings : PlainSettings) (node : ℕ) (events : List Event) → IsWithin settings (after settings node events)

@@ -3,7 +3,6 @@
 -- them whose used bytes the id's deficit and its weight in pages pay for.
 use Rattle.std.specs.Prelude.{ℕ, Bool, false, not, ◌==◌, List, [], ◌∷◌, ◌++◌, map, filter, take, fold, if◌then◌else◌, slice_get}
 use Rattle.std.specs.Option.{option_map_or}
-use Rattle.hs_base.specs.declared.told.Group.{Group}
 use Rattle.hs_words.specs.Chunks.{used_of}
 use Rattle.hs_records.specs.Plain.{PlainSettings}
 use Rattle.hs_sched.specs.declared.share.Share.{Share}

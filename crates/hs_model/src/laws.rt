@@ -1,6 +1,6 @@
 //! What holds of an agent after any events. These functions do nothing: their contracts say it.
 
-ghost use Rattle.hs_model.specs.Laws.{ListsHaveTheirChunks, StandingsPartition, HeldChunksAreInNoHand, TracesAreClaimedOnce, ClaimsHoldForGood, ChunksStandByTheirClaim, NothingClaimedIsEvicted};
+ghost use Rattle.hs_model.specs.Laws.{ListsHaveTheirChunks, StandingsPartition, HeldChunksAreInNoHand, TracesAreClaimedOnce, ClaimsHoldForGood, ChunksStandByTheirClaim, NothingClaimedIsEvicted, TheLeastGoes, LimitsHold};
 
 /// The pinned and the reported chunks stand in their lists, each once, and the evicted, abandoned and
 /// reported ones in the hand, each once, until they are given back.
@@ -36,4 +36,16 @@ pub fn chunks_stand_by_their_claim()
 /// No chunk of a claimed trace is evicted.
 pub fn nothing_claimed_is_evicted()
     ensures { NothingClaimedIsEvicted }
+{}
+
+/// The group that is next to go has a pinned chunk. Its trigger id has most pinned chunks, and is the
+/// smallest of those that have as many; and of the groups of that id it has the least priority.
+pub fn the_least_goes()
+    ensures { TheLeastGoes }
+{}
+
+/// After any events no more chunks and traces are indexed, and no more chunks pinned, than the settings
+/// say.
+pub fn limits_hold()
+    ensures { LimitsHold }
 {}
