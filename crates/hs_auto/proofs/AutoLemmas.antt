@@ -4,7 +4,8 @@ use Rattle.hs_base.specs.declared.ids.TraceId.{TraceId}
 use Rattle.hs_base.specs.declared.settings.AutoRule.{AutoRule}
 use Rattle.hs_base.specs.declared.settings.AutoRule.TheVariants.{Exception, Percentile, Category, Queue}
 use Rattle.hs_auto.specs.Firing.{Sample, traces_of, without, distinct, laterals_after}
-use Rattle.hs_auto.specs.Watching.{IsAutoRule, window_of, reach_of}
+use Rattle.hs_auto.specs.Watching.{window_of, reach_of}
+use Rattle.hs_base.specs.Rules.{IsAutoRule}
 use Rattle.hs_auto.specs.Rooms.{ranked_of, counted_of, looked_at}
 
 take_less : {X : Type 0} (n : ℕ) (xs : List X) → take n (take (suc n) xs) ≡ take n xs

@@ -1,4 +1,4 @@
 pub mod DistinctLemmas
 pub mod RankLemmas
 pub mod AutoLemmas
-pub mod TallyLemmas
+pub mod CountLemmas

@@ -1,7 +1,8 @@
 -- How an autotrigger keeps what contracts see of it.
 use Rattle.std.specs.Prelude.{◌≡◌, ◌≤◌, length}
 use Rattle.hs_auto.specs.Rooms.{ranked_of, counted_of, looked_at}
-use Rattle.hs_auto.specs.Watching.{Watch, IsAutoRule, reach_of}
+use Rattle.hs_auto.specs.Watching.{Watch, reach_of}
+use Rattle.hs_base.specs.Rules.{IsAutoRule}
 use Rattle.hs_auto.specs.declared.auto.Auto.TheInside.{Inside}
 
 abbrev pub watch_of : Inside → Watch

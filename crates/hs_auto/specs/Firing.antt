@@ -5,6 +5,7 @@ use Rattle.std.specs.Prelude.{ℕ, ◌*◌, List, [], ◌∷◌, length, take, m
 use Rattle.hs_base.specs.declared.ids.TraceId.{TraceId}
 use Rattle.hs_base.specs.declared.settings.AutoRule.{AutoRule}
 use Rattle.hs_base.specs.declared.settings.AutoRule.TheVariants.{Exception, Percentile, Category, Queue}
+use Rattle.hs_base.specs.declared.limits.TheConstants.{WHOLE_SHARE}
 use Rattle.hs_auto.specs.declared.sampled.Sampled.{Sampled}
 use Rattle.hs_auto.specs.declared.sampled.Sampled.TheVariants.{Quiet, Fired}
 
@@ -31,7 +32,7 @@ is_warm window samples = nat_le window (length samples)
 
 -- so many of the window are at least its share, in hundredths of a percent
 abbrev pub reaches_share : ℕ → ℕ → ℕ → Bool
-reaches_share window share count = nat_le (share * window) (count * 10000)
+reaches_share window share count = nat_le (share * window) (count * WHOLE_SHARE)
 
 -- whether a sample of this value fires after these samples
 abbrev pub fires : AutoRule → List Sample → ℕ → Bool

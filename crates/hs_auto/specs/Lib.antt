@@ -5,5 +5,5 @@ pub mod Windows
 pub mod Ranks
 pub mod Rooms
 pub mod Autos
-pub mod Tallies
+pub mod ValueCounts
 pub mod Counts

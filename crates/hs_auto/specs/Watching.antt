@@ -1,6 +1,6 @@
 -- What contracts see of an autotrigger: its rule, and the end of the list of its samples, as far as the rule looks
--- back. Which lists of samples it may have been given follows from that. The rule's limits stand here too.
-use Rattle.std.specs.Prelude.{◌≡◌, ℕ, ◌<◌, ◌≤◌, List, take}
+-- back. Which lists of samples it may have been given follows from that.
+use Rattle.std.specs.Prelude.{◌≡◌, ℕ, List, take}
 use Rattle.hs_base.specs.declared.ids.TraceId.{TraceId}
 use Rattle.hs_base.specs.declared.settings.AutoRule.{AutoRule}
 use Rattle.hs_base.specs.declared.settings.AutoRule.TheVariants.{Exception, Percentile, Category, Queue}
@@ -29,20 +29,3 @@ reach_of (Queue trigger window share laterals) = laterals
 pub record HasSampled (watch : Watch) (samples : List Sample) : Type 0 where
   pub values : watch.values ≡ take (window_of watch.rule) (values_of samples)
   pub traces : watch.traces ≡ take (reach_of watch.rule) (traces_of samples)
-
--- the limits of a window, a share and a number of laterals
-abbrev pub IsWindow : ℕ → Type 0
-IsWindow window = (2 ≤ window) × (window ≤ 1024)
-
-abbrev pub IsShare : ℕ → Type 0
-IsShare share = (1 ≤ share) × (share < 10000)
-
-abbrev pub IsReach : ℕ → Type 0
-IsReach laterals = (1 ≤ laterals) × (laterals ≤ 32)
-
--- a rule within its limits
-abbrev pub IsAutoRule : AutoRule → Type 0
-IsAutoRule (Exception trigger) = Unit {0}
-IsAutoRule (Percentile trigger window share) = IsWindow window × IsShare share
-IsAutoRule (Category trigger window share) = IsWindow window × IsShare share
-IsAutoRule (Queue trigger window share laterals) = IsWindow window × IsShare share × IsReach laterals

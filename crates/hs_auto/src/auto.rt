@@ -2,7 +2,8 @@
 
 ghost use Rattle.std.specs.Prelude.{◌≡◌, ◌<◌, ◌≤◌, ◌^◌, List, [], ◌∷◌, ◌==◌, ◌&&◌, not, length, count_by, nat_lt, IfOk};
 ghost use Rattle.hs_auto.specs.Firing.{Sample, fires, laterals_after, sampled, reaches_share};
-ghost use Rattle.hs_auto.specs.Watching.{HasSampled, IsAutoRule, reach_of};
+ghost use Rattle.hs_auto.specs.Watching.{HasSampled, reach_of};
+ghost use Rattle.hs_base.specs.Rules.{IsAutoRule};
 ghost use Rattle.hs_auto.specs.Rooms.{ranked_of, counted_of, Ranks};
 
 use crate::counted::CountedWindow;
@@ -10,6 +11,7 @@ use crate::laterals::distinct_others;
 use crate::ranked::RankedWindow;
 use crate::sampled::Sampled;
 use circular_buffer::HeapCircularBuffer;
+use hs_base::limits::{MAX_WINDOW, WHOLE_SHARE};
 use hs_base::{AutoRule, Laterals, Memory, TraceId};
 use std::alloc::Global;
 use std::marker::Model;
@@ -91,7 +93,7 @@ impl Auto {
     /// Whether it fires, where so many values of the window that it ranks are less.
     fn fires(&self, value: u64, less: usize) -> bool
         requires less { Ranks self.now.rule → less ≡ count_by (λ earlier. nat_lt earlier value) self.now.values }
-        requires few { less ≤ 1024 }
+        requires few { less ≤ MAX_WINDOW }
         ensures { (samples : List Sample) → HasSampled self.now samples
             → result ≡ fires self.now.rule samples value }
     {
@@ -170,5 +172,5 @@ fn reaches(count: usize, share: u32, window: usize) -> bool
     requires window { window < 2 ^ 32 }
     ensures { result ≡ reaches_share window share count }
 {
-    count as u64 * 10_000 >= u64::from(share) * window as u64
+    count as u64 * u64::from(WHOLE_SHARE) >= u64::from(share) * window as u64
 }

@@ -2,7 +2,7 @@
 
 ghost use Rattle.std.specs.Prelude.{◌≡◌, ◌≤◌, ◌∷◌, [], ◌==◌, length, take, count_by, IfOk};
 
-use crate::tallies::{Tally, add, take_out, times_of};
+use crate::value_counts::{ValueCount, add, take_out, times_of};
 use circular_buffer::HeapCircularBuffer;
 use hs_base::Memory;
 use std::alloc::Global;
@@ -12,7 +12,7 @@ use std::marker::Model;
 #[derive(Drop)]
 pub struct CountedWindow {
     arrived: HeapCircularBuffer<u64>,
-    tallies: Vec<Tally>,
+    counts: Vec<ValueCount>,
 }
 
 impl Model for CountedWindow {
@@ -20,11 +20,11 @@ impl Model for CountedWindow {
 
     ghost Value = { Window };
 
-    ghost use Rattle.hs_auto.specs.Counts.{IsCounted};
+    ghost use Rattle.hs_auto.specs.Counts.{IsCountedWindow};
 
     ghost view = { λ a. record { size = a.arrived.capacity; values = a.arrived.items } };
 
-    ghost invariant = { IsCounted };
+    ghost invariant = { IsCountedWindow };
 }
 
 impl CountedWindow {
@@ -34,8 +34,8 @@ impl CountedWindow {
     {
         let size = size as usize;
         let arrived = HeapCircularBuffer::with_capacity(alloc, size)?;
-        let tallies = Vec::with_capacity(alloc, size + 1)?;
-        Ok(CountedWindow { arrived, tallies })
+        let counts = Vec::with_capacity(alloc, size + 1)?;
+        Ok(CountedWindow { arrived, counts })
     }
 
     /// The most values that it holds.
@@ -57,7 +57,7 @@ impl CountedWindow {
         ensures count { result ≡ count_by (λ earlier. earlier == value) self.now.values }
         ensures bound { result ≤ self.now.size }
     {
-        times_of(&self.tallies, value)
+        times_of(&self.counts, value)
     }
 
     /// Takes a value in. Where the window was full, its oldest value leaves.
@@ -67,9 +67,9 @@ impl CountedWindow {
           values = take self.old.size (value ∷ self.old.values);
         } }
     {
-        add(&mut self.tallies, value);
+        add(&mut self.counts, value);
         if let Some(oldest) = self.arrived.push_front(value) {
-            take_out(&mut self.tallies, oldest);
+            take_out(&mut self.counts, oldest);
         }
     }
 }

@@ -5,11 +5,12 @@ ghost use Rattle.std.specs.List.{list_any};
 ghost use Rattle.hs_auto.specs.Firing.{distinct, without};
 
 use circular_buffer::HeapCircularBuffer;
+use hs_base::limits::MAX_LATERALS;
 use hs_base::{Laterals, TraceId};
 
 /// The recent traces but this one, each once, where it stands first.
 pub fn distinct_others(recent: &HeapCircularBuffer<TraceId>, trace: TraceId) -> Laterals
-    requires { length recent.now.items ≤ 32 }
+    requires { length recent.now.items ≤ MAX_LATERALS }
     ensures { result ≡ without trace (distinct recent.now.items) }
 {
     let mut laterals = Laterals::none();

@@ -8,9 +8,9 @@ mod laterals;
 mod ranked;
 mod rising;
 mod sampled;
-mod tallies;
 #[cfg(test)]
 mod tests;
+mod value_counts;
 
 pub use auto::Auto;
 pub use sampled::Sampled;

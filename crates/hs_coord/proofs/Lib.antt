@@ -1,5 +1,5 @@
 pub mod BitLemmas
 pub mod FollowingLemmas
-pub mod StandingLemmas
+pub mod KeptLemmas
 pub mod SettledLemmas
 pub mod OrderlyLemmas

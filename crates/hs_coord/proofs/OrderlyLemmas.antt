@@ -10,7 +10,7 @@ use Rattle.hs_base.specs.NodeSets.{has_node}
 use Rattle.hs_coord.specs.Following.{Message, Messages, is_of, has_crumb, has_ask, is_asked, is_first_sender, is_answer, is_answer_from, is_answered, is_answered_after}
 use Rattle.hs_coord.specs.Orderly.{IsOrderly, IsClosed}
 use Rattle.hs_coord.proofs.FollowingLemmas.{first_stays, first_now, has_crumb-push, append_nil}
-use Rattle.hs_coord.proofs.StandingLemmas.{asked_else, first_bit}
+use Rattle.hs_coord.proofs.KeptLemmas.{asked_else, first_bit}
 
 -- where the messages of a group begin
 record Beginning (group : GroupId) (messages : Messages) : Type 0 where

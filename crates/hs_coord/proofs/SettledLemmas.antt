@@ -9,18 +9,18 @@ use Rattle.hs_base.specs.declared.ids.GroupId.{GroupId}
 use Rattle.hs_base.specs.NodeSets.{has_node}
 use Rattle.hs_coord.specs.declared.followed.Followed.{Followed}
 use Rattle.hs_coord.specs.Following.{Messages, same_group, has_ask, is_answered, is_first_sender, IsSettled}
-use Rattle.hs_coord.specs.Standing.{Standing, IsFollowed, StandsFor, HasTaken}
+use Rattle.hs_coord.specs.Kept.{Kept, IsFollowed, StandsFor, HasTaken}
 use Rattle.hs_coord.proofs.FollowingLemmas.{no_message_no_crumb}
-use Rattle.hs_coord.proofs.StandingLemmas.{same_group_laws}
+use Rattle.hs_coord.proofs.KeptLemmas.{same_group_laws}
 
 -- no node waits
 abbrev pub IsQuiet : GroupId × Followed → Type 0
 IsQuiet p = (node : ℕ) → has_node p.1.waiting node ≡ false
 
-module _ (standing : Standing) (messages : Messages) (h : HasTaken standing messages) where
-  pub settled_if_quiet : All IsQuiet standing.groups → IsSettled messages
+module _ (state : Kept) (messages : Messages) (h : HasTaken state messages) where
+  pub settled_if_quiet : All IsQuiet state.groups → IsSettled messages
   settled_if_quiet quiet group node ask =
-      by (lookup (same_group group) standing.groups) (h.groups group) (All-lookup (λ (e : Followed). (n : ℕ) → has_node e.waiting n ≡ false) (same_group group) standing.groups quiet)
+      by (lookup (same_group group) state.groups) (h.groups group) (All-lookup (λ (e : Followed). (n : ℕ) → has_node e.waiting n ≡ false) (same_group group) state.groups quiet)
     where
       answered : (asked done : Bool) → asked ≡ true → false ≡ (asked && not done) → done ≡ true
       answered true true a e = refl
@@ -31,9 +31,9 @@ module _ (standing : Standing) (messages : Messages) (h : HasTaken standing mess
       by None none q = absurd (true≢false (sym ask ∙ ap (λ b. b && not (is_first_sender group messages node)) (no_message_no_crumb group messages node none)))
       by (Some entry) f q = answered (has_ask group messages node) (is_answered group messages node) ask (sym (q node) ∙ f.waiting node)
 
-  pub quiet_if_settled : IsDistinct same_group (keys_of standing.groups) → IsSettled messages → (i : ℕ) (p : GroupId × Followed) → slice_get standing.groups i ≡ Some p → IsQuiet p
+  pub quiet_if_settled : IsDistinct same_group (keys_of state.groups) → IsSettled messages → (i : ℕ) (p : GroupId × Followed) → slice_get state.groups i ≡ Some p → IsQuiet p
   quiet_if_settled distinct settled i p at node =
-      let f : IsFollowed p.0 messages p.1 = subst (StandsFor p.0 messages) (lookup_from_place same_group_laws standing.groups i p.0 p.1 distinct at) (h.groups p.0) in
+      let f : IsFollowed p.0 messages p.1 = subst (StandsFor p.0 messages) (lookup_from_place same_group_laws state.groups i p.0 p.1 distinct at) (h.groups p.0) in
       f.waiting node ∙ quiet (has_ask p.0 messages node) (is_answered p.0 messages node) (settled p.0 node)
     where
       quiet : (asked done : Bool) → (asked ≡ true → done ≡ true) → (asked && not done) ≡ false
@@ -42,18 +42,18 @@ module _ (standing : Standing) (messages : Messages) (h : HasTaken standing mess
       quiet false done a = refl
 
 -- what a walk over the entries answers, where no two are of one group
-pub settled_by_walk : (standing : Standing) (messages : Messages) → HasTaken standing messages → IsDistinct same_group (keys_of standing.groups) → (r : Bool)
-    → MatchBool r (AllWithin IsQuiet standing.groups 0 (length standing.groups)) ((k : ℕ) × (k < length standing.groups) × HoldsAt (λ p. IsQuiet p → ⊥) standing.groups k)
+pub settled_by_walk : (state : Kept) (messages : Messages) → HasTaken state messages → IsDistinct same_group (keys_of state.groups) → (r : Bool)
+    → MatchBool r (AllWithin IsQuiet state.groups 0 (length state.groups)) ((k : ℕ) × (k < length state.groups) × HoldsAt (λ p. IsQuiet p → ⊥) state.groups k)
     → (r ≡ true) ↔ IsSettled messages
-settled_by_walk standing messages h distinct true quiet = (λ _. settled_if_quiet standing messages h (All-from_all_within IsQuiet standing.groups quiet), λ _. refl)
-settled_by_walk standing messages h distinct false found = (
+settled_by_walk state messages h distinct true quiet = (λ _. settled_if_quiet state messages h (All-from_all_within IsQuiet state.groups quiet), λ _. refl)
+settled_by_walk state messages h distinct false found = (
   λ e. absurd (true≢false (sym e)),
-  λ settled. absurd (found.2 (at found.0 found.1).0 (quiet_if_settled standing messages h distinct settled found.0 _ (at found.0 found.1).1)),
+  λ settled. absurd (found.2 (at found.0 found.1).0 (quiet_if_settled state messages h distinct settled found.0 _ (at found.0 found.1).1)),
 )
   where
-    at : (k : ℕ) → k < length standing.groups → (d : GroupId × Followed) × (slice_get standing.groups k ≡ Some (get_or standing.groups k d))
+    at : (k : ℕ) → k < length state.groups → (d : GroupId × Followed) × (slice_get state.groups k ≡ Some (get_or state.groups k d))
     at k within =
         ⊎_elim
-        (λ (w : (x : GroupId × Followed) × (k < length standing.groups) × (slice_get standing.groups k ≡ Some x) × (get_or standing.groups k x ≡ x)). (w.0, w.2 ∙ ap Some (sym w.3)))
-        (λ (past : (length standing.groups ≤ k) × (slice_get standing.groups k ≡ None)). absurd (omega arith))
-        (slice_get_cases standing.groups k).1
+        (λ (w : (x : GroupId × Followed) × (k < length state.groups) × (slice_get state.groups k ≡ Some x) × (get_or state.groups k x ≡ x)). (w.0, w.2 ∙ ap Some (sym w.3)))
+        (λ (past : (length state.groups ≤ k) × (slice_get state.groups k ≡ None)). absurd (omega arith))
+        (slice_get_cases state.groups k).1

@@ -1,5 +1,5 @@
 pub mod Messages
 pub mod Following
 pub mod Orderly
-pub mod Standing
+pub mod Kept
 pub mod Answers

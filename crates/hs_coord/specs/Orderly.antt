@@ -1,5 +1,6 @@
--- Where the messages of a group are orderly, its asked set is what following the crumbs from its admitting node reaches: the
--- least set that has this node and, with each node, the nodes to which the crumbs of the group's messages from that node lead.
+-- A node has nothing to say of a group until it admits the group's trigger or is asked. If every node keeps to that, the
+-- group's messages are orderly. A set of nodes is closed under them where the admitting node is in it, and with a node also
+-- the nodes that its messages name: whoever walks along the crumbs never leaves such a set.
 use Rattle.std.specs.Prelude.{◌≡◌, ℕ, Bool, true, false, ◌==◌, [], ◌∷◌, ◌++◌, find, All, refl}
 use Rattle.std.specs.Option.{option_map_or}
 use Rattle.hs_base.specs.declared.ids.GroupId.{GroupId}

@@ -1,13 +1,14 @@
 //! The coordinator.
 
-ghost use Rattle.std.specs.Prelude.{◌≡◌, ℕ, ◌<◌, ◌≤◌, ◌↔◌, true, [], ◌∷◌, ◌++◌, IsTrue, IfOk, OnOk, OnErr, map};
+ghost use Rattle.std.specs.Prelude.{◌≡◌, ℕ, ◌<◌, ◌≤◌, ◌↔◌, true, [], ◌∷◌, ◌++◌, IsTrue, IsOk, IfOk, OnOk, OnErr, map};
 ghost use Rattle.hs_base.specs.NodeSets.{has_node};
 ghost use Rattle.hs_coord.specs.Following.{Messages, message, AreAsks, IsSettled};
-ghost use Rattle.hs_coord.specs.Standing.{HasTaken};
+ghost use Rattle.hs_coord.specs.Kept.{HasTaken};
 ghost use Rattle.hs_coord.specs.Answers.{IsAskedSet};
 
 use crate::asks::Asks;
 use crate::followed::Followed;
+use hs_base::limits::MAX_NODES;
 use hs_base::{GroupId, List, Memory, NodeId, NodeSet, Told};
 use indexmap::IndexMap;
 use std::alloc::Global;
@@ -24,19 +25,21 @@ pub struct Coordinator {
 
 impl Model for Coordinator {
     ghost use Rattle.std.specs.Prelude.{◌≤◌};
-    ghost use Rattle.hs_coord.specs.Standing.{Standing};
+    ghost use Rattle.hs_base.specs.declared.limits.TheConstants.{MAX_NODES};
+    ghost use Rattle.hs_coord.specs.Kept.{Kept};
 
-    ghost Value = { Standing };
+    ghost Value = { Kept };
 
     ghost view = { λ a. record { nodes = a.nodes; log = a.log.items; groups = a.groups.entries } };
 
-    ghost invariant = { λ a. a.nodes ≤ 16 };
+    ghost invariant = { λ a. a.nodes ≤ MAX_NODES };
 }
 
 impl Coordinator {
-    /// A coordinator of nodes 0 to `nodes` - 1, at most 16, that has taken no message.
+    /// A coordinator of nodes 0 to `nodes` - 1 that has taken no message. Takes no memory.
     pub fn make(alloc: Global, nodes: u16) -> Result<Coordinator, Memory>
-        requires { nodes ≤ 16 }
+        requires { nodes ≤ MAX_NODES }
+        ensures ok { IsOk result }
         ensures taken { IfOk result (λ coordinator. HasTaken coordinator []) }
         ensures nodes { IfOk result (λ coordinator. coordinator.nodes ≡ nodes) }
     {

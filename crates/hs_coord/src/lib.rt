@@ -5,10 +5,10 @@
 mod asks;
 mod coordinator;
 mod followed;
-mod law;
+mod laws;
 #[cfg(test)]
 mod tests;
 
 pub use asks::Asks;
 pub use coordinator::Coordinator;
-pub use law::{answers_follow_asks, asked_set_is_least};
+pub use laws::{answers_follow_asks, asked_set_is_least};

@@ -3,7 +3,7 @@ use Rattle.std.proofs.Common.{◌≡◌, ℕ, ◌+◌, ◌-◌, ◌*◌, ◌≤�
 use Rattle.std.specs.Prelude.{nat_le, if◌then◌else◌}
 use Rattle.std.proofs.lemmas.Bool.{leb-true}
 use Rattle.hs_pins.specs.declared.bucket.Attempt.TheVariants.{Admitted, Limited}
-use Rattle.hs_pins.specs.Buckets.{Standing, HasTaken, greatest, least_since, level_at, level_found, admitted_of, attempted}
+use Rattle.hs_pins.specs.Buckets.{BucketState, HasAttempted, greatest, least_since, level_at, level_found, admitted_of, attempted}
 
 -- no term of the level has less than the tokens that it has lost
 abbrev pub Covers : ℕ → ℕ → ℕ → ℕ → List ℕ → Type 0
@@ -141,7 +141,7 @@ answer_if_admitted burst rate moment level earlier e some =
     rw t refl
 
 -- a bucket that let flow in what had come since its moment stands at the level that the attempt finds
-pub refilled : (old : Standing) (moment level : ℕ) (earlier : List ℕ) → HasTaken old earlier
+pub refilled : (old : BucketState) (moment level : ℕ) (earlier : List ℕ) → HasAttempted old earlier
     → level ≡ min (old.burst * 1000000) (old.level + old.rate * (moment - old.moment))
     → level ≡ level_found old.burst old.rate earlier moment
 refilled old moment level earlier h e =
@@ -149,10 +149,10 @@ refilled old moment level earlier h e =
     rw f (rw (← h.level, ← h.moment) e)
 
 -- what has the level that an attempt leaves has taken that attempt
-pub takes : (old new : Standing) (moment : ℕ) (earlier : List ℕ) → HasTaken old earlier → new.burst ≡ old.burst → new.rate ≡ old.rate
+pub takes : (old new : BucketState) (moment : ℕ) (earlier : List ℕ) → HasAttempted old earlier → new.burst ≡ old.burst → new.rate ≡ old.rate
     → new.moment ≡ max moment old.moment
     → new.level ≡ level_at old.burst old.rate (admitted_of old.burst old.rate (moment ∷ earlier)) (greatest (moment ∷ earlier))
-    → HasTaken new (moment ∷ earlier)
+    → HasAttempted new (moment ∷ earlier)
 takes old new moment earlier h burst rate later level = record {
   moment = later ∙ ap (λ m. max moment m) h.moment;
   level = let P : ℕ → ℕ → Type 0 = λ b r. new.level ≡ level_at b r (admitted_of b r (moment ∷ earlier)) (greatest (moment ∷ earlier)) in

@@ -11,9 +11,8 @@ use Rattle.std.specs.declared.cmp.Ordering.TheVariants.{Less, Equal, Greater}
 use Rattle.std.specs.Ordering.{is_eq, match_ordering}
 use Rattle.hs_pins.specs.declared.priority.Priority.{Priority}
 use Rattle.hs_pins.specs.Priorities.{priority_cmp, same_priority}
-use Rattle.hs_pins.specs.Buffers.{used_of}
 use Rattle.hs_words.specs.Buffers.{Buffer}
-use Rattle.hs_pins.specs.Groups.{Groups, count_of, chunks_of, pinned, next_of, without_first}
+use Rattle.hs_pins.specs.Groups.{Groups, count_of, chunks_of, pinned, next_of, without_first, used_bytes}
 use Rattle.hs_pins.specs.Counting.{HaveChunks, IsCounted}
 
 module _ {L : Type 0} where
@@ -185,13 +184,13 @@ module _ {L : Type 0} where
       record { counted = omega (arith, n); some = k.some.1 }
 
   pub next-used : (es : Groups L) (p : Priority) (pile : List (Buffer L)) → slice_get es (length es - 1) ≡ Some (p, pile) → lookup (same_priority p) es ≡ Some pile
-      → option_map used_of (slice_get pile 0) ≡ option_map (λ (next : Priority × Buffer L). used_of next.1) (next_of es)
+      → option_map used_bytes (slice_get pile 0) ≡ option_map (λ (next : Priority × Buffer L). used_bytes next.1) (next_of es)
   next-used es p pile last found =
       same pile
-      ∙ ap (λ bs. option_map (λ (next : Priority × Buffer L). used_of next.1) (option_map (λ b. (p, b)) (slice_get bs 0))) (sym (chunks_of-some p es pile found))
-      ∙ ap (λ o. option_map (λ (next : Priority × Buffer L). used_of next.1) (option_and_then (λ q. option_map (λ b. (q, b)) (slice_get (chunks_of es q) 0)) (option_map (λ e. e.0) o))) (sym last)
+      ∙ ap (λ bs. option_map (λ (next : Priority × Buffer L). used_bytes next.1) (option_map (λ b. (p, b)) (slice_get bs 0))) (sym (chunks_of-some p es pile found))
+      ∙ ap (λ o. option_map (λ (next : Priority × Buffer L). used_bytes next.1) (option_and_then (λ q. option_map (λ b. (q, b)) (slice_get (chunks_of es q) 0)) (option_map (λ e. e.0) o))) (sym last)
     where
-      same : (bs : List (Buffer L)) → option_map used_of (slice_get bs 0) ≡ option_map (λ (next : Priority × Buffer L). used_of next.1) (option_map (λ b. (p, b)) (slice_get bs 0))
+      same : (bs : List (Buffer L)) → option_map used_bytes (slice_get bs 0) ≡ option_map (λ (next : Priority × Buffer L). used_bytes next.1) (option_map (λ b. (p, b)) (slice_get bs 0))
       same [] = refl
       same (b ∷ bs) = refl
 

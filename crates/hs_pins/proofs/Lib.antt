@@ -1,6 +1,6 @@
 pub mod BucketLemmas
 pub mod GroupLemmas
-pub mod LaneLemmas
+pub mod QueueLemmas
 pub mod PinLemmas
 pub mod RuleLemmas
 pub mod TestLemmas

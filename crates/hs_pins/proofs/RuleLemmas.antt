@@ -10,7 +10,7 @@ use Rattle.std.specs.declared.cmp.Ordering.{Ordering}
 use Rattle.std.specs.declared.cmp.Ordering.TheVariants.{Greater}
 use Rattle.hs_base.specs.declared.ids.TriggerId.{TriggerId}
 use Rattle.hs_base.specs.declared.settings.TriggerRule.{TriggerRule}
-use Rattle.hs_pins.specs.Lanes.{total_of, fresh_lanes}
+use Rattle.hs_pins.specs.Queues.{total_of, fresh_queues}
 
 abbrev id_cmp : TriggerId → TriggerId → Ordering
 id_cmp a b = nat_cmp a.0 b.0
@@ -44,8 +44,8 @@ module _ {V : Type 0} where
       ∙ ap (map g) (sym (take-suc rules i d within))
       ∙ ap (λ n. map g (take n rules)) (sym (add-one i))
 
-pub fresh-total : (L : Type 0) (rules : List TriggerRule) → 0 ≡ total_of {L = L} (fresh_lanes rules)
+pub fresh-total : (L : Type 0) (rules : List TriggerRule) → 0 ≡ total_of {L = L} (fresh_queues rules)
 fresh-total L [] = refl
 fresh-total L (r ∷ rules) =
     let t = fresh-total L rules in
-    let all : 0 ≡ 0 + total_of {L = L} (fresh_lanes rules) = omega arith in all
+    let all : 0 ≡ 0 + total_of {L = L} (fresh_queues rules) = omega arith in all

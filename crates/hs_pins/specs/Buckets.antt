@@ -1,13 +1,14 @@
 -- The token bucket of a trigger id, over the moments of all its attempts, here the latest attempt first. A moment is in
--- microseconds, a level in millionths of a token. Moments may come in any order: an attempt is made at the greatest
+-- microseconds, and a level in the parts of a token that flow in then at one token a second. Moments may come in any order: an attempt is made at the greatest
 -- moment so far.
 use Rattle.std.specs.Prelude.{◌≡◌, ℕ, ◌+◌, ◌-◌, ◌*◌, ◌≤◌, List, [], ◌∷◌, max, min, if◌then◌else◌, nat_le, refl}
+use Rattle.hs_base.specs.declared.limits.TheConstants.{TOKEN, MAX_BURST, MAX_RATE}
 use Rattle.hs_pins.specs.declared.bucket.Attempt.{Attempt}
 use Rattle.hs_pins.specs.declared.bucket.Attempt.TheVariants.{Admitted, Limited}
 
--- the limits of a burst in tokens, and of a rate in tokens a second
-abbrev pub IsLimit : ℕ → ℕ → Type 0
-IsLimit burst rate = (1 ≤ burst) × (burst ≤ 1000) × (rate ≤ 1000000)
+-- a burst in tokens and a rate in tokens a second, within their limits
+abbrev pub IsBucketRule : ℕ → ℕ → Type 0
+IsBucketRule burst rate = (1 ≤ burst) × (burst ≤ MAX_BURST) × (rate ≤ MAX_RATE)
 
 -- the greatest of these moments, and 0 where there is none
 abbrev pub greatest : List ℕ → ℕ
@@ -18,9 +19,9 @@ greatest (moment ∷ earlier) = max moment (greatest earlier)
 -- then, less a token for that attempt and for each one admitted after it. They were admitted at these moments, the latest
 -- first, and `taken` counts the tokens up to the first of them.
 abbrev pub least_since : ℕ → ℕ → ℕ → ℕ → List ℕ → ℕ
-least_since burst rate now taken [] = burst * 1000000
+least_since burst rate now taken [] = burst * TOKEN
 least_since burst rate now taken (admitted ∷ before) =
-    min (burst * 1000000 + rate * (now - admitted) - taken * 1000000) (least_since burst rate now (taken + 1) before)
+    min (burst * TOKEN + rate * (now - admitted) - taken * TOKEN) (least_since burst rate now (taken + 1) before)
 
 -- the level at a moment, before an attempt there
 abbrev pub level_at : ℕ → ℕ → List ℕ → ℕ → ℕ
@@ -30,7 +31,7 @@ level_at burst rate admitted now = least_since burst rate now 1 admitted
 abbrev pub admitted_of : ℕ → ℕ → List ℕ → List ℕ
 admitted_of burst rate [] = []
 admitted_of burst rate (moment ∷ earlier) =
-    if nat_le 1000000 (level_at burst rate (admitted_of burst rate earlier) (greatest (moment ∷ earlier)))
+    if nat_le TOKEN (level_at burst rate (admitted_of burst rate earlier) (greatest (moment ∷ earlier)))
     then greatest (moment ∷ earlier) ∷ admitted_of burst rate earlier else admitted_of burst rate earlier
 
 -- the level that an attempt at a moment finds
@@ -40,27 +41,27 @@ level_found burst rate earlier moment = level_at burst rate (admitted_of burst r
 -- the answer to an attempt at a moment, after the earlier ones
 abbrev pub attempted : ℕ → ℕ → List ℕ → ℕ → Attempt
 attempted burst rate earlier moment =
-    if nat_le 1000000 (level_found burst rate earlier moment) then Admitted else Limited (level_found burst rate earlier moment)
+    if nat_le TOKEN (level_found burst rate earlier moment) then Admitted else Limited (level_found burst rate earlier moment)
 
 -- what a bucket keeps in place of its attempts
-pub record Standing : Type 0 where
+pub record BucketState : Type 0 where
   pub burst : ℕ
   pub rate : ℕ
   pub level : ℕ
   pub moment : ℕ
 
-pub record IsStanding (s : Standing) : Type 0 where
-  pub limit : IsLimit s.burst s.rate
-  pub full : s.level ≤ s.burst * 1000000
+pub record IsBucketState (s : BucketState) : Type 0 where
+  pub rule : IsBucketRule s.burst s.rate
+  pub full : s.level ≤ s.burst * TOKEN
 
 -- these are the moments of the attempts that a bucket has taken
-pub record HasTaken (s : Standing) (moments : List ℕ) : Type 0 where
+pub record HasAttempted (s : BucketState) (moments : List ℕ) : Type 0 where
   pub moment : s.moment ≡ greatest moments
   pub level : s.level ≡ level_at s.burst s.rate (admitted_of s.burst s.rate moments) (greatest moments)
 
 -- a full bucket that has taken no attempt
-abbrev pub fresh_bucket : ℕ → ℕ → Standing
-fresh_bucket burst rate = record { burst = burst; rate = rate; level = burst * 1000000; moment = 0 }
+abbrev pub fresh_bucket : ℕ → ℕ → BucketState
+fresh_bucket burst rate = record { burst = burst; rate = rate; level = burst * TOKEN; moment = 0 }
 
-a_fresh_bucket_has_taken_nothing : (burst rate : ℕ) → HasTaken (fresh_bucket burst rate) []
+a_fresh_bucket_has_taken_nothing : (burst rate : ℕ) → HasAttempted (fresh_bucket burst rate) []
 a_fresh_bucket_has_taken_nothing burst rate = record { moment = refl; level = refl }

@@ -6,10 +6,15 @@ use Rattle.std.specs.Map.{lookup, set_value, remove_entry}
 use Rattle.std.specs.BTreeMap.{insert_entry}
 use Rattle.hs_pins.specs.declared.priority.Priority.{Priority}
 use Rattle.hs_pins.specs.Priorities.{priority_cmp, same_priority}
+use Rattle.hs_words.specs.Chunks.{used_in}
 use Rattle.hs_words.specs.Buffers.{Buffer}
 
 abbrev pub Groups : Type 0 → Type 0
 Groups L = List (Priority × List (Buffer L))
+
+-- how much of a chunk's size its page takes, in bytes
+abbrev pub used_bytes : {L : Type 0} → Buffer L → ℕ
+used_bytes buffer = used_in buffer.chunk
 
 -- how many chunks there are
 abbrev pub count_of : {L : Type 0} → Groups L → ℕ

@@ -1,10 +1,9 @@
 pub mod Buckets
 pub mod BucketExamples
 pub mod Priorities
-pub mod Buffers
 pub mod Groups
 pub mod Counting
-pub mod Lanes
+pub mod Queues
 pub mod Pinning
 pub mod PinningExamples
 pub mod ForTests

@@ -1,4 +1,5 @@
--- Pins of two groups of one trigger id, with chunks of size 64 that are told apart by their numbers.
+-- Where chunks go in when they are pinned, and which one comes out next: two groups of one trigger id, and chunks that
+-- carry their numbers.
 use Rattle.std.specs.Prelude.{◌≡◌, ℕ, [], ◌∷◌, Some, None, refl}
 use Rattle.hs_words.specs.Chunks.{clear_chunk}
 use Rattle.hs_pins.specs.declared.priority.Priority.{Priority}

@@ -1,12 +1,10 @@
 //! The token bucket of a trigger id (`docs/RULES.md`, "The bucket").
 
 ghost use Rattle.std.specs.Prelude.{◌≡◌, ◌+◌, ◌-◌, ◌*◌, ℕ, List, [], ◌∷◌, max, min, nat_le};
-ghost use Rattle.hs_pins.specs.Buckets.{HasTaken, IsLimit, attempted, fresh_bucket};
+ghost use Rattle.hs_pins.specs.Buckets.{HasAttempted, IsBucketRule, attempted, fresh_bucket};
 
+use hs_base::limits::TOKEN;
 use std::marker::Model;
-
-/// A token, in millionths.
-const TOKEN: u64 = 1_000_000;
 
 /// What a bucket answers to an attempt.
 #[derive(Clone, Copy, Debug, PartialEq, Eq)]
@@ -28,20 +26,20 @@ pub struct Bucket {
 }
 
 impl Model for Bucket {
-    ghost use Rattle.hs_pins.specs.Buckets.{Standing, IsStanding};
+    ghost use Rattle.hs_pins.specs.Buckets.{BucketState, IsBucketState};
 
-    ghost Value = { Standing };
+    ghost Value = { BucketState };
 
     ghost view = { λ a. record { burst = a.burst; rate = a.rate; level = a.level; moment = a.moment } };
 
-    ghost invariant = { λ a. IsStanding (record { burst = a.burst; rate = a.rate; level = a.level; moment = a.moment }) };
+    ghost invariant = { λ a. IsBucketState (record { burst = a.burst; rate = a.rate; level = a.level; moment = a.moment }) };
 }
 
 impl Bucket {
     /// A full bucket. It holds at most `burst` tokens, and `rate` tokens flow in each second.
     pub fn make(burst: u32, rate: u32) -> Bucket
-        requires { IsLimit burst rate }
-        ensures taken { HasTaken result [] }
+        requires { IsBucketRule burst rate }
+        ensures taken { HasAttempted result [] }
         ensures fresh { result ≡ fresh_bucket burst rate }
         ensures burst { result.burst ≡ burst }
         ensures rate { result.rate ≡ rate }
@@ -56,10 +54,10 @@ impl Bucket {
 
     /// Takes an attempt at a moment in microseconds, and answers whether it is admitted.
     pub fn attempt(&mut self, moment: u64) -> Attempt
-        ensures answer { (earlier : List ℕ) → HasTaken self.old earlier
+        ensures answer { (earlier : List ℕ) → HasAttempted self.old earlier
             → result ≡ attempted self.old.burst self.old.rate earlier moment }
-        ensures taken { (earlier : List ℕ) → HasTaken self.old earlier
-            → HasTaken self.new (moment ∷ earlier) }
+        ensures taken { (earlier : List ℕ) → HasAttempted self.old earlier
+            → HasAttempted self.new (moment ∷ earlier) }
         ensures burst { self.new.burst ≡ self.old.burst }
         ensures rate { self.new.rate ≡ self.old.rate }
     {
@@ -75,7 +73,7 @@ impl Bucket {
     /// Lets flow in what has come since the bucket's moment, which does not go back.
     fn refill(&mut self, moment: u64)
         ensures level { self.new.level
-            ≡ min (self.old.burst * 1000000) (self.old.level + self.old.rate * (moment - self.old.moment)) }
+            ≡ min (self.old.burst * TOKEN) (self.old.level + self.old.rate * (moment - self.old.moment)) }
         ensures moment { self.new.moment ≡ max moment self.old.moment }
         ensures burst { self.new.burst ≡ self.old.burst }
         ensures rate { self.new.rate ≡ self.old.rate }
@@ -94,7 +92,7 @@ impl Bucket {
 
 /// Whether a level is a whole token or more.
 fn has_token(level: u64) -> bool
-    ensures { result ≡ nat_le 1000000 level }
+    ensures { result ≡ nat_le TOKEN level }
 {
     level >= TOKEN
 }

@@ -4,15 +4,15 @@
 
 mod bucket;
 mod claim;
-mod lanes;
 mod pile;
 mod pinned;
 mod pins;
 mod priority;
+mod queues;
 #[cfg(test)]
 mod tests;
 
 pub use bucket::{Attempt, Bucket};
-pub use claim::{Admitted, Claim, Dropped, Taken2};
+pub use claim::{Admitted, ClaimedTrace, Dropped, Taken2};
 pub use pins::Pins;
 pub use priority::Priority;

@@ -1,7 +1,7 @@
 //! The pinned chunks of one group.
 
 ghost use Rattle.std.specs.Prelude.{◌≡◌, ◌+◌, [], ◌∷◌, ◌++◌, length, map, drop, slice_get, OnOk, OnErr, IfErr, option_map, nat_eq};
-ghost use Rattle.hs_pins.specs.Buffers.{used_of};
+ghost use Rattle.hs_pins.specs.Groups.{used_bytes};
 ghost use Rattle.hs_words.specs.Buffers.{buffer_of};
 
 use hs_base::List;
@@ -91,7 +91,7 @@ impl<L: Token> Pile<L> {
 
     /// The used bytes of the first chunk, or `None` where there is none.
     pub fn first_used(&self) -> Option<u32>
-        ensures { result ≡ option_map used_of (slice_get self.now 0) }
+        ensures { result ≡ option_map used_bytes (slice_get self.now 0) }
     {
         match self.chunks.front() {
             Some(held) => Some(held.chunk.used()),

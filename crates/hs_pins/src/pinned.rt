@@ -3,10 +3,9 @@
 ghost use Rattle.std.specs.Prelude.{◌≡◌, ◌≢◌, ◌+◌, ◌<◌, ◌^◌, [], ◌∷◌, length, map, drop, slice_get, Some, OnOk, OnErr, IfErr, IfSome, OnSome, IfNone, IsSome, option_map};
 ghost use Rattle.std.specs.Map.{lookup};
 ghost use Rattle.std.specs.BTreeMap.{insert_entry};
-ghost use Rattle.hs_pins.specs.Buffers.{used_of};
 ghost use Rattle.hs_words.specs.Buffers.{buffer_of};
 ghost use Rattle.hs_pins.specs.Priorities.{priority_cmp, same_priority};
-ghost use Rattle.hs_pins.specs.Groups.{count_of, chunks_of, pinned, greatest_of, next_of, without_first, without_next};
+ghost use Rattle.hs_pins.specs.Groups.{count_of, chunks_of, pinned, greatest_of, next_of, without_first, without_next, used_bytes};
 ghost use Rattle.hs_pins.specs.Counting.{HaveChunks};
 
 use crate::pile::Pile;
@@ -22,7 +21,7 @@ use std::marker::Model;
 #[derive(Drop)]
 pub struct Pinned<L: Token> {
     groups: BTreeMap<Priority, Pile<L>>,
-    count: u32,
+    chunks: u32,
 }
 
 impl<L: Token> Model for Pinned<L> {
@@ -33,7 +32,7 @@ impl<L: Token> Model for Pinned<L> {
 
     ghost view = { λ a. a.groups.entries };
 
-    ghost invariant = { λ a. IsCounted a.groups.entries a.count };
+    ghost invariant = { λ a. IsCounted a.groups.entries a.chunks };
 }
 
 impl<L: Token> Pinned<L> {
@@ -43,32 +42,33 @@ impl<L: Token> Pinned<L> {
     {
         Pinned {
             groups: BTreeMap::new(alloc),
-            count: 0,
+            chunks: 0,
         }
     }
 
     /// How many chunks are pinned.
-    pub fn count(&self) -> u32
+    pub fn chunks(&self) -> u32
         ensures { result ≡ count_of self.now }
     {
-        self.count
+        self.chunks
     }
 
     /// Pins chunks for the group of this priority. For want of memory they come back, and nothing
-    /// changes.
+    /// changes. Pinning none takes no memory.
     pub fn pin(&mut self, priority: Priority, chunks: List<Held<L>>) -> Result<(), List<Held<L>>>
         requires { count_of self.old + length chunks.items < 2 ^ 32 }
         ensures ok { OnOk result (self.new ≡ pinned self.old priority (map buffer_of chunks.items)) }
         ensures count { OnOk result (count_of self.new ≡ count_of self.old + length chunks.items) }
         ensures err { OnErr result (self.new ≡ self.old) }
         ensures back { IfErr result (λ back. map buffer_of back.items ≡ map buffer_of chunks.items) }
+        ensures some { OnErr result (0 < length chunks.items) }
     {
         let count = chunks.len() as u32;
         if count == 0 {
             return Ok(());
         }
         add_chunks(&mut self.groups, priority, chunks)?;
-        self.count += count;
+        self.chunks += count;
         Ok(())
     }
 
@@ -87,13 +87,13 @@ impl<L: Token> Pinned<L> {
         ensures back { IfErr result (λ back. buffer_of back ≡ buffer_of held) }
     {
         add_chunk(alloc, &mut self.groups, priority, held)?;
-        self.count += 1;
+        self.chunks += 1;
         Ok(())
     }
 
     /// The used bytes of the next chunk, or `None` where none is pinned.
     pub fn next_used(&self) -> Option<u32>
-        ensures { result ≡ option_map (λ next. used_of next.1) (next_of self.now) }
+        ensures { result ≡ option_map (λ next. used_bytes next.1) (next_of self.now) }
     {
         match self.groups.last_key_value() {
             Some((_, pile)) => pile.first_used(),
@@ -111,7 +111,7 @@ impl<L: Token> Pinned<L> {
     {
         let priority = greatest(&self.groups)?;
         let held = take_first(&mut self.groups, priority);
-        self.count -= 1;
+        self.chunks -= 1;
         Some((priority, held))
     }
 
@@ -125,7 +125,7 @@ impl<L: Token> Pinned<L> {
         ensures some { IfSome result (λ least. 0 < length least.1.items) }
     {
         let (priority, pile) = self.groups.pop_first()?;
-        self.count -= pile.len() as u32;
+        self.chunks -= pile.len() as u32;
         Some((priority, pile.into_list()))
     }
 }

@@ -2,16 +2,17 @@
 
 ghost use Rattle.std.specs.Prelude.{◌≡◌, ◌+◌, ◌<◌, ◌≤◌, ◌^◌, ℕ, [], ◌∷◌, ◌++◌, length, map, OnOk, OnErr, IfOk, IfErr, IfSome, OnSome, IfNone, IsSome, IsNone, None, option_map};
 ghost use Rattle.indexmap.specs.IndexMap.{spare};
-ghost use Rattle.hs_pins.specs.Buffers.{used_of};
 ghost use Rattle.hs_words.specs.Buffers.{buffer_of};
-ghost use Rattle.hs_pins.specs.Groups.{next_of};
-ghost use Rattle.hs_pins.specs.Lanes.{AreRules, has_lane, groups_of, total_of};
+ghost use Rattle.hs_pins.specs.Groups.{next_of, used_bytes};
+ghost use Rattle.hs_pins.specs.Queues.{has_queue, groups_of, total_of};
+ghost use Rattle.hs_base.specs.Rules.{AreRules};
 ghost use Rattle.hs_pins.specs.Pinning.{claim_in, claim_for, bucket_in, claimed, admission, admitted_after, Attempts, Arrives, AddsCrumb, dropped_of, next_in, without_next_in, fresh_pins, fresh_buckets_of};
 
 use crate::bucket::{Attempt, Bucket};
-use crate::claim::{Admitted, Claim, Dropped, Taken2};
-use crate::lanes::Lanes;
+use crate::claim::{Admitted, ClaimedTrace, Dropped, Taken2};
 use crate::priority::{Mark, Priority};
+use crate::queues::TriggerQueues;
+use hs_base::limits::MAX_NODES;
 use hs_base::{
     Crumb, Group, Laterals, Memory, NodeId, NodeSet, Settings, TraceId, TriggerId, TriggerRule,
 };
@@ -26,11 +27,11 @@ use std::marker::Model;
 pub struct Pins<L: Token> {
     alloc: Global,
     node: NodeId,
-    limit: u32,
+    most: u32,
     admitted: u32,
-    claims: IndexMap<TraceId, Claim>,
+    claims: IndexMap<TraceId, ClaimedTrace>,
     buckets: BTreeMap<TriggerId, Bucket>,
-    lanes: Lanes<L>,
+    queues: TriggerQueues<L>,
     abandoned: IndexSet<Mark>,
 }
 
@@ -41,35 +42,37 @@ impl<L: Token> Model for Pins<L> {
 
     ghost view = { λ a. record {
       node = a.node.0;
-      limit = a.limit;
+      most = a.most;
       admitted = a.admitted;
       claims = a.claims.entries;
       buckets = a.buckets.entries;
-      lanes = a.lanes;
+      queues = a.queues;
       abandoned = a.abandoned.keys;
     } };
 
-    ghost invariant = { λ a. AreDeclared a.claims.entries a.lanes };
+    ghost invariant = { λ a. AreDeclared a.claims.entries a.queues };
 }
 
 impl<L: Token> Pins<L> {
-    /// Pins of a node that have claimed nothing, with a full bucket for each declared trigger id.
+    /// Pins of a node that have claimed nothing, with a full bucket for each declared trigger id. They take
+    /// memory for these ids alone.
     pub fn make(alloc: Global, node: NodeId, settings: &Settings) -> Result<Pins<L>, Memory>
         requires { AreRules settings.now.triggers.items }
-        ensures { IfOk result (λ pins. pins
+        ensures fresh { IfOk result (λ pins. pins
             ≡ fresh_pins node.0 settings.now.pins settings.now.triggers.items) }
+        ensures some { OnErr result (0 < length settings.now.triggers.items) }
     {
         let rules = settings.triggers.as_slice();
         let buckets = full_buckets(alloc, rules)?;
-        let lanes = Lanes::make(alloc, rules)?;
+        let queues = TriggerQueues::make(alloc, rules)?;
         Ok(Pins {
             alloc,
             node,
-            limit: settings.pins,
+            most: settings.pins,
             admitted: 0,
             claims: IndexMap::new(alloc),
             buckets,
-            lanes,
+            queues,
             abandoned: IndexSet::new(alloc),
         })
     }
@@ -112,12 +115,12 @@ impl<L: Token> Pins<L> {
         taken: Taken2<L>,
     ) -> Result<(), Taken2<L>>
         requires unclaimed { claim_in self.old.claims trace ≡ None }
-        requires declared { has_lane self.old.lanes group.trigger }
-        requires few { total_of self.old.lanes + length taken.held.items < 2 ^ 32 }
+        requires declared { has_queue self.old.queues group.trigger }
+        requires few { total_of self.old.queues + length taken.held.items < 2 ^ 32 }
         ensures ok { OnOk result (self.new
             ≡ claimed self.old group laterals trace (map buffer_of taken.held.items) taken.crumbs) }
-        ensures count { OnOk result (total_of self.new.lanes
-            ≡ total_of self.old.lanes + length taken.held.items) }
+        ensures count { OnOk result (total_of self.new.queues
+            ≡ total_of self.old.queues + length taken.held.items) }
         ensures err { OnErr result (self.new ≡ self.old) }
         ensures back { IfErr result (λ back. map buffer_of back.held.items ≡ map buffer_of taken.held.items) }
         ensures crumbs { IfErr result (λ back. back.crumbs ≡ taken.crumbs) }
@@ -127,10 +130,10 @@ impl<L: Token> Pins<L> {
             return Err(Taken2 { held, crumbs });
         }
         let priority = Priority::of(&group);
-        if let Err(held) = self.lanes.pin(group.trigger, priority, held) {
+        if let Err(held) = self.queues.pin(group.trigger, priority, held) {
             return Err(Taken2 { held, crumbs });
         }
-        let claim = Claim {
+        let claim = ClaimedTrace {
             group,
             laterals,
             crumbs,
@@ -144,7 +147,7 @@ impl<L: Token> Pins<L> {
     /// changes.
     pub fn arrive(&mut self, held: Held<L>) -> Result<Option<Held<L>>, Held<L>>
         requires claimed { IsSome (claim_for self.old.claims (buffer_of held)) }
-        requires few { total_of self.old.lanes + 1 < 2 ^ 32 }
+        requires few { total_of self.old.queues + 1 < 2 ^ 32 }
         ensures { IfSome (claim_for self.old.claims (buffer_of held))
             (λ claim. Arrives self.old claim (buffer_of held) result self.new) }
     {
@@ -154,7 +157,7 @@ impl<L: Token> Pins<L> {
         }
         let priority = Priority::of(&group);
         let pinned = self
-            .lanes
+            .queues
             .pin_one(self.alloc, group.trigger, priority, held);
         if let Err(back) = pinned {
             return Err(back);
@@ -165,8 +168,8 @@ impl<L: Token> Pins<L> {
     /// Adds a crumb to the set of its claimed trace, and answers whether the node is new there.
     pub fn crumb(&mut self, crumb: Crumb) -> bool
         requires claimed { IsSome (claim_in self.old.claims crumb.trace) }
-        requires node { crumb.node.0 < 16 }
-        ensures adds { AddsCrumb self.old.claims self.new.claims crumb.trace crumb.node.0 result }
+        requires node { crumb.node.0 < MAX_NODES }
+        ensures adds { AddsCrumb self.old.claims self.new.claims crumb.trace crumb.node result }
         ensures kept { self.new ≡ record self.old { claims = self.new.claims } }
     {
         add_crumb(&mut self.claims, crumb)
@@ -196,34 +199,35 @@ impl<L: Token> Pins<L> {
 
     /// The used bytes of the next chunk of a trigger id, or `None` where none is pinned for it.
     pub fn next_cost(&self, trigger: TriggerId) -> Option<u32>
-        ensures { result ≡ option_map (λ next. used_of next.1) (next_of (groups_of self.now.lanes trigger)) }
+        ensures { result ≡ option_map (λ next. used_bytes next.1) (next_of (groups_of self.now.queues trigger)) }
     {
-        self.lanes.next_used(trigger)
+        self.queues.next_used(trigger)
     }
 
     /// Takes the next chunk of a declared trigger id out: the first of the group of greatest priority.
     /// `None` where none is pinned for the id.
     pub fn take_next(&mut self, trigger: TriggerId) -> Option<Dropped<L>>
-        requires declared { has_lane self.old.lanes trigger }
-        ensures next { option_map dropped_of result ≡ next_in self.old.lanes trigger }
-        ensures rest { self.new ≡ record self.old { lanes = without_next_in self.old.lanes trigger } }
+        requires declared { has_queue self.old.queues trigger }
+        ensures next { option_map dropped_of result ≡ next_in self.old.queues trigger }
+        ensures rest { self.new ≡ record self.old { queues = without_next_in self.old.queues trigger } }
     {
-        let (priority, held) = self.lanes.take_next(trigger)?;
+        let (priority, held) = self.queues.take_next(trigger)?;
         let group = priority.group(trigger);
         Some(Dropped { held, group })
     }
 
     /// How many chunks are pinned.
     pub fn chunks(&self) -> u32
-        ensures { result ≡ total_of self.now.lanes }
+        ensures { result ≡ total_of self.now.queues }
     {
-        self.lanes.total()
+        self.queues.chunks()
     }
 }
 
 fn full_buckets(alloc: Global, rules: &[TriggerRule]) -> Result<BTreeMap<TriggerId, Bucket>, Memory>
     requires { AreRules rules.now }
-    ensures { IfOk result (λ buckets. buckets.entries ≡ fresh_buckets_of rules.now) }
+    ensures fresh { IfOk result (λ buckets. buckets.entries ≡ fresh_buckets_of rules.now) }
+    ensures some { OnErr result (0 < length rules.now) }
 {
     let mut buckets = BTreeMap::new(alloc);
     for rule in rules {
@@ -244,7 +248,7 @@ fn attempt(buckets: &mut BTreeMap<TriggerId, Bucket>, trigger: TriggerId, moment
 }
 
 /// Notes the claim of a trace that has none.
-fn note_claim(claims: &mut IndexMap<TraceId, Claim>, trace: TraceId, claim: Claim)
+fn note_claim(claims: &mut IndexMap<TraceId, ClaimedTrace>, trace: TraceId, claim: ClaimedTrace)
     requires unclaimed { claim_in claims.old.entries trace ≡ None }
     requires room { 1 ≤ spare claims.old }
     ensures { claims.new.entries ≡ claims.old.entries ++ (trace, claim) ∷ [] }
@@ -256,7 +260,7 @@ fn note_claim(claims: &mut IndexMap<TraceId, Claim>, trace: TraceId, claim: Clai
 }
 
 /// The group that claimed a chunk's trace.
-fn claiming_group<L: Token>(claims: &IndexMap<TraceId, Claim>, held: &Held<L>) -> Group
+fn claiming_group<L: Token>(claims: &IndexMap<TraceId, ClaimedTrace>, held: &Held<L>) -> Group
     requires { IsSome (claim_for claims.now.entries (buffer_of held.now)) }
     ensures { IfSome (claim_for claims.now.entries (buffer_of held.now)) (λ claim. result ≡ claim.group) }
 {
@@ -269,10 +273,10 @@ fn claiming_group<L: Token>(claims: &IndexMap<TraceId, Claim>, held: &Held<L>) -
     }
 }
 
-fn add_crumb(claims: &mut IndexMap<TraceId, Claim>, crumb: Crumb) -> bool
+fn add_crumb(claims: &mut IndexMap<TraceId, ClaimedTrace>, crumb: Crumb) -> bool
     requires claimed { IsSome (claim_in claims.old.entries crumb.trace) }
-    requires node { crumb.node.0 < 16 }
-    ensures { AddsCrumb claims.old.entries claims.new.entries crumb.trace crumb.node.0 result }
+    requires node { crumb.node.0 < MAX_NODES }
+    ensures { AddsCrumb claims.old.entries claims.new.entries crumb.trace crumb.node result }
 {
     let Some(claim) = claims.get_mut(&crumb.trace) else {
         unreachable!()

@@ -1,6 +1,6 @@
 ghost use Rattle.std.specs.Prelude.{◌≡◌, [], ◌∷◌, IfOk, IsSome, Some, option_map};
 ghost use Rattle.hs_words.specs.Chunks.{header_in};
-ghost use Rattle.hs_pins.specs.Lanes.{has_lane, total_of};
+ghost use Rattle.hs_pins.specs.Queues.{has_queue, total_of};
 ghost use Rattle.hs_pins.specs.Pinning.{bucket_in};
 ghost use Rattle.hs_pins.specs.ForTests.{HasClaimed};
 
@@ -58,10 +58,10 @@ fn one_rule(alloc: Global) -> Result<List<TriggerRule>, Memory>
 
 fn fresh(alloc: Global) -> Result<Pins<()>, Memory>
     ensures claims { IfOk result (λ pins. pins.claims ≡ []) }
-    ensures lane { IfOk result (λ pins. has_lane pins.lanes (record { 0 = 1 })) }
+    ensures queue { IfOk result (λ pins. has_queue pins.queues (record { 0 = 1 })) }
     ensures bucket { IfOk result (λ pins. IsSome (bucket_in pins.buckets (record { 0 = 1 }))) }
     ensures admitted { IfOk result (λ pins. pins.admitted ≡ 0) }
-    ensures total { IfOk result (λ pins. total_of pins.lanes ≡ 0) }
+    ensures total { IfOk result (λ pins. total_of pins.queues ≡ 0) }
 {
     let settings = Settings {
         nodes: 1,

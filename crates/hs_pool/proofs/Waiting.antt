@@ -13,7 +13,7 @@ use Rattle.hs_words.specs.Chunks.{Contents, clear_chunk, with_page}
 use Rattle.hs_words.specs.PoolHistory.{Got, Empty, Given, queue_after}
 use Rattle.hs_pool.specs.declared.plain.PlainPool.TheInside.{Inside}
 use Rattle.hs_pool.specs.Pool.{Pool, IsAfter, IsOut, Extends, waiting, number_of}
-use Rattle.hs_pool.specs.Queue.{pool_of, IsInOrder}
+use Rattle.hs_pool.specs.Queue.{pool_of, IsPool}
 use Rattle.hs_pool.proofs.History.{is, extended, out_is_given}
 
 pub map-append : (xs ys : List Contents) → map number_of (xs ++ ys) ≡ map number_of xs ++ map number_of ys
@@ -121,7 +121,7 @@ new_clear size a (suc n) = (refl, new_clear size (a + 1) n)
 
 -- The invariant, from what the queue holds.
 pub in_order_by : (a : Inside) (xs : List Contents) (n : ℕ) → a.queue.items ≡ xs → deque_capacity a.queue ≡ n → IsDistinct nat_eq (map number_of xs)
-    → AllByRecursion (λ (chunk : Contents). chunk.number < n) xs → AllByRecursion (λ (chunk : Contents). chunk.page ≡ None) xs → IsInOrder a
+    → AllByRecursion (λ (chunk : Contents). chunk.number < n) xs → AllByRecursion (λ (chunk : Contents). chunk.page ≡ None) xs → IsPool a
 in_order_by a xs n items room once below clear =
     record {
       once = subst (λ (xs : List Contents). IsDistinct nat_eq (map number_of xs)) (sym items) once;
@@ -129,17 +129,17 @@ in_order_by a xs n items room once below clear =
       clear = subst (λ (xs : List Contents). AllByRecursion (λ (chunk : Contents). chunk.page ≡ None) xs) (sym items) clear;
     }
 
-pub in_order : (a : Inside) (size n : ℕ) → a.queue.items ≡ new_from size 0 n → deque_capacity a.queue ≡ n → IsInOrder a
+pub in_order : (a : Inside) (size n : ℕ) → a.queue.items ≡ new_from size 0 n → deque_capacity a.queue ≡ n → IsPool a
 in_order a size n items room = in_order_by a (new_from size 0 n) n items room (new_differ size n) (new_below size n) (new_clear size 0 n)
 
 -- what a draw leaves, and a give
-pub drawn_from : (a b : Inside) → IsInOrder a → b.queue.items ≡ drop 1 a.queue.items → deque_capacity b.queue ≡ deque_capacity a.queue → IsInOrder b
+pub drawn_from : (a b : Inside) → IsPool a → b.queue.items ≡ drop 1 a.queue.items → deque_capacity b.queue ≡ deque_capacity a.queue → IsPool b
 drawn_from a b is items room =
     in_order_by b (drop 1 a.queue.items) (deque_capacity a.queue) items room (rest_differ a.queue.items is.once) (rest_all (λ (chunk : Contents). chunk.number < deque_capacity a.queue) a.queue.items is.below)
     (rest_all (λ (chunk : Contents). chunk.page ≡ None) a.queue.items is.clear)
 
-pub given_to : (a b : Inside) (chunk : Contents) → IsInOrder a → IsOut (pool_of a) chunk.number → b.queue.items ≡ a.queue.items ++ with_page chunk None ∷ []
-    → deque_capacity b.queue ≡ deque_capacity a.queue → IsInOrder b
+pub given_to : (a b : Inside) (chunk : Contents) → IsPool a → IsOut (pool_of a) chunk.number → b.queue.items ≡ a.queue.items ++ with_page chunk None ∷ []
+    → deque_capacity b.queue ≡ deque_capacity a.queue → IsPool b
 given_to a b chunk is out items room =
     in_order_by b (a.queue.items ++ with_page chunk None ∷ []) (deque_capacity a.queue) items room (differ_and a.queue.items (with_page chunk None) is.once out.1)
     (all_and (λ (chunk : Contents). chunk.number < deque_capacity a.queue) a.queue.items (with_page chunk None) is.below out.0)

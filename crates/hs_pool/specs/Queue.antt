@@ -9,7 +9,7 @@ use Rattle.hs_pool.specs.Pool.{Pool, waiting}
 abbrev pub pool_of : Inside → Pool
 pool_of a = record { buffers = deque_capacity a.queue; queue = a.queue.items; events = a.events }
 
-pub record IsInOrder (a : Inside) : Type 0 where
+pub record IsPool (a : Inside) : Type 0 where
   pub once : IsDistinct nat_eq (waiting (pool_of a))
   pub below : AllByRecursion (λ (chunk : Contents). chunk.number < deque_capacity a.queue) a.queue.items
   pub clear : AllByRecursion (λ (chunk : Contents). chunk.page ≡ None) a.queue.items

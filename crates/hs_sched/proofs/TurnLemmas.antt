@@ -13,7 +13,8 @@ use Rattle.hs_sched.specs.declared.share.Share.{Share}
 use Rattle.hs_records.specs.Fronts.{count_within}
 use Rattle.hs_sched.specs.Visits.{rest_within, budget_of, count_sent, visited}
 use Rattle.hs_sched.specs.Fairness.{IsFairVisit}
-use Rattle.hs_sched.specs.Turns.{AreRules, shares_of, IsId, IsWeight, IsSize, IsSchedule, Schedule, share_of, after_turn, left_after, sent_ids}
+use Rattle.hs_sched.specs.Turns.{shares_of, IsId, IsWeight, IsSize, IsSchedule, Schedule, share_of, after_turn, left_after, sent_ids}
+use Rattle.hs_base.specs.Rules.{AreRules}
 use Rattle.hs_sched.specs.Sending.{SendsEach, CostAtMost}
 use Rattle.hs_sched.proofs.FairnessLemmas.{fair_visit}
 use Rattle.hs_sched.proofs.VisitLemmas.{IsOver, SendsEach-append}
@@ -190,8 +191,8 @@ IsSchedule-first rules size are is =
           let in' : j < length rules = omega (arith, below, length-map rules f) in
           subst (λ (y : Share). y.trigger.0 < (get_or (map f rules) j d).trigger.0) (sym (get_or-map f rules i no_rule d (omega arith)))
           (subst (λ (y : Share). (get_or rules i no_rule).id.0 < y.trigger.0) (sym (get_or-map f rules j no_rule d in')) (are.rising i j no_rule less in'));
-      ids = All-map (λ (y : Share). IsId y.trigger.0) f rules are.ids;
-      weights = All-map (λ (y : Share). IsWeight y.weight) f rules are.weights;
+      ids = All-map (λ (y : Share). IsId y.trigger.0) f rules (λ k d below. (are.each k d below).id);
+      weights = All-map (λ (y : Share). IsWeight y.weight) f rules (λ k d below. (are.each k d below).weight);
       size = is;
       deficits = All-map (λ (y : Share). y.deficit < size) f rules (λ k d below. omega (arith, is.0));
     }

@@ -4,6 +4,7 @@
 use Rattle.std.specs.Prelude.{ℕ, ◌<◌, ◌≤◌, List, map, drop, replicate, find, flat_map, All, AllPairs, Option, option_map, ◌==◌}
 use Rattle.std.specs.Option.{option_map_or}
 use Rattle.hs_base.specs.declared.settings.TriggerRule.{TriggerRule}
+use Rattle.hs_base.specs.declared.limits.TheConstants.{MIN_SIZE, MAX_SIZE, MAX_TRIGGER, MAX_WEIGHT}
 use Rattle.hs_sched.specs.declared.share.Share.{Share}
 use Rattle.hs_sched.specs.Visits.{count_sent, visited}
 
@@ -14,20 +15,14 @@ pub record Schedule : Type 0 where
 
 -- the limits of a page's size in bytes
 abbrev pub IsSize : ℕ → Type 0
-IsSize size = (64 ≤ size) × (size ≤ 32768)
+IsSize size = (MIN_SIZE ≤ size) × (size ≤ MAX_SIZE)
 
 -- the limits of a trigger id, and of a weight
 abbrev pub IsId : ℕ → Type 0
-IsId id = (1 ≤ id) × (id ≤ 64)
+IsId id = (1 ≤ id) × (id ≤ MAX_TRIGGER)
 
 abbrev pub IsWeight : ℕ → Type 0
-IsWeight weight = (1 ≤ weight) × (weight ≤ 100)
-
--- trigger rules within these limits, declared in rising order
-pub record AreRules (rules : List TriggerRule) : Type 0 where
-  pub rising : AllPairs (λ (a b : TriggerRule). a.id.0 < b.id.0) rules
-  pub ids : All (λ rule. IsId rule.id.0) rules
-  pub weights : All (λ rule. IsWeight rule.weight) rules
+IsWeight weight = (1 ≤ weight) × (weight ≤ MAX_WEIGHT)
 
 -- what every scheduler keeps
 pub record IsSchedule (s : Schedule) : Type 0 where

@@ -2,13 +2,13 @@
 //! budget that grows with its weight.
 #![tactic(auto)]
 
-mod fairness;
+mod laws;
 mod queues;
 mod scheduler;
 mod share;
 #[cfg(test)]
 mod tests;
 
-pub use fairness::visits_are_fair;
+pub use laws::visits_are_fair;
 pub use queues::Queues;
 pub use scheduler::Scheduler;

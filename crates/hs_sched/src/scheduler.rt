@@ -2,9 +2,10 @@
 
 ghost use Rattle.std.specs.Prelude.{◌≡◌, ◌≢◌, ◌+◌, ◌*◌, ◌<◌, ◌≤◌, ℕ, ◌==◌, All, drop, find, replicate, IfOk, IsSome};
 ghost use Rattle.std.specs.Option.{option_copied};
+ghost use Rattle.hs_base.specs.Rules.{AreRules};
 ghost use Rattle.hs_records.specs.Fronts.{count_within};
 ghost use Rattle.hs_sched.specs.Visits.{rest_within};
-ghost use Rattle.hs_sched.specs.Turns.{AreRules, IsSize, shares_of, share_of, deficit_of, visited_of, after_turn, left_after, sent_ids};
+ghost use Rattle.hs_sched.specs.Turns.{IsSize, shares_of, share_of, deficit_of, visited_of, after_turn, left_after, sent_ids};
 ghost use Rattle.hs_sched.specs.Sending.{SendsEach, CostAtMost};
 ghost use Rattle.hs_sched.specs.Fairness.{IsFairVisit};
 

@@ -1,9 +1,10 @@
 //! Turns over two queues of equal items.
 
 ghost use Rattle.std.specs.Prelude.{◌≡◌, ◌+◌, ℕ, [], replicate, if◌then◌else◌, ◌==◌, IfOk, IsSome};
-ghost use Rattle.hs_sched.specs.Turns.{AreRules, share_of, shares_of};
+ghost use Rattle.hs_sched.specs.Turns.{share_of, shares_of};
+ghost use Rattle.hs_base.specs.Rules.{AreRules};
 
-use crate::fairness::visits_are_fair;
+use crate::laws::visits_are_fair;
 use crate::queues::Queues;
 use crate::scheduler::Scheduler;
 use hs_base::{List, Memory, TriggerId, TriggerRule};

@@ -10,7 +10,7 @@ returns-then-contains g c =
 
 pub pin_one-pinned-requires-clause-declared : goal.pin_one-pinned-requires-clause-declared
 pin_one-pinned-requires-clause-declared g c =
-    declared-group c.self.inside.claims.entries c.self.inside.lanes (buffer_of c.args.held) c.claiming_group-group.result c.self.invariant
+    declared-group c.self.inside.claims.entries c.self.inside.queues (buffer_of c.args.held) c.claiming_group-group.result c.self.invariant
     (let P = λ (s : Pinning _). IsSome (claim_for s.claims (buffer_of c.args.held)) in subst P (sym c.self.view_is) c.requires.claimed) c.claiming_group-group.ensures
 
 pub returns-in-Err : goal.returns-in-Err
@@ -20,7 +20,7 @@ returns-in-Err g c =
 
 pub invariant_of-self-2 : goal.invariant_of-self-2
 invariant_of-self-2 g c =
-    declared-arrived c.self.inside.claims.entries c.self.inside.lanes c.pin_one-pinned.new.self c.claiming_group-group.result.trigger c.of-priority.result (buffer_of c.args.held ∷ []) c.self.invariant c.in_default.ensures.ok
+    declared-arrived c.self.inside.claims.entries c.self.inside.queues c.pin_one-pinned.new.self c.claiming_group-group.result.trigger c.of-priority.result (buffer_of c.args.held ∷ []) c.self.invariant c.in_default.ensures.ok
 
 pub returns : goal.returns
 returns g c =

@@ -1,0 +1,33 @@
+-- What the coordinator keeps in place of the messages that it has taken: the nodes that told them, in order, and of each
+-- group one entry with its first message's ask, its asked set, and the nodes whose ask waits for its answer.
+use Rattle.std.specs.Prelude.{◌≡◌, ℕ, not, ◌&&◌, List, Option, Some, None, find, map}
+use Rattle.std.specs.Map.{lookup}
+use Rattle.hs_base.specs.declared.ids.NodeId.{NodeId}
+use Rattle.hs_base.specs.declared.ids.GroupId.{GroupId}
+use Rattle.hs_base.specs.NodeSets.{has_node}
+use Rattle.hs_coord.specs.declared.followed.Followed.{Followed}
+use Rattle.hs_coord.specs.Following.{Message, Messages, same_group, is_of, is_asked, has_ask, is_answered}
+
+pub record Kept : Type 0 where
+  pub nodes : ℕ
+  pub log : List NodeId
+  pub groups : List (GroupId × Followed)
+
+-- An entry stands for what the messages say of its group.
+pub record IsFollowed (group : GroupId) (messages : Messages) (entry : Followed) : Type 0 where
+  pub first : Message
+  pub is_first : find (is_of group) messages ≡ Some first
+  pub group_is : entry.ask.group ≡ first.told.group
+  pub laterals_are : entry.ask.laterals ≡ first.told.laterals
+  pub asked : (node : ℕ) → has_node entry.asked node ≡ is_asked group messages node
+  pub waiting : (node : ℕ) → has_node entry.waiting node ≡ (has_ask group messages node && not (is_answered group messages node))
+
+-- A group has an entry exactly where one of the messages is of it, and then the entry stands for them.
+abbrev pub StandsFor : GroupId → Messages → Option Followed → Type 0
+StandsFor group messages None = find (is_of group) messages ≡ None
+StandsFor group messages (Some entry) = IsFollowed group messages entry
+
+-- These are the messages that a coordinator has taken, in their order.
+pub record HasTaken (kept : Kept) (messages : Messages) : Type 0 where
+  pub log : kept.log ≡ map (λ (m : Message). m.node) messages
+  pub groups : (group : GroupId) → StandsFor group messages (lookup (same_group group) kept.groups)

@@ -1,0 +1,17 @@
+use Rattle.std.proofs.Common.{sym, arith}
+use Rattle.hs_pins.specs.Queues.{same_id}
+use Rattle.hs_pins.proofs.QueueLemmas.{count-total, total-more, nothing-lost}
+use Rattle.hs_pins.proofs.queues.pin_chunks.Goals as goal
+
+pub pin-requires : goal.pin-requires
+pin-requires g c = let h = count-total (same_id c.args.trigger) c.args.queues.now.entries c.in-Some.pinned.now (sym c.in-Some.ensures.value) in let few = c.requires.few in omega arith
+
+pub returns-clause-count : goal.returns-clause-count
+returns-clause-count g c =
+    total-more c.pin.result (same_id c.args.trigger) c.args.queues.now.entries _ c.in-Some.pinned.now c.pin.new.self _ (sym c.in-Some.ensures.value)
+    (c.get_mut.follows.holds c.pin.new.self).0 c.pin.ensures.count
+
+pub returns-clause-err : goal.returns-clause-err
+returns-clause-err g c =
+    nothing-lost c.pin.result (same_id c.args.trigger) c.args.queues.now.entries _ c.in-Some.pinned.now c.pin.new.self (sym c.in-Some.ensures.value)
+    (c.get_mut.follows.holds c.pin.new.self).0 c.pin.ensures.err

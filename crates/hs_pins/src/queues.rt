@@ -1,0 +1,191 @@
+//! The pinned chunks of a node.
+
+ghost use Rattle.std.specs.Prelude.{◌≡◌, ◌+◌, ◌<◌, ◌^◌, [], ◌∷◌, length, map, drop, slice_get, OnOk, OnErr, IfOk, IfErr, IfSome, OnSome, IfNone, IsSome, option_map};
+ghost use Rattle.hs_words.specs.Buffers.{buffer_of};
+ghost use Rattle.hs_pins.specs.Groups.{count_of, greatest_of, next_of, without_next, used_bytes};
+ghost use Rattle.hs_pins.specs.Queues.{has_queue, groups_of, total_of, with_groups, pinned_in, fresh_queues};
+ghost use Rattle.hs_base.specs.Rules.{AreRules};
+
+use crate::pinned::Pinned;
+use crate::priority::Priority;
+use hs_base::{List, Memory, TriggerId, TriggerRule};
+use hs_words::{Held, Token};
+use std::alloc::Global;
+use std::collections::BTreeMap;
+use std::marker::Model;
+
+/// The pinned chunks of each declared trigger id. Contracts see the groups of each id, in rising
+/// order of id.
+#[derive(Drop)]
+pub struct TriggerQueues<L: Token> {
+    queues: BTreeMap<TriggerId, Pinned<L>>,
+    chunks: u32,
+}
+
+impl<L: Token> Model for TriggerQueues<L> {
+    ghost use Rattle.std.specs.Prelude.{◌≡◌};
+    ghost use Rattle.hs_pins.specs.Queues.{Queues, total_of};
+
+    ghost Value = { Queues L };
+
+    ghost view = { λ a. a.queues.entries };
+
+    ghost invariant = { λ a. a.chunks ≡ total_of a.queues.entries };
+}
+
+impl<L: Token> TriggerQueues<L> {
+    /// TriggerQueues of these trigger ids, for which nothing is pinned.
+    pub fn make(alloc: Global, rules: &[TriggerRule]) -> Result<TriggerQueues<L>, Memory>
+        requires { AreRules rules.now }
+        ensures fresh { IfOk result (λ queues. queues ≡ fresh_queues rules.now) }
+        ensures some { OnErr result (0 < length rules.now) }
+    {
+        let queues = empty_queues(alloc, rules)?;
+        Ok(TriggerQueues { queues, chunks: 0 })
+    }
+
+    /// How many chunks are pinned.
+    pub fn chunks(&self) -> u32
+        ensures { result ≡ total_of self.now }
+    {
+        self.chunks
+    }
+
+    /// Pins chunks for the group of this trigger id and priority. For want of memory they come back,
+    /// and nothing changes. Pinning none takes no memory.
+    pub fn pin(
+        &mut self,
+        trigger: TriggerId,
+        priority: Priority,
+        chunks: List<Held<L>>,
+    ) -> Result<(), List<Held<L>>>
+        requires declared { has_queue self.old trigger }
+        requires few { total_of self.old + length chunks.items < 2 ^ 32 }
+        ensures ok { OnOk result (self.new ≡ pinned_in self.old trigger priority (map buffer_of chunks.items)) }
+        ensures count { OnOk result (total_of self.new ≡ total_of self.old + length chunks.items) }
+        ensures err { OnErr result (self.new ≡ self.old) }
+        ensures back { IfErr result (λ back. map buffer_of back.items ≡ map buffer_of chunks.items) }
+        ensures some { OnErr result (0 < length chunks.items) }
+    {
+        let count = chunks.len() as u32;
+        pin_chunks(&mut self.queues, trigger, priority, chunks)?;
+        self.chunks += count;
+        Ok(())
+    }
+
+    /// Pins one chunk for the group of this trigger id and priority. For want of memory it comes back,
+    /// and nothing changes.
+    pub fn pin_one(
+        &mut self,
+        alloc: Global,
+        trigger: TriggerId,
+        priority: Priority,
+        held: Held<L>,
+    ) -> Result<(), Held<L>>
+        requires declared { has_queue self.old trigger }
+        requires few { total_of self.old + 1 < 2 ^ 32 }
+        ensures ok { OnOk result (self.new ≡ pinned_in self.old trigger priority (buffer_of held ∷ [])) }
+        ensures count { OnOk result (total_of self.new ≡ total_of self.old + 1) }
+        ensures err { OnErr result (self.new ≡ self.old) }
+        ensures back { IfErr result (λ back. buffer_of back ≡ buffer_of held) }
+    {
+        pin_chunk(alloc, &mut self.queues, trigger, priority, held)?;
+        self.chunks += 1;
+        Ok(())
+    }
+
+    /// The used bytes of the next chunk of a trigger id, or `None` where none is pinned for it.
+    pub fn next_used(&self, trigger: TriggerId) -> Option<u32>
+        ensures { result ≡ option_map (λ next. used_bytes next.1) (next_of (groups_of self.now trigger)) }
+    {
+        match self.queues.get(&trigger) {
+            Some(pinned) => pinned.next_used(),
+            None => None,
+        }
+    }
+
+    /// Takes the next chunk of a declared trigger id out. `None` where none is pinned for it.
+    pub fn take_next(&mut self, trigger: TriggerId) -> Option<(Priority, Held<L>)>
+        requires declared { has_queue self.old trigger }
+        ensures next { option_map (λ next. (next.0, buffer_of next.1)) result ≡ next_of (groups_of self.old trigger) }
+        ensures rest { self.new ≡ with_groups self.old trigger
+            (without_next (groups_of self.old trigger) (greatest_of (groups_of self.old trigger))) }
+        ensures count { OnSome result (total_of self.new + 1 ≡ total_of self.old) }
+    {
+        let taken = take_from(&mut self.queues, trigger)?;
+        self.chunks -= 1;
+        Some(taken)
+    }
+}
+
+fn take_from<L: Token>(
+    queues: &mut BTreeMap<TriggerId, Pinned<L>>,
+    trigger: TriggerId,
+) -> Option<(Priority, Held<L>)>
+    requires { has_queue queues.old.entries trigger }
+    ensures next { option_map (λ next. (next.0, buffer_of next.1)) result ≡ next_of (groups_of queues.old.entries trigger) }
+    ensures rest { queues.new.entries ≡ with_groups queues.old.entries trigger
+        (without_next (groups_of queues.old.entries trigger) (greatest_of (groups_of queues.old.entries trigger))) }
+    ensures count { OnSome result (total_of queues.new.entries + 1 ≡ total_of queues.old.entries) }
+    ensures none { IfNone result (queues.new.entries ≡ queues.old.entries) }
+{
+    let Some(pinned) = queues.get_mut(&trigger) else {
+        unreachable!()
+    };
+    pinned.take_next()
+}
+
+fn empty_queues<L: Token>(
+    alloc: Global,
+    rules: &[TriggerRule],
+) -> Result<BTreeMap<TriggerId, Pinned<L>>, Memory>
+    requires { AreRules rules.now }
+    ensures fresh { IfOk result (λ queues. queues.entries ≡ fresh_queues rules.now) }
+    ensures some { OnErr result (0 < length rules.now) }
+{
+    let mut queues = BTreeMap::new(alloc);
+    for rule in rules {
+        queues.insert(rule.id, Pinned::new(alloc))?;
+    }
+    Ok(queues)
+}
+
+fn pin_chunks<L: Token>(
+    queues: &mut BTreeMap<TriggerId, Pinned<L>>,
+    trigger: TriggerId,
+    priority: Priority,
+    chunks: List<Held<L>>,
+) -> Result<(), List<Held<L>>>
+    requires declared { has_queue queues.old.entries trigger }
+    requires few { total_of queues.old.entries + length chunks.items < 2 ^ 32 }
+    ensures ok { OnOk result (queues.new.entries ≡ pinned_in queues.old.entries trigger priority (map buffer_of chunks.items)) }
+    ensures count { OnOk result (total_of queues.new.entries ≡ total_of queues.old.entries + length chunks.items) }
+    ensures err { OnErr result (queues.new.entries ≡ queues.old.entries) }
+    ensures back { IfErr result (λ back. map buffer_of back.items ≡ map buffer_of chunks.items) }
+    ensures some { OnErr result (0 < length chunks.items) }
+{
+    let Some(pinned) = queues.get_mut(&trigger) else {
+        unreachable!()
+    };
+    pinned.pin(priority, chunks)
+}
+
+fn pin_chunk<L: Token>(
+    alloc: Global,
+    queues: &mut BTreeMap<TriggerId, Pinned<L>>,
+    trigger: TriggerId,
+    priority: Priority,
+    held: Held<L>,
+) -> Result<(), Held<L>>
+    requires declared { has_queue queues.old.entries trigger }
+    requires few { total_of queues.old.entries + 1 < 2 ^ 32 }
+    ensures ok { OnOk result (queues.new.entries ≡ pinned_in queues.old.entries trigger priority (buffer_of held ∷ [])) }
+    ensures count { OnOk result (total_of queues.new.entries ≡ total_of queues.old.entries + 1) }
+    ensures err { OnErr result (queues.new.entries ≡ queues.old.entries) }
+    ensures back { IfErr result (λ back. buffer_of back ≡ buffer_of held) }
+{
+    let Some(pinned) = queues.get_mut(&trigger) else {
+        unreachable!()
+    };
+    pinned.pin_one(alloc, priority, held)
+}
