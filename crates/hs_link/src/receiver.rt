@@ -87,6 +87,7 @@ impl<T, F: Fact<T>> Receiver<T, F> {
     }
 
     /// Tells the sender of every item that was taken so far. Both are ends of one link, in one thread.
+    #[tactic(auto, using(crate::proofs::Lists::contents_of))]
     pub fn tell(&mut self, sender: &mut Sender<T, F>)
         requires { AreEnds sender.old self.old }
         ensures receiver { self.new ≡ self.old }

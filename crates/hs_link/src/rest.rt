@@ -55,9 +55,10 @@ impl<T, F: Fact<T>> Rest<T, F> {
         ensures fact { IfSome result (F.holds self.old.key) }
         ensures none { IfNone result ((self.old.items ≡ []) × (self.new.items ≡ [])) }
     {
-        if self.receiver.count() < self.sender.put_count() {
-            return self.receiver.receive();
+        let in_ring = self.sender.put_count() - self.receiver.count();
+        if in_ring == 0 {
+            return self.sender.withdraw();
         }
-        self.sender.withdraw()
+        self.receiver.receive()
     }
 }

@@ -184,6 +184,7 @@ impl<T, F: Fact<T>> Sender<T, F> {
     }
 
     /// Tells the receiver of every item that went into the ring so far. Both are ends of one link, in one thread.
+    #[tactic(auto, using(crate::proofs::Lists::contents_of))]
     pub fn tell(&mut self, receiver: &mut Receiver<T, F>)
         requires { AreEnds self.old receiver.old }
         ensures sender { self.new ≡ self.old }
