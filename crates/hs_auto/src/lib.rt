@@ -8,8 +8,6 @@ mod laterals;
 mod ranked;
 mod rising;
 mod sampled;
-#[cfg(test)]
-mod tests;
 mod value_counts;
 
 pub use auto::Auto;

@@ -1,4 +1,3 @@
 pub mod Core
 pub mod Layout
 pub mod Calls
-pub mod ForTests

@@ -10,5 +10,3 @@ pub use answers::{Begun, Ended, Pointed};
 pub use client::ClientCore;
 pub use laws::any_steps_make_the_book;
 
-#[cfg(test)]
-mod tests;

@@ -4,8 +4,6 @@
 mod collector;
 mod law;
 mod records;
-#[cfg(test)]
-mod tests;
 
 pub use collector::Collector;
 pub use law::{pages_collect_one, pages_in_turn_can_be_added};

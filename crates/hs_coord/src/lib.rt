@@ -6,8 +6,6 @@ mod asks;
 mod coordinator;
 mod followed;
 mod laws;
-#[cfg(test)]
-mod tests;
 
 pub use asks::Asks;
 pub use coordinator::Coordinator;

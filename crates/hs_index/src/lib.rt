@@ -12,5 +12,3 @@ pub use answers::{Gone, Taken};
 pub use index::TraceIndex;
 pub use laws::{any_calls_look_back, longest_end_stays};
 
-#[cfg(test)]
-mod tests;

@@ -10,8 +10,6 @@ mod place;
 mod reader;
 mod reading;
 mod refusal;
-#[cfg(test)]
-mod tests;
 mod word;
 mod writer;
 

@@ -6,8 +6,6 @@ mod book;
 mod ledger;
 mod making;
 mod standings;
-#[cfg(test)]
-mod tests;
 
 pub use ledger::{Entry, Ledger, Totals};
 pub use making::make_ledger;

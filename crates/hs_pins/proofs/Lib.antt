@@ -3,4 +3,3 @@ pub mod GroupLemmas
 pub mod QueueLemmas
 pub mod PinLemmas
 pub mod RuleLemmas
-pub mod TestLemmas

@@ -6,4 +6,3 @@ pub mod Counting
 pub mod Queues
 pub mod Pinning
 pub mod PinningExamples
-pub mod ForTests

@@ -9,8 +9,6 @@ mod pinned;
 mod pins;
 mod priority;
 mod queues;
-#[cfg(test)]
-mod tests;
 
 pub use bucket::{Attempt, Bucket};
 pub use claim::{Admitted, ClaimedTrace, Dropped, Taken2};

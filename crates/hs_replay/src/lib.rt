@@ -4,8 +4,6 @@
 mod one_client;
 mod outcome;
 mod seat;
-#[cfg(test)]
-mod tests;
 
 pub use one_client::{Outcome, replay};
 pub use outcome::{Form, write_outcome};

@@ -6,8 +6,6 @@ mod laws;
 mod queues;
 mod scheduler;
 mod share;
-#[cfg(test)]
-mod tests;
 
 pub use laws::visits_are_fair;
 pub use queues::Queues;

@@ -7,8 +7,6 @@ mod opening;
 mod reading;
 mod spelled;
 mod stop;
-#[cfg(test)]
-mod tests;
 mod words;
 mod writing;
 

@@ -15,5 +15,3 @@ pub use page::{Header, Page, PageFault, Point};
 pub use reading::read_page;
 pub use token::{Drawn, Given, Held, Tally, Token};
 
-#[cfg(test)]
-mod tests;

@@ -7,8 +7,6 @@ mod laws;
 mod operation;
 mod reader;
 mod refusal;
-#[cfg(test)]
-mod tests;
 mod word;
 
 pub use laws::{faultless_texts_read, one_workload_a_text};
