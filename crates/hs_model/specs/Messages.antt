@@ -10,7 +10,7 @@ use Rattle.hs_base.specs.declared.told.Crumb.{Crumb}
 use Rattle.hs_base.specs.declared.told.Told.{Told}
 use Rattle.hs_base.specs.declared.told.Why.{Why}
 use Rattle.hs_base.specs.declared.told.Why.TheVariants.{Late}
-use Rattle.hs_index.specs.Index.{no_nodes, with_node}
+use Rattle.hs_base.specs.NodeSets.{no_nodes, with_node}
 use Rattle.hs_model.specs.Standings.{same_trace}
 use Rattle.hs_model.specs.State.{AgentState, ClaimedTrace}
 use Rattle.hs_model.specs.Claiming.{traces_of}
