@@ -3,7 +3,7 @@
 use Rattle.std.specs.Prelude.{ℕ, List, map, filter_map, slice_get, Option, option_map}
 use Rattle.hs_base.specs.declared.told.Fate.{Fate}
 use Rattle.hs_base.specs.declared.told.Fate.TheVariants as fates
-use Rattle.hs_base.specs.Ranks.{rank_of_lem}
+use Rattle.hs_base.specs.Ranks.{trace_rank}
 use Rattle.hs_journal.specs.declared.books.Standing.{Standing}
 use Rattle.hs_journal.specs.declared.books.Claim.{Claim}
 use Rattle.hs_journal.specs.Books.{PlainAgentBook}
@@ -17,7 +17,7 @@ fate_of Indexed = fates.Live
 fate_of (Pinned group) = fates.Live
 fate_of (Reported group) = fates.Reported group.trigger group.lead
 fate_of (Evicted chunks traces) = fates.Evicted chunks traces
-fate_of (Abandoned group) = fates.Abandoned group.trigger group.lead (rank_of_lem group.lead)
+fate_of (Abandoned group) = fates.Abandoned group.trigger group.lead (trace_rank group.lead)
 
 abbrev pub page_standing : Taken → Standing
 page_standing chunk = record { client = chunk.sheet.header.client; page = chunk.sheet.header.page; fate = fate_of chunk.standing }
