@@ -1,6 +1,6 @@
 -- The loops that make the ledger, one step on.
 use Rattle.std.proofs.Common.{◌≡◌, ℕ, zero, suc, ◌+◌, ◌-◌, ◌^◌, All, take, ◌<◌, ◌≤◌, List, [], ◌∷◌, ◌++◌, length, map, drop, get_or, Option, Some, if◌then◌else◌, refl, sym, ap, ap₂, subst, ◌∙◌, inl, inr, append_assoc, arith}
-use Rattle.std.specs.List.{flat_map, range_with_len}
+use Rattle.std.specs.List.{range_with_len}
 use Rattle.std.proofs.lemmas.List.{at_drop_more, take_more, take-append-drop, drop_more, take-map}
 use Rattle.std.proofs.lemmas.List.Elements.{All-take}
 use Rattle.std.proofs.lemmas.List.FromFn.{map-range_with_len_more}
@@ -9,10 +9,12 @@ use Rattle.hs_base.specs.declared.told.Fate.{Fate}
 use Rattle.hs_journal.specs.declared.books.Standing.{Standing}
 use Rattle.hs_journal.specs.declared.journal.Draw.{Draw}
 use Rattle.hs_journal.specs.declared.books.PageNote.{PageNote}
+use Rattle.hs_journal.specs.declared.books.AgentBook.{AgentBook}
+use Rattle.hs_journal.specs.Books.{agent_book_of}
 use Rattle.hs_ledger.specs.declared.ledger.Entry.{Entry}
 use Rattle.hs_ledger.specs.Books.{is_of, end_of, AreNumbered, record_count}
 use Rattle.hs_ledger.specs.Fates.{FatedPage, fated_by, book_entries}
-use Rattle.hs_ledger.specs.Making.{newest, with_page}
+use Rattle.hs_ledger.specs.Making.{newest, all_standings, with_page}
 use Rattle.hs_ledger.proofs.Numbering.{IsCounted, Begins, begins, numbered_front, ends_within, record_count-more}
 use Rattle.hs_ledger.proofs.Pieces.{notes_of}
 use Rattle.hs_ledger.proofs.Steps.{page_more}
@@ -22,15 +24,15 @@ newest-append fate client page [] ys = refl
 newest-append fate client page (x ∷ xs) ys = newest-append (if is_of client page x then Some x.fate else fate) client page xs ys
 
 -- the standings of one more book
-pub newest-book : {A : Type 0} (standings : A → List Standing) (fate new : Option Fate) (client : ClientId) (page : ℕ) (books : List A) (i : ℕ) (book : A) → i < length books → book ≡ get_or books i book
-    → new ≡ newest fate client page (standings book)
-    → newest new client page (flat_map standings (drop (i + 1) books)) ≡ newest fate client page (flat_map standings (drop i books))
-newest-book standings fate new client page books i book within is newer =
-    let rest = flat_map standings (drop (i + 1) books) in
+pub newest-book : (fate new : Option Fate) (client : ClientId) (page : ℕ) (books : List AgentBook) (i : ℕ) (book : AgentBook) → i < length books → book ≡ get_or books i book
+    → new ≡ newest fate client page book.standings.items
+    → newest new client page (all_standings (map agent_book_of (drop (i + 1) books))) ≡ newest fate client page (all_standings (map agent_book_of (drop i books)))
+newest-book fate new client page books i book within is newer =
+    let rest = all_standings (map agent_book_of (drop (i + 1) books)) in
     ap (λ f. newest f client page rest) newer
-    ∙ sym (newest-append fate client page (standings book) rest)
-    ∙ ap (λ b. newest fate client page (standings b ++ rest)) is
-    ∙ sym (at_drop_more (λ bs. newest fate client page (flat_map standings bs)) books i book within)
+    ∙ sym (newest-append fate client page book.standings.items rest)
+    ∙ ap (λ (b : AgentBook). newest fate client page (b.standings.items ++ rest)) is
+    ∙ sym (at_drop_more (λ bs. newest fate client page (all_standings (map agent_book_of bs))) books i book within)
 
 -- one more item of a range
 pub range_pushed : {X : Type 0} (f : ℕ → X) (start old new : List X) (from number : ℕ) → from ≤ number → old ≡ start ++ map f (range_with_len from (number - from))

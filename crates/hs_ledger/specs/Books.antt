@@ -1,4 +1,4 @@
--- When the books of a run fit together. The clients' books come in order. Each has a draw for each page. Its pages hold
+-- When the books of a run fit together, as the plain books of its clients and agents. The clients' books come in order. Each has a draw for each page. Its pages hold
 -- pieces of records that are numbered without a gap, and a page may go on with the last record of the page before.
 -- Each page for which a buffer was got has one standing at its node, and there is no other standing.
 use Rattle.std.specs.Prelude.{◌≡◌, ◌⊎◌, ℕ, ◌+◌, ◌<◌, ◌≤◌, ◌^◌, ◌==◌, ◌&&◌, Bool, List, [], ◌∷◌, length, All, Contains, sum_by, filter, slice_get, Some, if◌then◌else◌, refl}
@@ -7,16 +7,15 @@ use Rattle.std.specs.List.{flat_map}
 use Rattle.hs_base.specs.declared.ids.ClientId.{ClientId}
 use Rattle.hs_journal.specs.declared.journal.Draw.TheVariants.{Got}
 use Rattle.hs_journal.specs.declared.books.PageNote.{PageNote}
-use Rattle.hs_journal.specs.declared.books.ClientBook.{ClientBook}
 use Rattle.hs_journal.specs.declared.books.Standing.{Standing}
-use Rattle.hs_journal.specs.declared.books.AgentBook.{AgentBook}
+use Rattle.hs_journal.specs.Books.{PlainClientBook, PlainAgentBook}
 
 -- a client comes before another: by node, and at one node by number
 abbrev pub IsBefore : ClientId → ClientId → Type 0
 IsBefore a b = (a.node < b.node) ⊎ ((a.node ≡ b.node) × (a.number < b.number))
 
 -- the clients come in order, so they differ
-abbrev pub AreInOrder : List ClientBook → Type 0
+abbrev pub AreInOrder : List PlainClientBook → Type 0
 AreInOrder [] = Unit {0}
 AreInOrder (book ∷ books) = All (λ later. IsBefore book.client later.client) books × AreInOrder books
 
@@ -51,37 +50,37 @@ abbrev pub is_of : ClientId → ℕ → Standing → Bool
 is_of client page standing = standing.client.node == client.node && standing.client.number == client.number && standing.page == page
 
 -- the standings of a book, if it is that of this node
-abbrev pub standings_if : ℕ → AgentBook → List Standing
-standings_if node book = if book.node.0 == node then book.standings.items else []
+abbrev pub standings_if : ℕ → PlainAgentBook → List Standing
+standings_if node book = if book.node.0 == node then book.standings else []
 
 -- the standings at a node
-abbrev pub standings_at : List AgentBook → ℕ → List Standing
+abbrev pub standings_at : List PlainAgentBook → ℕ → List Standing
 standings_at agents node = flat_map (standings_if node) agents
 
 -- each page of a client for which a buffer was got has one standing at its node
-abbrev pub HaveStandings : List AgentBook → ClientBook → Type 0
+abbrev pub HaveStandings : List PlainAgentBook → PlainClientBook → Type 0
 HaveStandings agents book =
-    (page buffer stamp : ℕ) → slice_get book.draws.items page ≡ Some (Got buffer stamp)
+    (page buffer stamp : ℕ) → slice_get book.draws page ≡ Some (Got buffer stamp)
     → length (filter (is_of book.client page) (standings_at agents book.client.node)) ≡ 1
 
 -- a standing in the book of this node is that of a page for which one of the node's clients got a buffer
-abbrev pub IsOfGotPage : List ClientBook → ℕ → Standing → Type 0
+abbrev pub IsOfGotPage : List PlainClientBook → ℕ → Standing → Type 0
 IsOfGotPage clients node standing =
     (standing.client.node ≡ node)
-    × ((book : ClientBook) × (buffer : ℕ) × (stamp : ℕ) × Contains clients book × (book.client ≡ standing.client) × (slice_get book.draws.items standing.page ≡ Some (Got buffer stamp)))
+    × ((book : PlainClientBook) × (buffer : ℕ) × (stamp : ℕ) × Contains clients book × (book.client ≡ standing.client) × (slice_get book.draws standing.page ≡ Some (Got buffer stamp)))
 
 -- a client's book in itself, and with the agents' books
-pub record BookFits (agents : List AgentBook) (book : ClientBook) : Type 0 where
-  pub drawn : length book.draws.items ≡ length book.pages.items
-  pub counted : All (λ note. 1 ≤ note.count) book.pages.items
-  pub numbered : AreNumbered book.pages.items
+pub record BookFits (agents : List PlainAgentBook) (book : PlainClientBook) : Type 0 where
+  pub drawn : length book.draws ≡ length book.pages
+  pub counted : All (λ note. 1 ≤ note.count) book.pages
+  pub numbered : AreNumbered book.pages
   pub standing : HaveStandings agents book
 
-pub record BooksFit (clients : List ClientBook) (agents : List AgentBook) : Type 0 where
+pub record BooksFit (clients : List PlainClientBook) (agents : List PlainAgentBook) : Type 0 where
   pub ordered : AreInOrder clients
   pub each : All (BookFits agents) clients
-  pub few : sum_by (λ book. record_count book.pages.items) clients < 2 ^ 32
-  pub got : All (λ book. All (IsOfGotPage clients book.node.0) book.standings.items) agents
+  pub few : sum_by (λ book. record_count book.pages) clients < 2 ^ 32
+  pub got : All (λ book. All (IsOfGotPage clients book.node.0) book.standings) agents
 
 -- worked examples
 abbrev page_of : ℕ → ℕ → ℕ → PageNote

@@ -3,21 +3,19 @@
 -- that was discarded (null, evicted or abandoned), and else that of its first piece.
 use Rattle.std.specs.Prelude.{◌≡◌, ℕ, ◌+◌, ◌&&◌, nat_lt, nat_le, Bool, true, false, List, [], ◌∷◌, filter, map, option_map, unwrap_or, refl}
 use Rattle.std.specs.List.{flat_map, find, range_with_len}
-use Rattle.hs_base.specs.Listing.{Listing}
 use Rattle.hs_base.specs.declared.ids.ClientId.{ClientId}
 use Rattle.hs_base.specs.declared.told.Fate.{Fate}
 use Rattle.hs_base.specs.declared.told.Fate.TheVariants.{Null, Live, Reported, Evicted, Abandoned}
 use Rattle.hs_journal.specs.declared.journal.Draw.{Draw}
 use Rattle.hs_journal.specs.declared.journal.Draw.TheVariants.{Got, Empty}
 use Rattle.hs_journal.specs.declared.books.PageNote.{PageNote}
-use Rattle.hs_journal.specs.declared.books.ClientBook.{ClientBook}
 use Rattle.hs_journal.specs.declared.books.Standing.{Standing}
-use Rattle.hs_journal.specs.declared.books.AgentBook.{AgentBook}
+use Rattle.hs_journal.specs.Books.{PlainClientBook, PlainAgentBook}
 use Rattle.hs_ledger.specs.declared.ledger.Entry.{Entry}
 use Rattle.hs_ledger.specs.Books.{end_of, record_count, is_of, standings_at}
 
 -- the fate of a client's page with this draw. Where the books fit, a page with a buffer has a standing
-abbrev pub page_fate : List AgentBook → ClientId → ℕ → Draw → Fate
+abbrev pub page_fate : List PlainAgentBook → ClientId → ℕ → Draw → Fate
 page_fate agents client page (Empty stamp) = Null stamp
 page_fate agents client page (Got buffer stamp) = unwrap_or (option_map (λ standing. standing.fate) (find (is_of client page) (standings_at agents client.node))) Live
 
@@ -33,8 +31,8 @@ fated_by fate page (draw ∷ draws) [] = []
 fated_by fate page (draw ∷ draws) (note ∷ notes) = record { note = note; fate = fate page draw } ∷ fated_by fate (page + 1) draws notes
 
 -- a client's pages with their fates
-abbrev pub fated_pages : List AgentBook → ClientBook → List FatedPage
-fated_pages agents book = fated_by (page_fate agents book.client) 0 book.draws.items book.pages.items
+abbrev pub fated_pages : List PlainAgentBook → PlainClientBook → List FatedPage
+fated_pages agents book = fated_by (page_fate agents book.client) 0 book.draws book.pages
 
 -- whether a page has a piece of the record of this number
 abbrev pub has_piece_of : ℕ → FatedPage → Bool
@@ -70,26 +68,23 @@ abbrev pub book_entries : ClientId → List FatedPage → List Entry
 book_entries client pages = flat_map (record_entry client pages) (range_with_len 0 (record_count (map (λ page. page.note) pages)))
 
 -- the entries of a run, client by client
-abbrev pub entries_of : List ClientBook → List AgentBook → List Entry
+abbrev pub entries_of : List PlainClientBook → List PlainAgentBook → List Entry
 entries_of clients agents = flat_map (λ book. book_entries book.client (fated_pages agents book)) clients
 
 -- worked examples
-abbrev list_of : {X : Type 0} → List X → Listing X
-list_of items = record { items = items; room = 0 }
-
 -- a page of the trace 1
 abbrev page_from : ℕ → ℕ → PageNote
 page_from first count = record { trace = record { 0 = 1 }; first = first; count = count }
 
-abbrev book_of : ℕ → ℕ → List Draw → List PageNote → ClientBook
-book_of node number draws pages = record { client = record { node = node; number = number }; draws = list_of draws; pages = list_of pages }
+abbrev book_of : ℕ → ℕ → List Draw → List PageNote → PlainClientBook
+book_of node number draws pages = record { client = record { node = node; number = number }; draws = draws; pages = pages }
 
 -- a client's page has this fate
 abbrev standing_of : ℕ → ℕ → ℕ → Fate → Standing
 standing_of node number page fate = record { client = record { node = node; number = number }; page = page; fate = fate }
 
-abbrev agent_of : ℕ → List Standing → AgentBook
-agent_of node standings = record { node = record { 0 = node }; log = list_of []; standings = list_of standings; claims = list_of []; sent = list_of [] }
+abbrev agent_of : ℕ → List Standing → PlainAgentBook
+agent_of node standings = record { node = record { 0 = node }; log = []; standings = standings; claims = []; sent = [] }
 
 -- the fates of the one client's records, whose pages have these standings
 abbrev fates : List Draw → List PageNote → List Standing → List Fate

@@ -1,17 +1,22 @@
 -- What the ledger's making keeps by the way: the newest standing of a page among those that came so far, and the
 -- entries that a page adds or changes.
 use Rattle.std.specs.Prelude.{ℕ, ◌-◌, ◌==◌, ◌&&◌, nat_lt, Bool, List, [], ◌∷◌, ◌++◌, map, Option, Some, unwrap_or, if◌then◌else◌}
-use Rattle.std.specs.List.{range_with_len}
+use Rattle.std.specs.List.{flat_map, range_with_len}
 use Rattle.hs_base.specs.declared.ids.ClientId.{ClientId}
 use Rattle.hs_base.specs.declared.told.Fate.{Fate}
 use Rattle.hs_base.specs.declared.told.Fate.TheVariants.{Null, Live}
 use Rattle.hs_journal.specs.declared.journal.Draw.{Draw}
 use Rattle.hs_journal.specs.declared.journal.Draw.TheVariants.{Got, Empty}
 use Rattle.hs_journal.specs.declared.books.Standing.{Standing}
+use Rattle.hs_journal.specs.Books.{PlainAgentBook}
 use Rattle.hs_ledger.specs.declared.ledger.Entry.{Entry}
 use Rattle.hs_ledger.specs.declared.standings.PageId.{PageId}
 use Rattle.hs_ledger.specs.Books.{is_of, end_of}
 use Rattle.hs_ledger.specs.Fates.{FatedPage, is_discarded}
+
+-- the standings of all nodes
+abbrev pub all_standings : List PlainAgentBook → List Standing
+all_standings agents = flat_map (λ book. book.standings) agents
 
 abbrev pub page_eq : PageId → PageId → Bool
 page_eq a b = a.client.node == b.client.node && a.client.number == b.client.number && a.page == b.page

@@ -1,6 +1,7 @@
 //! The ledger of a run.
 
-ghost use Rattle.std.specs.Prelude.{◌≡◌, IfOk, sum_by};
+ghost use Rattle.std.specs.Prelude.{◌≡◌, IfOk, map, sum_by};
+ghost use Rattle.hs_journal.specs.Books.{client_book_of, agent_book_of};
 ghost use Rattle.hs_ledger.specs.Books.{BooksFit, record_count};
 ghost use Rattle.hs_ledger.specs.Fates.{entries_of};
 ghost use Rattle.hs_ledger.specs.Totals.{totals_of, parts_of};
@@ -20,10 +21,10 @@ pub fn make_ledger(
     clients: &List<ClientBook>,
     agents: &List<AgentBook>,
 ) -> Result<Ledger, Memory>
-    requires { BooksFit clients.now.items agents.now.items }
-    ensures entries { IfOk result (λ ledger. ledger.entries.items ≡ entries_of clients.now.items agents.now.items) }
-    ensures totals { IfOk result (λ ledger. ledger.totals ≡ totals_of (entries_of clients.now.items agents.now.items)) }
-    ensures records { IfOk result (λ ledger. ledger.totals.records ≡ sum_by (λ book. record_count book.pages.items) clients.now.items) }
+    requires { BooksFit (map client_book_of clients.now.items) (map agent_book_of agents.now.items) }
+    ensures entries { IfOk result (λ ledger. ledger.entries.items ≡ entries_of (map client_book_of clients.now.items) (map agent_book_of agents.now.items)) }
+    ensures totals { IfOk result (λ ledger. ledger.totals ≡ totals_of (entries_of (map client_book_of clients.now.items) (map agent_book_of agents.now.items))) }
+    ensures records { IfOk result (λ ledger. ledger.totals.records ≡ sum_by (λ book. record_count book.pages) (map client_book_of clients.now.items)) }
     ensures parts { IfOk result (λ ledger. parts_of ledger.totals ≡ ledger.totals.records) }
 {
     let fates = page_fates(alloc, agents.as_slice())?;

@@ -1,11 +1,11 @@
 //! The fates of pages, from the agents' standings.
 
-ghost use Rattle.std.specs.Prelude.{◌≡◌, IfOk, OnOk, None};
-ghost use Rattle.std.specs.List.{flat_map};
+ghost use Rattle.std.specs.Prelude.{◌≡◌, IfOk, OnOk, None, map};
 ghost use Rattle.std.specs.HashMap.{get};
 ghost use Rattle.hs_base.specs.declared.ids.ClientId.{ClientId};
+ghost use Rattle.hs_journal.specs.Books.{agent_book_of};
 ghost use Rattle.hs_ledger.specs.declared.standings.PageId.{PageId};
-ghost use Rattle.hs_ledger.specs.Making.{page_eq, newest, drawn_fate};
+ghost use Rattle.hs_ledger.specs.Making.{page_eq, newest, all_standings, drawn_fate};
 
 use hs_base::{ClientId, Fate, Memory};
 use hs_journal::{AgentBook, Draw, Standing};
@@ -38,7 +38,7 @@ pub(crate) fn page_fates(
     alloc: Global,
     agents: &[AgentBook],
 ) -> Result<HashMap<PageId, Fate>, Memory>
-    ensures { IfOk result (λ fates. (q : PageId) → get page_eq fates q ≡ newest None q.client q.page (flat_map (λ book. book.standings.items) agents.now)) }
+    ensures { IfOk result (λ fates. (q : PageId) → get page_eq fates q ≡ newest None q.client q.page (all_standings (map agent_book_of agents.now))) }
 {
     let mut fates = HashMap::new(alloc);
     for book in agents {

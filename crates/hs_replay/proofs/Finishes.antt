@@ -10,8 +10,7 @@ use Rattle.hs_records.specs.Plain.{Operation}
 use Rattle.hs_records.specs.Records.{segments_of}
 use Rattle.hs_records.specs.Pages.{PlainPage, segment_pages, pages_of}
 use Rattle.hs_journal.specs.declared.books.Standing.{Standing}
-use Rattle.hs_journal.specs.declared.books.ClientBook.{ClientBook}
-use Rattle.hs_journal.specs.declared.books.AgentBook.{AgentBook}
+use Rattle.hs_journal.specs.Books.{PlainClientBook, PlainAgentBook}
 use Rattle.hs_client.specs.Core.{Core, Step, Began, Wrote, Needed, Supplied, Ended_, Refused, all_pages, handed}
 use Rattle.hs_words.specs.Buffers.{Buffer}
 use Rattle.hs_client.specs.Calls.{IsBook, after, open_trace, segments_of_steps, pages_of_steps, filled_chunks, handed_out, note_of}
@@ -55,9 +54,9 @@ no_trace (Some trace) none = absurd (cc)
 abbrev at_rest : Core (Unit {0}) → Option (Rattle.hs_client.specs.Core.Current (Unit {0})) → Core (Unit {0})
 at_rest core current = record core { current = current }
 
-pub finished : (plan : Plan) (operations : List Operation) (seat : Seat) (client : ClientBook) (agent : AgentBook) (is : IsAt plan [] seat) → IsBook (new_of plan) is.playing.steps → IsNone seat.core.trace
-    → plan.segments ≡ segments_of plan.size operations → client.client ≡ seat.core.client → client.draws.items ≡ seat.core.draws → client.pages.items ≡ seat.core.pages
-    → agent.node.0 ≡ 0 → agent.standings.items ≡ standings_of (kept_by seat) → ArePlainBooks plan.buffers plan.size operations client agent
+pub finished : (plan : Plan) (operations : List Operation) (seat : Seat) (client : PlainClientBook) (agent : PlainAgentBook) (is : IsAt plan [] seat) → IsBook (new_of plan) is.playing.steps → IsNone seat.core.trace
+    → plan.segments ≡ segments_of plan.size operations → client.client ≡ seat.core.client → client.draws ≡ seat.core.draws → client.pages ≡ seat.core.pages
+    → agent.node.0 ≡ 0 → agent.standings ≡ standings_of (kept_by seat) → ArePlainBooks plan.buffers plan.size operations client agent
 finished plan operations seat client agent is book none planned client_is draws_are pages_are node_is standings_are =
     let steps = is.playing.steps in
     let s = is.playing.comes in

@@ -3,8 +3,7 @@ use Rattle.std.proofs.Common.{◌≡◌, ℕ, ◌≤◌, false, List, [], ◌∷
 use Rattle.std.specs.List.{AllByRecursion}
 use Rattle.hs_base.specs.Listing.{Listing}
 use Rattle.hs_records.specs.Plain.{Operation}
-use Rattle.hs_journal.specs.declared.books.ClientBook.{ClientBook}
-use Rattle.hs_journal.specs.declared.books.AgentBook.{AgentBook}
+use Rattle.hs_journal.specs.Books.{PlainClientBook, PlainAgentBook}
 use Rattle.hs_ledger.specs.Books.{BooksFit}
 use Rattle.hs_ledger.specs.Fates as ledger
 use Rattle.hs_workload.specs.declared.operation.Op.{Op}
@@ -30,7 +29,7 @@ first_client buffers size version (client ∷ clients) first ops each few is ite
     subst (λ items. IsFirst buffers size (client ∷ clients) (map operation_of items)) e (record { bracketed = each.0.bracketed; few = omega arith; entries = refl })
 
 -- the first client's plain books fit, and tell of the workload's records
-pub first_books : CarryTheRecords → (w : Workload) (first : Listing Op) (ops : List Op) (client : ClientBook) (agent : AgentBook) → IsValid (workload_of w) → Some first ≡ slice_get w.clients.items 0 → ops ≡ first.items
+pub first_books : CarryTheRecords → (w : Workload) (first : Listing Op) (ops : List Op) (client : PlainClientBook) (agent : PlainAgentBook) → IsValid (workload_of w) → Some first ≡ slice_get w.clients.items 0 → ops ≡ first.items
     → ArePlainBooks w.settings.buffers w.settings.size (map operation_of ops) client agent
     → BooksFit (client ∷ []) (agent ∷ []) × (ledger.entries_of (client ∷ []) (agent ∷ []) ≡ entries_of (workload_of w))
 first_books carry w first ops client agent valid is items are =

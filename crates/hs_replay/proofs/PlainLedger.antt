@@ -11,12 +11,10 @@ use Rattle.hs_records.specs.Plain.{Operation, Begin, Point, Crumb, End, Fire, Sa
 use Rattle.hs_records.specs.Records.{Record, AreBracketed, placed_from, open_behind, record_in, record_at, records_of}
 use Rattle.hs_records.specs.Pages.{PlainPage, pages_of}
 use Rattle.hs_records.specs.Laws.{Traces, traces_of, IsPage, end_of, AllFollow, AreNumberedFrom, ArePages}
-use Rattle.hs_journal.specs.declared.journal.Draw.{Draw}
 use Rattle.hs_journal.specs.declared.journal.Draw.TheVariants.{Got}
 use Rattle.hs_journal.specs.declared.books.PageNote.{PageNote}
 use Rattle.hs_journal.specs.declared.books.Standing.{Standing}
-use Rattle.hs_journal.specs.declared.books.ClientBook.{ClientBook}
-use Rattle.hs_journal.specs.declared.books.AgentBook.{AgentBook}
+use Rattle.hs_journal.specs.Books.{PlainClientBook, PlainAgentBook}
 use Rattle.hs_workload.specs.LookBack.{operation_pieces}
 use Rattle.hs_workload.specs.Validity.{client_pieces}
 use Rattle.hs_client.specs.Calls.{note_of}
@@ -62,21 +60,14 @@ counted traces (page ∷ pages) each = (each.0.some, counted traces pages each.1
 
 -- ---- the books
 
-abbrev client_with : ClientBook → ClientId → List Draw → List PageNote → ClientBook
-client_with book client draws pages = record { client = client; draws = record { items = draws; room = book.draws.room }; pages = record { items = pages; room = book.pages.room } }
-
-abbrev agent_with : AgentBook → ℕ → List Standing → AgentBook
-agent_with book node standings =
-    record { node = record { 0 = node }; log = book.log; standings = record { items = standings; room = book.standings.room }; claims = book.claims; sent = book.sent }
-
 -- the books of these pages
-abbrev client_of : ClientBook → ℕ → List PlainPage → ClientBook
-client_of book buffers pages = client_with book first (plain_draws buffers 0 (length pages)) (map note_of pages)
+abbrev client_of : ℕ → List PlainPage → PlainClientBook
+client_of buffers pages = record { client = first; draws = plain_draws buffers 0 (length pages); pages = map note_of pages }
 
-abbrev agent_of : AgentBook → ℕ → List PlainPage → AgentBook
-agent_of book buffers pages = agent_with book 0 (live_standings first 0 (plain_draws buffers 0 (length pages)))
+abbrev agent_of : PlainAgentBook → ℕ → List PlainPage → PlainAgentBook
+agent_of book buffers pages = record book { node = record { 0 = 0 }; standings = live_standings first 0 (plain_draws buffers 0 (length pages)) }
 
-of_got : (client : ClientBook) (standings : List Standing) → client.client ≡ first → AllByRecursion (IsLive 0 client.draws.items) standings
+of_got : (client : PlainClientBook) (standings : List Standing) → client.client ≡ first → AllByRecursion (IsLive 0 client.draws) standings
     → AllByRecursion (IsOfGotPage (client ∷ []) 0) standings
 of_got client [] is each = tt
 of_got client (s ∷ standings) is each =
@@ -84,17 +75,17 @@ of_got client (s ∷ standings) is each =
     let place : at.place ≡ s.page = omega (arith, at.is) in (
       (
         ap (λ (c : ClientId). c.node) each.0.client_is,
-        (client, at.buffer, at.stamp, (0, omega arith, refl), is ∙ sym each.0.client_is, ap (slice_get client.draws.items) (sym place) ∙ at.got),
+        (client, at.buffer, at.stamp, (0, omega arith, refl), is ∙ sym each.0.client_is, ap (slice_get client.draws) (sym place) ∙ at.got),
       ),
       of_got client standings is each.1,
     )
 
-books_fit : (buffers : ℕ) (traces : Traces) (pages : List PlainPage) (last : ℕ) (client : ClientBook) (agent : AgentBook) → last < 2 ^ 32 → ArePages traces 0 pages last
-    → BooksFit (client_of client buffers pages ∷ []) (agent_of agent buffers pages ∷ [])
-books_fit buffers traces pages last client agent few are =
+books_fit : (buffers : ℕ) (traces : Traces) (pages : List PlainPage) (last : ℕ) (agent : PlainAgentBook) → last < 2 ^ 32 → ArePages traces 0 pages last
+    → BooksFit (client_of buffers pages ∷ []) (agent_of agent buffers pages ∷ [])
+books_fit buffers traces pages last agent few are =
     let draws = plain_draws buffers 0 (length pages) in
     let standings = live_standings first 0 draws in
-    let book = client_of client buffers pages in
+    let book = client_of buffers pages in
     let agents = agent_of agent buffers pages ∷ [] in
     record {
       ordered = (All-from_recursion _ [] tt, tt);
@@ -112,20 +103,20 @@ books_fit buffers traces pages last client agent few are =
           );
       few = omega (arith, are.ends, count-notes 0 pages);
       got =
-          All-from_recursion (λ (b : AgentBook). All (IsOfGotPage (book ∷ []) b.node.0) b.standings.items) agents
+          All-from_recursion (λ (b : PlainAgentBook). All (IsOfGotPage (book ∷ []) b.node.0) b.standings) agents
           (All-from_recursion (IsOfGotPage (book ∷ []) 0) standings (of_got book standings refl (all-live 0 draws)), tt);
     }
 
-entries_are : (buffers : ℕ) (records : List Record) (pages : List PlainPage) (client : ClientBook) (agent : AgentBook) → ArePages (traces_of records) 0 pages (length records)
-    → ledger.entries_of (client_of client buffers pages ∷ []) (agent_of agent buffers pages ∷ []) ≡ entries_from (fate_of buffers pages) 0 records
-entries_are buffers records pages client agent are =
+entries_are : (buffers : ℕ) (records : List Record) (pages : List PlainPage) (agent : PlainAgentBook) → ArePages (traces_of records) 0 pages (length records)
+    → ledger.entries_of (client_of buffers pages ∷ []) (agent_of agent buffers pages ∷ []) ≡ entries_from (fate_of buffers pages) 0 records
+entries_are buffers records pages agent are =
     let draws = plain_draws buffers 0 (length pages) in
     let standings = live_standings first 0 draws in
     let agents = agent_of agent buffers pages ∷ [] in
     let live : (page buffer stamp : ℕ) → page_fate agents first page (Got buffer stamp) ≡ Live = λ page buffer stamp.
     ap (λ (xs : List Standing). unwrap_or (option_map (λ (standing : Standing). standing.fate) (find (is_of first page) xs)) Live) (append-nil standings)
     ∙ found-live 0 draws (is_of first page) standings (all-live 0 draws) in
-    append-nil (book_entries first (fated_pages agents (client_of client buffers pages)))
+    append-nil (book_entries first (fated_pages agents (client_of buffers pages)))
     ∙ ap (book_entries first) (fated_is buffers 0 (page_fate agents first) pages live (λ page stamp. refl))
     ∙ book_is buffers pages records are
 
@@ -133,23 +124,19 @@ entries_are buffers records pages client agent are =
 abbrev pub CarryTheRecords : Type 0
 CarryTheRecords = (size : ℕ) (ops : List Operation) → 64 ≤ size → AreBracketed false ops → ArePages (traces_of (records_of ops)) 0 (pages_of size ops) (length (records_of ops))
 
-abbrev FitAndTell : (buffers size : ℕ) → List Operation → ClientBook → AgentBook → Type 0
+abbrev pub FitAndTell : (buffers size : ℕ) → List Operation → PlainClientBook → PlainAgentBook → Type 0
 FitAndTell buffers size ops client agent = BooksFit (client ∷ []) (agent ∷ []) × (ledger.entries_of (client ∷ []) (agent ∷ []) ≡ client_entries buffers size ops)
 
-pub plain_books : CarryTheRecords → (buffers size : ℕ) (ops : List Operation) (client : ClientBook) (agent : AgentBook) → 64 ≤ size → AreBracketed false ops → client_pieces size ops ≤ 262144
-    → ArePlainBooks buffers size ops client agent
-    → BooksFit (client ∷ []) (agent ∷ []) × (ledger.entries_of (client ∷ []) (agent ∷ []) ≡ client_entries buffers size ops)
+pub plain_books : CarryTheRecords → (buffers size : ℕ) (ops : List Operation) (client : PlainClientBook) (agent : PlainAgentBook) → 64 ≤ size → AreBracketed false ops
+    → client_pieces size ops ≤ 262144 → ArePlainBooks buffers size ops client agent → FitAndTell buffers size ops client agent
 plain_books carry buffers size ops client agent wide well few are =
     let pages = pages_of size ops in
     let records = records_of ops in
-    let draws = plain_draws buffers 0 (length pages) in
-    let standings = live_standings first 0 draws in
     let fewer = few_from size 0 None ops in
     let in_order = carry size ops wide well in
-    let here : FitAndTell buffers size ops (client_of client buffers pages) (agent_of agent buffers pages) =
-    (books_fit buffers (traces_of records) pages (length records) client agent (omega arith) in_order, entries_are buffers records pages client agent in_order) in
-    subst (λ c. FitAndTell buffers size ops (client_with client c client.draws.items client.pages.items) (agent_with agent agent.node.0 agent.standings.items)) (sym are.client_is)
-    (subst (λ d. FitAndTell buffers size ops (client_with client first d client.pages.items) (agent_with agent agent.node.0 agent.standings.items)) (sym are.draws)
-    (subst (λ p. FitAndTell buffers size ops (client_with client first draws p) (agent_with agent agent.node.0 agent.standings.items)) (sym are.pages)
-    (subst (λ n. FitAndTell buffers size ops (client_of client buffers pages) (agent_with agent n agent.standings.items)) (sym are.node)
-    (subst (λ s. FitAndTell buffers size ops (client_of client buffers pages) (agent_with agent 0 s)) (sym are.standings) here))))
+    let here : FitAndTell buffers size ops (client_of buffers pages) (agent_of agent buffers pages) =
+    (books_fit buffers (traces_of records) pages (length records) agent (omega arith) in_order, entries_are buffers records pages agent in_order) in
+    let client_is : client ≡ client_of buffers pages = λ i. record { client = are.client_is i; draws = are.draws i; pages = are.pages i } in
+    let agent_is : agent ≡ agent_of agent buffers pages =
+    λ i. record { node = record { 0 = are.node i }; log = agent.log; standings = are.standings i; claims = agent.claims; sent = agent.sent } in
+    subst (λ c. FitAndTell buffers size ops c agent) (sym client_is) (subst (FitAndTell buffers size ops (client_of buffers pages)) (sym agent_is) here)

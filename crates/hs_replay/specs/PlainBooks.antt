@@ -8,8 +8,7 @@ use Rattle.hs_records.specs.Pages.{pages_of}
 use Rattle.hs_journal.specs.declared.journal.Draw.{Draw}
 use Rattle.hs_journal.specs.declared.journal.Draw.TheVariants.{Got, Empty}
 use Rattle.hs_journal.specs.declared.books.Standing.{Standing}
-use Rattle.hs_journal.specs.declared.books.ClientBook.{ClientBook}
-use Rattle.hs_journal.specs.declared.books.AgentBook.{AgentBook}
+use Rattle.hs_journal.specs.Books.{PlainClientBook, PlainAgentBook}
 use Rattle.hs_client.specs.Calls.{note_of}
 
 -- the draw of a page
@@ -32,12 +31,12 @@ abbrev pub first : ClientId
 first = record { node = 0; number = 0 }
 
 -- The books after the client's operations: its draws and its pages, and at its node's agent what stands of them.
-pub record ArePlainBooks (buffers size : ℕ) (operations : List Operation) (client : ClientBook) (agent : AgentBook) : Type 0 where
+pub record ArePlainBooks (buffers size : ℕ) (operations : List Operation) (client : PlainClientBook) (agent : PlainAgentBook) : Type 0 where
   pub client_is : client.client ≡ first
-  pub draws : client.draws.items ≡ plain_draws buffers 0 (length (pages_of size operations))
-  pub pages : client.pages.items ≡ map note_of (pages_of size operations)
+  pub draws : client.draws ≡ plain_draws buffers 0 (length (pages_of size operations))
+  pub pages : client.pages ≡ map note_of (pages_of size operations)
   pub node : agent.node.0 ≡ 0
-  pub standings : agent.standings.items ≡ live_standings first 0 (plain_draws buffers 0 (length (pages_of size operations)))
+  pub standings : agent.standings ≡ live_standings first 0 (plain_draws buffers 0 (length (pages_of size operations)))
 
 -- worked examples
 two_of_three_have_buffers : plain_draws 2 0 3 ≡ Got 0 0 ∷ Got 1 1 ∷ Empty 2 ∷ []

@@ -11,6 +11,7 @@ use Rattle.hs_records.specs.Records.{AreBracketed, Piece, Segment, piece_limit, 
 use Rattle.hs_journal.specs.declared.books.Standing.{Standing}
 use Rattle.hs_journal.specs.declared.books.ClientBook.{ClientBook}
 use Rattle.hs_journal.specs.declared.books.AgentBook.{AgentBook}
+use Rattle.hs_journal.specs.Books.{client_book_of, agent_book_of}
 use Rattle.hs_words.specs.declared.page.Header.{Header}
 use Rattle.hs_words.specs.Chunks.{Contents, clear_chunk, header_in}
 use Rattle.hs_client.specs.Core.{Core, Step, new_core, handed}
@@ -138,7 +139,7 @@ IsAtStart buffers size calls seat =
 
 -- Where the seat has all operations of its plan behind it, these are their plain books.
 abbrev pub AreBooksOf : Seat → ClientBook → AgentBook → Type 0
-AreBooksOf seat client agent = (plan : Plan) (operations : List Operation) → IsAt plan [] seat → plan.segments ≡ segments_of plan.size operations → ArePlainBooks plan.buffers plan.size operations client agent
+AreBooksOf seat client agent = (plan : Plan) (operations : List Operation) → IsAt plan [] seat → plan.segments ≡ segments_of plan.size operations → ArePlainBooks plan.buffers plan.size operations (client_book_of client) (agent_book_of agent)
 
 -- what stands of a page that nobody takes
 abbrev pub standing_of : Header → Standing

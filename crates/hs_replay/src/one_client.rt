@@ -5,6 +5,7 @@ ghost use Rattle.hs_records.specs.Records.{AreBracketed};
 ghost use Rattle.hs_workload.specs.Views.{operation_of, workload_of};
 ghost use Rattle.hs_workload.specs.LookBack.{operation_pieces};
 ghost use Rattle.hs_workload.specs.Validity.{IsValid, client_pieces};
+ghost use Rattle.hs_journal.specs.Books.{client_book_of, agent_book_of};
 ghost use Rattle.hs_ledger.specs.Books.{BooksFit};
 ghost use Rattle.hs_ledger.specs.Fates.{entries_of as book_entries_of};
 ghost use Rattle.hs_ledger.specs.Totals.{totals_of};
@@ -51,9 +52,9 @@ pub fn replay(alloc: Global, workload: &Workload) -> Result<Outcome, Memory>
 
 /// The ledger of one client's book and its node's agent's.
 fn ledger_of(alloc: Global, client: ClientBook, agent: AgentBook) -> Result<Ledger, Memory>
-    requires { BooksFit (client ∷ []) (agent ∷ []) }
-    ensures entries { IfOk result (λ ledger. ledger.entries.items ≡ book_entries_of (client ∷ []) (agent ∷ [])) }
-    ensures totals { IfOk result (λ ledger. ledger.totals ≡ totals_of (book_entries_of (client ∷ []) (agent ∷ []))) }
+    requires { BooksFit (client_book_of client ∷ []) (agent_book_of agent ∷ []) }
+    ensures entries { IfOk result (λ ledger. ledger.entries.items ≡ book_entries_of (client_book_of client ∷ []) (agent_book_of agent ∷ [])) }
+    ensures totals { IfOk result (λ ledger. ledger.totals ≡ totals_of (book_entries_of (client_book_of client ∷ []) (agent_book_of agent ∷ []))) }
 {
     let clients = only(alloc, client)?;
     let agents = only(alloc, agent)?;
@@ -73,7 +74,7 @@ fn play(
     requires most { size ≤ 32768 }
     requires bracketed { AreBracketed false (map operation_of operations.now) }
     requires pieces { client_pieces size (map operation_of operations.now) ≤ 262144 }
-    ensures { IfOk result (λ books. ArePlainBooks buffers size (map operation_of operations.now) books.0 books.1) }
+    ensures { IfOk result (λ books. ArePlainBooks buffers size (map operation_of operations.now) (client_book_of books.0) (agent_book_of books.1)) }
 {
     let calls = count_calls(size, operations);
     let mut seat = Seat::make(alloc, buffers, size, calls)?;

@@ -1,7 +1,7 @@
-use Rattle.std.proofs.Common.{◌≡◌, take}
-use Rattle.std.specs.List.{flat_map}
-use Rattle.hs_ledger.specs.Fates.{book_entries, fated_pages}
+use Rattle.std.proofs.Common.{◌≡◌, map, take}
+use Rattle.hs_journal.specs.Books.{client_book_of, agent_book_of}
+use Rattle.hs_ledger.specs.Fates.{entries_of}
 use Rattle.hs_ledger.proofs.making.make_ledger.Given as goal
 
 abbrev pub invariant-loop-book : goal.invariant-loop-book
-invariant-loop-book l = l.entries.items ≡ flat_map (λ book. book_entries book.client (fated_pages l.agents.items book)) (take l.book-index l.clients.items)
+invariant-loop-book l = l.entries.items ≡ entries_of (map client_book_of (take l.book-index l.clients.items)) (map agent_book_of l.agents.items)

@@ -1,4 +1,5 @@
 use Rattle.std.proofs.Common.{◌∙◌, ap}
+use Rattle.hs_journal.specs.Books.{client_book_of, agent_book_of}
 use Rattle.hs_ledger.specs.Totals.{totals_of}
 use Rattle.hs_replay.proofs.FirstClient.{first_client, first_books}
 use Rattle.hs_replay.proofs.one_client.replay.Goals as goal
@@ -15,14 +16,14 @@ play-requires-clause-pieces c =
 
 pub ledger_of-requires : goal.ledger_of-requires
 ledger_of-requires c =
-    (first_books c.pages_carry_the_records.ensures c.args.workload.now c.in-Some.operations.now c.as_slice-operations.result.now c.in_ok-client.client c.in_ok-client.agent c.requires c.in-Some.ensures c.as_slice-operations.ensures c.in_ok-client.ensures).0
+    (first_books c.pages_carry_the_records.ensures c.args.workload.now c.in-Some.operations.now c.as_slice-operations.result.now (client_book_of c.in_ok-client.client) (agent_book_of c.in_ok-client.agent) c.requires c.in-Some.ensures c.as_slice-operations.ensures c.in_ok-client.ensures).0
 
 pub returns-clause-entries : goal.returns-clause-entries
 returns-clause-entries c =
     c.in_ok-ledger.ensures.entries
-    ∙ (first_books c.pages_carry_the_records.ensures c.args.workload.now c.in-Some.operations.now c.as_slice-operations.result.now c.in_ok-client.client c.in_ok-client.agent c.requires c.in-Some.ensures c.as_slice-operations.ensures c.in_ok-client.ensures).1
+    ∙ (first_books c.pages_carry_the_records.ensures c.args.workload.now c.in-Some.operations.now c.as_slice-operations.result.now (client_book_of c.in_ok-client.client) (agent_book_of c.in_ok-client.agent) c.requires c.in-Some.ensures c.as_slice-operations.ensures c.in_ok-client.ensures).1
 
 pub returns-clause-totals : goal.returns-clause-totals
 returns-clause-totals c =
     c.in_ok-ledger.ensures.totals
-    ∙ ap totals_of (first_books c.pages_carry_the_records.ensures c.args.workload.now c.in-Some.operations.now c.as_slice-operations.result.now c.in_ok-client.client c.in_ok-client.agent c.requires c.in-Some.ensures c.as_slice-operations.ensures c.in_ok-client.ensures).1
+    ∙ ap totals_of (first_books c.pages_carry_the_records.ensures c.args.workload.now c.in-Some.operations.now c.as_slice-operations.result.now (client_book_of c.in_ok-client.client) (agent_book_of c.in_ok-client.agent) c.requires c.in-Some.ensures c.as_slice-operations.ensures c.in_ok-client.ensures).1
