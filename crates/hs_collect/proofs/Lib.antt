@@ -16,3 +16,4 @@ pub mod Added
 pub mod Sample
 pub mod Only
 pub mod Turns
+pub mod Reordered

@@ -119,6 +119,16 @@ abbrev pub ComeInTurn : List Sheet → Type 0
 ComeInTurn [] = Unit {0}
 ComeInTurn (sheet ∷ earlier) = ComesNext earlier sheet × ComeInTurn earlier
 
+-- whether a page is of this client and trace
+abbrev pub is_by : ClientId → TraceId → Sheet → Bool
+is_by client trace sheet = sheet.header.client.node == client.node && sheet.header.client.number == client.number && is_of trace sheet
+
+-- The same pages in another order, which keeps that of the pages of each client and trace, and that in which the traces
+-- were first seen.
+pub record IsReordering (sheets others : List Sheet) : Type 0 where
+  pub pages : (client : ClientId) (trace : TraceId) → filter (is_by client trace) sheets ≡ filter (is_by client trace) others
+  pub seen : first_seen sheets ≡ first_seen others
+
 -- ---- worked examples
 
 abbrev piece_at : ℕ → List ℕ → Piece

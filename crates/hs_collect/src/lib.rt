@@ -2,9 +2,9 @@
 #![tactic(auto)]
 
 mod collector;
-mod law;
+mod laws;
 mod records;
 
 pub use collector::Collector;
-pub use law::{pages_collect_one, pages_in_turn_can_be_added};
+pub use laws::{pages_collect_one, pages_in_turn_can_be_added, reordered_pages_collect_the_same};
 pub use records::{TraceRecord, TraceRecords};

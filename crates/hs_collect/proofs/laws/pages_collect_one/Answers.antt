@@ -1,5 +1,5 @@
 use Rattle.hs_collect.proofs.Only.{collected_is_one}
-use Rattle.hs_collect.proofs.law.pages_collect_one.Goals as goal
+use Rattle.hs_collect.proofs.laws.pages_collect_one.Goals as goal
 
 pub returns : goal.returns
 returns c = collected_is_one

@@ -1,7 +1,7 @@
 //! Laws of pages that are added. Each is the contract of a function that does nothing.
 
 ghost use Rattle.std.specs.Prelude.{◌≡◌, reverse};
-ghost use Rattle.hs_collect.specs.Collected.{AreCollected, CanBeAdded, ComeInTurn};
+ghost use Rattle.hs_collect.specs.Collected.{AreCollected, CanBeAdded, ComeInTurn, IsReordering};
 ghost use Rattle.hs_collect.specs.Views.{Collection, Sheets};
 
 /// A list of pages collects one collection: the same traces, in one order, each with the same records.
@@ -12,4 +12,11 @@ pub fn pages_collect_one()
 /// Pages can be added where each goes on behind the latest page before it of its client and trace.
 pub fn pages_in_turn_can_be_added()
     ensures { (sheets : Sheets) → ComeInTurn (reverse sheets) → CanBeAdded sheets }
+{}
+
+/// Pages collect the same in any order that keeps that of the pages of each client and trace, and that in which
+/// the traces were first seen.
+pub fn reordered_pages_collect_the_same()
+    ensures { (sheets others : Sheets) (collection : Collection) → IsReordering sheets others
+        → AreCollected sheets collection → AreCollected others collection }
 {}

@@ -1,0 +1,117 @@
+-- Pages in another order, which keeps that of each client and trace, have the same pieces of each record in the same order.
+use Rattle.std.proofs.Common.{◌≡◌, ◌≢◌, ℕ, zero, suc, ◌+◌, ◌<◌, ◌==◌, ◌&&◌, Bool, true, false, cond, List, [], ◌∷◌, ◌++◌, filter, length, get_or, All, Some, option_map, refl, sym, ap, ◌∙◌, subst, arith}
+use Rattle.std.specs.Prelude.{slice_get}
+use Rattle.std.specs.List.{find, flat_map, Any}
+use Rattle.std.proofs.lemmas.List.Elements.{All-head, All-tail, filter-append}
+use Rattle.std.proofs.lemmas.Bool.Decides.{nat_tests}
+use Rattle.hs_base.specs.declared.ids.TraceId.{TraceId}
+use Rattle.hs_base.specs.declared.ids.ClientId.{ClientId}
+use Rattle.hs_base.specs.declared.ids.RecordId.{RecordId}
+use Rattle.hs_words.specs.Pages.{Piece, Sheet}
+use Rattle.hs_collect.specs.Collected.{Placed, is_of, is_same, is_piece_of, pieces_from, page_pieces, pieces_of, IsWhole, AreWholes, AreCollected, is_by, IsReordering}
+use Rattle.hs_collect.specs.Views.{Collection}
+use Rattle.hs_collect.proofs.Ids.{same_itself, same_ids}
+
+-- the pieces of a record on pages
+abbrev record_on : RecordId → List Sheet → List Placed
+record_on id sheets = filter (is_piece_of id) (flat_map page_pieces sheets)
+
+-- ---- pages of other clients have no piece of a record
+
+none_from : (id : RecordId) (client : ClientId) (number : ℕ) (pieces : List Piece) → (client.node == id.client.node && client.number == id.client.number) ≡ false
+    → filter (is_piece_of id) (pieces_from client number pieces) ≡ []
+none_from id client number [] apart = refl
+none_from id client number (piece ∷ pieces) apart =
+    let other : is_same id (record { client = client; number = number }) ≡ false = grind (arith, nat_tests) in
+    let piece : Placed = record { id = record { client = client; number = number }; moment = piece.moment; payload = piece.payload } in
+    let rest = filter (is_piece_of id) (pieces_from client (number + 1) pieces) in
+    ap (λ b. cond b (piece ∷ rest) rest) other ∙ none_from id client (number + 1) pieces apart
+
+-- the pieces of a record of a trace stand on the pages of its client and trace
+by-run : (id : RecordId) (trace : TraceId) (sheets : List Sheet) → record_on id (filter (is_of trace) sheets) ≡ record_on id (filter (is_by id.client trace) sheets)
+by-run id trace [] = refl
+by-run id trace (sheet ∷ sheets) =
+    by_test (sheet.header.client.node == id.client.node && sheet.header.client.number == id.client.number) refl (is_of trace sheet) (by-run id trace sheets)
+  where
+    by_test : (own : Bool) → (sheet.header.client.node == id.client.node && sheet.header.client.number == id.client.number) ≡ own → (its : Bool)
+        → record_on id (filter (is_of trace) sheets) ≡ record_on id (filter (is_by id.client trace) sheets)
+        → record_on id (cond its (sheet ∷ filter (is_of trace) sheets) (filter (is_of trace) sheets))
+        ≡ record_on id (cond (own && its) (sheet ∷ filter (is_by id.client trace) sheets) (filter (is_by id.client trace) sheets))
+    by_test true same true later =
+        filter-append (is_piece_of id) (page_pieces sheet) (flat_map page_pieces (filter (is_of trace) sheets))
+        ∙ ap (λ rest. filter (is_piece_of id) (page_pieces sheet) ++ rest) later
+        ∙ sym (filter-append (is_piece_of id) (page_pieces sheet) (flat_map page_pieces (filter (is_by id.client trace) sheets)))
+    by_test true same false later = later
+    by_test false apart true later =
+        filter-append (is_piece_of id) (page_pieces sheet) (flat_map page_pieces (filter (is_of trace) sheets))
+        ∙ ap (λ front. front ++ record_on id (filter (is_of trace) sheets)) (none_from id sheet.header.client sheet.header.first sheet.pieces apart)
+        ∙ later
+    by_test false apart false later = later
+
+same-record : (sheets others : List Sheet) → IsReordering sheets others → (id : RecordId) (trace : TraceId)
+    → filter (is_piece_of id) (pieces_of trace sheets) ≡ filter (is_piece_of id) (pieces_of trace others)
+same-record sheets others is id trace = by-run id trace sheets ∙ ap (record_on id) (is.pages id.client trace) ∙ sym (by-run id trace others)
+
+-- ---- the records
+
+find-filter : (test : Placed → Bool) (pieces : List Placed) → find test pieces ≡ slice_get (filter test pieces) 0
+find-filter test [] = refl
+find-filter test (piece ∷ pieces) = by_test (test piece) (find-filter test pieces)
+  where
+    by_test : (b : Bool) → find test pieces ≡ slice_get (filter test pieces) 0
+        → cond b (Some piece) (find test pieces) ≡ slice_get (cond b (piece ∷ filter test pieces) (filter test pieces)) 0
+    by_test true later = refl
+    by_test false later = later
+
+whole-same : (pieces others : List Placed) (whole : Placed) → filter (is_piece_of whole.id) pieces ≡ filter (is_piece_of whole.id) others → IsWhole pieces whole → IsWhole others whole
+whole-same pieces others whole same is =
+    let found : find (is_piece_of whole.id) pieces ≡ find (is_piece_of whole.id) others =
+    find-filter (is_piece_of whole.id) pieces ∙ ap (λ own. slice_get own 0) same ∙ sym (find-filter (is_piece_of whole.id) others) in
+    record {
+      moment = ap (option_map (λ (first : Placed). first.moment)) (sym found) ∙ is.moment;
+      payload = is.payload ∙ ap (flat_map (λ (piece : Placed). piece.payload)) same;
+    }
+
+-- a piece is among those of its own record
+own_piece : (pieces : List Placed) (k : ℕ) (d : Placed) → k < length pieces → filter (is_piece_of (get_or pieces k d).id) pieces ≢ []
+own_piece [] k d within = absurd (omega arith)
+own_piece (piece ∷ pieces) zero d within = λ none.
+    let its = same_itself piece.id in
+    let rest = filter (is_piece_of piece.id) pieces in
+    let some : piece ∷ rest ≡ [] = sym (ap (λ b. cond b (piece ∷ rest) rest) its) ∙ none in
+    absurd (cc)
+own_piece (piece ∷ pieces) (suc k) d within = λ none. own_piece pieces k d (omega arith) (by_test (is_piece_of (get_or pieces k d).id piece) none)
+  where
+    by_test : (b : Bool) → cond b (piece ∷ filter (is_piece_of (get_or pieces k d).id) pieces) (filter (is_piece_of (get_or pieces k d).id) pieces) ≡ []
+        → filter (is_piece_of (get_or pieces k d).id) pieces ≡ []
+    by_test true some = absurd (cc)
+    by_test false none = none
+
+-- what holds of the ids of pieces holds of an id that one of them has
+one_holds : (P : RecordId → Type 0) (id : RecordId) (pieces : List Placed) → All (λ piece. P piece.id) pieces → filter (is_piece_of id) pieces ≢ [] → P id
+one_holds P id [] holds some = absurd (some refl)
+one_holds P id (piece ∷ pieces) holds some = by_test (is_piece_of id piece) refl some (one_holds P id pieces (All-tail (λ p. P p.id) piece pieces holds))
+  where
+    by_test : (b : Bool) → is_piece_of id piece ≡ b → cond b (piece ∷ filter (is_piece_of id) pieces) (filter (is_piece_of id) pieces) ≢ []
+        → (filter (is_piece_of id) pieces ≢ [] → P id) → P id
+    by_test true same here later = subst P (sym (same_ids id piece.id same)) (All-head (λ p. P p.id) piece pieces holds)
+    by_test false apart there later = later there
+
+wholes-same : (pieces others wholes : List Placed) → ((id : RecordId) → filter (is_piece_of id) pieces ≡ filter (is_piece_of id) others) → AreWholes pieces wholes → AreWholes others wholes
+wholes-same pieces others wholes same are =
+    record {
+      ordered = are.ordered;
+      each = λ k d within. whole-same pieces others (get_or wholes k d) (same (get_or wholes k d).id) (are.each k d within);
+      all = λ k d within.
+          let id = (get_or others k d).id in
+          one_holds (λ id. Any (λ whole. whole.id ≡ id) wholes) id pieces are.all (λ none. own_piece others k d within (sym (same id) ∙ none));
+    }
+
+pub collect-same : (sheets others : List Sheet) (collection : Collection) → IsReordering sheets others → AreCollected sheets collection → AreCollected others collection
+collect-same sheets others collection is are =
+    record {
+      seen = are.seen ∙ is.seen;
+      each = λ k d within.
+          let entry = get_or collection k d in
+          wholes-same (pieces_of entry.0 sheets) (pieces_of entry.0 others) entry.1 (λ id. same-record sheets others is id entry.0) (are.each k d within);
+    }
