@@ -9,4 +9,3 @@ mod laws;
 pub use answers::{Begun, Ended, Pointed};
 pub use client::ClientCore;
 pub use laws::any_steps_make_the_book;
-

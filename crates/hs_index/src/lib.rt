@@ -11,4 +11,3 @@ mod recent;
 pub use answers::{Gone, Taken};
 pub use index::TraceIndex;
 pub use laws::{any_calls_look_back, longest_end_stays};
-

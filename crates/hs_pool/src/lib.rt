@@ -7,4 +7,3 @@ mod plain;
 
 pub use laws::what_is_out_may_be_given;
 pub use plain::PlainPool;
-

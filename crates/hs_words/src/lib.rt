@@ -14,4 +14,3 @@ pub use laws::{pages_have_bytes_of_their_own, what_was_added_is_read};
 pub use page::{Header, Page, PageFault, Point};
 pub use reading::read_page;
 pub use token::{Drawn, Given, Held, Tally, Token};
-
