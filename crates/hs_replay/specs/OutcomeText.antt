@@ -1,20 +1,16 @@
 -- The text of an outcome: the line of the ledger, a line for each record, the total line and the last line. A text
 -- of version 1 writes traces in 16 digits, and one of version 2 in 32.
-use Rattle.std.specs.Prelude.{◌≡◌, ℕ, ◌+◌, ◌^◌, List, [], ◌∷◌, ◌++◌, length, map, codes, decimal, flat_map, refl}
+use Rattle.std.specs.Prelude.{◌≡◌, ℕ, ◌+◌, ◌^◌, List, [], ◌∷◌, ◌++◌, length, map, codes, decimal, refl}
 use Rattle.std.specs.Fmt.{digits}
-use Rattle.hs_base.specs.declared.ids.TraceId.{TraceId}
 use Rattle.hs_base.specs.declared.told.Fate.{Fate}
 use Rattle.hs_base.specs.declared.told.Fate.TheVariants.{Null, Live, Reported, Evicted, Abandoned}
 use Rattle.hs_records.specs.Plain.{Operation, Begin, Point, End, PlainWorkload}
-use Rattle.hs_text.specs.Text.{line_of, text_of, hex_text, trace_digits}
+use Rattle.hs_text.specs.Text.{line_of, text_of, hex_text}
+use Rattle.hs_text.specs.Writing.{trace_word}
 use Rattle.hs_ledger.specs.declared.ledger.Entry.{Entry}
 use Rattle.hs_ledger.specs.declared.ledger.Totals.{Totals}
 use Rattle.hs_replay.specs.Fates.{entries_of}
 use Rattle.hs_ledger.specs.Totals.{totals_of}
-
--- a trace in a text of this version
-abbrev pub trace_word : ℕ → TraceId → List ℕ
-trace_word version trace = hex_text (trace_digits version) trace.0
 
 -- a fate in a text of this version
 abbrev pub fate_words : ℕ → Fate → List (List ℕ)
@@ -23,10 +19,6 @@ fate_words version Live = codes "live" ∷ []
 fate_words version (Reported trigger lead) = codes "reported" ∷ decimal trigger.0 ∷ trace_word version lead ∷ []
 fate_words version (Evicted chunks traces) = codes "evicted" ∷ decimal chunks ∷ decimal traces ∷ []
 fate_words version (Abandoned trigger lead rank) = codes "abandoned" ∷ decimal trigger.0 ∷ trace_word version lead ∷ hex_text 16 rank.word ∷ []
-
--- words that follow others on a line, each behind a space
-abbrev pub spaced : List (List ℕ) → List ℕ
-spaced words = flat_map (λ word. 32 ∷ word) words
 
 -- a record's line
 abbrev pub entry_line : ℕ → Entry → List ℕ

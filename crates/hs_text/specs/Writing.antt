@@ -34,3 +34,12 @@ pub line_written : (before word : List ℕ) (words : List (List ℕ)) (first oth
 line_written before word words first others whole begun spoken ended =
     ended ∙ ap (λ t. t ++ 10 ∷ []) (spoken ∙ ap (λ t. t ++ spaced words) begun ∙ append_assoc before word (spaced words) ∙ ap (λ t. before ++ t) (sym (line_of-spaced word words)))
     ∙ append_assoc before (line_of (word ∷ words)) (10 ∷ [])
+
+-- words behind words that were appended
+pub spaced_more : (out first others : List ℕ) (words more : List (List ℕ)) → first ≡ out ++ spaced words → others ≡ first ++ spaced more → others ≡ out ++ spaced (words ++ more)
+spaced_more out first others words more begun is =
+    is ∙ ap (λ t. t ++ spaced more) begun ∙ append_assoc out (spaced words) (spaced more) ∙ ap (λ t. out ++ t) (sym (spaced-append words more))
+
+-- one word behind a space
+pub spaced_one : (out first word : List ℕ) → first ≡ out ++ 32 ∷ word → first ≡ out ++ spaced (word ∷ [])
+spaced_one out first word is = is ∙ ap (λ t. out ++ 32 ∷ t) (sym (append-nil word))
