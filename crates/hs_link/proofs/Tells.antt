@@ -1,5 +1,5 @@
 -- The making of the ends, and what they tell each other, keep the rule.
-use Rattle.std.proofs.Common.{◌≡◌, ℕ, zero, suc, ◌+◌, ◌%◌, ◌<◌, ◌≤◌, List, [], ◌∷◌, ◌++◌, map, length, replicate, get_or, set, sym, refl, ap, ◌∙◌, subst, mod-lt, arith, Option, None}
+use Rattle.std.proofs.Common.{◌≡◌, ℕ, zero, suc, ◌+◌, ◌*◌, ◌%◌, ◌<◌, ◌≤◌, List, [], ◌∷◌, ◌++◌, map, length, replicate, get_or, set, sym, refl, ap, ◌∙◌, subst, mod-lt, arith, Option, None}
 use mathlib.Core.Option.{none, some, some-ne-none}
 use mathlib.Core.Option as maybe
 use lib.ListN.{get_elem?, length-map, length-replicate, get_or-replicate}
@@ -30,7 +30,7 @@ module _ {T F : Type 0} (holds : F → T → Type 0) (key : F) where
   abbrev Rule : St → Type 0
   Rule = Ring holds key
 
-  starts : (n : ℕ) (words : List ℕ) → 0 < n → length words ≡ n → ((i : ℕ) → i < n → get_or words i 0 ≡ 0) → Rule (opening words (replicate n None) (Whole key))
+  starts : (n : ℕ) (words : List ℕ) → 0 < n → length words ≡ 16 * n → ((i : ℕ) → i < 16 * n → get_or words i 0 ≡ 0) → Rule (opening words (replicate n None) (Whole key))
   starts n words pos wide blank = let xs : List (Option T) = replicate n None in let homes : List (maybe.Option (Option T)) = map some xs in let m : ℕ = length homes in let is : m ≡ n = length-map xs some ∙ length-replicate n None in record {
     log = [];
     taken = 0;
@@ -39,22 +39,22 @@ module _ {T F : Type 0} (holds : F → T → Type 0) (key : F) where
     sender = 0;
     receiver = 0;
     some_entry = omega arith;
-    wide = wide ∙ sym is;
+    wide = wide ∙ ap (λ (z : ℕ). 16 * z) (sym is);
     behind = omega arith;
     within = omega arith;
     few = omega arith;
     all_hold = λ p x e. absurd (some-ne-none x (sym e));
     each_entry = λ p low high. let near : p % m < m = mod-lt p (let h : 0 < m = omega arith in h) in record {
       full = λ lt. absurd (omega arith);
-      free = λ _. blank (p % m) (omega arith);
+      free = λ _. blank (16 * (p % m)) (omega arith);
       item = λ _ x e. absurd (some-ne-none x (sym e));
       empty = λ _. vacant n (p % m) None (omega arith);
     };
     each_seat = seats_grow (Knows key [] 0 0 0 0 0) [] (Whole key) (refl, refl, refl, refl, refl, refl) (λ j v e. absurd (some-ne-none v (sym e)));
   }
 
-  pub starts_blank : (n : ℕ) (words : List ℕ) → 0 < n → words ≡ replicate n 0 → Rule (opening words (replicate n None) (Whole key))
-  starts_blank n words pos is = starts n words pos (ap length is ∙ length-replicate n 0) (λ i h. ap (λ (z : List ℕ). get_or z i 0) is ∙ get_or-replicate n i 0 0 h)
+  pub starts_blank : (n : ℕ) (words : List ℕ) → 0 < n → words ≡ replicate (16 * n) 0 → Rule (opening words (replicate n None) (Whole key))
+  starts_blank n words pos is = starts n words pos (ap length is ∙ length-replicate (16 * n) 0) (λ i h. ap (λ (z : List ℕ). get_or z i 0) is ∙ get_or-replicate (16 * n) i 0 0 h)
 
   makes_two : (id : ℕ) (k : F) → Splits Rule id (Whole k) (Sending k [] 0) (Receiving k [] [])
   makes_two id k s r at = let kn = r.each_seat id (Whole k) at in let vs : List V = set s.views id (Sending k [] 0) in let none_put : length r.log ≡ 0 = ap length kn.3 in let behind : r.taken + r.taking ≤ length r.log = r.behind in

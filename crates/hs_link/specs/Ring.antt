@@ -1,7 +1,7 @@
 -- The rule of the table, and what each step tells.
--- Item p of all that was put belongs to entry p % n of the n entries. Word e is 1 while the item of entry e was put and not taken. Its slot is at home with that item, or empty where the entry is free.
+-- Item p of all that was put belongs to entry p % n of the n entries. Word 16 * e is 1 while the item of entry e was put and not taken. Its slot e is at home with that item, or empty where the entry is free.
 -- The sender has the slot of the next free entry in hand between its look and its put, and the receiver that of the next item between its look and the taking.
-use Rattle.std.specs.Prelude.{◌≡◌, ◌≢◌, ℕ, ◌+◌, ◌%◌, ◌^◌, ◌<◌, ◌≤◌, List, [], ◌∷◌, ◌++◌, length, slice_index, Option, Some, None}
+use Rattle.std.specs.Prelude.{◌≡◌, ◌≢◌, ℕ, ◌+◌, ◌*◌, ◌%◌, ◌^◌, ◌<◌, ◌≤◌, List, [], ◌∷◌, ◌++◌, length, slice_index, Option, Some, None}
 use mathlib.Core.Option.{some}
 use mathlib.Core.Option as maybe
 use lib.ListN.{get_elem?}
@@ -36,8 +36,8 @@ module _ {T : Type 0} where
 
 -- the entry of item p, where `taken` items were taken; `laying` and `taking` are 1 while a slot is in the hand of that end
 pub record EntryOk {T : Type 0} (n : ℕ) (log : List T) (taken laying taking : ℕ) (words : List ℕ) (homes : List (maybe.Option (Option T))) (p : ℕ) : Type 0 where
-  pub full : p < length log → slice_index words (p % n) ≡ 1
-  pub free : length log ≤ p → slice_index words (p % n) ≡ 0
+  pub full : p < length log → slice_index words (16 * (p % n)) ≡ 1
+  pub free : length log ≤ p → slice_index words (16 * (p % n)) ≡ 0
   pub item : taken + taking ≤ p → (x : T) → get_elem? log p ≡ some x → get_elem? homes (p % n) ≡ some (some (Some x))
   pub empty : length log + laying ≤ p → get_elem? homes (p % n) ≡ some (some None)
 
@@ -62,7 +62,7 @@ pub record Ring {T F : Type 0} (holds : F → T → Type 0) (key : F) (s : State
   pub sender : ℕ
   pub receiver : ℕ
   pub some_entry : 0 < length s.homes
-  pub wide : length s.words ≡ length s.homes
+  pub wide : length s.words ≡ 16 * length s.homes
   pub behind : taken + taking ≤ length log
   pub within : length log + laying ≤ taken + length s.homes
   pub few : length log < 2 ^ 32
@@ -158,14 +158,14 @@ module _ {T F : Type 0} where
   Fits v = Unit {0}
 
   abbrev pub looked_to_put : Step (Option T) → Seated T F → ℕ → Seated T F → Type 0
-  looked_to_put st m found m' = (found ≡ 0 → m' ≡ (grasping m.0, (st.word, None) ∷ m.1)) × (found ≢ 0 → (m' ≡ m) × (heard_by m.0 + st.slots ≤ length (put_by m.0)))
+  looked_to_put st m found m' = (found ≡ 0 → m' ≡ (grasping m.0, (length (put_by m.0) % st.slots, None) ∷ m.1)) × (found ≢ 0 → (m' ≡ m) × (heard_by m.0 + st.slots ≤ length (put_by m.0)))
 
   abbrev pub did_put : Step (Option T) → Seated T F → ℕ → Seated T F → Type 0
   did_put st m found m' = m' ≡ (having_put m.0 (carried_item m.1), rest m.1)
 
   abbrev pub looked_to_take : (F → T → Type 0) → Step (Option T) → Seated T F → ℕ → Seated T F → Type 0
   looked_to_take holds st m found m' =
-      (found ≢ 0 → (x : T) × (m' ≡ (holding m.0 x, (st.word, Some x) ∷ m.1)) × AtKey (λ k. holds k x) m.0 × OneBegins (received_by m.0 ++ x ∷ []) (told_by m.0) × (length (received_by m.0) + 1 < 2 ^ 32))
+      (found ≢ 0 → (x : T) × (m' ≡ (holding m.0 x, (length (received_by m.0) % st.slots, Some x) ∷ m.1)) × AtKey (λ k. holds k x) m.0 × OneBegins (received_by m.0 ++ x ∷ []) (told_by m.0) × (length (received_by m.0) + 1 < 2 ^ 32))
       × (found ≡ 0 → (m' ≡ m) × IsBeginning (told_by m.0) (received_by m.0))
 
   abbrev pub did_take : Step (Option T) → Seated T F → ℕ → Seated T F → Type 0
@@ -193,9 +193,9 @@ module _ {T F : Type 0} where
   IsSameSeat s t = (t.table_id ≡ s.table_id) × (t.id ≡ s.id)
 
   module _ (table : TableId) (key : F) (s : Seat (Option T) (View T F)) where
-    -- the seat is at this table, which has a word and a slot for each entry
+    -- the seat is at this table, which has 16 words and a slot for each entry, and at least one entry
     abbrev pub IsAt : Type 0
-    IsAt = (s.table_id ≡ table) × (table.words ≡ table.slots) × (0 < table.slots)
+    IsAt = (s.table_id ≡ table) × (table.words ≡ 16 * table.slots) × ((0 < table.slots) × (table.slots < 2 ^ 32))
 
     abbrev pub IsSender : List T → ℕ → Type 0
     IsSender put h = IsAt × (s.me ≡ (Sending key put h, []))

@@ -1,11 +1,15 @@
 //! The table that the two ends share, and what each seat at it knows.
 //!
-//! Word e is 1 while entry e holds an item that was put and not taken, else 0. Slot e holds that item.
+//! Word 16 e is 1 while entry e holds an item that was put and not taken, else 0. Slot e holds that item. The words of
+//! two entries lie 128 bytes apart, so that the two ends seldom want one cache line.
 ghost use Rattle.std.specs.Prelude.{List};
 
 use atomic_table::{Seat, Shared, Table, TableRule};
 use std::alloc::Global;
 use std::collections::LinkedList;
+
+/// How far the words of two entries lie apart.
+pub const STRIDE: usize = 16;
 
 /// What all items of a link have in common.
 pub trait Fact<T> {

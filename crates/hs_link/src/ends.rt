@@ -2,7 +2,7 @@
 ghost use Rattle.std.specs.Prelude.{◌<◌, IfOk};
 ghost use Rattle.hs_link.specs.Contents.{AreNewEnds};
 
-use crate::board::{Board, Fact};
+use crate::board::{Board, Fact, STRIDE};
 use crate::plays::MakeEnds;
 use crate::receiver::Receiver;
 use crate::sender::Sender;
@@ -26,7 +26,7 @@ pub fn link<T: Drop, F: Fact<T>>(
 {
     let capacity = capacity as usize;
     let outbox = VecDeque::with_capacity(alloc, room as usize)?;
-    let words = Vec::from_elem(alloc, 0u64, capacity)?;
+    let words = Vec::from_elem(alloc, 0u64, STRIDE * capacity)?;
     let (table, mut place): (Board<T, F>, _) = Table::vacant(
         alloc,
         words.as_slice(),

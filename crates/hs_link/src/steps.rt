@@ -3,7 +3,7 @@ ghost use Rattle.std.specs.Prelude.{◌≡◌, ◌+◌, ◌<◌, ◌≤◌, ◌^
 ghost use Rattle.hs_link.specs.Contents.{IsBeginning, OneBegins};
 ghost use Rattle.hs_link.specs.Ring.{IsSender, IsReceiver, IsLaying, IsSameSeat, IsNextEntry, put_of, heard_of, received_of, told_of};
 
-use crate::board::{Entries, Fact, Place};
+use crate::board::{Entries, Fact, Place, STRIDE};
 use crate::plays::{
     Hear, LookToPut, LookToTake, Meet, NotePut, NoteTaken, Pass, Put, Settle, Take,
 };
@@ -21,7 +21,7 @@ pub fn look_to_put<T, F: Fact<T>>(
         (IsLaying entries.now.table_id entries.now.key place.new entry (put_of place.old) (heard_of place.old))
         ((place.new.me ≡ place.old.me) × (heard_of place.old + entries.now.table_id.slots ≤ length (put_of place.old))) }
 {
-    entries.load::<LookToPut>(place, entry) == 0
+    entries.load::<LookToPut>(place, STRIDE * entry) == 0
 }
 
 /// Puts an item into the entry whose slot the sender took.
@@ -37,7 +37,7 @@ pub fn put<T, F: Fact<T>>(entries: &Entries<T, F>, place: &mut Place<T, F>, entr
         None => {}
         Some(_) => unreachable!(),
     }
-    entries.store::<Put>(place, entry, 1);
+    entries.store::<Put>(place, STRIDE * entry, 1);
 }
 
 /// Takes the receiver's next item, if it was put.
@@ -53,11 +53,11 @@ pub fn take<T, F: Fact<T>>(
         ((place.new.me ≡ place.old.me) × IsBeginning (told_of place.old) (received_of place.old))
         (λ item. IsReceiver entries.now.table_id entries.now.key place.new (received_of place.old ++ item ∷ []) (told_of place.old) × F.holds entries.now.key item × OneBegins (received_of place.old ++ item ∷ []) (told_of place.old) × (length (received_of place.old) + 1 < 2 ^ 32)) }
 {
-    if entries.load::<LookToTake>(place, entry) == 0 {
+    if entries.load::<LookToTake>(place, STRIDE * entry) == 0 {
         return None;
     }
     let item = entries.exchange(place, entry, None);
-    entries.store::<Take>(place, entry, 0);
+    entries.store::<Take>(place, STRIDE * entry, 0);
     item
 }
 
