@@ -13,7 +13,6 @@ pub mod Collecting
 pub mod Lower
 pub mod Entries
 pub mod Added
-pub mod Sample
 pub mod Only
 pub mod Turns
 pub mod Reordered

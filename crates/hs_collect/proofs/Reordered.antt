@@ -1,16 +1,19 @@
 -- Pages in another order, which keeps that of each client and trace, have the same pieces of each record in the same order.
-use Rattle.std.proofs.Common.{◌≡◌, ◌≢◌, ℕ, zero, suc, ◌+◌, ◌<◌, ◌==◌, ◌&&◌, Bool, true, false, cond, List, [], ◌∷◌, ◌++◌, filter, length, get_or, All, Some, option_map, refl, sym, ap, ◌∙◌, subst, arith}
+use Rattle.std.proofs.Common.{◌≡◌, ◌≢◌, ℕ, zero, suc, ◌+◌, ◌<◌, ◌≤◌, ◌^◌, ◌==◌, ◌&&◌, Bool, true, false, cond, List, [], ◌∷◌, ◌++◌, filter, length, get_or, All, Some, option_map, inl, inr, refl, sym, ap, ◌∙◌, subst, arith}
 use Rattle.std.specs.Prelude.{slice_get}
-use Rattle.std.specs.List.{find, flat_map, Any}
-use Rattle.std.proofs.lemmas.List.Elements.{All-head, All-tail, filter-append}
+use Rattle.std.specs.List.{find, flat_map, Any, AllPairs}
+use Rattle.std.proofs.lemmas.List.Elements.{All-nil, All-cons, All-head, All-tail, All-filter, filter-append}
+use Rattle.std.proofs.lemmas.List.Kept.{AllPairs-cons, AllPairs-filter}
+use Rattle.std.proofs.lemmas.Bool.{cases_eq}
 use Rattle.std.proofs.lemmas.Bool.Decides.{nat_tests}
 use Rattle.hs_base.specs.declared.ids.TraceId.{TraceId}
 use Rattle.hs_base.specs.declared.ids.ClientId.{ClientId}
 use Rattle.hs_base.specs.declared.ids.RecordId.{RecordId}
 use Rattle.hs_words.specs.Pages.{Piece, Sheet}
-use Rattle.hs_collect.specs.Collected.{Placed, is_of, is_same, is_piece_of, pieces_from, page_pieces, pieces_of, IsWhole, AreWholes, AreCollected, is_by, IsReordering}
+use Rattle.hs_collect.specs.Collected.{Placed, is_of, is_same, is_piece_of, pieces_from, page_pieces, pieces_of, IsWhole, AreWholes, AreCollected, end_of, CanPrecede, CanBeAdded, is_by, IsReordering}
 use Rattle.hs_collect.specs.Views.{Collection}
 use Rattle.hs_collect.proofs.Ids.{same_itself, same_ids}
+use Rattle.hs_collect.proofs.Listed.{pairs_head, pairs_tail}
 
 -- the pieces of a record on pages
 abbrev record_on : RecordId → List Sheet → List Placed
@@ -114,4 +117,78 @@ collect-same sheets others collection is are =
       each = λ k d within.
           let entry = get_or collection k d in
           wholes-same (pieces_of entry.0 sheets) (pieces_of entry.0 others) entry.1 (λ id. same-record sheets others is id entry.0) (are.each k d within);
+    }
+
+-- ---- they can be added too
+
+passing : {X : Type 0} (p : X → Bool) (P : X → Type 0) (xs : List X) → All P (filter p xs) → All (λ x. p x ≡ true → P x) xs
+passing p P [] each = All-nil (λ x. p x ≡ true → P x)
+passing p P (x ∷ xs) each = by_test (p x) refl each (passing p P xs)
+  where
+    by_test : (b : Bool) → p x ≡ b → All P (cond b (x ∷ filter p xs) (filter p xs)) → (All P (filter p xs) → All (λ y. p y ≡ true → P y) xs) → All (λ y. p y ≡ true → P y) (x ∷ xs)
+    by_test true passes here later = All-cons (λ y. p y ≡ true → P y) x xs (λ yes. All-head P x (filter p xs) here) (later (All-tail P x (filter p xs) here))
+    by_test false fails here later = All-cons (λ y. p y ≡ true → P y) x xs (λ yes. let no : true ≡ false = sym yes ∙ fails in absurd (cc)) (later here)
+
+passing_pairs : {X : Type 0} (p : X → Bool) (R : X → X → Type 0) (xs : List X) → AllPairs R (filter p xs) → AllPairs (λ a b. p a ≡ true → p b ≡ true → R a b) xs
+passing_pairs p R [] pairs = λ i j d lt within. absurd (omega arith)
+passing_pairs p R (x ∷ xs) pairs = by_test (p x) refl pairs (passing_pairs p R xs)
+  where
+    by_test : (b : Bool) → p x ≡ b → AllPairs R (cond b (x ∷ filter p xs) (filter p xs)) → (AllPairs R (filter p xs) → AllPairs (λ a b. p a ≡ true → p b ≡ true → R a b) xs)
+        → AllPairs (λ a b. p a ≡ true → p b ≡ true → R a b) (x ∷ xs)
+    by_test true passes here later =
+        AllPairs-cons (λ a b. p a ≡ true → p b ≡ true → R a b) x xs
+        (λ k d within yes. passing p (R x) xs (pairs_head R x (filter p xs) here) k d within)
+        (later (pairs_tail R x (filter p xs) here))
+    by_test false fails here later =
+        AllPairs-cons (λ a b. p a ≡ true → p b ≡ true → R a b) x xs (λ k d within yes. let no : true ≡ false = sym yes ∙ fails in absurd (cc)) (later here)
+
+own_run : (sheet : Sheet) → is_by sheet.header.client sheet.header.trace sheet ≡ true
+own_run sheet = grind (arith, nat_tests)
+
+-- what holds of each page holds of each in the other order
+along : (P : Sheet → Type 0) (sheets others : List Sheet) → IsReordering sheets others → All P sheets → All P others
+along P sheets others is each = λ k d within.
+    let sheet = get_or others k d in
+    let its = is_by sheet.header.client sheet.header.trace in
+    passing its P others (subst (All P) (is.pages sheet.header.client sheet.header.trace) (All-filter its P sheets each)) k d within (own_run sheet)
+
+-- pages of one client and two traces differ in number, whichever comes first
+abbrev AreApart : Sheet → Sheet → Type 0
+AreApart a b = a.header.client ≡ b.header.client → a.header.trace.0 ≢ b.header.trace.0 → a.header.page ≢ b.header.page
+
+all_apart : (sheets : List Sheet) → AllPairs CanPrecede sheets → All (λ a. All (AreApart a) sheets) sheets
+all_apart [] pairs = All-nil (λ a. All (AreApart a) [])
+all_apart (sheet ∷ sheets) pairs =
+    let behind : All (AreApart sheet) sheets = λ k d within. λ client trace. (pairs_head CanPrecede sheet sheets pairs k d within).differ client in
+    let rest = all_apart sheets (pairs_tail CanPrecede sheet sheets pairs) in
+    All-cons (λ a. All (AreApart a) (sheet ∷ sheets)) sheet sheets
+    (All-cons (AreApart sheet) sheet sheets (λ client trace. absurd (trace refl)) behind)
+    (λ k d within.
+    All-cons (AreApart (get_or sheets k d)) sheet sheets
+    (λ client trace page. behind k d within (sym client) (λ same. trace (sym same)) (sym page))
+    (rest k d within))
+
+same_run : (a b : Sheet) → a.header.client ≡ b.header.client → a.header.trace.0 ≡ b.header.trace.0 → is_by a.header.client a.header.trace b ≡ true
+same_run a b client trace =
+    let node : a.header.client.node ≡ b.header.client.node = ap (λ (c : ClientId). c.node) client in
+    let number : a.header.client.number ≡ b.header.client.number = ap (λ (c : ClientId). c.number) client in
+    grind (arith, nat_tests)
+
+pub can-same : (sheets others : List Sheet) → IsReordering sheets others → CanBeAdded sheets → CanBeAdded others
+can-same sheets others is can =
+    record {
+      pairs = λ i j d lt within.
+          let a = get_or others i d in
+          let b = get_or others j d in
+          let its = is_by a.header.client a.header.trace in
+          let run : AllPairs (λ x y. its x ≡ true → its y ≡ true → CanPrecede x y) others =
+          passing_pairs its CanPrecede others (subst (AllPairs CanPrecede) (is.pages a.header.client a.header.trace) (AllPairs-filter CanPrecede its sheets can.pairs)) in
+          let precede : a.header.client ≡ b.header.client → a.header.trace.0 ≡ b.header.trace.0 → CanPrecede a b = λ client trace. run i j d lt within (own_run a) (same_run a b client trace) in
+          let apart : AreApart a b =
+          along (AreApart a) sheets others is (along (λ x. All (AreApart x) sheets) sheets others is (all_apart sheets can.pairs) i d (omega arith)) j d within in
+          record {
+            differ = λ client. elim (cases_eq a.header.trace.0 b.header.trace.0) [ inl same ↦ (precede client same).differ client | inr other ↦ apart client other ];
+            rise = λ client trace. (precede client (ap (λ (t : TraceId). t.0) trace)).rise client trace;
+          };
+      fits = along (λ sheet. end_of sheet ≤ 2 ^ 32) sheets others is can.fits;
     }

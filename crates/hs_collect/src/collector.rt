@@ -1,6 +1,6 @@
 //! The collector.
 
-ghost use Rattle.std.specs.Prelude.{◌≡◌, ◌≢◌, [], ◌∷◌, ◌++◌, filter, IfOk, OnOk, OnErr, MatchOption};
+ghost use Rattle.std.specs.Prelude.{◌≡◌, ◌≢◌, [], ◌∷◌, ◌++◌, filter, IfOk, IsOk, OnOk, OnErr, MatchOption};
 ghost use Rattle.indexmap.specs.IndexMap.{keys};
 ghost use Rattle.hs_words.specs.Pages.{Sheet};
 ghost use Rattle.hs_words.specs.Reading.{Spells};
@@ -42,9 +42,10 @@ impl Model for Collector {
 }
 
 impl Collector {
-    /// A collector to which no page was added.
+    /// A collector to which no page was added. It is always made.
     pub fn make(alloc: Global) -> Result<Collector, Memory>
-        ensures { IfOk result (λ collector. AreCollected [] collector) }
+        ensures empty { IfOk result (λ collector. AreCollected [] collector) }
+        ensures made { IsOk result }
     {
         Ok(Collector {
             alloc,

@@ -14,9 +14,10 @@ pub fn pages_in_turn_can_be_added()
     ensures { (sheets : Sheets) → ComeInTurn (reverse sheets) → CanBeAdded sheets }
 {}
 
-/// Pages collect the same in any order that keeps that of the pages of each client and trace, and that in which
-/// the traces were first seen.
+/// Pages can be added, and collect the same, in any order that keeps that of the pages of each client and trace,
+/// and that in which the traces were first seen.
 pub fn reordered_pages_collect_the_same()
-    ensures { (sheets others : Sheets) (collection : Collection) → IsReordering sheets others
+    ensures added { (sheets others : Sheets) → IsReordering sheets others → CanBeAdded sheets → CanBeAdded others }
+    ensures same { (sheets others : Sheets) (collection : Collection) → IsReordering sheets others
         → AreCollected sheets collection → AreCollected others collection }
 {}

@@ -6,4 +6,3 @@ pub mod Walks
 pub mod Found
 pub mod Whole
 pub mod Examples
-pub mod Sampling

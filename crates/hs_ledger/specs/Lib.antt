@@ -2,4 +2,3 @@ pub mod Books
 pub mod Fates
 pub mod Totals
 pub mod Making
-pub mod Sample

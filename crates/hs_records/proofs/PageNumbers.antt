@@ -8,7 +8,7 @@ use Rattle.hs_records.specs.Plain.{Operation, Begin, Point, Crumb, End, Fire, Sa
 use Rattle.hs_records.specs.Records.{Record, Piece, AreBracketed, records_of, pieces_until_end, segments_from}
 use Rattle.hs_records.specs.Fronts.{count_beside, count_within}
 use Rattle.hs_records.specs.Pages.{PlainPage, first_record, cost_of, page_room, runs_within, segment_pages, pages_of}
-use Rattle.hs_records.specs.Laws.{RiseFrom, Traces, traces_of, IsPage, end_of, AllFollow, AreNumberedFrom, end_from, ArePages}
+use Rattle.hs_records.specs.Laws.{RiseFrom, Traces, traces_of, CarriesRecords, end_of, AllFollow, AreNumberedFrom, end_from, CarryRecords}
 use Rattle.hs_records.proofs.PieceNumbers.{records_from, Goes, GoesFrom, behind, Agree, IsPiece, points, agree-tail, segment_well}
 
 -- ---- lists
@@ -88,14 +88,14 @@ BeginWith (piece ∷ pieces) [] = Unit {0}
 BeginWith (piece ∷ pieces) (page ∷ pages) = first_record page ≡ piece.number
 
 -- pages of these pieces behind a page of this trace, where this record is the next
-record ArePagesBehind (traces : Traces) (next : ℕ) (trace : TraceId) (pieces : List Piece) (pages : List PlainPage) : Type 0 where
+record CarryBehind (traces : Traces) (next : ℕ) (trace : TraceId) (pieces : List Piece) (pages : List PlainPage) : Type 0 where
   begins : BeginWith pieces pages
   follow : AllFollow next trace pages
   ends : end_from next pages ≡ behind next pieces
-  each : AllByRecursion (IsPage traces) pages
+  each : AllByRecursion (CarriesRecords traces) pages
 
 pages_behind : (most size : ℕ) (traces : Traces) (next : ℕ) (trace : TraceId) (pieces : List Piece) → length pieces ≤ most → Continues size next pieces
-    → AllByRecursion (IsPiece size traces trace) pieces → ArePagesBehind traces next trace pieces (map (λ pieces. record { trace = trace; pieces = pieces }) (runs_within most size pieces))
+    → AllByRecursion (IsPiece size traces trace) pieces → CarryBehind traces next trace pieces (map (λ pieces. record { trace = trace; pieces = pieces }) (runs_within most size pieces))
 pages_behind zero size traces next trace [] few goes each = record { begins = tt; follow = tt; ends = refl; each = tt }
 pages_behind zero size traces next trace (piece ∷ pieces) few goes each = absurd (omega arith)
 pages_behind (suc most) size traces next trace [] few goes each = record { begins = tt; follow = tt; ends = refl; each = tt }
@@ -114,7 +114,7 @@ pages_behind (suc most) size traces next trace (piece ∷ pieces) few goes each 
     let runs : map (λ pieces. record { trace = trace; pieces = pieces }) (runs_within (suc most) size (piece ∷ pieces))
     ≡ page ∷ map (λ pieces. record { trace = trace; pieces = pieces }) (runs_within most size rest) =
     ap (λ n. map (λ pieces. record { trace = trace; pieces = pieces }) (take n (piece ∷ pieces) ∷ runs_within most size (drop n (piece ∷ pieces)))) takes in
-    subst (ArePagesBehind traces next trace (piece ∷ pieces)) (sym runs)
+    subst (CarryBehind traces next trace (piece ∷ pieces)) (sym runs)
     (record {
       begins = refl;
       follow = (elim goes.0 [ inl e ↦ inl e | inr e ↦ inr (refl, e) ], later.follow);
@@ -128,7 +128,7 @@ from_follow number next trace piece pieces [] is begins follow = tt
 from_follow number next trace piece pieces (page ∷ pages) is begins follow = (begins ∙ is, follow.1)
 
 segment_is : (size number : ℕ) (traces : Traces) (trace : TraceId) (pieces : List Piece) (last : ℕ) → GoesFrom size number pieces → behind number pieces ≡ last
-    → AllByRecursion (IsPiece size traces trace) pieces → ArePages traces number (segment_pages size (record { trace = trace; pieces = pieces })) last
+    → AllByRecursion (IsPiece size traces trace) pieces → CarryRecords traces number (segment_pages size (record { trace = trace; pieces = pieces })) last
 segment_is size number traces trace [] last goes ends each = record { numbered = tt; ends = ends; each = tt }
 segment_is size number traces trace (piece ∷ pieces) last goes ends each =
     let pages = segment_pages size (record { trace = trace; pieces = piece ∷ pieces }) in
@@ -154,13 +154,13 @@ end_from-append : (number : ℕ) (pages more : List PlainPage) → end_from numb
 end_from-append number [] more = refl
 end_from-append number (page ∷ pages) more = end_from-append (end_of page) pages more
 
-pages-append : (traces : Traces) (number middle last : ℕ) (pages more : List PlainPage) → ArePages traces number pages middle → ArePages traces middle more last
-    → ArePages traces number (pages ++ more) last
+pages-append : (traces : Traces) (number middle last : ℕ) (pages more : List PlainPage) → CarryRecords traces number pages middle → CarryRecords traces middle more last
+    → CarryRecords traces number (pages ++ more) last
 pages-append traces number middle last pages more here there =
     record {
       numbered = numbered-append number pages more here.numbered (subst (λ n. AreNumberedFrom n more) (sym here.ends) there.numbered);
       ends = end_from-append number pages more ∙ ap (λ n. end_from n more) here.ends ∙ there.ends;
-      each = all-append (IsPage traces) pages more here.each there.each;
+      each = all-append (CarriesRecords traces) pages more here.each there.each;
     }
 
 -- the pages of the segments that begin in these operations
@@ -169,7 +169,7 @@ later_pages size number ops = flat_map (segment_pages size) (segments_from size 
 
 mutual
   closed-pages : (size : ℕ) (traces : Traces) (place number : ℕ) (ops : List Operation) → 64 ≤ size → AreBracketed false ops → Agree traces number (records_from place None ops)
-      → ArePages traces number (later_pages size number ops) (number + length (records_from place None ops))
+      → CarryRecords traces number (later_pages size number ops) (number + length (records_from place None ops))
   closed-pages size traces place number [] wide well agree = record { numbered = tt; ends = omega arith; each = tt }
   closed-pages size traces place number (Begin trace ∷ ops) wide well agree =
       let are = segment_well size traces trace (place + 1) number ops wide well.1 agree in
@@ -184,29 +184,29 @@ mutual
 
   open-pages : (size : ℕ) (traces : Traces) (trace : TraceId) (place number : ℕ) (ops : List Operation) → 64 ≤ size → AreBracketed true ops
       → Agree traces number (records_from place (Some trace) ops)
-      → ArePages traces (number + points ops) (later_pages size number ops) (number + length (records_from place (Some trace) ops))
+      → CarryRecords traces (number + points ops) (later_pages size number ops) (number + length (records_from place (Some trace) ops))
   open-pages size traces trace place number [] wide well agree = absurd (true≢false well)
   open-pages size traces trace place number (Begin next ∷ ops) wide well agree = absurd (true≢false well.0)
   open-pages size traces trace place number (End ∷ ops) wide well agree =
       let here : number ≡ number + 0 = omega arith in
-      subst (λ n. ArePages traces n (later_pages size number ops) (number + length (records_from (place + 1) None ops))) here (closed-pages size traces (place + 1) number ops wide well.1 agree)
+      subst (λ n. CarryRecords traces n (later_pages size number ops) (number + length (records_from (place + 1) None ops))) here (closed-pages size traces (place + 1) number ops wide well.1 agree)
   open-pages size traces trace place number (Point moment payload ∷ ops) wide well agree =
       let r : Record = record { trace = trace; moment = moment; payload = payload } in
       let rest = records_from (place + 1) (Some trace) ops in
       let start : number + 1 + points ops ≡ number + (points ops + 1) = omega arith in
       let last : number + 1 + length rest ≡ number + suc (length rest) = omega arith in
       let later = open-pages size traces trace (place + 1) (number + 1) ops wide well.1 (agree-tail traces number r rest agree) in
-      subst (λ n. ArePages traces (number + (points ops + 1)) (later_pages size (number + 1) ops) n) last
-      (subst (λ n. ArePages traces n (later_pages size (number + 1) ops) (number + 1 + length rest)) start later)
+      subst (λ n. CarryRecords traces (number + (points ops + 1)) (later_pages size (number + 1) ops) n) last
+      (subst (λ n. CarryRecords traces n (later_pages size (number + 1) ops) (number + 1 + length rest)) start later)
   open-pages size traces trace place number (Crumb node ∷ ops) wide well agree = open-pages size traces trace (place + 1) number ops wide well.1 agree
   open-pages size traces trace place number (Fire trigger ∷ ops) wide well agree = open-pages size traces trace (place + 1) number ops wide well agree
   open-pages size traces trace place number (Sample moment auto value ∷ ops) wide well agree = open-pages size traces trace (place + 1) number ops wide well.1 agree
 
 -- ---- all pages of a client
 
-pub pages_are : (size : ℕ) (ops : List Operation) → 64 ≤ size → AreBracketed false ops → ArePages (traces_of (records_of ops)) 0 (pages_of size ops) (length (records_of ops))
+pub pages_are : (size : ℕ) (ops : List Operation) → 64 ≤ size → AreBracketed false ops → CarryRecords (traces_of (records_of ops)) 0 (pages_of size ops) (length (records_of ops))
 pages_are size ops wide bracketed =
     let traces = traces_of (records_of ops) in
     let all : 0 + length (records_of ops) ≡ length (records_of ops) = omega arith in
-    subst (ArePages traces 0 (pages_of size ops)) all
+    subst (CarryRecords traces 0 (pages_of size ops)) all
     (closed-pages size traces 0 0 ops wide bracketed (λ k. let here : 0 + k ≡ k = omega arith in ap traces here))

@@ -7,13 +7,13 @@ use Rattle.std.proofs.lemmas.Bool.Decides.{nat_tests}
 use Rattle.std.specs.List.{AllByRecursion, slice_get}
 use Rattle.hs_base.specs.declared.ids.TraceId.{TraceId}
 use Rattle.hs_records.specs.Plain.{Operation, Begin, Point, Crumb, End, Fire, Sample}
-use Rattle.hs_records.specs.Records.{Record, Piece, AreBracketed, placed_from, record_at, piece_limit, cut_within, record_pieces, pieces_until_end}
+use Rattle.hs_records.specs.Records.{Record, Piece, AreBracketed, numbered_from, record_at, piece_limit, cut_within, record_pieces, pieces_until_end}
 use Rattle.hs_records.specs.Pages.{cost_of, page_room}
 use Rattle.hs_records.specs.Laws.{Traces}
 
 -- the records of operations that find this trace open, the first of which is an operation of this number
 abbrev pub records_from : ℕ → Option TraceId → List Operation → List Record
-records_from place trace ops = flat_map record_at (placed_from place trace ops)
+records_from place trace ops = flat_map record_at (numbered_from place trace ops)
 
 -- a piece has the next number, or that of the one before it, which fills a page
 abbrev pub IsNext : ℕ → Piece → Piece → Type 0

@@ -29,7 +29,7 @@ abbrev pub traces_of : List Record → Traces
 traces_of records number = option_map (λ r. r.trace) (slice_get records number)
 
 -- A page has a piece of each of some records that follow one another, all of its trace.
-pub record IsPage (traces : Traces) (page : PlainPage) : Type 0 where
+pub record CarriesRecords (traces : Traces) (page : PlainPage) : Type 0 where
   pub some : 1 ≤ length page.pieces
   pub rises : RiseFrom (first_record page) page.pieces
   pub traced : AllByRecursion (λ (piece : Piece). traces piece.number ≡ Some page.trace) page.pieces
@@ -56,10 +56,10 @@ end_from number [] = number
 end_from number (page ∷ pages) = end_from (end_of page) pages
 
 -- The pages carry the records from this number up to the last one, which have these traces.
-pub record ArePages (traces : Traces) (number : ℕ) (pages : List PlainPage) (last : ℕ) : Type 0 where
+pub record CarryRecords (traces : Traces) (number : ℕ) (pages : List PlainPage) (last : ℕ) : Type 0 where
   pub numbered : AreNumberedFrom number pages
   pub ends : end_from number pages ≡ last
-  pub each : AllByRecursion (IsPage traces) pages
+  pub each : AllByRecursion (CarriesRecords traces) pages
 
 -- ---- the longest runs
 

@@ -3,6 +3,7 @@
 use Rattle.std.specs.Prelude.{◌≡◌, ℕ, zero, suc, ◌+◌, ◌-◌, List, [], ◌∷◌, length, take, drop, map, replicate, refl}
 use Rattle.std.specs.List.{flat_map}
 use Rattle.hs_base.specs.declared.ids.TraceId.{TraceId}
+use Rattle.hs_base.specs.declared.limits.TheConstants.{HEADER_COST, PIECE_COST}
 use Rattle.hs_records.specs.Fronts.{count_within}
 use Rattle.hs_records.specs.Plain.{Operation, Begin, Point, End}
 use Rattle.hs_records.specs.Records.{Piece, Segment, segments_of}
@@ -12,13 +13,13 @@ pub record PlainPage : Type 0 where
   pub trace : TraceId
   pub pieces : List Piece
 
--- what a piece takes of a page: its bytes, and ten for its length and moment
+-- what a piece takes of a page: its bytes, and some for its length and moment
 abbrev pub cost_of : Piece → ℕ
-cost_of piece = 10 + length piece.payload
+cost_of piece = PIECE_COST + length piece.payload
 
 -- the room of a page for the costs of its pieces
 abbrev pub page_room : ℕ → ℕ
-page_room size = size - 24
+page_room size = size - HEADER_COST
 
 -- how many of these pieces the next page takes
 abbrev pub fits : ℕ → List Piece → ℕ

@@ -4,12 +4,13 @@
 use Rattle.std.specs.Prelude.{◌≡◌, ℕ, zero, suc, ◌+◌, ◌-◌, nat_le, Bool, true, false, List, [], ◌∷◌, ◌++◌, length, take, drop, map, replicate, Option, Some, None, refl}
 use Rattle.std.specs.List.{flat_map}
 use Rattle.hs_base.specs.declared.ids.TraceId.{TraceId}
+use Rattle.hs_base.specs.declared.limits.TheConstants.{FRAME_COST}
 use Rattle.hs_records.specs.Plain.{Operation, Begin, Point, Crumb, End, Fire, Sample}
 
 -- ---- where operations stand
 
 -- an operation of a client, with its number among them and the trace that is open when it comes
-pub record Placed : Type 0 where
+pub record NumberedOperation : Type 0 where
   pub number : ℕ
   pub trace : Option TraceId
   pub operation : Operation
@@ -24,14 +25,14 @@ open_behind trace (Fire trigger) = trace
 open_behind trace (Sample moment auto value) = trace
 
 -- operations from this number on, the first of which finds this trace open
-abbrev pub placed_from : ℕ → Option TraceId → List Operation → List Placed
-placed_from number trace [] = []
-placed_from number trace (operation ∷ ops) =
-    record { number = number; trace = trace; operation = operation } ∷ placed_from (number + 1) (open_behind trace operation) ops
+abbrev pub numbered_from : ℕ → Option TraceId → List Operation → List NumberedOperation
+numbered_from number trace [] = []
+numbered_from number trace (operation ∷ ops) =
+    record { number = number; trace = trace; operation = operation } ∷ numbered_from (number + 1) (open_behind trace operation) ops
 
 -- the operations of a client, which has no trace open before its first begin
-abbrev pub placed_of : List Operation → List Placed
-placed_of ops = placed_from 0 None ops
+abbrev pub numbered_of : List Operation → List NumberedOperation
+numbered_of ops = numbered_from 0 None ops
 
 -- From a client's start or within a trace, a trace is begun where none is open, points stand and it is ended where one
 -- is open, and none is open at the end.
@@ -61,18 +62,18 @@ record_in (Some trace) End = []
 record_in (Some trace) (Fire trigger) = []
 record_in (Some trace) (Sample moment auto value) = []
 
-abbrev pub record_at : Placed → List Record
-record_at placed = record_in placed.trace placed.operation
+abbrev pub record_at : NumberedOperation → List Record
+record_at op = record_in op.trace op.operation
 
 -- the records of a client
 abbrev pub records_of : List Operation → List Record
-records_of ops = flat_map record_at (placed_of ops)
+records_of ops = flat_map record_at (numbered_of ops)
 
 -- ---- pieces
 
--- the most bytes of a payload that a page holds beside its header and the piece's own ten bytes
+-- the most bytes of a payload that a page holds as one piece
 abbrev pub piece_limit : ℕ → ℕ
-piece_limit size = size - 34
+piece_limit size = size - FRAME_COST
 
 -- the pieces of a payload that is cut at most so often
 abbrev pub cut_within : (most limit : ℕ) → List ℕ → List (List ℕ)
@@ -156,7 +157,7 @@ empty_segment : segments_of 64 (Begin one ∷ End ∷ []) ≡ record { trace = o
 empty_segment = refl
 
 -- the point is the second operation and finds the trace open, and nothing is open behind the end
-open_traces : map (λ placed. placed.trace) (placed_of (Begin one ∷ Point 7 [] ∷ End ∷ Crumb (record { 0 = 0 }) ∷ [])) ≡ None ∷ Some one ∷ Some one ∷ None ∷ []
+open_traces : map (λ op. op.trace) (numbered_of (Begin one ∷ Point 7 [] ∷ End ∷ Crumb (record { 0 = 0 }) ∷ [])) ≡ None ∷ Some one ∷ Some one ∷ None ∷ []
 open_traces = refl
 
 two_records : records_of (Begin one ∷ Point 7 [] ∷ Crumb (record { 0 = 0 }) ∷ Point 8 (5 ∷ []) ∷ End ∷ [])

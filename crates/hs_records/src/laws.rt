@@ -5,7 +5,8 @@ ghost use Rattle.std.specs.List.{concat};
 ghost use Rattle.hs_records.specs.Plain.{Operation};
 ghost use Rattle.hs_records.specs.Records.{AreBracketed, Piece, piece_limit, payload_pieces, piece_count, records_of};
 ghost use Rattle.hs_records.specs.Pages.{pages_of, runs_of};
-ghost use Rattle.hs_records.specs.Laws.{AreFullButLast, ArePages, AreRuns, joined, traces_of};
+ghost use Rattle.hs_base.specs.declared.limits.TheConstants.{MIN_SIZE};
+ghost use Rattle.hs_records.specs.Laws.{AreFullButLast, CarryRecords, AreRuns, joined, traces_of};
 
 /// The pieces of a payload, one behind another, are the payload.
 pub fn pieces_join_to_the_payload()
@@ -15,13 +16,13 @@ pub fn pieces_join_to_the_payload()
 /// A payload that fits is one piece, and a longer one gives its front and is cut again.
 pub fn payloads_are_cut_from_the_front()
     ensures fits { (size : ℕ) (payload : List ℕ) → length payload ≤ piece_limit size → payload_pieces size payload ≡ payload ∷ [] }
-    ensures cut { (size : ℕ) (payload : List ℕ) → 64 ≤ size → piece_limit size < length payload
+    ensures cut { (size : ℕ) (payload : List ℕ) → MIN_SIZE ≤ size → piece_limit size < length payload
         → payload_pieces size payload ≡ take (piece_limit size) payload ∷ payload_pieces size (drop (piece_limit size) payload) }
 {}
 
 /// All pieces of a payload but the last are full, and the last has a byte at least.
 pub fn pieces_are_full()
-    ensures { (size : ℕ) (payload : List ℕ) → 64 ≤ size → 1 ≤ length payload → AreFullButLast (piece_limit size) (payload_pieces size payload) }
+    ensures { (size : ℕ) (payload : List ℕ) → MIN_SIZE ≤ size → 1 ≤ length payload → AreFullButLast (piece_limit size) (payload_pieces size payload) }
 {}
 
 /// How many pieces a payload has is decided by the count of its bytes.
@@ -37,6 +38,6 @@ pub fn the_longest_runs_are_the_pages()
 /// The pages of a client's operations carry all its records: each page begins with the next record, or goes on
 /// with the last one of the page before, and each of its pieces is that of a record of its trace.
 pub fn pages_carry_the_records()
-    ensures { (size : ℕ) (operations : List Operation) → 64 ≤ size → AreBracketed false operations
-        → ArePages (traces_of (records_of operations)) 0 (pages_of size operations) (length (records_of operations)) }
+    ensures { (size : ℕ) (operations : List Operation) → MIN_SIZE ≤ size → AreBracketed false operations
+        → CarryRecords (traces_of (records_of operations)) 0 (pages_of size operations) (length (records_of operations)) }
 {}

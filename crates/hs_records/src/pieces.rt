@@ -3,21 +3,20 @@
 ghost use Rattle.std.specs.Prelude.{◌≡◌, ◌+◌, ◌≤◌};
 ghost use Rattle.hs_records.specs.Records.{piece_limit, piece_count};
 
-/// The bytes of a page that hold no payload where one piece stands on it.
-const FRAME: u32 = 34;
+use hs_base::limits::{FRAME_COST, MIN_SIZE};
 
 /// The most bytes of a payload that are one piece, where pages have this size in bytes.
 pub fn piece_limit(size: u32) -> usize
-    requires { 64 ≤ size }
+    requires { MIN_SIZE ≤ size }
     ensures { result ≡ piece_limit size }
 {
-    (size - FRAME) as usize
+    size as usize - FRAME_COST
 }
 
 /// How many pieces a payload of so many bytes has, where pages have this size in bytes.
 #[tactic(auto, using(crate::proofs::Cuts::count_by_division))]
 pub fn piece_count(size: u32, bytes: usize) -> usize
-    requires { 64 ≤ size }
+    requires { MIN_SIZE ≤ size }
     ensures value { result ≡ piece_count size bytes }
     ensures few { result ≤ bytes + 1 }
 {

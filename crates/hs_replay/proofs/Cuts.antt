@@ -1,8 +1,8 @@
--- A seat that has recorded some pieces of a payload, and has the rest of it still to record.
+-- A player that has recorded some pieces of a payload, and has the rest of it still to record.
 use Rattle.std.proofs.Common.{◌≡◌, ℕ, ◌+◌, ◌<◌, ◌≤◌, List, [], ◌∷◌, ◌++◌, length, map, take, drop, sym, ap, ◌∙◌, arith, subst}
 use Rattle.hs_records.specs.Records.{Piece, Segment, piece_limit, payload_pieces, piece_count, record_pieces}
-use Rattle.hs_replay.specs.declared.seat.Seat.{Seat}
-use Rattle.hs_replay.specs.Seats.{IsSound, Goes, Plan, IsPlaying, PlaysPieces}
+use Rattle.hs_replay.specs.declared.player.Player.{Player}
+use Rattle.hs_replay.specs.Players.{IsSound, Goes, Plan, IsPlaying, PlaysPieces}
 use Rattle.hs_replay.proofs.Playing.{piece_of}
 
 -- what is known of the pieces of a payload
@@ -14,7 +14,7 @@ pub record AreCut : Type 0 where
 
 -- ---- a payload of which this rest is still to be recorded
 
-pub record IsCutTo (moment : ℕ) (payload rest : List ℕ) (old now : Seat) : Type 0 where
+pub record IsCutTo (moment : ℕ) (payload rest : List ℕ) (old now : Player) : Type 0 where
   pub sound : IsSound now
   pub trace : now.core.trace ≡ old.core.trace
   pub size_is : now.core.size ≡ old.core.size
@@ -25,12 +25,12 @@ pub record IsCutTo (moment : ℕ) (payload rest : List ℕ) (old now : Seat) : T
       → IsPlaying plan (record_pieces old.core.size old.core.number moment payload ++ pieces) later old → IsPlaying plan (record_pieces old.core.size old.core.number moment rest ++ pieces) later now
 
 -- a call that records a piece
-pub record IsRecorded (moment : ℕ) (payload : List ℕ) (number : ℕ) (now new : Seat) : Type 0 where
+pub record IsRecorded (moment : ℕ) (payload : List ℕ) (number : ℕ) (now new : Player) : Type 0 where
   pub sound : IsSound new
   pub goes : Goes 1 number now.core.trace now.core new.core
   pub played : PlaysPieces (piece_of now.core.number moment payload ∷ []) now new
 
-cut_once : AreCut → (limit moment : ℕ) (payload rest : List ℕ) (old now new : Seat) → IsCutTo moment payload rest old now → limit ≡ piece_limit old.core.size → limit < length rest
+cut_once : AreCut → (limit moment : ℕ) (payload rest : List ℕ) (old now new : Player) → IsCutTo moment payload rest old now → limit ≡ piece_limit old.core.size → limit < length rest
     → IsRecorded moment (take limit rest) now.core.number now new → IsCutTo moment payload (drop limit rest) old new
 cut_once are limit moment payload rest old now new is limit_is long recorded =
     let size = old.core.size in
@@ -55,18 +55,18 @@ cut_once are limit moment payload rest old now new is limit_is long recorded =
           recorded.played plan (record_pieces size old.core.number moment (drop limit rest) ++ pieces) later (subst (λ all. IsPlaying plan (all ++ pieces) later now) more from);
     }
 
-pub cut_further : AreCut → (limit moment : ℕ) (payload rest full behind : List ℕ) (old now new : Seat) → IsCutTo moment payload rest old now → limit ≡ piece_limit old.core.size → limit < length rest
+pub cut_further : AreCut → (limit moment : ℕ) (payload rest full behind : List ℕ) (old now new : Player) → IsCutTo moment payload rest old now → limit ≡ piece_limit old.core.size → limit < length rest
     → full ≡ take limit rest → behind ≡ drop limit rest → IsRecorded moment full now.core.number now new → IsCutTo moment payload behind old new
 cut_further are limit moment payload rest full behind old now new is limit_is long full_is behind_is recorded =
     let taken = subst (λ bytes. IsRecorded moment bytes now.core.number now new) full_is recorded in
     subst (λ bytes. IsCutTo moment payload bytes old new) (sym behind_is) (cut_once are limit moment payload rest old now new is limit_is long taken)
 
 -- all of the payload is recorded
-pub record IsCut (moment : ℕ) (payload : List ℕ) (old new : Seat) : Type 0 where
+pub record IsCut (moment : ℕ) (payload : List ℕ) (old new : Player) : Type 0 where
   pub goes : Goes (piece_count old.core.size (length payload)) (old.core.number + 1) old.core.trace old.core new.core
   pub played : PlaysPieces (record_pieces old.core.size old.core.number moment payload) old new
 
-pub cut_all : AreCut → (limit moment : ℕ) (payload rest : List ℕ) (old now new : Seat) → IsCutTo moment payload rest old now → limit ≡ piece_limit old.core.size → length rest ≤ limit
+pub cut_all : AreCut → (limit moment : ℕ) (payload rest : List ℕ) (old now new : Player) → IsCutTo moment payload rest old now → limit ≡ piece_limit old.core.size → length rest ≤ limit
     → IsRecorded moment rest (now.core.number + 1) now new → IsCut moment payload old new
 cut_all are limit moment payload rest old now new is limit_is short recorded =
     let size = old.core.size in

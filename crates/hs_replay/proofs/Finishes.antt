@@ -1,4 +1,4 @@
--- At the end of a client's operations its seat's notes and the pages that it kept make the plain books.
+-- At the end of a client's operations its player's notes and the pages that it kept make the plain books.
 use Rattle.std.proofs.Common.{◌≡◌, ℕ, zero, suc, ◌+◌, nat_lt, Bool, true, false, List, [], ◌∷◌, ◌++◌, length, map, reverse, Option, Some, None, IsNone, refl, sym, ap, ◌∙◌, arith}
 use Rattle.std.proofs.lemmas.List.{append-nil}
 use Rattle.std.specs.Option.{option_to_list}
@@ -12,12 +12,11 @@ use Rattle.hs_records.specs.Pages.{PlainPage, segment_pages, pages_of}
 use Rattle.hs_journal.specs.declared.books.Standing.{Standing}
 use Rattle.hs_journal.specs.Books.{PlainClientBook, PlainAgentBook}
 use Rattle.hs_client.specs.Core.{Core, Step, Began, Wrote, Needed, Supplied, Ended_, Refused, all_pages, handed}
-use Rattle.hs_words.specs.Buffers.{Buffer}
 use Rattle.hs_client.specs.Calls.{IsBook, after, open_trace, segments_of_steps, pages_of_steps, filled_chunks, handed_out, note_of}
-use Rattle.hs_replay.specs.declared.seat.Seat.{Seat}
+use Rattle.hs_replay.specs.declared.player.Player.{Player}
 use Rattle.hs_replay.specs.PlainBooks.{ArePlainBooks, first, plain_draws, live_standings}
 use Rattle.hs_replay.proofs.PlainStandings.{length-draws}
-use Rattle.hs_replay.specs.Seats.{Plan, IsAt, new_of, kept_by, plain_chunks, coming, with_all, standings_of}
+use Rattle.hs_replay.specs.Players.{Plan, IsAt, new_of, kept_by, plain_chunks, coming, with_all, standings_of}
 
 after-client : (new : Core (Unit {0})) (steps : List (Step (Unit {0}))) → (after new steps).client ≡ new.client
 after-client new [] = refl
@@ -54,23 +53,23 @@ no_trace (Some trace) none = absurd (cc)
 abbrev at_rest : Core (Unit {0}) → Option (Rattle.hs_client.specs.Core.Current (Unit {0})) → Core (Unit {0})
 at_rest core current = record core { current = current }
 
-pub finished : (plan : Plan) (operations : List Operation) (seat : Seat) (client : PlainClientBook) (agent : PlainAgentBook) (is : IsAt plan [] seat) → IsBook (new_of plan) is.playing.steps → IsNone seat.core.trace
-    → plan.segments ≡ segments_of plan.size operations → client.client ≡ seat.core.client → client.draws ≡ seat.core.draws → client.pages ≡ seat.core.pages
-    → agent.node.0 ≡ 0 → agent.standings ≡ standings_of (kept_by seat) → ArePlainBooks plan.buffers plan.size operations client agent
-finished plan operations seat client agent is book none planned client_is draws_are pages_are node_is standings_are =
+pub finished : (plan : Plan) (operations : List Operation) (player : Player) (client : PlainClientBook) (agent : PlainAgentBook) (is : IsAt plan [] player) → IsBook (new_of plan) is.playing.steps → IsNone player.core.trace
+    → plan.segments ≡ segments_of plan.size operations → client.client ≡ player.core.client → client.draws ≡ player.core.draws → client.pages ≡ player.core.pages
+    → agent.node.0 ≡ 0 → agent.standings ≡ standings_of (kept_by player) → ArePlainBooks plan.buffers plan.size operations client agent
+finished plan operations player client agent is book none planned client_is draws_are pages_are node_is standings_are =
     let steps = is.playing.steps in
     let s = is.playing.comes in
     let core = after (new_of plan) steps in
-    let open_none : open_trace steps ≡ None = sym book.trace ∙ ap (λ (c : Core (Unit {0})). c.trace) (sym s.core) ∙ no_trace seat.core.trace none in
+    let open_none : open_trace steps ≡ None = sym book.trace ∙ ap (λ (c : Core (Unit {0})). c.trace) (sym s.core) ∙ no_trace player.core.trace none in
     let current : core.current ≡ None = book.closed open_none in
     let segments : reverse (segments_of_steps steps) ≡ segments_of plan.size operations =
-    sym (append-nil (reverse (segments_of_steps steps))) ∙ ap (λ pieces. reverse (with_all pieces (segments_of_steps steps)) ++ []) (sym (nothing_comes plan.size seat.core.number seat.core.trace))
+    sym (append-nil (reverse (segments_of_steps steps))) ∙ ap (λ pieces. reverse (with_all pieces (segments_of_steps steps)) ++ []) (sym (nothing_comes plan.size player.core.number player.core.trace))
     ∙ is.playing.gives ∙ planned in
     let pages : pages_of_steps plan.size steps ≡ pages_of plan.size operations = ap (flat_map (segment_pages plan.size)) segments in
-    let each : length (pages_of_steps plan.size steps) ≡ seat.pool.events = sym book.each ∙ ap length s.draws ∙ length-draws plan.buffers 0 seat.pool.events in
-    let events : seat.pool.events ≡ length (pages_of plan.size operations) = sym each ∙ ap length pages in
+    let each : length (pages_of_steps plan.size steps) ≡ player.pool.events = sym book.each ∙ ap length s.draws ∙ length-draws plan.buffers 0 player.pool.events in
+    let events : player.pool.events ≡ length (pages_of plan.size operations) = sym each ∙ ap length pages in
     let notes : core.pages ≡ map note_of (pages_of_steps plan.size steps) = sym (append-nil core.pages) ∙ ap (λ current. all_pages (at_rest core current)) (sym current) ∙ book.pages in
-    let kept : kept_by seat ≡ filled_chunks first 0 (pages_of_steps plan.size steps) (plain_chunks plan.buffers plan.size 0 seat.pool.events) =
+    let kept : kept_by player ≡ filled_chunks first 0 (pages_of_steps plan.size steps) (plain_chunks plan.buffers plan.size 0 player.pool.events) =
     s.kept ∙ sym (append-nil (handed_out (new_of plan) steps)) ∙ ap (λ current. handed_out (new_of plan) steps ++ option_to_list (handed (at_rest core current))) (sym current) ∙ book.chunks
     ∙ ap (filled_chunks first 0 (pages_of_steps plan.size steps)) s.chunks in
     record {
@@ -79,6 +78,6 @@ finished plan operations seat client agent is book none planned client_is draws_
       pages = pages_are ∙ ap (λ (c : Core (Unit {0})). c.pages) s.core ∙ notes ∙ ap (map note_of) pages;
       node = node_is;
       standings =
-          standings_are ∙ ap standings_of kept ∙ stand_live plan.buffers plan.size first 0 seat.pool.events (pages_of_steps plan.size steps) each
+          standings_are ∙ ap standings_of kept ∙ stand_live plan.buffers plan.size first 0 player.pool.events (pages_of_steps plan.size steps) each
           ∙ ap (λ n. live_standings first 0 (plain_draws plan.buffers 0 n)) events;
     }

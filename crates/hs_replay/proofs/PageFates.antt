@@ -9,7 +9,7 @@ use Rattle.hs_base.specs.declared.told.Fate.{Fate}
 use Rattle.hs_base.specs.declared.told.Fate.TheVariants.{Null, Live}
 use Rattle.hs_records.specs.Records.{Record, Piece}
 use Rattle.hs_records.specs.Pages.{PlainPage, first_record}
-use Rattle.hs_records.specs.Laws.{Traces, traces_of, RiseFrom, IsPage, end_of, AllFollow, AreNumberedFrom, end_from, ArePages}
+use Rattle.hs_records.specs.Laws.{Traces, traces_of, RiseFrom, CarriesRecords, end_of, AllFollow, AreNumberedFrom, end_from, CarryRecords}
 use Rattle.hs_client.specs.Calls.{note_of}
 use Rattle.hs_ledger.specs.declared.ledger.Entry.{Entry}
 use Rattle.hs_ledger.specs.Books.{count_from, record_count}
@@ -60,7 +60,7 @@ traced_within traces trace number start (piece ∷ pieces) rises traced low high
     ]
 
 -- the pages that have a record are of its trace
-of_trace : (traces : Traces) (trace : TraceId) (number : ℕ) (pages : List PlainPage) → traces number ≡ Some trace → AllByRecursion (IsPage traces) pages
+of_trace : (traces : Traces) (trace : TraceId) (number : ℕ) (pages : List PlainPage) → traces number ≡ Some trace → AllByRecursion (CarriesRecords traces) pages
     → AllByRecursion (λ (page : PlainPage). covers number page ≡ true → page.trace ≡ trace) pages
 of_trace traces trace number [] is each = tt
 of_trace traces trace number (page ∷ pages) is each = (here, of_trace traces trace number pages is each.1)
@@ -141,7 +141,7 @@ entry_is buffers number k trace (page ∷ pages) some traced =
     step later false has = later (ap (λ b. b || list_any (covers number) pages) (sym has) ∙ some)
 
 -- from `buffers` on all pages are null
-null-past : (buffers number k : ℕ) (traces : Traces) (pages : List PlainPage) → buffers ≤ k → AllByRecursion (IsPage traces) pages
+null-past : (buffers number k : ℕ) (traces : Traces) (pages : List PlainPage) → buffers ≤ k → AllByRecursion (CarriesRecords traces) pages
     → null_from buffers number k pages ≡ position_from (has_piece_of number) k pages
 null-past buffers number k traces [] past each = refl
 null-past buffers number k traces (page ∷ pages) past each =
@@ -151,7 +151,7 @@ null-past buffers number k traces (page ∷ pages) past each =
     ap₂ (λ b x. cond (covers number page) (cond b (null_from buffers number (k + 1) pages) (Some k)) x) none later
     ∙ ap (λ b. cond b (Some k) (position_from (has_piece_of number) (k + 1) pages)) (sym same)
 
-null-pages : (buffers number j k : ℕ) (traces : Traces) (pages : List PlainPage) → k + j ≡ buffers → AllByRecursion (IsPage traces) pages
+null-pages : (buffers number j k : ℕ) (traces : Traces) (pages : List PlainPage) → k + j ≡ buffers → AllByRecursion (CarriesRecords traces) pages
     → null_from buffers number k pages ≡ position_from (has_piece_of number) buffers (drop j pages)
 null-pages buffers number zero k traces pages is each =
     let e : k ≡ buffers = omega arith in
@@ -193,7 +193,7 @@ entries_are f fate i (r ∷ records) are =
     (entries_are f fate (i + 1) records
     (λ k s at. let there : i + 1 + k ≡ i + suc k = omega arith in ap f there ∙ are (suc k) s at ∙ sym (ap (λ n. entry_with n s.trace (fate n)) there)))
 
-pub book_is : (buffers : ℕ) (pages : List PlainPage) (records : List Record) → ArePages (traces_of records) 0 pages (length records)
+pub book_is : (buffers : ℕ) (pages : List PlainPage) (records : List Record) → CarryRecords (traces_of records) 0 pages (length records)
     → book_entries first (fated buffers 0 pages) ≡ entries_from (fate_of buffers pages) 0 records
 book_is buffers pages records are =
     let all : record_count (map (λ (page : FatedPage). page.note) (fated buffers 0 pages)) ≡ length records =

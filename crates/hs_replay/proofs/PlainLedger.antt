@@ -8,9 +8,9 @@ use Rattle.hs_base.specs.declared.ids.TraceId.{TraceId}
 use Rattle.hs_base.specs.declared.ids.ClientId.{ClientId}
 use Rattle.hs_base.specs.declared.told.Fate.TheVariants.{Live}
 use Rattle.hs_records.specs.Plain.{Operation, Begin, Point, Crumb, End, Fire, Sample}
-use Rattle.hs_records.specs.Records.{Record, AreBracketed, placed_from, open_behind, record_in, record_at, records_of}
+use Rattle.hs_records.specs.Records.{Record, AreBracketed, numbered_from, open_behind, record_in, record_at, records_of}
 use Rattle.hs_records.specs.Pages.{PlainPage, pages_of}
-use Rattle.hs_records.specs.Laws.{Traces, traces_of, IsPage, end_of, AllFollow, AreNumberedFrom, ArePages}
+use Rattle.hs_records.specs.Laws.{Traces, traces_of, CarriesRecords, end_of, AllFollow, AreNumberedFrom, CarryRecords}
 use Rattle.hs_journal.specs.declared.journal.Draw.TheVariants.{Got}
 use Rattle.hs_journal.specs.declared.books.PageNote.{PageNote}
 use Rattle.hs_journal.specs.declared.books.Standing.{Standing}
@@ -30,12 +30,12 @@ use Rattle.hs_replay.proofs.PlainStandings.{length-draws, IsLive, all-live, foun
 -- ---- the client's records
 
 -- a record has at least one piece
-few_from : (size place : ℕ) (trace : Option TraceId) (ops : List Operation) → length (flat_map record_at (placed_from place trace ops)) ≤ client_pieces size ops
+few_from : (size place : ℕ) (trace : Option TraceId) (ops : List Operation) → length (flat_map record_at (numbered_from place trace ops)) ≤ client_pieces size ops
 few_from size place trace [] = omega arith
 few_from size place trace (operation ∷ ops) =
     let later = few_from size (place + 1) (open_behind trace operation) ops in
     let here = one trace operation in
-    omega (arith, length-append (record_in trace operation) (flat_map record_at (placed_from (place + 1) (open_behind trace operation) ops)))
+    omega (arith, length-append (record_in trace operation) (flat_map record_at (numbered_from (place + 1) (open_behind trace operation) ops)))
   where
     one : (trace : Option TraceId) (operation : Operation) → length (record_in trace operation) ≤ operation_pieces size operation
     one None operation = omega arith
@@ -54,7 +54,7 @@ numbered (page ∷ pages) are = (are.0, followed page pages are.1)
     followed before [] follow = tt
     followed before (page ∷ pages) follow = (follow.0, followed page pages follow.1)
 
-counted : (traces : Traces) (pages : List PlainPage) → AllByRecursion (IsPage traces) pages → AllByRecursion (λ (note : PageNote). 1 ≤ note.count) (map note_of pages)
+counted : (traces : Traces) (pages : List PlainPage) → AllByRecursion (CarriesRecords traces) pages → AllByRecursion (λ (note : PageNote). 1 ≤ note.count) (map note_of pages)
 counted traces [] each = tt
 counted traces (page ∷ pages) each = (each.0.some, counted traces pages each.1)
 
@@ -80,7 +80,7 @@ of_got client (s ∷ standings) is each =
       of_got client standings is each.1,
     )
 
-books_fit : (buffers : ℕ) (traces : Traces) (pages : List PlainPage) (last : ℕ) (agent : PlainAgentBook) → last < 2 ^ 32 → ArePages traces 0 pages last
+books_fit : (buffers : ℕ) (traces : Traces) (pages : List PlainPage) (last : ℕ) (agent : PlainAgentBook) → last < 2 ^ 32 → CarryRecords traces 0 pages last
     → BooksFit (client_of buffers pages ∷ []) (agent_of agent buffers pages ∷ [])
 books_fit buffers traces pages last agent few are =
     let draws = plain_draws buffers 0 (length pages) in
@@ -107,7 +107,7 @@ books_fit buffers traces pages last agent few are =
           (All-from_recursion (IsOfGotPage (book ∷ []) 0) standings (of_got book standings refl (all-live 0 draws)), tt);
     }
 
-entries_are : (buffers : ℕ) (records : List Record) (pages : List PlainPage) (agent : PlainAgentBook) → ArePages (traces_of records) 0 pages (length records)
+entries_are : (buffers : ℕ) (records : List Record) (pages : List PlainPage) (agent : PlainAgentBook) → CarryRecords (traces_of records) 0 pages (length records)
     → ledger.entries_of (client_of buffers pages ∷ []) (agent_of agent buffers pages ∷ []) ≡ entries_from (fate_of buffers pages) 0 records
 entries_are buffers records pages agent are =
     let draws = plain_draws buffers 0 (length pages) in
@@ -122,7 +122,7 @@ entries_are buffers records pages agent are =
 
 -- what is known of a client's pages
 abbrev pub CarryTheRecords : Type 0
-CarryTheRecords = (size : ℕ) (ops : List Operation) → 64 ≤ size → AreBracketed false ops → ArePages (traces_of (records_of ops)) 0 (pages_of size ops) (length (records_of ops))
+CarryTheRecords = (size : ℕ) (ops : List Operation) → 64 ≤ size → AreBracketed false ops → CarryRecords (traces_of (records_of ops)) 0 (pages_of size ops) (length (records_of ops))
 
 abbrev pub FitAndTell : (buffers size : ℕ) → List Operation → PlainClientBook → PlainAgentBook → Type 0
 FitAndTell buffers size ops client agent = BooksFit (client ∷ []) (agent ∷ []) × (ledger.entries_of (client ∷ []) (agent ∷ []) ≡ client_entries buffers size ops)

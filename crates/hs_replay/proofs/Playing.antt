@@ -1,4 +1,4 @@
--- What each call of a seat's parts does to the seat's steps.
+-- What each call of a player's parts does to the player's steps.
 use Rattle.std.proofs.Common.{◌≡◌, ℕ, zero, suc, ◌+◌, ◌-◌, ◌<◌, ◌≤◌, Bool, List, [], ◌∷◌, ◌++◌, map, reverse, Option, Some, None, refl, sym, ap, ap₂, ◌∙◌, subst, arith, append_assoc}
 use Rattle.std.proofs.lemmas.Bool.{lt-ltb, le-ltb}
 use Rattle.std.proofs.lemmas.List.{append-nil, reverse-append}
@@ -15,9 +15,9 @@ use Rattle.hs_pool.specs.Pool.{Pool, Draws}
 use Rattle.hs_client.specs.Core.{Core, Step, Began, Wrote, Needed, Supplied, Ended_, after_step, handed, draw_of, number_after, supplied}
 use Rattle.hs_words.specs.Buffers.{Buffer, buffer_of}
 use Rattle.hs_client.specs.Calls.{May, after, next_number, segments_of_steps, with_last, chunks_supplied, draws_supplied, handed_out}
-use Rattle.hs_replay.specs.declared.seat.Seat.{Seat}
+use Rattle.hs_replay.specs.declared.player.Player.{Player}
 use Rattle.hs_replay.specs.PlainBooks.{plain_draw, plain_draws}
-use Rattle.hs_replay.specs.Seats.{new_of, ComesBy, Plan, plain_chunk, plain_chunks, buffers_from, kept_by, IsPlaying, with_all}
+use Rattle.hs_replay.specs.Players.{new_of, ComesBy, Plan, plain_chunk, plain_chunks, buffers_from, kept_by, IsPlaying, with_all}
 
 -- ---- draws
 
@@ -67,7 +67,7 @@ abbrev Unsupplied : Step (Unit {0}) → List (Step (Unit {0})) → Type 0
 Unsupplied step steps = (draws_supplied (step ∷ steps) ≡ draws_supplied steps) × (chunks_supplied (step ∷ steps) ≡ chunks_supplied steps)
 
 -- a step without a draw
-comes_on : (plan : Plan) (steps : List (Step (Unit {0}))) (old new : Seat) (step : Step (Unit {0})) → ComesBy plan steps old → May old.core step → new.core ≡ after_step old.core step → new.pool ≡ old.pool
+comes_on : (plan : Plan) (steps : List (Step (Unit {0}))) (old new : Player) (step : Step (Unit {0})) → ComesBy plan steps old → May old.core step → new.core ≡ after_step old.core step → new.pool ≡ old.pool
     → (after_step old.core step).number ≡ next_number (step ∷ steps) → kept_by new ≡ handed_out (new_of plan) (step ∷ steps) → Unsupplied step steps → ComesBy plan (step ∷ steps) new
 comes_on plan steps old new step s may core pool number kept none =
     record {
@@ -81,17 +81,17 @@ comes_on plan steps old new step s may core pool number kept none =
     }
 
 -- what is kept where the chunk of the current page is handed out
-hands_out : (plan : Plan) (steps : List (Step (Unit {0}))) (old new : Seat) → ComesBy plan steps old → kept_by new ≡ kept_by old ++ option_to_list (handed old.core)
+hands_out : (plan : Plan) (steps : List (Step (Unit {0}))) (old new : Player) → ComesBy plan steps old → kept_by new ≡ kept_by old ++ option_to_list (handed old.core)
     → kept_by new ≡ handed_out (new_of plan) steps ++ option_to_list (handed (after (new_of plan) steps))
 hands_out plan steps old new s kept = kept ∙ ap₂ (λ (k : List (Buffer (Unit {0}))) (c : Core (Unit {0})). k ++ option_to_list (handed c)) s.kept s.core
 
 -- the piece's number is that of the steps
-numbered : (plan : Plan) (pieces : List Piece) (later : List Segment) (old : Seat) (moment : ℕ) (payload : List ℕ) (is : IsPlaying plan (piece_of old.core.number moment payload ∷ pieces) later old)
+numbered : (plan : Plan) (pieces : List Piece) (later : List Segment) (old : Player) (moment : ℕ) (payload : List ℕ) (is : IsPlaying plan (piece_of old.core.number moment payload ∷ pieces) later old)
     → reverse (with_all pieces (with_last (piece_of (next_number is.steps) moment payload) (segments_of_steps is.steps))) ++ later ≡ plan.segments
 numbered plan pieces later old moment payload is =
     ap (λ n. reverse (with_all pieces (with_last (piece_of n moment payload) (segments_of_steps is.steps))) ++ later) (sym is.comes.number) ∙ is.gives
 
-pub wrote : (plan : Plan) (pieces : List Piece) (later : List Segment) (old new : Seat) (moment : ℕ) (payload : List ℕ) (more : Bool)
+pub wrote : (plan : Plan) (pieces : List Piece) (later : List Segment) (old new : Player) (moment : ℕ) (payload : List ℕ) (more : Bool)
     → May old.core (Wrote moment payload more) → new.core ≡ after_step old.core (Wrote moment payload more) → new.pool ≡ old.pool → kept_by new ≡ kept_by old
     → IsPlaying plan (piece_of old.core.number moment payload ∷ pieces) later old → IsPlaying plan pieces later new
 wrote plan pieces later old new moment payload more may core pool kept is =
@@ -101,7 +101,7 @@ wrote plan pieces later old new moment payload more may core pool kept is =
       gives = numbered plan pieces later old moment payload is;
     }
 
-pub needed : (plan : Plan) (pieces : List Piece) (later : List Segment) (old new : Seat) (len : ℕ) → May old.core (Needed len) → new.core ≡ after_step old.core (Needed len) → new.pool ≡ old.pool
+pub needed : (plan : Plan) (pieces : List Piece) (later : List Segment) (old new : Player) (len : ℕ) → May old.core (Needed len) → new.core ≡ after_step old.core (Needed len) → new.pool ≡ old.pool
     → kept_by new ≡ kept_by old ++ option_to_list (handed old.core) → IsPlaying plan pieces later old → IsPlaying plan pieces later new
 needed plan pieces later old new len may core pool kept is =
     record {
@@ -110,7 +110,7 @@ needed plan pieces later old new len may core pool kept is =
       gives = is.gives;
     }
 
-supplied_page : (plan : Plan) (pieces : List Piece) (later : List Segment) (old new : Seat) (buffer : Option (Buffer (Unit {0}))) (stamp moment : ℕ) (payload : List ℕ) (more : Bool)
+supplied_page : (plan : Plan) (pieces : List Piece) (later : List Segment) (old new : Player) (buffer : Option (Buffer (Unit {0}))) (stamp moment : ℕ) (payload : List ℕ) (more : Bool)
     → May old.core (Supplied buffer stamp moment payload more) → new.core ≡ after_step old.core (Supplied buffer stamp moment payload more)
     → IsPlainDraw plan.buffers plan.size old.pool buffer stamp new.pool → kept_by new ≡ kept_by old
     → IsPlaying plan (piece_of old.core.number moment payload ∷ pieces) later old → IsPlaying plan pieces later new
@@ -138,7 +138,7 @@ supplied_page plan pieces later old new buffer stamp moment payload more may cor
     }
 
 -- a page that gets the buffer at the front of the queue, or none where the queue is empty
-pub drew : {g : _} (plan : Plan) (pieces : List Piece) (later : List Segment) (old new : Seat) (drew : Drawn (Unit {0}) g) (moment : ℕ) (payload : List ℕ) (more : Bool)
+pub drew : {g : _} (plan : Plan) (pieces : List Piece) (later : List Segment) (old new : Player) (drew : Drawn (Unit {0}) g) (moment : ℕ) (payload : List ℕ) (more : Bool)
     → Draws old.pool drew new.pool → stamp_drawn drew ≡ old.pool.events → new.pool.events ≡ old.pool.events + 1
     → May old.core (supplied drew moment payload more) → new.core ≡ after_step old.core (supplied drew moment payload more) → kept_by new ≡ kept_by old
     → IsPlaying plan (piece_of old.core.number moment payload ∷ pieces) later old → IsPlaying plan pieces later new
@@ -174,7 +174,7 @@ with_all-open trace before (piece ∷ pieces) segments =
     with_all-open trace (before ++ piece ∷ []) pieces segments
     ∙ ap (λ (pieces : List Piece). let s : Segment = record { trace = trace; pieces = pieces } in s ∷ segments) (append_assoc before (piece ∷ []) pieces)
 
-pub began_trace : (plan : Plan) (pieces : List Piece) (later : List Segment) (old new : Seat) (trace : TraceId) → May old.core (Began trace) → new.core ≡ after_step old.core (Began trace) → new.pool ≡ old.pool
+pub began_trace : (plan : Plan) (pieces : List Piece) (later : List Segment) (old new : Player) (trace : TraceId) → May old.core (Began trace) → new.core ≡ after_step old.core (Began trace) → new.pool ≡ old.pool
     → kept_by new ≡ kept_by old → IsPlaying plan [] (record { trace = trace; pieces = pieces } ∷ later) old → IsPlaying plan pieces later new
 began_trace plan pieces later old new trace may core pool kept is =
     let segment : Segment = record { trace = trace; pieces = pieces } in
@@ -187,7 +187,7 @@ began_trace plan pieces later old new trace may core pool kept is =
           ∙ append_assoc (reverse segments) (segment ∷ []) later ∙ is.gives;
     }
 
-pub ended_trace : (plan : Plan) (later : List Segment) (old new : Seat) → May old.core Ended_ → new.core ≡ after_step old.core Ended_ → new.pool ≡ old.pool
+pub ended_trace : (plan : Plan) (later : List Segment) (old new : Player) → May old.core Ended_ → new.core ≡ after_step old.core Ended_ → new.pool ≡ old.pool
     → kept_by new ≡ kept_by old ++ option_to_list (handed old.core) → IsPlaying plan [] later old → IsPlaying plan [] later new
 ended_trace plan later old new may core pool kept is =
     record {

@@ -1,4 +1,4 @@
 pub mod Fates
 pub mod OutcomeText
 pub mod PlainBooks
-pub mod Seats
+pub mod Players

@@ -3,7 +3,7 @@
 
 mod one_client;
 mod outcome;
-mod seat;
+mod player;
 
 pub use one_client::{Outcome, replay};
 pub use outcome::{Form, write_outcome};

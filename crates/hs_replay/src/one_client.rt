@@ -12,7 +12,7 @@ ghost use Rattle.hs_ledger.specs.Totals.{totals_of};
 ghost use Rattle.hs_replay.specs.Fates.{entries_of};
 ghost use Rattle.hs_replay.specs.PlainBooks.{ArePlainBooks};
 
-use crate::seat::Seat;
+use crate::player::Player;
 use hs_base::{List, Memory};
 use hs_journal::{AgentBook, ClientBook};
 use hs_ledger::{Ledger, make_ledger};
@@ -77,11 +77,11 @@ fn play(
     ensures { IfOk result (λ books. ArePlainBooks buffers size (map operation_of operations.now) (client_book_of books.0) (agent_book_of books.1)) }
 {
     let calls = count_calls(size, operations);
-    let mut seat = Seat::make(alloc, buffers, size, calls)?;
+    let mut player = Player::make(alloc, buffers, size, calls)?;
     for operation in operations {
-        seat.step(operation);
+        player.step(operation);
     }
-    seat.finish(alloc)
+    player.finish(alloc)
 }
 
 /// How many calls of a core the operations come to at most: a point counts once for each of its pieces.

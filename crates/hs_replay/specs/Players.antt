@@ -1,4 +1,4 @@
--- A seat: a client's core, its node's pool, and the chunks that the core handed out. A seat comes by steps of the core,
+-- A player: a client's core, its node's pool, and the chunks that the core handed out. A player comes by steps of the core,
 -- whose draws are draws of the pool. It is at the operations that are still to be played when, with what they come to,
 -- its steps give the segments that are planned.
 use Rattle.std.specs.Prelude.{◌≡◌, ℕ, zero, suc, ◌+◌, ◌-◌, ◌<◌, ◌≤◌, ◌^◌, nat_lt, false, List, [], ◌∷◌, ◌++◌, length, map, reverse, if◌then◌else◌, Option, Some, None, IsSome, is_some, refl}
@@ -19,23 +19,23 @@ use Rattle.hs_words.specs.Buffers.{Buffer, buffer_of}
 use Rattle.hs_client.specs.Calls.{AreSteps, after, next_number, segments_of_steps, with_last, chunks_supplied, draws_supplied, handed_out}
 use Rattle.hs_pool.specs.Pool.{HasSize}
 use Rattle.hs_workload.specs.Validity.{client_pieces}
-use Rattle.hs_replay.specs.declared.seat.Seat.{Seat}
+use Rattle.hs_replay.specs.declared.player.Player.{Player}
 use Rattle.hs_replay.specs.PlainBooks.{first, plain_draws, ArePlainBooks}
 
 -- the chunks that are kept
-abbrev pub kept_by : Seat → List (Buffer (Unit {0}))
-kept_by seat = map buffer_of seat.kept.items
+abbrev pub kept_by : Player → List (Buffer (Unit {0}))
+kept_by player = map buffer_of player.kept.items
 
--- What holds of each seat between its calls. The pool's buffers have the core's size, and there is room to keep each of
+-- What holds of each player between its calls. The pool's buffers have the core's size, and there is room to keep each of
 -- them. Each draw is counted. A trace that has no page has used no byte of one.
-pub record IsSound (seat : Seat) : Type 0 where
-  pub least : 64 ≤ seat.core.size
-  pub limit : seat.limit ≡ piece_limit seat.core.size
-  pub few : seat.core.calls < 2 ^ 32
-  pub events : seat.pool.events ≤ seat.core.counted
-  pub sized : HasSize seat.core.size seat.pool
-  pub room : length seat.kept.items + (length (option_to_list (handed seat.core)) + length seat.pool.queue) ≤ seat.kept.room
-  pub ready : IsSome seat.core.trace → seat.core.current ≡ None → seat.core.used ≡ 0
+pub record IsSound (player : Player) : Type 0 where
+  pub least : 64 ≤ player.core.size
+  pub limit : player.limit ≡ piece_limit player.core.size
+  pub few : player.core.calls < 2 ^ 32
+  pub events : player.pool.events ≤ player.core.counted
+  pub sized : HasSize player.core.size player.pool
+  pub room : length player.kept.items + (length (option_to_list (handed player.core)) + length player.pool.queue) ≤ player.kept.room
+  pub ready : IsSome player.core.trace → player.core.current ≡ None → player.core.used ≡ 0
 
 -- A core counted so many calls more. It has this trace then, and is at the record of this number.
 pub record Goes (calls_more number : ℕ) (trace : Option TraceId) (old new : Core (Unit {0})) : Type 0 where
@@ -71,15 +71,15 @@ plain_chunks buffers size page (suc count) = plain_chunk buffers size page ∷ p
 abbrev pub buffers_from : (buffers size events : ℕ) → List Contents
 buffers_from buffers size events = map (clear_chunk size) (range_with_len events (buffers - events))
 
--- The seat comes by these steps of its core, the last of which stands first.
-pub record ComesBy (plan : Plan) (steps : List (Step (Unit {0}))) (seat : Seat) : Type 0 where
+-- The player comes by these steps of its core, the last of which stands first.
+pub record ComesBy (plan : Plan) (steps : List (Step (Unit {0}))) (player : Player) : Type 0 where
   pub may : AreSteps (new_of plan) steps
-  pub core : seat.core ≡ after (new_of plan) steps
-  pub number : seat.core.number ≡ next_number steps
-  pub kept : kept_by seat ≡ handed_out (new_of plan) steps
-  pub draws : draws_supplied steps ≡ plain_draws plan.buffers 0 seat.pool.events
-  pub chunks : chunks_supplied steps ≡ plain_chunks plan.buffers plan.size 0 seat.pool.events
-  pub queue : seat.pool.queue ≡ buffers_from plan.buffers plan.size seat.pool.events
+  pub core : player.core ≡ after (new_of plan) steps
+  pub number : player.core.number ≡ next_number steps
+  pub kept : kept_by player ≡ handed_out (new_of plan) steps
+  pub draws : draws_supplied steps ≡ plain_draws plan.buffers 0 player.pool.events
+  pub chunks : chunks_supplied steps ≡ plain_chunks plan.buffers plan.size 0 player.pool.events
+  pub queue : player.pool.queue ≡ buffers_from plan.buffers plan.size player.pool.events
 
 -- ---- what is still to be played
 
@@ -88,22 +88,22 @@ abbrev pub with_all : List Piece → List Segment → List Segment
 with_all [] segments = segments
 with_all (piece ∷ pieces) segments = with_all pieces (with_last piece segments)
 
--- With these pieces more in the open trace and these segments behind it, the seat's steps give the planned segments.
-pub record IsPlaying (plan : Plan) (pieces : List Piece) (later : List Segment) (seat : Seat) : Type 0 where
+-- With these pieces more in the open trace and these segments behind it, the player's steps give the planned segments.
+pub record IsPlaying (plan : Plan) (pieces : List Piece) (later : List Segment) (player : Player) : Type 0 where
   pub steps : List (Step (Unit {0}))
-  pub comes : ComesBy plan steps seat
+  pub comes : ComesBy plan steps player
   pub gives : reverse (with_all pieces (segments_of_steps steps)) ++ later ≡ plan.segments
 
--- These pieces were next in the open trace of the old seat, and the new one has them behind it.
-abbrev pub PlaysPieces : List Piece → Seat → Seat → Type 0
+-- These pieces were next in the open trace of the old player, and the new one has them behind it.
+abbrev pub PlaysPieces : List Piece → Player → Player → Type 0
 PlaysPieces here old new = (plan : Plan) (pieces : List Piece) (later : List Segment) → IsPlaying plan (here ++ pieces) later old → IsPlaying plan pieces later new
 
--- A segment of this trace was next, whatever its pieces, and the new seat is in it.
-abbrev pub PlaysBegin : TraceId → Seat → Seat → Type 0
+-- A segment of this trace was next, whatever its pieces, and the new player is in it.
+abbrev pub PlaysBegin : TraceId → Player → Player → Type 0
 PlaysBegin trace old new = (plan : Plan) (pieces : List Piece) (later : List Segment) → IsPlaying plan [] (record { trace = trace; pieces = pieces } ∷ later) old → IsPlaying plan pieces later new
 
--- No piece was next in the open trace, and the new seat is behind it.
-abbrev pub PlaysEnd : Seat → Seat → Type 0
+-- No piece was next in the open trace, and the new player is behind it.
+abbrev pub PlaysEnd : Player → Player → Type 0
 PlaysEnd old new = (plan : Plan) (later : List Segment) → IsPlaying plan [] later old → IsPlaying plan [] later new
 
 -- the pieces that come next in the open trace, if one is open
@@ -111,35 +111,35 @@ abbrev pub coming : (size number : ℕ) → Option TraceId → List Operation �
 coming size number None operations = []
 coming size number (Some trace) operations = pieces_until_end size number operations
 
--- The seat is at these operations, which are all that is still to be played.
-pub record IsAt (plan : Plan) (operations : List Operation) (seat : Seat) : Type 0 where
-  pub playing : IsPlaying plan (coming plan.size seat.core.number seat.core.trace operations) (segments_from plan.size seat.core.number operations) seat
-  pub size_is : seat.core.size ≡ plan.size
-  pub bracketed : AreBracketed (is_some seat.core.trace) operations
-  pub left : seat.core.counted + client_pieces plan.size operations ≤ seat.core.calls
+-- The player is at these operations, which are all that is still to be played.
+pub record IsAt (plan : Plan) (operations : List Operation) (player : Player) : Type 0 where
+  pub playing : IsPlaying plan (coming plan.size player.core.number player.core.trace operations) (segments_from plan.size player.core.number operations) player
+  pub size_is : player.core.size ≡ plan.size
+  pub bracketed : AreBracketed (is_some player.core.trace) operations
+  pub left : player.core.counted + client_pieces plan.size operations ≤ player.core.calls
 
--- This operation was next, and the new seat has it behind it.
-abbrev pub PlaysOperation : Operation → Seat → Seat → Type 0
+-- This operation was next, and the new player has it behind it.
+abbrev pub PlaysOperation : Operation → Player → Player → Type 0
 PlaysOperation operation old new = (plan : Plan) (rest : List Operation) → IsAt plan (operation ∷ rest) old → IsAt plan rest new
 
 -- the plan of a client with these operations
 abbrev pub plan_of : (buffers size calls : ℕ) → List Operation → Plan
 plan_of buffers size calls operations = record { buffers = buffers; size = size; calls = calls; segments = segments_of size operations }
 
--- The seat is at this operation and others behind it.
-abbrev pub IsNext : Operation → Seat → Type 0
-IsNext operation seat = (plan : Plan) × (rest : List Operation) × IsAt plan (operation ∷ rest) seat
+-- The player is at this operation and others behind it.
+abbrev pub IsNext : Operation → Player → Type 0
+IsNext operation player = (plan : Plan) × (rest : List Operation) × IsAt plan (operation ∷ rest) player
 
--- The seat is at the start of any operations that so many calls serve.
-abbrev pub IsAtStart : (buffers size calls : ℕ) → Seat → Type 0
-IsAtStart buffers size calls seat =
-    (operations : List Operation) → AreBracketed false operations → client_pieces size operations ≤ calls → IsAt (plan_of buffers size calls operations) operations seat
+-- The player is at the start of any operations that so many calls serve.
+abbrev pub IsAtStart : (buffers size calls : ℕ) → Player → Type 0
+IsAtStart buffers size calls player =
+    (operations : List Operation) → AreBracketed false operations → client_pieces size operations ≤ calls → IsAt (plan_of buffers size calls operations) operations player
 
 -- ---- what stands in the end
 
--- Where the seat has all operations of its plan behind it, these are their plain books.
-abbrev pub AreBooksOf : Seat → ClientBook → AgentBook → Type 0
-AreBooksOf seat client agent = (plan : Plan) (operations : List Operation) → IsAt plan [] seat → plan.segments ≡ segments_of plan.size operations → ArePlainBooks plan.buffers plan.size operations (client_book_of client) (agent_book_of agent)
+-- Where the player has all operations of its plan behind it, these are their plain books.
+abbrev pub AreBooksOf : Player → ClientBook → AgentBook → Type 0
+AreBooksOf player client agent = (plan : Plan) (operations : List Operation) → IsAt plan [] player → plan.segments ≡ segments_of plan.size operations → ArePlainBooks plan.buffers plan.size operations (client_book_of client) (agent_book_of agent)
 
 -- what stands of a page that nobody takes
 abbrev pub standing_of : Header → Standing

@@ -1,5 +1,5 @@
 use Rattle.hs_replay.proofs.Cuts.{cut_further, cut_all}
-use Rattle.hs_replay.proofs.seat.Seat.point.Goals as goal
+use Rattle.hs_replay.proofs.player.Player.point.Goals as goal
 
 pub loop-rest-preserved : goal.loop-rest-preserved
 loop-rest-preserved c =

@@ -1,8 +1,8 @@
 use Rattle.std.proofs.Common.{◌++◌, refl, ap, ◌∙◌}
 use Rattle.std.specs.Option.{option_to_list}
-use Rattle.hs_replay.specs.Seats.{kept_by}
+use Rattle.hs_replay.specs.Players.{kept_by}
 use Rattle.hs_replay.proofs.Playing.{ended_trace}
-use Rattle.hs_replay.proofs.seat.Seat.end.Goals as goal
+use Rattle.hs_replay.proofs.player.Player.end.Goals as goal
 
 pub returns-clause-played : goal.returns-clause-played
 returns-clause-played c = λ plan later is.

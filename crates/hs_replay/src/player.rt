@@ -6,7 +6,7 @@ ghost use Rattle.hs_records.specs.Records.{piece_count, record_pieces};
 ghost use Rattle.hs_client.specs.Core.{number_after};
 ghost use Rattle.hs_words.specs.Buffers.{buffer_of, buffer_in};
 ghost use Rattle.hs_workload.specs.Views.{operation_of};
-ghost use Rattle.hs_replay.specs.Seats.{IsSound, Goes, IsNext, IsAtStart, PlaysOperation, PlaysBegin, PlaysPieces, PlaysEnd, AreBooksOf, standings_of};
+ghost use Rattle.hs_replay.specs.Players.{IsSound, Goes, IsNext, IsAtStart, PlaysOperation, PlaysBegin, PlaysPieces, PlaysEnd, AreBooksOf, standings_of};
 
 use hs_base::{ClientId, Fate, List, Memory, NodeId, TraceId};
 use hs_client::{Begun, ClientCore, Ended, Pointed, any_steps_make_the_book};
@@ -19,17 +19,17 @@ use std::alloc::Global;
 
 /// A client's core with its node's pool, and the chunks that the core handed out.
 #[derive(Drop)]
-pub(crate) struct Seat {
+pub(crate) struct Player {
     core: ClientCore<()>,
     pool: PlainPool,
     kept: List<Held<()>>,
     limit: usize,
 }
 
-impl Seat {
-    /// The first client's seat, with so many buffers of this size, for so many calls of its core. No other
+impl Player {
+    /// The first client's player, with so many buffers of this size, for so many calls of its core. No other
     /// call but `finish` takes memory.
-    pub(crate) fn make(alloc: Global, buffers: u32, size: u32, calls: u32) -> Result<Seat, Memory>
+    pub(crate) fn make(alloc: Global, buffers: u32, size: u32, calls: u32) -> Result<Player, Memory>
         requires some { 1 ≤ buffers }
         requires few { buffers ≤ 1024 }
         requires least { 64 ≤ size }
@@ -38,7 +38,7 @@ impl Seat {
         ensures start { IfOk result (IsAtStart buffers size calls) }
     {
         let limit = piece_limit(size);
-        Ok(Seat {
+        Ok(Player {
             core: ClientCore::make(alloc, ClientId { node: 0, number: 0 }, size, calls)?,
             pool: PlainPool::make(alloc, Stock::make(alloc, buffers, size)?)?,
             kept: List::with_room(alloc, buffers as usize)?,

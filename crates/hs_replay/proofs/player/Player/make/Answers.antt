@@ -1,7 +1,7 @@
 use Rattle.std.proofs.Common.{length, ap, sym, ◌∙◌, arith}
 use Rattle.hs_words.specs.Chunks.{clear_chunks}
 use Rattle.hs_replay.proofs.Starts.{length-clear_chunks, IsNew, new_sound, new_start}
-use Rattle.hs_replay.proofs.seat.Seat.make.Goals as goal
+use Rattle.hs_replay.proofs.player.Player.make.Goals as goal
 
 pub make-requires-3-clause-few : goal.make-requires-3-clause-few
 make-requires-3-clause-few c =
@@ -16,7 +16,7 @@ make-requires-3-clause-clear c =
 is_new : (c : goal.In_ok-with_room) → IsNew c.args.buffers c.args.size c.args.calls (record { core = c.in_ok-make.field-0; pool = c.in_ok-make-3.field-0; kept = c.in_ok-with_room.field-0; limit = c.piece_limit-limit.result })
 is_new c =
     record {
-      core = c.in_ok-make.ensures;
+      core = c.in_ok-make.ensures.core;
       queue = c.in_ok-make-3.ensures.queue ∙ c.in_ok-make-2.ensures;
       after = c.in_ok-make-3.ensures.after;
       kept = c.in_ok-with_room.ensures.empty;

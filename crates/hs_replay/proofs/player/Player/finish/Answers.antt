@@ -1,9 +1,9 @@
 use Rattle.std.proofs.Common.{map, refl, ap, ◌∙◌}
 use Rattle.hs_words.specs.Buffers.{buffer_of}
 use Rattle.hs_replay.specs.PlainBooks.{first}
-use Rattle.hs_replay.specs.Seats.{standings_of}
+use Rattle.hs_replay.specs.Players.{standings_of}
 use Rattle.hs_replay.proofs.Finishes.{finished}
-use Rattle.hs_replay.proofs.seat.Seat.finish.Goals as goal
+use Rattle.hs_replay.proofs.player.Player.finish.Goals as goal
 
 pub returns : goal.returns
 returns c = λ plan operations is planned.
