@@ -4,7 +4,9 @@ use Rattle.std.specs.Prelude.{slice_get, is_some, OnErr, Result, Ok, Err}
 use Rattle.std.specs.Option.{option_map, option_and_then}
 use Rattle.std.proofs.lemmas.Map.Steps.{set_value_same}
 use Rattle.std.proofs.lemmas.Bool.{eqb-true}
-use Rattle.std.specs.Map.{lookup, set_value, remove_entry}
+use Rattle.std.specs.Map.{lookup, set_value, remove_entry, values_of}
+use Rattle.std.proofs.lemmas.Map.Entries.{sum_by-set_value, sum_by-remove_entry}
+use Rattle.std.proofs.lemmas.List.Sums.{sum_by-cons}
 use Rattle.std.specs.BTreeMap.{insert_entry}
 use Rattle.std.specs.declared.cmp.Ordering.{Ordering}
 use Rattle.std.specs.declared.cmp.Ordering.TheVariants.{Less, Equal, Greater}
@@ -15,52 +17,37 @@ use Rattle.hs_words.specs.Buffers.{Buffer}
 use Rattle.hs_pins.specs.Groups.{Groups, count_of, chunks_of, pinned, next_of, without_first, used_bytes}
 use Rattle.hs_pins.specs.Counting.{HaveChunks, IsCounted}
 
+-- an entry that was written as it was
+pub nothing-lost : {A B K V : Type 0} (r : Result A B) (test : K → Bool) (es written : List (K × V)) (old new : V) → lookup test es ≡ Some old
+    → written ≡ set_value test es new → OnErr r (new ≡ old) → OnErr r (written ≡ es)
+nothing-lost (Ok a) test es written old new found e same = tt
+nothing-lost (Err b) test es written old new found e same = e ∙ ap (set_value test es) same ∙ set_value_same test es old found
+
 module _ {L : Type 0} where
   count-set : (test : Priority → Bool) (es : Groups L) (old w : List (Buffer L)) → lookup test es ≡ Some old
       → count_of (set_value test es w) + length old ≡ count_of es + length w
-  count-set test [] old w e = cc
-  count-set test (x ∷ es) old w e = at (test x.0) e (count-set test es old w)
-    where
-      at : (b : Bool) → cond b (Some x.1) (lookup test es) ≡ Some old
-          → (lookup test es ≡ Some old → count_of (set_value test es w) + length old ≡ count_of es + length w)
-          → count_of (cond b ((x.0, w) ∷ es) (x ∷ set_value test es w)) + length old ≡ length x.1 + count_of es + length w
-      at true e rest =
-          let same : x.1 ≡ old = cc in
-          let long = ap length same in
-          let all : length w + count_of es + length old ≡ length x.1 + count_of es + length w = omega arith in all
-      at false e rest =
-          let r : count_of (set_value test es w) + length old ≡ count_of es + length w = rest e in
-          let all : length x.1 + count_of (set_value test es w) + length old ≡ length x.1 + count_of es + length w = omega arith in all
+  count-set test es old w e = sum_by-set_value (λ (chunks : List (Buffer L)). length chunks) test es old w e
 
   count-remove : (test : Priority → Bool) (es : Groups L) (old : List (Buffer L)) → lookup test es ≡ Some old
       → count_of (remove_entry test es) + length old ≡ count_of es
-  count-remove test [] old e = cc
-  count-remove test (x ∷ es) old e = at (test x.0) e (count-remove test es old)
-    where
-      at : (b : Bool) → cond b (Some x.1) (lookup test es) ≡ Some old
-          → (lookup test es ≡ Some old → count_of (remove_entry test es) + length old ≡ count_of es)
-          → count_of (cond b es (x ∷ remove_entry test es)) + length old ≡ length x.1 + count_of es
-      at true e rest =
-          let same : x.1 ≡ old = cc in
-          let long = ap length same in
-          let all : count_of es + length old ≡ length x.1 + count_of es = omega arith in all
-      at false e rest =
-          let r : count_of (remove_entry test es) + length old ≡ count_of es = rest e in
-          let all : length x.1 + count_of (remove_entry test es) + length old ≡ length x.1 + count_of es = omega arith in all
+  count-remove test es old e =
+      ap (λ o. count_of (remove_entry test es) + unwrap_or (option_map (λ (chunks : List (Buffer L)). length chunks) o) 0) (sym e)
+      ∙ sum_by-remove_entry (λ (chunks : List (Buffer L)). length chunks) test es
+
+  count-cons : (p : Priority) (chunks : List (Buffer L)) (es : Groups L) → count_of ((p, chunks) ∷ es) ≡ length chunks + count_of es
+  count-cons p chunks es = sum_by-cons (λ (c : List (Buffer L)). length c) chunks (values_of es)
 
   count-insert : (p : Priority) (es : Groups L) (w : List (Buffer L)) → lookup (same_priority p) es ≡ None
       → count_of (insert_entry priority_cmp es p w) ≡ count_of es + length w
-  count-insert p [] w e = let all : length w + 0 ≡ 0 + length w = omega arith in all
+  count-insert p [] w e = omega (arith, count-cons p w [])
   count-insert p (x ∷ es) w e = at (priority_cmp p x.0) e (count-insert p es w)
     where
       at : (o : Ordering) → cond (is_eq o) (Some x.1) (lookup (same_priority p) es) ≡ None
           → (lookup (same_priority p) es ≡ None → count_of (insert_entry priority_cmp es p w) ≡ count_of es + length w)
-          → count_of (match_ordering o ((p, w) ∷ x ∷ es) ((x.0, w) ∷ es) (x ∷ insert_entry priority_cmp es p w)) ≡ length x.1 + count_of es + length w
-      at Less e rest = let all : length w + (length x.1 + count_of es) ≡ length x.1 + count_of es + length w = omega arith in all
+          → count_of (match_ordering o ((p, w) ∷ x ∷ es) ((x.0, w) ∷ es) (x ∷ insert_entry priority_cmp es p w)) ≡ count_of (x ∷ es) + length w
+      at Less e rest = omega (arith, count-cons p w (x ∷ es))
       at Equal e rest = cc
-      at Greater e rest =
-          let r : count_of (insert_entry priority_cmp es p w) ≡ count_of es + length w = rest e in
-          let all : length x.1 + count_of (insert_entry priority_cmp es p w) ≡ length x.1 + count_of es + length w = omega arith in all
+      at Greater e rest = omega (arith, rest e, count-cons x.0 x.1 (insert_entry priority_cmp es p w), count-cons x.0 x.1 es)
 
   some-set : (test : Priority → Bool) (es : Groups L) (w : List (Buffer L)) → 0 < length w → HaveChunks es → HaveChunks (set_value test es w)
   some-set test [] w some all = tt
@@ -179,8 +166,7 @@ module _ {L : Type 0} where
   pub counted-rest : (p : Priority) (pile : List (Buffer L)) (old new : Groups L) (count : ℕ) → IsCounted old count → old ≡ (p, pile) ∷ new → IsCounted new (count - length pile)
   counted-rest p pile old new count h e =
       let k : IsCounted ((p, pile) ∷ new) count = rw e at h in
-      let c = k.counted in
-      let n : count ≡ length pile + count_of new = c in
+      let n : count ≡ length pile + count_of new = k.counted ∙ count-cons p pile new in
       record { counted = omega (arith, n); some = k.some.1 }
 
   pub next-used : (es : Groups L) (p : Priority) (pile : List (Buffer L)) → slice_get es (length es - 1) ≡ Some (p, pile) → lookup (same_priority p) es ≡ Some pile
@@ -193,11 +179,6 @@ module _ {L : Type 0} where
       same : (bs : List (Buffer L)) → option_map used_bytes (slice_get bs 0) ≡ option_map (λ (next : Priority × Buffer L). used_bytes next.1) (option_map (λ b. (p, b)) (slice_get bs 0))
       same [] = refl
       same (b ∷ bs) = refl
-
-  pub nothing-lost : {A B : Type 0} (r : Result A B) (test : Priority → Bool) (es written : Groups L) (old new : List (Buffer L)) → lookup test es ≡ Some old
-      → written ≡ set_value test es new → OnErr r (new ≡ old) → OnErr r (written ≡ es)
-  nothing-lost (Ok a) test es written old new found e same = tt
-  nothing-lost (Err b) test es written old new found e same = e ∙ ap (set_value test es) same ∙ set_value_same test es old found
 
   pub first-there : (test : Priority → Bool) (es : Groups L) (old : List (Buffer L)) → HaveChunks es → lookup test es ≡ Some old → slice_get old 0 ≡ None → ⊥
   first-there test es [] all found none = let some = some-found test es [] all found in absurd (omega arith)

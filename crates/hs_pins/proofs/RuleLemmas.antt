@@ -10,6 +10,9 @@ use Rattle.std.specs.declared.cmp.Ordering.{Ordering}
 use Rattle.std.specs.declared.cmp.Ordering.TheVariants.{Greater}
 use Rattle.hs_base.specs.declared.ids.TriggerId.{TriggerId}
 use Rattle.hs_base.specs.declared.settings.TriggerRule.{TriggerRule}
+use Rattle.std.specs.Map.{values_of}
+use Rattle.std.proofs.lemmas.List.Sums.{sum_by-cons}
+use Rattle.hs_pins.specs.Groups.{Groups, count_of}
 use Rattle.hs_pins.specs.Queues.{total_of, fresh_queues}
 
 abbrev id_cmp : TriggerId → TriggerId → Ordering
@@ -47,5 +50,4 @@ module _ {V : Type 0} where
 pub fresh-total : (L : Type 0) (rules : List TriggerRule) → 0 ≡ total_of {L = L} (fresh_queues rules)
 fresh-total L [] = refl
 fresh-total L (r ∷ rules) =
-    let t = fresh-total L rules in
-    let all : 0 ≡ 0 + total_of {L = L} (fresh_queues rules) = omega arith in all
+    omega (arith, fresh-total L rules, sum_by-cons (λ (groups : Groups L). count_of groups) [] (values_of (fresh_queues {L = L} rules)))

@@ -1,8 +1,8 @@
 -- The pinned chunks of one trigger id: its groups that have one, in rising priority, each with its chunks in the order in
 -- which they became pinned.
-use Rattle.std.specs.Prelude.{ℕ, ◌-◌, List, [], ◌∷◌, ◌++◌, length, drop, ◌+◌, slice_get, Option, Some, None, unwrap_or, is_some, if◌then◌else◌}
+use Rattle.std.specs.Prelude.{ℕ, ◌-◌, List, [], ◌∷◌, ◌++◌, length, drop, sum_by, slice_get, Option, Some, None, unwrap_or, is_some, if◌then◌else◌}
 use Rattle.std.specs.Option.{option_map, option_and_then}
-use Rattle.std.specs.Map.{lookup, set_value, remove_entry}
+use Rattle.std.specs.Map.{lookup, set_value, remove_entry, values_of}
 use Rattle.std.specs.BTreeMap.{insert_entry}
 use Rattle.hs_pins.specs.declared.priority.Priority.{Priority}
 use Rattle.hs_pins.specs.Priorities.{priority_cmp, same_priority}
@@ -18,8 +18,7 @@ used_bytes buffer = used_in buffer.chunk
 
 -- how many chunks there are
 abbrev pub count_of : {L : Type 0} → Groups L → ℕ
-count_of [] = 0
-count_of (e ∷ groups) = length e.1 + count_of groups
+count_of groups = sum_by (λ chunks. length chunks) (values_of groups)
 
 -- the chunks of the group with this priority, and none where it has none
 abbrev pub chunks_of : {L : Type 0} → Groups L → Priority → List (Buffer L)

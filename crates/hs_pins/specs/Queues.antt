@@ -1,7 +1,7 @@
 -- The pinned chunks of a node: for each declared trigger id, rising, its groups.
-use Rattle.std.specs.Prelude.{ℕ, ◌+◌, Bool, List, [], ◌∷◌, map, unwrap_or, IsSome}
+use Rattle.std.specs.Prelude.{ℕ, Bool, List, [], map, sum_by, unwrap_or, IsSome}
 use Rattle.std.specs.Ordering.{nat_cmp, is_eq}
-use Rattle.std.specs.Map.{lookup, set_value}
+use Rattle.std.specs.Map.{lookup, set_value, values_of}
 use Rattle.hs_base.specs.declared.ids.TriggerId.{TriggerId}
 use Rattle.hs_base.specs.declared.settings.TriggerRule.{TriggerRule}
 use Rattle.hs_pins.specs.declared.priority.Priority.{Priority}
@@ -25,8 +25,7 @@ groups_of queues id = unwrap_or (lookup (same_id id) queues) []
 
 -- how many chunks are pinned
 abbrev pub total_of : {L : Type 0} → Queues L → ℕ
-total_of [] = 0
-total_of (e ∷ queues) = count_of e.1 + total_of queues
+total_of queues = sum_by (λ groups. count_of groups) (values_of queues)
 
 -- the queues where a trigger id has these groups
 abbrev pub with_groups : {L : Type 0} → Queues L → TriggerId → Groups L → Queues L

@@ -1,4 +1,5 @@
-use Rattle.std.proofs.Common.{map, ap, sym, subst, ◌∙◌}
+use Rattle.std.proofs.Common.{◌≡◌, map, false, ap, sym, subst, ◌∙◌}
+use Rattle.std.specs.Prelude.{Result, Ok, Err, OnOk, is_err}
 use Rattle.hs_words.specs.Buffers.{buffer_of}
 use Rattle.hs_pins.specs.Queues.{has_queue, pinned_in}
 use Rattle.hs_pins.specs.Pinning.{Pinning, claimed_by}
@@ -17,3 +18,10 @@ returns-clause-ok g c =
     claimed-view _ c.args.self.now c.note_claim.new.claims.entries c.pin.new.self c.args.group c.args.laterals c.args.trace c.args.taken.crumbs (map buffer_of c.args.taken.held.items) c.self.view_is
     (c.note_claim.ensures ∙ ap (λ es. claimed_by es c.args.group c.args.laterals c.args.trace c.args.taken.crumbs) c.reserve.ensures.entries)
     (c.in_default.ensures.ok ∙ ap (λ p. pinned_in c.self.inside.queues c.args.group.trigger p (map buffer_of c.args.taken.held.items)) c.of-priority.ensures)
+
+had_room : {A E P : Type 0} (r : Result A E) → is_err r ≡ false → OnOk r P → P
+had_room (Ok a) e p = p
+had_room (Err x) e p = cc
+
+pub note_claim-requires-clause-room : goal.note_claim-requires-clause-room
+note_claim-requires-clause-room g c = had_room c.reserve.result (sym c.is_err.ensures.value ∙ c.if-is_err.false) c.reserve.ensures.ok
