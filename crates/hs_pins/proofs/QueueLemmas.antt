@@ -1,5 +1,5 @@
 -- The queues of a node with the groups of one trigger id changed: how many chunks there are.
-use Rattle.std.proofs.Common.{◌≡◌, ℕ, ◌+◌, ◌≤◌, Bool, true, false, cond, [], ◌∷◌, Option, Some, None, unwrap_or, sym, ap, ◌∙◌, arith}
+use Rattle.std.proofs.Common.{◌≡◌, ℕ, ◌+◌, ◌≤◌, Bool, Option, Some, None, unwrap_or, sym, ap, ◌∙◌, arith}
 use Rattle.std.specs.Prelude.{OnOk, OnSome, IfNone, Result, Ok, Err}
 use Rattle.std.specs.Map.{lookup, set_value, remove_entry}
 use Rattle.std.proofs.lemmas.Map.Entries.{sum_by-set_value, sum_by-remove_entry}

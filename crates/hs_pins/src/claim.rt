@@ -14,7 +14,7 @@ pub enum Admitted {
 
 /// A claimed trace: the group that claimed it, the laterals with which it did, and the nodes to which
 /// the trace's crumbs lead.
-#[derive(Clone, Copy, Debug, PartialEq, Eq)]
+#[derive(Clone, Copy)]
 pub struct ClaimedTrace {
     pub group: Group,
     pub laterals: Laterals,

@@ -7,7 +7,7 @@ use hs_base::{Group, GroupId, TraceId, TriggerId, rank_of};
 
 /// A group's place among those of its trigger id: by the rank of its lead, then by its node, then by
 /// its number there. Contracts order priorities by `priority_cmp`.
-#[derive(Clone, Copy, Debug, PartialEq, Eq, PartialOrd, Ord, Hash)]
+#[derive(Clone, Copy, PartialEq, Eq, PartialOrd, Ord, Hash)]
 pub struct Priority {
     pub word: u64,
     pub lead: u128,
@@ -45,7 +45,7 @@ impl Priority {
 }
 
 /// What names a group here: its trigger id and its priority.
-#[derive(Clone, Copy, Debug, PartialEq, Eq, Hash)]
+#[derive(Clone, Copy, PartialEq, Eq, Hash)]
 pub struct Mark {
     pub trigger: TriggerId,
     pub priority: Priority,
