@@ -10,7 +10,7 @@ use Rattle.hs_base.specs.declared.told.Crumb.{Crumb}
 use Rattle.hs_base.specs.declared.told.Told.{Told}
 use Rattle.hs_base.specs.declared.told.Why.{Why}
 use Rattle.hs_base.specs.declared.told.Why.TheVariants.{Late}
-use Rattle.hs_base.specs.NodeSets.{no_nodes, with_node}
+use Rattle.hs_base.specs.NodeSets.{no_nodes, one_node, with_node}
 use Rattle.hs_model.specs.Standings.{same_trace}
 use Rattle.hs_model.specs.State.{AgentState, ClaimedTrace}
 use Rattle.hs_model.specs.Claiming.{traces_of}
@@ -37,7 +37,7 @@ told_of crumbs ask why = record { group = ask.group; laterals = ask.laterals; cr
 
 -- what is told of a late crumb
 abbrev pub late_of : ClaimedTrace → Crumb → Told
-late_of claim crumb = record { group = claim.group; laterals = claim.laterals; crumbs = with_node no_nodes crumb.node; why = Late }
+late_of claim crumb = record { group = claim.group; laterals = claim.laterals; crumbs = one_node crumb.node; why = Late }
 
 abbrev pub say : Told → AgentState → AgentState
 say told state = record state { said = state.said ++ told ∷ [] }
