@@ -181,7 +181,7 @@ claimed_standing claims new c h b e = go c.standing b e h
     go (Abandoned g) true e h = absurd (true≢false (sym e))
     go (Abandoned g) false e h = claiming-append claims (new ∷ []) (trace_of c) g h
 
-abbrev ByClaim : AgentState → Type 0
+abbrev pub ByClaim : AgentState → Type 0
 ByClaim s = AllStandByClaim s.claims s.taken
 
 abbrev Stands : List ClaimedTrace → Taken → Type 0

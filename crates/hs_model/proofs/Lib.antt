@@ -7,3 +7,5 @@ pub mod Claims
 pub mod Unevicted
 pub mod Least
 pub mod Limits
+pub mod Rising
+pub mod Ordered

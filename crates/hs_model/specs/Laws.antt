@@ -1,7 +1,7 @@
 -- What holds of an agent after any events, whatever they are. Each chunk stands in one way, and the agent's lists have it
 -- once where they should: among the pinned, the reported, and those whose buffers were given back or wait for it. A trace
 -- is claimed at most once, and is not indexed then. Nothing stays beyond the limits, and nothing goes without need.
-use Rattle.std.specs.Prelude.{◌≡◌, ◌⊎◌, ℕ, ◌+◌, ◌<◌, ◌≤◌, Bool, true, false, ◌==◌, List, [], ◌∷◌, ◌++◌, length, map, Option, Some, None, if◌then◌else◌}
+use Rattle.std.specs.Prelude.{◌≡◌, ◌⊎◌, ℕ, ◌+◌, ◌<◌, ◌≤◌, Bool, true, false, ◌==◌, List, [], ◌∷◌, ◌++◌, length, map, Option, Some, None, if◌then◌else◌, filter}
 use Rattle.std.specs.List.{AllByRecursion, list_any}
 use Rattle.std.specs.Option.{option_map}
 use Rattle.hs_base.specs.declared.ids.TraceId.{TraceId}
@@ -140,3 +140,18 @@ pub record IsWithin (settings : PlainSettings) (state : AgentState) : Type 0 whe
 
 abbrev pub LimitsHold : Type 0
 LimitsHold = (settings : PlainSettings) (node : ℕ) (events : List Event) → IsWithin settings (after settings node events)
+
+-- ---- the order of reports
+
+-- each place is below those behind it
+abbrev pub AreRising : List ℕ → Type 0
+AreRising [] = Unit {0}
+AreRising (place ∷ places) = AllByRecursion (λ (later : ℕ). place < later) places × AreRising places
+
+-- the reported places of a trace, in the order of the reports
+abbrev pub reported_of : AgentState → TraceId → List ℕ
+reported_of state trace = filter (is_of_trace state.taken trace) state.reported
+
+-- The pages of one trace are reported in the order of arrival.
+abbrev pub ReportedInOrder : Type 0
+ReportedInOrder = (settings : PlainSettings) (node : ℕ) (events : List Event) (trace : TraceId) → AreRising (reported_of (after settings node events) trace)

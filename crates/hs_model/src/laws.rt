@@ -1,6 +1,6 @@
 //! What holds of an agent after any events. These functions do nothing: their contracts say it.
 
-ghost use Rattle.hs_model.specs.Laws.{ListsHaveTheirChunks, StandingsPartition, HeldChunksAreInNoHand, TracesAreClaimedOnce, ClaimsHoldForGood, ChunksStandByTheirClaim, NothingClaimedIsEvicted, TheLeastGoes, LimitsHold};
+ghost use Rattle.hs_model.specs.Laws.{ListsHaveTheirChunks, StandingsPartition, HeldChunksAreInNoHand, TracesAreClaimedOnce, ClaimsHoldForGood, ChunksStandByTheirClaim, NothingClaimedIsEvicted, TheLeastGoes, LimitsHold, ReportedInOrder};
 
 /// The pinned and the reported chunks stand in their lists, each once, and the evicted, abandoned and
 /// reported ones in the hand, each once, until they are given back.
@@ -48,4 +48,9 @@ pub fn the_least_goes()
 /// say.
 pub fn limits_hold()
     ensures { LimitsHold }
+{}
+
+/// The pages of one trace are reported in the order in which they came.
+pub fn reported_in_order()
+    ensures { ReportedInOrder }
 {}
