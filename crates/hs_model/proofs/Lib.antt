@@ -9,3 +9,5 @@ pub mod Least
 pub mod Limits
 pub mod Rising
 pub mod Ordered
+pub mod Whiles
+pub mod PageOrder

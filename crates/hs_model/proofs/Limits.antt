@@ -21,7 +21,7 @@ use Rattle.hs_model.specs.Abandoning.{pinned_groups, next_to_go, abandon_group, 
 use Rattle.hs_model.specs.Turning.{order_of, costs_of, reported_standing, visit}
 use Rattle.hs_model.specs.Messages.{has_crumb}
 use Rattle.hs_model.specs.Stepping.{Input, Chunk, Crumbed, Triggered, Asked, Turn, Answered, Given, Missed, Unread, Event, Took, Gave, with_indexed, with_pinned, with_abandoned, pin_chunk, with_touched, tell_late, late_crumb, admits, group_of, claim_for, note_trigger, count_admitted, admit, take_input, give_back, take_answer, after_event, after_from}
-use Rattle.hs_model.specs.Laws.{count_of, count_traces, PlacesMatch, MatchNextToGo, IsWithin, LimitsHold}
+use Rattle.hs_model.specs.Laws.{count_of, count_traces, PlacesMatch, IsNextToGo, MatchNextToGo, IsWithin, LimitsHold}
 use Rattle.hs_model.proofs.Counts.{one, counted_one}
 use Rattle.hs_model.proofs.Traces.{same_trace-refl, same_trace-sym, traces-without, traces-touch}
 use Rattle.hs_model.proofs.Traversal.{IsKept, evict_loop, abandon_loop, visit_loop, claim_loop, kept_claims, kept_event}
@@ -45,7 +45,7 @@ all_changed P Q (c ∷ taken) all h = (h c all.0, all_changed P Q taken all.1 h)
 of_another : (trace : TraceId) (c : Taken) → is_indexed_of trace c ≡ false → is_indexed c.standing ≡ true → same_trace trace (trace_of c) ≡ false
 of_another trace c e is = elim (and_cases _ _ e) [ inl not_so ↦ absurd (true≢false (sym is ∙ not_so)) | inr differs ↦ differs ]
 
-touched_evicts : (trace : TraceId) (later : List TraceId) (s : AgentState) → s.touched ≡ trace ∷ later → AreTouched s → AreTouched (evict_trace trace later s)
+pub touched_evicts : (trace : TraceId) (later : List TraceId) (s : AgentState) → s.touched ≡ trace ∷ later → AreTouched s → AreTouched (evict_trace trace later s)
 touched_evicts trace later s e m =
     all_moved (IsTouched s.touched) (IsTouched later) (λ _. Evicted (indexed_count s.taken) (length s.touched)) (indexed_places s.taken trace) 0 s.taken m
     (λ p c at h. let z : 0 + p ≡ p = omega arith in here c h (is_among (indexed_places s.taken trace) (0 + p)) (rw z (among_places (is_indexed_of trace) s.taken p c at)))
@@ -123,7 +123,7 @@ none_indexed (c ∷ taken) all = go (is_indexed c.standing) refl (none_indexed t
     go true e ih = let bad = all.0 e in absurd (omega arith)
     go false e ih = ih
 
-nothing_over : (settings : PlainSettings) (s : AgentState) → s.touched ≡ [] → AreTouched s → is_over settings s ≡ false
+pub nothing_over : (settings : PlainSettings) (s : AgentState) → s.touched ≡ [] → AreTouched s → is_over settings s ≡ false
 nothing_over settings s e m =
     let none : indexed_count s.taken ≡ 0 = none_indexed s.taken (subst (λ ts. AllByRecursion (IsTouched ts) s.taken) e m) in
     let empty : length s.touched ≡ 0 = ap length e in
@@ -192,7 +192,7 @@ shorter f (x ∷ xs) e = go (f x) e (shorter f xs) (not_longer (λ y. not (f y))
     go false e next few = let h = next e in omega arith
 
 -- where a chunk is pinned, some group has it
-no_groups : (s : AgentState) → PlacesMatch s → pinned_groups s ≡ [] → s.pinned ≡ []
+pub no_groups : (s : AgentState) → PlacesMatch s → pinned_groups s ≡ [] → s.pinned ≡ []
 no_groups s m e = go s.pinned refl e
   where
     go : (places : List ℕ) → s.pinned ≡ places → filter_map (pinned_for s.taken) places ≡ [] → s.pinned ≡ []
@@ -205,6 +205,11 @@ no_groups s m e = go s.pinned refl e
         let none : cons_option (Some some.0) (filter_map (pinned_for s.taken) places) ≡ [] = subst (λ o. cons_option o (filter_map (pinned_for s.taken) places) ≡ []) some.1 e in
         absurd cc
 
+-- a group that goes takes a place at least
+pub few_after : (settings : PlainSettings) (place : ℕ) (places : List ℕ) (s : AgentState) (group : Group) → length s.pinned ≤ length (place ∷ places) + settings.pins → IsNextToGo (pinned_groups s) group
+    → length (abandon_group group s).pinned ≤ length places + settings.pins
+few_after settings place places s group few next = let fewer = shorter (is_pinned_for s.taken group) s.pinned (pinned_place s.taken s.pinned group next.among) in omega arith
+
 -- what the rest of the places leaves
 abbrev Shrinks : PlainSettings → List ℕ → Type 0
 Shrinks settings places = (u : AgentState) → PlacesMatch u → length u.pinned ≤ length places + settings.pins → length (abandon_within settings places u).pinned ≤ settings.pins
@@ -213,8 +218,7 @@ shrink_chosen : (settings : PlainSettings) (place : ℕ) (places : List ℕ) (s 
     → (o : Option Group) → next_to_go (pinned_groups s) ≡ o → MatchNextToGo (pinned_groups s) o → length (option_map_or (λ group. abandon_within settings places (abandon_group group s)) o s).pinned ≤ settings.pins
 shrink_chosen settings place places s m few rest many None f e = let none = no_groups s m e in let zero_long : length s.pinned ≡ 0 = ap length none in absurd (omega arith)
 shrink_chosen settings place places s m few rest many (Some group) f next =
-    let fewer = shorter (is_pinned_for s.taken group) s.pinned (pinned_place s.taken s.pinned group next.among) in
-    rest (abandon_group group s) ((match_kept settings 0).abandons group s f m) (omega arith)
+    rest (abandon_group group s) ((match_kept settings 0).abandons group s f m) (few_after settings place places s group few next)
 
 shrink_if : (settings : PlainSettings) (place : ℕ) (places : List ℕ) (s : AgentState) → PlacesMatch s → length s.pinned ≤ length (place ∷ places) + settings.pins → Shrinks settings places
     → (b : Bool) → nat_lt settings.pins (length s.pinned) ≡ b

@@ -1,15 +1,17 @@
 -- What holds of an agent after any events, whatever they are. Each chunk stands in one way, and the agent's lists have it
 -- once where they should: among the pinned, the reported, and those whose buffers were given back or wait for it. A trace
 -- is claimed at most once, and is not indexed then. Nothing stays beyond the limits, and nothing goes without need.
-use Rattle.std.specs.Prelude.{◌≡◌, ◌⊎◌, ℕ, ◌+◌, ◌<◌, ◌≤◌, Bool, true, false, ◌==◌, List, [], ◌∷◌, ◌++◌, length, map, Option, Some, None, if◌then◌else◌, filter}
+use Rattle.std.specs.Prelude.{◌≡◌, ◌⊎◌, ℕ, ◌+◌, ◌<◌, ◌≤◌, Bool, true, false, ◌==◌, List, [], ◌∷◌, ◌++◌, length, map, Option, Some, None, if◌then◌else◌, filter, filter_map, slice_get}
 use Rattle.std.specs.List.{AllByRecursion, list_any}
 use Rattle.std.specs.Option.{option_map}
 use Rattle.hs_base.specs.declared.ids.TraceId.{TraceId}
 use Rattle.hs_base.specs.declared.told.Group.{Group}
 use Rattle.hs_records.specs.Plain.{PlainSettings}
+use Rattle.hs_words.specs.Pages.{Sheet}
 use Rattle.hs_model.specs.Standings.{ChunkStanding, Indexed, Pinned, Reported, Evicted, Abandoned, Taken, same_trace, same_group, trace_of, indexed_count, is_indexed, is_pinned, is_reported, is_evicted, is_let_go, stands, is_of_trace}
 use Rattle.hs_model.specs.State.{AgentState, ClaimedTrace, GivenPlace, claim_of, is_claimed}
-use Rattle.hs_model.specs.Abandoning.{count_of_id, is_no_greater, next_to_go}
+use Rattle.hs_model.specs.Evicting.{is_over, evict_trace, evict}
+use Rattle.hs_model.specs.Abandoning.{pinned_groups, count_of_id, is_no_greater, next_to_go, abandon_group, abandon}
 use Rattle.hs_model.specs.Stepping.{Event, after_event, after_from, after}
 
 -- ---- places
@@ -155,3 +157,57 @@ reported_of state trace = filter (is_of_trace state.taken trace) state.reported
 -- The pages of one trace are reported in the order of arrival.
 abbrev pub ReportedInOrder : Type 0
 ReportedInOrder = (settings : PlainSettings) (node : ℕ) (events : List Event) (trace : TraceId) → AreRising (reported_of (after settings node events) trace)
+
+-- ---- no more goes than needed
+
+-- the traces of indexed chunks are touched
+abbrev pub IndexedAreTouched : AgentState → Type 0
+IndexedAreTouched state = AllByRecursion (λ (chunk : Taken). is_indexed chunk.standing ≡ true → 1 ≤ count_traces state.touched (trace_of chunk)) state.taken
+
+-- One state comes from another by evictions: while too much is indexed, and no longer, the first of the touched traces goes.
+pub data Evicts (settings : PlainSettings) : AgentState → AgentState → Type 0 where
+  Stays : (state : AgentState) → is_over settings state ≡ false → Evicts settings state state
+  Goes :
+      (state later : AgentState) (trace : TraceId) (traces : List TraceId) → is_over settings state ≡ true → state.touched ≡ trace ∷ traces
+      → Evicts settings (evict_trace trace traces state) later → Evicts settings state later
+
+abbrev pub EvictsWhileOver : Type 0
+EvictsWhileOver = (settings : PlainSettings) (state : AgentState) → IndexedAreTouched state → Evicts settings state (evict settings state)
+
+-- One state comes from another by abandonment: while too much is pinned, and no longer, the group that is next to go goes.
+pub data Abandons (settings : PlainSettings) : AgentState → AgentState → Type 0 where
+  Kept : (state : AgentState) → length state.pinned ≤ settings.pins → Abandons settings state state
+  Dropped :
+      (state later : AgentState) (group : Group) → settings.pins < length state.pinned → IsNextToGo (pinned_groups state) group
+      → Abandons settings (abandon_group group state) later → Abandons settings state later
+
+abbrev pub AbandonsWhileOver : Type 0
+AbandonsWhileOver = (settings : PlainSettings) (state : AgentState) → PlacesMatch state → Abandons settings state (abandon settings state)
+
+-- After any events both hold of the state to which the next ones apply.
+abbrev pub IndexedStayTouched : Type 0
+IndexedStayTouched = (settings : PlainSettings) (node : ℕ) (events : List Event) → IndexedAreTouched (after settings node events)
+
+-- Events go on where earlier ones stopped.
+abbrev pub EventsGoOn : Type 0
+EventsGoOn = (settings : PlainSettings) (node : ℕ) (events later : List Event) → after settings node (events ++ later) ≡ after_from settings node (after settings node events) later
+
+-- ---- the order of a client's pages
+
+-- each page is numbered below those of its client that come behind it
+abbrev pub PagesRise : List Sheet → Type 0
+PagesRise [] = Unit {0}
+PagesRise (sheet ∷ sheets) = AllByRecursion (λ (later : Sheet). later.header.client ≡ sheet.header.client → sheet.header.page < later.header.page) sheets × PagesRise sheets
+
+-- the pages that were reported of a trace, in the order of the reports
+abbrev pub sheets_at : List Taken → List ℕ → List Sheet
+sheets_at taken places = filter_map (λ place. option_map (λ (chunk : Taken). chunk.sheet) (slice_get taken place)) places
+
+abbrev pub sheets_of : List Taken → List Sheet
+sheets_of taken = map (λ (chunk : Taken). chunk.sheet) taken
+
+-- Where each client's pages come in rising order, those of one trace are reported in rising order too, client by client.
+abbrev pub ClientsPagesRise : Type 0
+ClientsPagesRise =
+    (settings : PlainSettings) (node : ℕ) (events : List Event) (trace : TraceId) → PagesRise (sheets_of (after settings node events).taken)
+    → PagesRise (sheets_at (after settings node events).taken (reported_of (after settings node events) trace))

@@ -1,6 +1,6 @@
 //! What holds of an agent after any events. These functions do nothing: their contracts say it.
 
-ghost use Rattle.hs_model.specs.Laws.{ListsHaveTheirChunks, StandingsPartition, HeldChunksAreInNoHand, TracesAreClaimedOnce, ClaimsHoldForGood, ChunksStandByTheirClaim, NothingClaimedIsEvicted, TheLeastGoes, LimitsHold, ReportedInOrder};
+ghost use Rattle.hs_model.specs.Laws.{ListsHaveTheirChunks, StandingsPartition, HeldChunksAreInNoHand, TracesAreClaimedOnce, ClaimsHoldForGood, ChunksStandByTheirClaim, NothingClaimedIsEvicted, TheLeastGoes, LimitsHold, ReportedInOrder, EvictsWhileOver, IndexedStayTouched, AbandonsWhileOver, EventsGoOn, ClientsPagesRise};
 
 /// The pinned and the reported chunks stand in their lists, each once, and the evicted, abandoned and
 /// reported ones in the hand, each once, until they are given back.
@@ -53,4 +53,31 @@ pub fn limits_hold()
 /// The pages of one trace are reported in the order in which they came.
 pub fn reported_in_order()
     ensures { ReportedInOrder }
+{}
+
+/// Where the traces of indexed chunks are touched, traces go while too much is indexed, and no longer;
+/// each time it is the one touched longest ago.
+pub fn evicts_while_over()
+    ensures { EvictsWhileOver }
+{}
+
+/// After any events the traces of indexed chunks are touched.
+pub fn indexed_stay_touched()
+    ensures { IndexedStayTouched }
+{}
+
+/// Groups are abandoned while too much is pinned, and no longer; each time it is the one next to go.
+pub fn abandons_while_over()
+    ensures { AbandonsWhileOver }
+{}
+
+/// Events that follow others lead on from where those led.
+pub fn events_go_on()
+    ensures { EventsGoOn }
+{}
+
+/// Where each client's pages come in rising order, those of one trace are reported in rising order too,
+/// client by client.
+pub fn clients_pages_rise()
+    ensures { ClientsPagesRise }
 {}
