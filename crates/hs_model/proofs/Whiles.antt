@@ -10,7 +10,7 @@ use Rattle.hs_model.specs.State.{AgentState, start}
 use Rattle.hs_model.specs.Evicting.{is_over, evict_trace, evict_from}
 use Rattle.hs_model.specs.Abandoning.{pinned_groups, next_to_go, abandon_group, abandon_within}
 use Rattle.hs_model.specs.Stepping.{Event, after_event, after_from}
-use Rattle.hs_model.specs.Laws.{PlacesMatch, MatchNextToGo, IndexedAreTouched, Evicts, Stays, Goes, EvictsWhileOver, Abandons, Kept, Dropped, AbandonsWhileOver, IndexedStayTouched, EventsGoOn}
+use Rattle.hs_model.specs.Laws.{PlacesMatch, MatchNextToGo, IndexedAreTouched, Evicts, Stays, Goes, EvictsWhileOver, Abandons, Remains, Leaves, AbandonsWhileOver, IndexedStayTouched, EventsGoOn}
 use Rattle.hs_model.proofs.Traversal.{kept_after}
 use Rattle.hs_model.proofs.Placed.{match_kept}
 use Rattle.hs_model.proofs.Least.{the_least_goes}
@@ -35,17 +35,17 @@ drops_chosen : (settings : PlainSettings) (place : ℕ) (places : List ℕ) (s :
     → (o : Option Group) → next_to_go (pinned_groups s) ≡ o → MatchNextToGo (pinned_groups s) o → Abandons settings s (option_map_or (λ group. abandon_within settings places (abandon_group group s)) o s)
 drops_chosen settings place places s m few rest many None f e = let none = no_groups s m e in let zero_long : length s.pinned ≡ 0 = ap length none in absurd (omega arith)
 drops_chosen settings place places s m few rest many (Some group) f next =
-    Dropped s (abandon_within settings places (abandon_group group s)) group many next
+    Leaves s (abandon_within settings places (abandon_group group s)) group many next
     (rest (abandon_group group s) ((match_kept settings 0).abandons group s f m) (few_after settings place places s group few next))
 
 drops_if : (settings : PlainSettings) (place : ℕ) (places : List ℕ) (s : AgentState) → PlacesMatch s → length s.pinned ≤ length (place ∷ places) + settings.pins → Drops settings places
     → (b : Bool) → nat_lt settings.pins (length s.pinned) ≡ b
     → Abandons settings s (cond b (option_map_or (λ group. abandon_within settings places (abandon_group group s)) (next_to_go (pinned_groups s)) s) s)
 drops_if settings place places s m few rest true f = drops_chosen settings place places s m few rest (ltb-true _ _ f) (next_to_go (pinned_groups s)) refl (the_least_goes (pinned_groups s))
-drops_if settings place places s m few rest false f = Kept s (ltb-false _ _ f)
+drops_if settings place places s m few rest false f = Remains s (ltb-false _ _ f)
 
 drops : (settings : PlainSettings) (places : List ℕ) → Drops settings places
-drops settings [] s m few = Kept s (omega arith)
+drops settings [] s m few = Remains s (omega arith)
 drops settings (place ∷ places) s m few = drops_if settings place places s m few (drops settings places) (nat_lt settings.pins (length s.pinned)) refl
 
 pub abandons_while_over : AbandonsWhileOver

@@ -176,8 +176,8 @@ EvictsWhileOver = (settings : PlainSettings) (state : AgentState) → IndexedAre
 
 -- One state comes from another by abandonment: while too much is pinned, and no longer, the group that is next to go goes.
 pub data Abandons (settings : PlainSettings) : AgentState → AgentState → Type 0 where
-  Kept : (state : AgentState) → length state.pinned ≤ settings.pins → Abandons settings state state
-  Dropped :
+  Remains : (state : AgentState) → length state.pinned ≤ settings.pins → Abandons settings state state
+  Leaves :
       (state later : AgentState) (group : Group) → settings.pins < length state.pinned → IsNextToGo (pinned_groups state) group
       → Abandons settings (abandon_group group state) later → Abandons settings state later
 

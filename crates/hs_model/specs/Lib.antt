@@ -12,3 +12,5 @@ pub mod Samples
 pub mod EvictionExamples
 pub mod ClaimExamples
 pub mod AbandonExamples
+pub mod TurnExamples
+pub mod BookExamples
