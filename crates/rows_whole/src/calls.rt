@@ -39,7 +39,7 @@ pub(crate) fn called<R: Threads + Sync + AllocGlobal>(
         texts.push(word.to_string(alloc)?)?;
     }
     let mut source = MemorySource::new(alloc, input, streams.most, streams.read_fails)?;
-    let mut sink = MemorySink::new(alloc, 1 << 16, streams.most, streams.write_fails)?;
+    let mut sink = MemorySink::new(alloc, 1 << 24, streams.most, streams.write_fails)?;
     let status = hindsight(rt, alloc, &texts, &mut source, &mut sink, &OpenGate);
     Ok((status.number(), sink.bytes().to_vec(alloc)?))
 }

@@ -1,6 +1,9 @@
-//! The calls of the ground crate that the top call does not reach.
+//! The calls of the ground.
 
-use hs_base::{Laterals, List, NodeId, NodeSet, TraceId, rank_of};
+use hs_base::{
+    Failed, Laterals, List, MemorySink, MemorySource, NodeId, NodeSet, Sink, Source, TraceId,
+    rank_of,
+};
 use std::test::Fail;
 
 /// Traces and the first words of SplitMix64 from their seeds. The last id is wide: its halves' exclusive-or is
@@ -69,4 +72,58 @@ fn laterals_and_nodes(rt: HostRuntime) {
     assert_eq!(rt; two.union(NodeSet(2)), NodeSet(7));
     assert_eq!(rt; two.without(NodeSet(1)), NodeSet(4));
     assert!(rt; NodeSet::none().is_empty());
+}
+
+/// A million items, each appended for itself.
+#[test]
+fn long_lists(rt: HostRuntime) -> Result<(), Fail> {
+    let alloc = rt.alloc();
+    let mut list = List::new(alloc);
+    for item in 0..1_000_000u64 {
+        list.append(item)?;
+    }
+    assert_eq!(rt; list.get(999_999).copied(), Some(999_999));
+    list.reserve(1_000_000)?;
+    let mut list = List::with_room(alloc, 1_000_000)?;
+    for item in 0..1_000_000u64 {
+        list.append(item)?;
+    }
+    assert_eq!(rt; list.len(), 1_000_000);
+    let mut empty = List::<u64>::with_room(alloc, 0)?;
+    empty.reserve(0)?;
+    assert_eq!(rt; empty.pop(), None);
+    Ok(())
+}
+
+/// Reads the source to its end, and says how many bytes came.
+fn count_read(source: &mut MemorySource) -> Result<usize, Failed> {
+    let mut piece = [0; 4096];
+    let mut count = 0usize;
+    for _call in 0..1_000_000u32 {
+        let read = source.read(&mut piece)?;
+        if read == 0 {
+            break;
+        }
+        count = count.saturating_add(read);
+    }
+    Ok(count)
+}
+
+/// Streams over 16 MiB, and over nothing.
+#[test]
+fn memory_streams(rt: HostRuntime) -> Result<(), Fail> {
+    let alloc = rt.alloc();
+    let bytes = vec![in alloc; 7; 1 << 24]?;
+    let mut source = MemorySource::new(alloc, &bytes, 1 << 20, &[])?;
+    assert!(rt; count_read(&mut source) == Ok(1 << 24));
+    let mut source = MemorySource::new(alloc, &[], 1, &[])?;
+    assert!(rt; count_read(&mut source) == Ok(0));
+    let mut sink = MemorySink::new(alloc, 1 << 24, 1 << 24, &[])?;
+    assert!(rt; sink.write(&bytes) == Ok(1 << 24));
+    assert!(rt; sink.write(&[7]) == Err(Failed));
+    assert_eq!(rt; sink.bytes(), bytes.as_slice());
+    let mut sink = MemorySink::new(alloc, 0, 1, &[])?;
+    assert!(rt; sink.write(&[7]) == Err(Failed));
+    assert!(rt; sink.bytes().is_empty());
+    Ok(())
 }

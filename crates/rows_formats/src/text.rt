@@ -1,0 +1,77 @@
+//! Words, numbers and payloads, over values from outside.
+
+use hs_base::Memory;
+use hs_text::{
+    count_words, decode_payload, hex_number, is_payload, line_fault, number, payload_len, push_hex,
+    push_number, push_payload, split_line, split_word,
+};
+use std::alloc::Global;
+use std::test::Fail;
+
+/// Words and the numbers that they are.
+const NUMBERS: [(&[u8], Option<u64>); 6] = [
+    (b"0", Some(0)),
+    (b"10", Some(10)),
+    (b"18446744073709551615", Some(u64::MAX)),
+    (b"18446744073709551616", None),
+    (b"00", None),
+    (b"+1", None),
+];
+
+#[test]
+fn words_are_read(rt: HostRuntime) {
+    let split = split_line(b"got 3\nempty 4\n");
+    assert!(rt; split == Some((b"got 3".as_slice(), b"empty 4\n".as_slice())));
+    assert!(rt; split_word(b"got 3") == (b"got".as_slice(), Some(b"3".as_slice())));
+    assert!(rt; count_words(b"client 0 12") == 3);
+    assert!(rt; line_fault(b"client 0 12").is_none());
+    for (word, says) in &NUMBERS {
+        assert!(rt; number(word) == *says);
+    }
+    assert!(rt; hex_number(b"0000000000000001", 16) == Some(1));
+    assert!(rt; hex_number(b"ffffffffffffffffffffffffffffffff", 32) == Some(u128::MAX));
+}
+
+#[test]
+fn words_are_written(rt: HostRuntime) -> Result<(), Memory> {
+    let mut text = Vec::new(rt.alloc());
+    push_number(&mut text, 18446744073709551615)?;
+    push_hex(&mut text, 4, 175)?;
+    push_payload(&mut text, &[0, 255, 16])?;
+    push_payload(&mut text, &[])?;
+    assert!(rt; text.as_slice() == b"1844674407370955161500af00ff10-".as_slice());
+    Ok(())
+}
+
+/// Whether the bytes are those of the payload that is written of them.
+fn comes_back(alloc: Global, bytes: &[u8]) -> Result<bool, Memory> {
+    let mut word = Vec::new(alloc);
+    push_payload(&mut word, bytes)?;
+    if !is_payload(&word) || payload_len(&word) != bytes.len() {
+        return Ok(false);
+    }
+    Ok(decode_payload(alloc, &word)?.as_slice() == bytes)
+}
+
+#[test]
+fn payloads_come_back(rt: HostRuntime) -> Result<(), Fail> {
+    assert!(rt; comes_back(rt.alloc(), &[])?);
+    assert!(rt; comes_back(rt.alloc(), &[187, 15])?);
+    let longest = vec![in rt.alloc(); 0xa5; 65_535]?;
+    assert!(rt; comes_back(rt.alloc(), &longest)?);
+    Ok(())
+}
+
+/// 300,000 numbers, and as many words of 32 digits, in one text.
+#[test]
+fn long_texts_are_written(rt: HostRuntime) -> Result<(), Memory> {
+    let mut text = Vec::new(rt.alloc());
+    for _time in 0..300_000u32 {
+        push_number(&mut text, 0)?;
+        push_hex(&mut text, 32, 0)?;
+        push_hex(&mut text, 0, 1)?;
+    }
+    assert_eq!(rt; text.len(), 9_900_000);
+    assert!(rt; text.iter().all(|digit| *digit == b'0'));
+    Ok(())
+}

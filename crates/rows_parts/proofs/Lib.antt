@@ -1,0 +1,4 @@
+pub mod BookLemmas
+pub mod ClaimLemmas
+pub mod PageLemmas
+pub mod Sheets

@@ -1,0 +1,4 @@
+pub mod Books
+pub mod Claims
+pub mod Cores
+pub mod Pages

@@ -1,0 +1,174 @@
+//! Rows of samples, each with what comes of it.
+
+ghost use Rattle.hs_auto.specs.Watching.{IsAutoRule};
+
+use hs_auto::{Auto, Sampled};
+use hs_base::{AutoRule, Laterals, TraceId, TriggerId};
+use std::alloc::Global;
+use std::process::Abort;
+use std::test::Fail;
+
+const TRIGGER: TriggerId = TriggerId(1);
+
+/// A value, its trace, and the laterals with which it fires, or `None` where it stays quiet.
+type Row = (u64, u128, Option<&'static [u128]>);
+
+const EXCEPTION: AutoRule = AutoRule::Exception { trigger: TRIGGER };
+
+const EXCEPTION_ROWS: [Row; 3] = [(0, 1, None), (7, 2, Some(&[])), (0, 3, None)];
+
+const PERCENTILE: AutoRule = AutoRule::Percentile {
+    trigger: TRIGGER,
+    window: 4,
+    share: 7500,
+};
+
+const PERCENTILE_ROWS: [Row; 6] = [
+    (10, 1, None),
+    (20, 2, None),
+    (30, 3, None),
+    (40, 4, None),
+    (35, 5, Some(&[])),
+    (35, 6, None),
+];
+
+const CATEGORY: AutoRule = AutoRule::Category {
+    trigger: TRIGGER,
+    window: 4,
+    share: 5000,
+};
+
+const CATEGORY_ROWS: [Row; 6] = [
+    (1, 1, None),
+    (1, 2, None),
+    (1, 3, None),
+    (2, 4, None),
+    (2, 5, Some(&[])),
+    (2, 6, None),
+];
+
+const QUEUE: AutoRule = AutoRule::Queue {
+    trigger: TRIGGER,
+    window: 2,
+    share: 5000,
+    laterals: 2,
+};
+
+const QUEUE_ROWS: [Row; 4] = [
+    (1, 1, None),
+    (1, 2, None),
+    (5, 3, Some(&[2, 1])),
+    (9, 2, Some(&[3])),
+];
+
+/// Two of the last three must be less.
+const RANKED: AutoRule = AutoRule::Percentile {
+    trigger: TRIGGER,
+    window: 3,
+    share: 6000,
+};
+
+/// Values join above and below those that leave.
+const RANKED_ROWS: [Row; 10] = [
+    (30, 1, None),
+    (20, 1, None),
+    (10, 1, None),
+    (5, 1, None),
+    (15, 1, Some(&[])),
+    (12, 1, Some(&[])),
+    (9, 1, None),
+    (40, 1, Some(&[])),
+    (13, 1, Some(&[])),
+    (13, 1, None),
+];
+
+/// Whether these are the laterals, in their order.
+fn are(laterals: &Laterals, wanted: &[u128]) -> bool {
+    let mut place = 0u32;
+    for trace in wanted {
+        if laterals.get(place) != Some(TraceId(*trace)) {
+            return false;
+        }
+        place = place.saturating_add(1);
+    }
+    laterals.len() == place
+}
+
+/// Gives the samples in order.
+fn gives(rt: &impl Abort, alloc: Global, rule: AutoRule, rows: &[Row]) -> Result<(), Fail>
+    requires { IsAutoRule rule }
+{
+    let mut auto = Auto::make(alloc, rule)?;
+    for (value, trace, wanted) in rows {
+        let is_wanted = match auto.sample(*value, TraceId(*trace)) {
+            Sampled::Quiet => wanted.is_none(),
+            Sampled::Fired { laterals } => match wanted {
+                Some(wanted) => are(&laterals, wanted),
+                None => false,
+            },
+        };
+        assert!(rt; is_wanted, "{value} of {trace}");
+    }
+    Ok(())
+}
+
+#[test]
+fn each_kind_fires_by_its_rule(rt: HostRuntime) -> Result<(), Fail> {
+    gives(&rt, rt.alloc(), EXCEPTION, &EXCEPTION_ROWS)?;
+    gives(&rt, rt.alloc(), PERCENTILE, &PERCENTILE_ROWS)?;
+    gives(&rt, rt.alloc(), CATEGORY, &CATEGORY_ROWS)?;
+    gives(&rt, rt.alloc(), QUEUE, &QUEUE_ROWS)?;
+    gives(&rt, rt.alloc(), RANKED, &RANKED_ROWS)?;
+    Ok(())
+}
+
+const WIDE_PERCENTILE: AutoRule = AutoRule::Percentile {
+    trigger: TRIGGER,
+    window: 1024,
+    share: 9999,
+};
+
+const WIDE_CATEGORY: AutoRule = AutoRule::Category {
+    trigger: TRIGGER,
+    window: 1024,
+    share: 1,
+};
+
+const WIDE_QUEUE: AutoRule = AutoRule::Queue {
+    trigger: TRIGGER,
+    window: 1024,
+    share: 9999,
+    laterals: 32,
+};
+
+/// Gives 1,024 samples of 5 that fire nothing, and then one of 6. Answers with how many laterals it fires.
+fn fires_behind_a_full_window(alloc: Global, rule: AutoRule) -> Option<u32>
+    requires { IsAutoRule rule }
+{
+    let mut auto = Auto::make(alloc, rule).ok()?;
+    for trace in 0..1024u32 {
+        if auto.sample(5, TraceId(u128::from(trace))) != Sampled::Quiet {
+            return None;
+        }
+    }
+    match auto.sample(6, TraceId(1024)) {
+        Sampled::Fired { laterals } => Some(laterals.len()),
+        Sampled::Quiet => None,
+    }
+}
+
+#[test]
+fn the_widest_windows_fire(rt: HostRuntime) {
+    assert_eq!(rt;
+        fires_behind_a_full_window(rt.alloc(), WIDE_PERCENTILE),
+        Some(0)
+    );
+    assert_eq!(rt;
+        fires_behind_a_full_window(rt.alloc(), WIDE_CATEGORY),
+        Some(0)
+    );
+    assert_eq!(rt;
+        fires_behind_a_full_window(rt.alloc(), WIDE_QUEUE),
+        Some(32)
+    );
+}

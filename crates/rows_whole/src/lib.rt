@@ -1,0 +1,16 @@
+//! Tables over the top call: what it writes and answers for whole inputs, words and faults, and for the greatest
+//! workloads and the least; and over the text of an outcome.
+#![tactic(auto)]
+
+#[cfg(test)]
+mod calls;
+#[cfg(test)]
+mod faults;
+#[cfg(test)]
+mod outcome;
+#[cfg(test)]
+mod outputs;
+#[cfg(test)]
+mod refusals;
+#[cfg(test)]
+mod size;

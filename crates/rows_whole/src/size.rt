@@ -1,0 +1,49 @@
+//! The greatest workload.
+
+use crate::calls::replayed;
+use std::alloc::{AllocError, Global};
+use std::test::Fail;
+
+const HEAD: &str =
+    "hindsight 1\nnodes 1\nclients 1\nbuffers 1024\nsize 64\nthreshold 1024\ntraces 65536\npins 1024\nstride 64\nclient 0 0\n";
+
+const POINTS: u32 = 262_142;
+
+/// One trace of so many points without bytes.
+fn workload(alloc: Global) -> Result<String, AllocError> {
+    let mut text = String::from_str(alloc, HEAD)?;
+    text.push_str("begin 0000000000000001\n")?;
+    for _point in 0..POINTS {
+        text.push_str("point 7 -\n")?;
+    }
+    text.push_str("end\ndone\n")?;
+    Ok(text)
+}
+
+/// A page of 64 bytes has four of them. 1,024 pages have a buffer, and the pages behind them found the pool empty at the
+/// draw of their number.
+fn ledger(alloc: Global) -> Result<String, AllocError> {
+    let mut text = String::from_str(alloc, "ledger 262142\n")?;
+    for point in 0..POINTS {
+        let page = point / 4;
+        let line = if page < 1024 {
+            format!(in alloc; "0 0 {point} 0000000000000001 live\n")?
+        } else {
+            format!(in alloc; "0 0 {point} 0000000000000001 null {page}\n")?
+        };
+        text.push_str(line.as_str())?;
+    }
+    text.push_str("total 262142 live 4096 reported 0 null 258046 evicted 0 abandoned 0\ndone\n")?;
+    Ok(text)
+}
+
+/// 262,144 operations of one client have 262,142 records.
+#[test]
+fn most_operations_are_replayed(rt: HostRuntime) -> Result<(), Fail> {
+    let input = workload(rt.alloc())?;
+    let (status, written) = replayed(&rt, input.as_bytes())?;
+    assert_eq!(rt; status, 0);
+    let wanted = ledger(rt.alloc())?;
+    assert!(rt; written.as_slice() == wanted.as_bytes());
+    Ok(())
+}
