@@ -7,4 +7,3 @@ pub mod Starts
 pub mod Finishes
 pub mod FirstClient
 pub mod OutcomeLemmas
-pub mod Examples

@@ -1,5 +1,6 @@
 //! The calls of the ground.
 
+use hs_base::limits::MAX_INPUT;
 use hs_base::{
     Failed, Laterals, List, MemorySink, MemorySource, NodeId, NodeSet, Sink, Source, TraceId,
     rank_of,
@@ -72,6 +73,11 @@ fn laterals_and_nodes(rt: HostRuntime) {
     assert_eq!(rt; two.union(NodeSet(2)), NodeSet(7));
     assert_eq!(rt; two.without(NodeSet(1)), NodeSet(4));
     assert!(rt; NodeSet::none().is_empty());
+    let mut rest = two;
+    for node in [Some(NodeId(0)), Some(NodeId(2)), None] {
+        assert_eq!(rt; rest.first(), node);
+        assert_eq!(rt; rest.take_first(), node);
+    }
 }
 
 /// A million items, each appended for itself.
@@ -83,7 +89,12 @@ fn long_lists(rt: HostRuntime) -> Result<(), Fail> {
         list.append(item)?;
     }
     assert_eq!(rt; list.get(999_999).copied(), Some(999_999));
+    list.append_slice(&[])?;
+    let more = vec![in alloc; 7; 1_000_000]?;
+    list.append_slice(&more)?;
     list.reserve(1_000_000)?;
+    list.push_slice(&more);
+    assert_eq!(rt; list.len(), 3_000_000);
     let mut list = List::with_room(alloc, 1_000_000)?;
     for item in 0..1_000_000u64 {
         list.append(item)?;
@@ -91,6 +102,7 @@ fn long_lists(rt: HostRuntime) -> Result<(), Fail> {
     assert_eq!(rt; list.len(), 1_000_000);
     let mut empty = List::<u64>::with_room(alloc, 0)?;
     empty.reserve(0)?;
+    empty.push_slice(&[]);
     assert_eq!(rt; empty.pop(), None);
     Ok(())
 }
@@ -113,13 +125,13 @@ fn count_read(source: &mut MemorySource) -> Result<usize, Failed> {
 #[test]
 fn memory_streams(rt: HostRuntime) -> Result<(), Fail> {
     let alloc = rt.alloc();
-    let bytes = vec![in alloc; 7; 1 << 24]?;
+    let bytes = vec![in alloc; 7; MAX_INPUT]?;
     let mut source = MemorySource::new(alloc, &bytes, 1 << 20, &[])?;
-    assert!(rt; count_read(&mut source) == Ok(1 << 24));
+    assert!(rt; count_read(&mut source) == Ok(MAX_INPUT));
     let mut source = MemorySource::new(alloc, &[], 1, &[])?;
     assert!(rt; count_read(&mut source) == Ok(0));
-    let mut sink = MemorySink::new(alloc, 1 << 24, 1 << 24, &[])?;
-    assert!(rt; sink.write(&bytes) == Ok(1 << 24));
+    let mut sink = MemorySink::new(alloc, MAX_INPUT, MAX_INPUT, &[])?;
+    assert!(rt; sink.write(&bytes) == Ok(MAX_INPUT));
     assert!(rt; sink.write(&[7]) == Err(Failed));
     assert_eq!(rt; sink.bytes(), bytes.as_slice());
     let mut sink = MemorySink::new(alloc, 0, 1, &[])?;

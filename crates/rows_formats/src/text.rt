@@ -1,9 +1,12 @@
 //! Words, numbers and payloads, over values from outside.
 
-use hs_base::Memory;
+use hs_base::limits::MAX_PAYLOAD;
+use hs_base::{Memory, TraceId};
 use hs_text::{
-    count_words, decode_payload, hex_number, is_payload, line_fault, number, payload_len, push_hex,
-    push_number, push_payload, split_line, split_word,
+    count_words, decode_payload, end_line, hex_number, is_payload, line_fault, number, payload_len,
+    push_hex, push_number, push_payload, push_spaced, push_spaced_hex, push_spaced_number,
+    push_spaced_numbers, push_spaced_payload, push_spaced_trace, push_spaced_traces, split_line,
+    split_word,
 };
 use std::alloc::Global;
 use std::test::Fail;
@@ -43,6 +46,28 @@ fn words_are_written(rt: HostRuntime) -> Result<(), Memory> {
     Ok(())
 }
 
+const LINE: &[u8] =
+    b"queue abc 7 00af 000000000000000a 0000000000000000000000000000000b 00ff - 1 18446744073709551615 0000000000000001 0000000000000002\n";
+
+#[test]
+fn lines_are_written(rt: HostRuntime) -> Result<(), Fail> {
+    let mut text = Vec::from_slice(rt.alloc(), b"queue")?;
+    push_spaced(&mut text, b"abc")?;
+    push_spaced_number(&mut text, 7)?;
+    push_spaced_hex(&mut text, 4, 175)?;
+    push_spaced_trace(&mut text, 1, TraceId(10))?;
+    push_spaced_trace(&mut text, 2, TraceId(11))?;
+    push_spaced_payload(&mut text, &[0, 255])?;
+    push_spaced_payload(&mut text, &[])?;
+    push_spaced_numbers(&mut text, &[])?;
+    push_spaced_numbers(&mut text, &[1, u64::MAX])?;
+    push_spaced_traces(&mut text, 1, &[])?;
+    push_spaced_traces(&mut text, 1, &[TraceId(1), TraceId(2)])?;
+    end_line(&mut text)?;
+    assert!(rt; text.as_slice() == LINE);
+    Ok(())
+}
+
 /// Whether the bytes are those of the payload that is written of them.
 fn comes_back(alloc: Global, bytes: &[u8]) -> Result<bool, Memory> {
     let mut word = Vec::new(alloc);
@@ -57,14 +82,14 @@ fn comes_back(alloc: Global, bytes: &[u8]) -> Result<bool, Memory> {
 fn payloads_come_back(rt: HostRuntime) -> Result<(), Fail> {
     assert!(rt; comes_back(rt.alloc(), &[])?);
     assert!(rt; comes_back(rt.alloc(), &[187, 15])?);
-    let longest = vec![in rt.alloc(); 0xa5; 65_535]?;
+    let longest = vec![in rt.alloc(); 0xa5; MAX_PAYLOAD]?;
     assert!(rt; comes_back(rt.alloc(), &longest)?);
     Ok(())
 }
 
-/// 300,000 numbers, and as many words of 32 digits, in one text.
+/// 300,000 numbers, words of 32 digits and lines, and 100,000 numbers and traces in one line.
 #[test]
-fn long_texts_are_written(rt: HostRuntime) -> Result<(), Memory> {
+fn long_texts_are_written(rt: HostRuntime) -> Result<(), Fail> {
     let mut text = Vec::new(rt.alloc());
     for _time in 0..300_000u32 {
         push_number(&mut text, 0)?;
@@ -73,5 +98,15 @@ fn long_texts_are_written(rt: HostRuntime) -> Result<(), Memory> {
     }
     assert_eq!(rt; text.len(), 9_900_000);
     assert!(rt; text.iter().all(|digit| *digit == b'0'));
+    let numbers = vec![in rt.alloc(); u64::MAX; 100_000]?;
+    push_spaced_numbers(&mut text, &numbers)?;
+    let traces = vec![in rt.alloc(); TraceId(u128::MAX); 100_000]?;
+    push_spaced_traces(&mut text, 2, &traces)?;
+    assert_eq!(rt; text.len(), 15_300_000);
+    for _line in 0..300_000u32 {
+        push_spaced(&mut text, b"")?;
+        end_line(&mut text)?;
+    }
+    assert_eq!(rt; text.len(), 15_900_000);
     Ok(())
 }

@@ -1,5 +1,6 @@
 ghost use Rattle.std.specs.Prelude.{◌≡◌, IsSome};
 
+use hs_base::limits::{MAX_BUFFERS, MAX_SIZE};
 use hs_base::{ClientId, TraceId};
 use hs_words::{Added, Chunk, Drawn, Header, Held, PageFault, Stock, Token, read_page};
 use std::alloc::Global;
@@ -173,8 +174,10 @@ fn read_filled(alloc: Global, mut chunk: Chunk, payload: &[u8]) -> Option<(u32, 
 /// Pages of the greatest size, with as many pieces as may stand there and with the longest one.
 #[test]
 fn widest_pages_are_read(rt: HostRuntime) -> Result<(), Fail> {
-    let mut chunks = Stock::make(rt.alloc(), 1024, 32_768).ok().ok_or("memory")?;
-    assert_eq!(rt; chunks.len(), 1024);
+    let mut chunks = Stock::make(rt.alloc(), MAX_BUFFERS, MAX_SIZE)
+        .ok()
+        .ok_or("memory")?;
+    assert_eq!(rt; chunks.len(), MAX_BUFFERS as usize);
     let longest = vec![in rt.alloc(); 9; 32_734]?;
     for (payload, count) in [([].as_slice(), 3274), (longest.as_slice(), 1)] {
         let chunk = chunks.pop().ok_or("a chunk was made")?;

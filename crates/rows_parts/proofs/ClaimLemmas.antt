@@ -4,10 +4,10 @@ use Rattle.hs_base.specs.declared.ids.TraceId.{TraceId}
 use Rattle.hs_base.specs.declared.ids.TriggerId.{TriggerId}
 use Rattle.hs_base.specs.declared.told.Group.{Group}
 use Rattle.hs_base.specs.declared.node_set.NodeSet.{NodeSet}
-use Rattle.hs_pins.specs.Buffers.{Buffer}
+use Rattle.hs_words.specs.Buffers.{Buffer}
 use Rattle.hs_pins.specs.Groups.{Groups}
-use Rattle.hs_pins.specs.Lanes.{Lanes, same_id, has_lane, with_groups, total_of}
-use Rattle.hs_pins.specs.declared.claim.Claim.{Claim}
+use Rattle.hs_pins.specs.Queues.{Queues, same_id, has_queue, with_groups, total_of}
+use Rattle.hs_pins.specs.declared.claim.ClaimedTrace.{ClaimedTrace}
 use Rattle.hs_pins.specs.Pinning.{Pinning, Claims, claim_in, claimed, claimed_by, is_abandoned, arrived}
 use Rattle.rows_parts.specs.Claims.{HasClaimed}
 use Rattle.hs_pins.proofs.PinLemmas.{found-set}
@@ -17,33 +17,33 @@ one-more total before items old x t b i e =
     t ∙ ap (λ n. n + length items) b ∙ ap (λ (xs : List _). 0 + length xs) (i ∙ ap (λ o. o ++ x ∷ []) e)
 
 pub has-claimed : {L : Type 0} (old new : Pinning L) (group : Group) (laterals : List TraceId) (chunks : List (Buffer L)) (crumbs : NodeSet)
-    → new ≡ claimed old group laterals (record { 0 = 7 }) chunks crumbs → old.claims ≡ [] → has_lane old.lanes (record { 0 = 1 }) → total_of new.lanes ≡ 1 → HasClaimed new
-has-claimed {L} old new group laterals chunks crumbs e none lane total = record {
+    → new ≡ claimed old group laterals (record { 0 = 7 }) chunks crumbs → old.claims ≡ [] → has_queue old.queues (record { 0 = 1 }) → total_of new.queues ≡ 1 → HasClaimed new
+has-claimed {L} old new group laterals chunks crumbs e none queue total = record {
   claim = let P : Claims → Type 0 = λ cs. IsSome (claim_in cs (record { 0 = 7 })) in
       subst P (sym (ap (λ (s : Pinning L). s.claims) e ∙ ap (λ cs. claimed_by cs group laterals (record { 0 = 7 }) crumbs) none)) refl;
-  lane = let P : Lanes L → Type 0 = λ ls. has_lane ls (record { 0 = 1 }) in
-      subst P (sym (ap (λ (s : Pinning L). s.lanes) e)) (found-set (same_id (record { 0 = 1 })) (same_id group.trigger) old.lanes _ lane);
+  queue = let P : Queues L → Type 0 = λ ls. has_queue ls (record { 0 = 1 }) in
+      subst P (sym (ap (λ (s : Pinning L). s.queues) e)) (found-set (same_id (record { 0 = 1 })) (same_id group.trigger) old.queues _ queue);
   total = total;
 }
 
 -- a trigger id stays declared
-pub keeps : {L : Type 0} (old new : Pinning L) (id other : TriggerId) (groups : Groups L) → has_lane old.lanes id → new ≡ record old { lanes = with_groups old.lanes other groups } → has_lane new.lanes id
-keeps {L} old new id other groups lane e =
-    let P : Lanes L → Type 0 = λ ls. has_lane ls id in
-    subst P (sym (ap (λ (s : Pinning L). s.lanes) e)) (found-set (same_id id) (same_id other) old.lanes groups lane)
+pub keeps : {L : Type 0} (old new : Pinning L) (id other : TriggerId) (groups : Groups L) → has_queue old.queues id → new ≡ record old { queues = with_groups old.queues other groups } → has_queue new.queues id
+keeps {L} old new id other groups queue e =
+    let P : Queues L → Type 0 = λ ls. has_queue ls id in
+    subst P (sym (ap (λ (s : Pinning L). s.queues) e)) (found-set (same_id id) (same_id other) old.queues groups queue)
 
 pub keeps_after_claim : {L T E : Type 0} (old new : Pinning L) (id : TriggerId) (group : Group) (laterals : List TraceId) (trace : TraceId) (chunks : List (Buffer L)) (crumbs : NodeSet) (answer : Result T E)
-    → OnOk answer (new ≡ claimed old group laterals trace chunks crumbs) → OnErr answer (new ≡ old) → has_lane old.lanes id → has_lane new.lanes id
-keeps_after_claim {L} old new id group laterals trace chunks crumbs (Ok x) ok err lane =
-    let P : Lanes L → Type 0 = λ ls. has_lane ls id in
-    subst P (sym (ap (λ (s : Pinning L). s.lanes) ok)) (found-set (same_id id) (same_id group.trigger) old.lanes _ lane)
-keeps_after_claim {L} old new id group laterals trace chunks crumbs (Err x) ok err lane =
-    let P : Lanes L → Type 0 = λ ls. has_lane ls id in
-    subst P (sym (ap (λ (s : Pinning L). s.lanes) err)) lane
+    → OnOk answer (new ≡ claimed old group laterals trace chunks crumbs) → OnErr answer (new ≡ old) → has_queue old.queues id → has_queue new.queues id
+keeps_after_claim {L} old new id group laterals trace chunks crumbs (Ok x) ok err queue =
+    let P : Queues L → Type 0 = λ ls. has_queue ls id in
+    subst P (sym (ap (λ (s : Pinning L). s.queues) ok)) (found-set (same_id id) (same_id group.trigger) old.queues _ queue)
+keeps_after_claim {L} old new id group laterals trace chunks crumbs (Err x) ok err queue =
+    let P : Queues L → Type 0 = λ ls. has_queue ls id in
+    subst P (sym (ap (λ (s : Pinning L). s.queues) err)) queue
 
-pub keeps_after_arrival : {L : Type 0} (old new : Pinning L) (id : TriggerId) (chunk : Buffer L) (claim : Option Claim) → IsSome claim
-    → IfSome claim (λ c. (is_abandoned old c.group ≡ false) × (new ≡ arrived old c chunk)) → has_lane old.lanes id → has_lane new.lanes id
-keeps_after_arrival old new id chunk None some arrives lane = cc
-keeps_after_arrival {L} old new id chunk (Some c) some arrives lane =
-    let P : Lanes L → Type 0 = λ ls. has_lane ls id in
-    subst P (sym (ap (λ (s : Pinning L). s.lanes) arrives.1)) (found-set (same_id id) (same_id c.group.trigger) old.lanes _ lane)
+pub keeps_after_arrival : {L : Type 0} (old new : Pinning L) (id : TriggerId) (chunk : Buffer L) (claim : Option ClaimedTrace) → IsSome claim
+    → IfSome claim (λ c. (is_abandoned old c.group ≡ false) × (new ≡ arrived old c chunk)) → has_queue old.queues id → has_queue new.queues id
+keeps_after_arrival old new id chunk None some arrives queue = cc
+keeps_after_arrival {L} old new id chunk (Some c) some arrives queue =
+    let P : Queues L → Type 0 = λ ls. has_queue ls id in
+    subst P (sym (ap (λ (s : Pinning L). s.queues) arrives.1)) (found-set (same_id id) (same_id c.group.trigger) old.queues _ queue)

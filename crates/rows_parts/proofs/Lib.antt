@@ -1,4 +1,5 @@
 pub mod BookLemmas
 pub mod ClaimLemmas
 pub mod PageLemmas
+pub mod RuleLemmas
 pub mod Sheets

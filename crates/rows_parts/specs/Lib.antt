@@ -2,3 +2,4 @@ pub mod Books
 pub mod Claims
 pub mod Cores
 pub mod Pages
+pub mod Rising

@@ -1,8 +1,9 @@
 //! Rows of samples, each with what comes of it.
 
-ghost use Rattle.hs_auto.specs.Watching.{IsAutoRule};
+ghost use Rattle.hs_base.specs.Rules.{IsAutoRule};
 
 use hs_auto::{Auto, Sampled};
+use hs_base::limits::{MAX_LATERALS, MAX_WINDOW, WHOLE_SHARE};
 use hs_base::{AutoRule, Laterals, TraceId, TriggerId};
 use std::alloc::Global;
 use std::process::Abort;
@@ -124,21 +125,21 @@ fn each_kind_fires_by_its_rule(rt: HostRuntime) -> Result<(), Fail> {
 
 const WIDE_PERCENTILE: AutoRule = AutoRule::Percentile {
     trigger: TRIGGER,
-    window: 1024,
-    share: 9999,
+    window: MAX_WINDOW,
+    share: WHOLE_SHARE - 1,
 };
 
 const WIDE_CATEGORY: AutoRule = AutoRule::Category {
     trigger: TRIGGER,
-    window: 1024,
+    window: MAX_WINDOW,
     share: 1,
 };
 
 const WIDE_QUEUE: AutoRule = AutoRule::Queue {
     trigger: TRIGGER,
-    window: 1024,
-    share: 9999,
-    laterals: 32,
+    window: MAX_WINDOW,
+    share: WHOLE_SHARE - 1,
+    laterals: MAX_LATERALS as u32,
 };
 
 /// Gives 1,024 samples of 5 that fire nothing, and then one of 6. Answers with how many laterals it fires.
@@ -146,12 +147,12 @@ fn fires_behind_a_full_window(alloc: Global, rule: AutoRule) -> Option<u32>
     requires { IsAutoRule rule }
 {
     let mut auto = Auto::make(alloc, rule).ok()?;
-    for trace in 0..1024u32 {
+    for trace in 0..MAX_WINDOW {
         if auto.sample(5, TraceId(u128::from(trace))) != Sampled::Quiet {
             return None;
         }
     }
-    match auto.sample(6, TraceId(1024)) {
+    match auto.sample(6, TraceId(u128::from(MAX_WINDOW))) {
         Sampled::Fired { laterals } => Some(laterals.len()),
         Sampled::Quiet => None,
     }

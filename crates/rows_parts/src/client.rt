@@ -2,6 +2,7 @@ ghost use Rattle.std.specs.Prelude.{◌≡◌};
 ghost use Rattle.hs_client.specs.Core.{HasClearChunk};
 ghost use Rattle.rows_parts.specs.Cores.{IsReady, HasSize, DrawsIt};
 
+use hs_base::limits::{MAX_OPERATIONS, MAX_SIZE, MIN_SIZE};
 use hs_base::{ClientId, TraceId};
 use hs_client::{Begun, ClientCore, Ended, Pointed, any_steps_make_the_book};
 use hs_journal::{Draw, PageNote};
@@ -147,13 +148,13 @@ fn long_record_crosses_pages(rt: HostRuntime) -> Result<(), Fail> {
 /// A core that counts 262,144 calls, and one that counts none.
 #[test]
 fn most_calls_and_none(rt: HostRuntime) -> Result<(), Fail> {
-    let mut core = ClientCore::<()>::make(rt.alloc(), OWNER, 32_768, 262_144)?;
-    for trace in 0..131_072u32 {
+    let mut core = ClientCore::<()>::make(rt.alloc(), OWNER, MAX_SIZE, MAX_OPERATIONS)?;
+    for trace in 0..MAX_OPERATIONS / 2 {
         assert!(rt; core.begin(TraceId(u128::from(trace))) == Begun::Began);
         assert!(rt; matches!(core.end(), Ended::Ended(None)));
     }
     assert!(rt; core.begin(TraceId(0)) == Begun::Spent);
-    let mut core = ClientCore::<()>::make(rt.alloc(), OWNER, 64, 0)?;
+    let mut core = ClientCore::<()>::make(rt.alloc(), OWNER, MIN_SIZE, 0)?;
     assert!(rt; core.begin(TraceId(0)) == Begun::Spent);
     let book = core.finish();
     assert!(rt; book.draws.is_empty() && book.pages.is_empty());

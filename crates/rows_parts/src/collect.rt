@@ -3,6 +3,7 @@
 ghost use Rattle.std.specs.Prelude.{◌+◌, ◌<◌, ◌≤◌, ◌^◌, OnOk};
 ghost use Rattle.rows_parts.specs.Pages.{HasSheet, HasAdded};
 
+use hs_base::limits::MAX_SIZE;
 use hs_base::{ClientId, Memory, RecordId, TraceId};
 use hs_collect::{Collector, TraceRecord};
 use hs_words::{Added, Chunk, Header, Stock};
@@ -104,7 +105,7 @@ fn add_page(
 /// 80 pages of the greatest size have 261,920 records of one trace.
 #[test]
 fn a_trace_of_all_records(rt: HostRuntime) -> Result<(), Fail> {
-    let mut chunk = Stock::make(rt.alloc(), 1, 32_768)?
+    let mut chunk = Stock::make(rt.alloc(), 1, MAX_SIZE)?
         .pop()
         .ok_or("a chunk was made")?;
     let mut collector = Collector::make(rt.alloc())?;

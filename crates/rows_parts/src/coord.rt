@@ -2,6 +2,7 @@
 
 ghost use Rattle.std.specs.Prelude.{◌≡◌, ◌<◌, ◌≤◌, OnOk};
 
+use hs_base::limits::MAX_NODES;
 use hs_base::{
     Ask, Group, GroupId, Laterals, Memory, NodeId, NodeSet, Told, TraceId, TriggerId, Why,
 };
@@ -104,7 +105,7 @@ fn follows_crumbs_round(rt: HostRuntime) -> Result<(), Fail> {
 /// 50,000 groups of a coordinator of 16 nodes, each told of by the first node and answered by the last.
 #[test]
 fn follows_many_groups(rt: HostRuntime) -> Result<(), Fail> {
-    let mut coordinator = Coordinator::make(rt.alloc(), 16)?;
+    let mut coordinator = Coordinator::make(rt.alloc(), MAX_NODES)?;
     for number in 0..50_000u32 {
         let asks = tell(&mut coordinator, number, 0, 15, Why::Fired)?;
         assert_eq!(rt; asks.to, NodeSet(1 << 15), "{number}");

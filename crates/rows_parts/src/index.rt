@@ -2,6 +2,7 @@
 
 ghost use Rattle.std.specs.Prelude.{◌<◌, IsSome};
 
+use hs_base::limits::{MAX_BUFFERS, MAX_THRESHOLD, MAX_TRACES, MIN_SIZE};
 use hs_base::{ClientId, Crumb, List, NodeId, NodeSet, TraceId};
 use hs_index::{Gone, TraceIndex};
 use hs_words::{Chunk, Header, Held, Stock};
@@ -108,7 +109,11 @@ fn index_of(alloc: Global, threshold: u32, traces: u32) -> Result<TraceIndex<()>
 
 /// Chunks of the least size, if memory serves.
 fn chunks_of(alloc: Global) -> Result<List<Chunk>, Fail> {
-    Ok(Stock::make(alloc, 1024, 64).ok().ok_or("memory")?)
+    Ok(
+        Stock::make(alloc, MAX_BUFFERS, MIN_SIZE)
+            .ok()
+            .ok_or("memory")?,
+    )
 }
 
 /// Chunks of the traces 1, 2, 1, 3, of which three may stay. The stock's last chunk comes first.
@@ -149,7 +154,7 @@ fn a_crumb_alone_goes_first(rt: HostRuntime) -> Result<(), Fail> {
 fn most_traces_stay(rt: HostRuntime) -> Result<(), Fail> {
     let mut chunks = chunks_of(rt.alloc())?;
     let mut more = chunks_of(rt.alloc())?;
-    let mut index = index_of(rt.alloc(), 1024, 65_536)?;
+    let mut index = index_of(rt.alloc(), MAX_THRESHOLD, MAX_TRACES)?;
     for trace in 0..1024u32 {
         assert!(rt; is_none(arrive(&mut index, chunks.pop(), trace)), "{trace}");
     }
@@ -178,7 +183,7 @@ fn most_traces_stay(rt: HostRuntime) -> Result<(), Fail> {
 fn a_trace_of_all_chunks_goes_whole(rt: HostRuntime) -> Result<(), Fail> {
     let mut chunks = chunks_of(rt.alloc())?;
     let mut more = chunks_of(rt.alloc())?;
-    let mut index = index_of(rt.alloc(), 1024, 65_536)?;
+    let mut index = index_of(rt.alloc(), MAX_THRESHOLD, MAX_TRACES)?;
     for count in 0..1024u32 {
         assert!(rt; is_none(arrive(&mut index, chunks.pop(), 7)), "{count}");
     }

@@ -18,4 +18,6 @@ mod pins;
 #[cfg(test)]
 mod pool;
 #[cfg(test)]
+mod rules;
+#[cfg(test)]
 mod sched;

@@ -1,9 +1,13 @@
 ghost use Rattle.std.specs.Prelude.{◌≡◌, [], ◌∷◌, IfOk, IsSome, Some, option_map};
 ghost use Rattle.hs_words.specs.Chunks.{header_in};
-ghost use Rattle.hs_pins.specs.Lanes.{has_lane, total_of};
+ghost use Rattle.hs_pins.specs.Queues.{has_queue, total_of};
 ghost use Rattle.hs_pins.specs.Pinning.{bucket_in};
 ghost use Rattle.rows_parts.specs.Claims.{HasClaimed};
 
+use crate::rules::rules;
+use hs_base::limits::{
+    MAX_BUFFERS, MAX_PINS, MAX_SIZE, MAX_STRIDE, MAX_THRESHOLD, MAX_TRACES, MAX_TRIGGER,
+};
 use hs_base::{
     ClientId, Crumb, Group, GroupId, Laterals, List, Memory, NodeId, NodeSet, Settings, TraceId,
     TriggerId, TriggerRule,
@@ -58,10 +62,10 @@ fn one_rule(alloc: Global) -> Result<List<TriggerRule>, Memory>
 
 fn fresh(alloc: Global) -> Result<Pins<()>, Memory>
     ensures claims { IfOk result (λ pins. pins.claims ≡ []) }
-    ensures lane { IfOk result (λ pins. has_lane pins.lanes (record { 0 = 1 })) }
+    ensures queue { IfOk result (λ pins. has_queue pins.queues (record { 0 = 1 })) }
     ensures bucket { IfOk result (λ pins. IsSome (bucket_in pins.buckets (record { 0 = 1 }))) }
     ensures admitted { IfOk result (λ pins. pins.admitted ≡ 0) }
-    ensures total { IfOk result (λ pins. total_of pins.lanes ≡ 0) }
+    ensures total { IfOk result (λ pins. total_of pins.queues ≡ 0) }
 {
     let settings = Settings {
         nodes: 1,
@@ -175,8 +179,8 @@ fn the_next_chunk_is_taken(rt: HostRuntime) -> Result<(), Fail> {
 
 /// Claims a trace with these chunks and no crumb, and says whether it is claimed then.
 fn claims(pins: &mut Pins<()>, number: u32, trace: TraceId, held: List<Held<()>>) -> bool
-    requires { has_lane pins.old.lanes (record { 0 = 1 }) }
-    ensures { has_lane pins.new.lanes (record { 0 = 1 }) }
+    requires { has_queue pins.old.queues (record { 0 = 1 }) }
+    ensures { has_queue pins.new.queues (record { 0 = 1 }) }
 {
     if pins.owner(trace).is_some() || 1_000_000 < pins.chunks() || 1_000_000 < held.len() {
         return false;
@@ -192,8 +196,8 @@ fn claims(pins: &mut Pins<()>, number: u32, trace: TraceId, held: List<Held<()>>
 /// Whether a chunk of the trace 7 is pinned.
 fn arrives(pins: &mut Pins<()>, held: Held<()>) -> bool
     requires trace { option_map (λ header. header.trace) (header_in held.chunk) ≡ Some (record { 0 = 7 }) }
-    requires lane { has_lane pins.old.lanes (record { 0 = 1 }) }
-    ensures { has_lane pins.new.lanes (record { 0 = 1 }) }
+    requires queue { has_queue pins.old.queues (record { 0 = 1 }) }
+    ensures { has_queue pins.new.queues (record { 0 = 1 }) }
 {
     if pins.owner(TRACE).is_none() || 1_000_000 < pins.chunks() {
         return false;
@@ -203,8 +207,8 @@ fn arrives(pins: &mut Pins<()>, held: Held<()>) -> bool
 
 /// Whether the next chunk is one of this group.
 fn takes(pins: &mut Pins<()>, number: u32) -> bool
-    requires { has_lane pins.old.lanes (record { 0 = 1 }) }
-    ensures { has_lane pins.new.lanes (record { 0 = 1 }) }
+    requires { has_queue pins.old.queues (record { 0 = 1 }) }
+    ensures { has_queue pins.new.queues (record { 0 = 1 }) }
 {
     match pins.take_next(TriggerId(1)) {
         Some(next) => next.group == group(number),
@@ -235,18 +239,41 @@ fn pages(alloc: Global, count: u32) -> Result<List<Held<()>>, Memory> {
 #[test]
 fn most_traces_and_chunks_are_claimed(rt: HostRuntime) -> Result<(), Fail> {
     let mut pins = fresh(rt.alloc())?;
-    for number in 0..65_536u32 {
+    for number in 0..MAX_TRACES {
         let trace = TraceId(8 + u128::from(number));
         assert!(rt; claims(&mut pins, number, trace, List::new(rt.alloc())));
     }
-    assert!(rt; claims(&mut pins, 65_536, TRACE, pages(rt.alloc(), 1024)?));
-    for number in 1024..2048u32 {
+    assert!(rt; claims(&mut pins, MAX_TRACES, TRACE, pages(rt.alloc(), MAX_PINS)?));
+    for number in 0..MAX_PINS {
         assert!(rt; arrives(&mut pins, page(rt.alloc(), number)?));
     }
-    assert_eq!(rt; pins.chunks(), 2048);
-    for _chunk in 0..2048u32 {
-        assert!(rt; takes(&mut pins, 65_536));
+    assert_eq!(rt; pins.chunks(), 2 * MAX_PINS);
+    for _chunk in 0..2 * MAX_PINS {
+        assert!(rt; takes(&mut pins, MAX_TRACES));
     }
-    assert!(rt; !takes(&mut pins, 65_536));
+    assert!(rt; !takes(&mut pins, MAX_TRACES));
+    Ok(())
+}
+
+/// As many trigger ids as there may be, and none.
+#[test]
+fn most_rules_and_none(rt: HostRuntime) -> Result<(), Fail> {
+    for count in [0, MAX_TRIGGER] {
+        let settings = Settings {
+            nodes: 1,
+            clients: 1,
+            buffers: MAX_BUFFERS,
+            size: MAX_SIZE,
+            threshold: MAX_THRESHOLD,
+            traces: MAX_TRACES,
+            pins: MAX_PINS,
+            stride: MAX_STRIDE,
+            triggers: rules(rt.alloc(), count)?,
+            autos: List::new(rt.alloc()),
+        };
+        let pins = Pins::<()>::make(rt.alloc(), NodeId(0), &settings)?;
+        assert_eq!(rt; pins.chunks(), 0);
+        assert_eq!(rt; pins.next_cost(TriggerId(count)), None);
+    }
     Ok(())
 }

@@ -1,6 +1,7 @@
 ghost use Rattle.std.specs.Prelude.{◌≡◌, ◌+◌, ◌-◌, ◌<◌, ◌^◌};
 ghost use Rattle.hs_words.specs.PoolAnswers.{event_drawn, stamp_drawn};
 
+use hs_base::limits::{MAX_BUFFERS, MAX_SIZE};
 use hs_pool::PlainPool;
 use hs_words::{Drawn, Given, Held, Stock};
 use std::test::Fail;
@@ -16,13 +17,15 @@ fn answer_of(drawn: &Drawn<()>) -> (Option<u32>, u64) {
 /// 1,024 buffers wait in their order, and then none.
 #[test]
 fn all_buffers_are_got(rt: HostRuntime) -> Result<(), Fail> {
-    let chunks = Stock::make(rt.alloc(), 1024, 64).ok().ok_or("memory")?;
+    let chunks = Stock::make(rt.alloc(), MAX_BUFFERS, MAX_SIZE)
+        .ok()
+        .ok_or("memory")?;
     let mut pool = PlainPool::make(rt.alloc(), chunks).ok().ok_or("memory")?;
-    for number in 0..1024u32 {
+    for number in 0..MAX_BUFFERS {
         let drawn = pool.draw();
         assert_eq!(rt; answer_of(&drawn), (Some(number), u64::from(number)));
     }
-    assert_eq!(rt; answer_of(&pool.draw()), (None, 1024));
+    assert_eq!(rt; answer_of(&pool.draw()), (None, u64::from(MAX_BUFFERS)));
     Ok(())
 }
 

@@ -1,8 +1,11 @@
 //! Turns over two queues of equal items.
 
 ghost use Rattle.std.specs.Prelude.{◌≡◌, ◌+◌, ℕ, [], replicate, if◌then◌else◌, ◌==◌, IfOk, IsSome};
-ghost use Rattle.hs_sched.specs.Turns.{AreRules, share_of, shares_of};
+ghost use Rattle.hs_base.specs.Rules.{AreRules};
+ghost use Rattle.hs_sched.specs.Turns.{share_of, shares_of};
 
+use crate::rules::rules;
+use hs_base::limits::{MAX_SIZE, MAX_TRIGGER};
 use hs_base::{List, Memory, TriggerId, TriggerRule};
 use hs_sched::{Queues, Scheduler, visits_are_fair};
 use std::alloc::Global;
@@ -76,5 +79,16 @@ fn turns_share_by_weight(rt: HostRuntime) -> Result<(), Fail> {
         assert_eq!(rt; scheduler.deficit(TriggerId(2)), second);
     }
     visits_are_fair();
+    Ok(())
+}
+
+/// As many trigger ids as there may be, and none.
+#[test]
+fn most_rules_and_none(rt: HostRuntime) -> Result<(), Fail> {
+    for count in [0, MAX_TRIGGER] {
+        let rules = rules(rt.alloc(), count)?;
+        assert_eq!(rt; rules.len(), usize::from(count));
+        Scheduler::make(rt.alloc(), &rules, MAX_SIZE)?;
+    }
     Ok(())
 }

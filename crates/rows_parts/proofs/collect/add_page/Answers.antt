@@ -6,9 +6,13 @@ pub add-requires : goal.add-requires
 add-requires c =
     let before = c.requires.before in
     let page = c.requires.page in
-    let some : 0 < length page.sheet.pieces = subst (λ n. 0 < n) (sym page.count_is) c.requires.some in
-    (before.sheets, page.sheet, before.are, spells _ page.sheet _ page.is c.bytes.ensures.spelled c.bytes.ensures.valid some,
-    can_come before.sheets page.sheet _ _ _ before.can before.before page.header page.count_is c.requires.few)
+    let some : 0 < length page.sheet.pieces = subst (λ n. 0 < n) (sym page.count_is) c.requires.some in (
+      before.sheets,
+      page.sheet,
+      before.are,
+      spells _ page.sheet _ page.is c.bytes.ensures.spelled c.bytes.ensures.valid some,
+      can_come before.sheets page.sheet _ _ _ before.can before.before page.header page.count_is c.requires.few,
+    )
 
 pub returns : goal.returns
 returns c =
