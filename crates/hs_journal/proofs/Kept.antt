@@ -1,5 +1,5 @@
 -- Each line that is taken keeps what was read, and adds what it says.
-use Rattle.std.proofs.Common.{◌≡◌, ℕ, ◌/◌, ◌<◌, ◌≤◌, ◌^◌, ◌&&◌, ◌||◌, nat_eq, nat_lt, nat_le, not, true, false, List, [], ◌∷◌, ◌++◌, length, get_or, refl, sym, ap, subst, ◌∙◌, append_assoc, arith}
+use Rattle.std.proofs.Common.{◌≡◌, ℕ, ◌/◌, ◌<◌, ◌≤◌, ◌^◌, ◌&&◌, ◌||◌, nat_eq, nat_le, not, true, false, List, [], ◌∷◌, ◌++◌, length, get_or, refl, sym, ap, subst, ◌∙◌, append_assoc, arith}
 use Rattle.std.proofs.lemmas.Bool.{and_parts}
 use Rattle.std.specs.List.{AllByRecursion}
 use Rattle.hs_base.specs.declared.ids.NodeId.{NodeId}
@@ -52,9 +52,6 @@ three_numbers (a ∷ b ∷ c ∷ d ∷ ns) count = absurd (omega (arith, count))
 -- the same said of equal numbers
 said_of : (d next : Draft) (k : Keyword) (ns ms : List ℕ) → ns ≡ ms → Kept d next (record { keyword = k; numbers = ms }) → Kept d next (record { keyword = k; numbers = ns })
 said_of d next k ns ms same kept = subst (λ numbers. Kept d next (record { keyword = k; numbers = numbers })) (sym same) kept
-
-not_above : (a b : ℕ) → nat_lt a b ≡ false → b ≤ a
-not_above a b is = grind arith
 
 not_at_most : (a b : ℕ) → nat_le a b ≡ false → b < a
 not_at_most a b is = grind arith
@@ -181,7 +178,7 @@ kept d keywords.Draws ns keeps stands count small within ordered =
     said_of d _ keywords.Draws ns _ ((two_numbers ns small count).are ∙ ap (λ a. a ∷ get_or ns 1 0 ∷ []) same.0 ∙ ap (λ b. length d.draws / d.clients ∷ b ∷ []) same.1) (draws_kept d.place d keeps refl stands)
 kept d keywords.Got ns keeps stands count small within ordered =
     let two = two_numbers ns small count in
-    said_of d _ keywords.Got ns _ two.are (draw_kept d (draws.Got (get_or ns 0 0) (get_or ns 1 0)) keeps stands (not_above _ _ within, two.second))
+    said_of d _ keywords.Got ns _ two.are (draw_kept d (draws.Got (get_or ns 0 0) (get_or ns 1 0)) keeps stands (not_at_most _ _ within, two.second))
 kept d keywords.Empty ns keeps stands count small within ordered =
     let one = one_number ns small count in
     said_of d _ keywords.Empty ns _ one.are (draw_kept d (draws.Empty (get_or ns 0 0)) keeps stands one.first)

@@ -64,9 +64,6 @@ order_draft nodes clients lists logs told = record { place = places.Order; nodes
 abbrev pub ended_draft : PlainJournal → Draft
 ended_draft J = record { place = places.Ended; nodes = J.nodes; clients = J.clients; draws = J.draws; logs = J.logs; told = J.told }
 
-above : (a b : ℕ) → b ≤ a → nat_lt a b ≡ false
-above a b is = grind arith
-
 below : (a b : ℕ) → a < b → nat_lt a b ≡ true
 below a b is = grind arith
 
@@ -89,7 +86,7 @@ run_draws nodes clients finished current [] all = ap (λ list. Ok (draws_draft n
 run_draws nodes clients finished current (draws.Got buffer stamp ∷ more) all =
     let d = draws_draft nodes clients (finished ++ current ∷ []) in
     first_run d (draws_draft nodes clients (finished ++ (current ++ draws.Got buffer stamp ∷ []) ∷ [])) _ (draw_statement (draws.Got buffer stamp)) (map draw_statement more)
-    (statement_taken d keywords.Got (buffer ∷ stamp ∷ []) (omega (arith, all.0.0), (all.0.1, tt)) refl refl (above 1023 buffer all.0.0) refl
+    (statement_taken d keywords.Got (buffer ∷ stamp ∷ []) (omega (arith, all.0.0), (all.0.1, tt)) refl refl (past 1024 buffer all.0.0) refl
     ∙ ap (λ lists. Ok (draws_draft nodes clients lists)) (onto_current finished current (draws.Got buffer stamp)))
     (run_draws nodes clients finished (current ++ draws.Got buffer stamp ∷ []) more all.1 ∙ ap (λ list. Ok (draws_draft nodes clients (finished ++ list ∷ []))) (append_assoc current (draws.Got buffer stamp ∷ []) more))
 run_draws nodes clients finished current (draws.Empty stamp ∷ more) all =

@@ -5,6 +5,7 @@ use Rattle.hs_text.specs.declared.opening.LineReasons.{LineReasons}
 use Rattle.hs_text.specs.Steps.{first_that_holds}
 use Rattle.hs_text.specs.Opening.{line_reasons}
 use Rattle.hs_text.specs.Judging.{Judging, first_fault_in}
+use Rattle.hs_base.specs.declared.limits.TheConstants.{MAX_NODES, MAX_CLIENTS, MAX_BUFFERS}
 use Rattle.hs_journal.specs.declared.refusal.JournalReason.{JournalReason}
 use Rattle.hs_journal.specs.declared.refusal.JournalReason.TheVariants as reasons
 use Rattle.hs_journal.specs.declared.refusal.JournalRefusal.{JournalRefusal}
@@ -79,8 +80,8 @@ is_out least most number = nat_lt number least || nat_lt most number
 
 -- the version is 1, and the numbers of nodes and clients, of buffers, clients and nodes have their limits
 abbrev pub is_out_of_range : Past → Keyword → Numbers → Bool
-is_out_of_range past keywords.Journal n = not (n.first == 1) || is_out 1 16 n.second || is_out 1 16 n.third
-is_out_of_range past keywords.Got n = nat_lt 1023 n.first
+is_out_of_range past keywords.Journal n = not (n.first == 1) || is_out 1 MAX_NODES n.second || is_out 1 MAX_CLIENTS n.third
+is_out_of_range past keywords.Got n = nat_le MAX_BUFFERS n.first
 is_out_of_range past keywords.Chunk n = nat_le past.clients n.first
 is_out_of_range past keywords.Crumb n = nat_le past.clients n.first
 is_out_of_range past keywords.Trigger n = nat_le past.clients n.first

@@ -5,6 +5,7 @@ use Rattle.hs_text.specs.Text.{number_of}
 use Rattle.hs_text.specs.Steps.{◌>>=◌, unless, value_or}
 use Rattle.hs_text.specs.Spelling.{spelled}
 use Rattle.hs_text.specs.Opening.{opened}
+use Rattle.hs_base.specs.declared.limits.TheConstants.{MAX_NODES, MAX_CLIENTS}
 use Rattle.hs_base.specs.declared.ids.NodeId.{NodeId}
 use Rattle.hs_journal.specs.declared.journal.Draw.{Draw}
 use Rattle.hs_journal.specs.declared.journal.Draw.TheVariants as draws
@@ -134,11 +135,11 @@ HasClients _ clients = 0 < clients
 
 -- what bounds the numbers of a draft whose lines had no fault
 pub record IsSound (d : Draft) : Type 0 where
-  pub nodes : d.nodes ≤ 16
-  pub clients : d.clients ≤ 16
+  pub nodes : d.nodes ≤ MAX_NODES
+  pub clients : d.clients ≤ MAX_CLIENTS
   pub some : HasClients d.place d.clients
   pub draws : length d.draws ≤ 256
-  pub logs : length d.logs ≤ 16
+  pub logs : length d.logs ≤ MAX_NODES
 
 -- worked examples
 numbers_taken : (three_numbers (codes "7" ∷ codes "8" ∷ []) ≡ Ok (record { first = 7; second = 8; third = 0 })) × (three_numbers (codes "7" ∷ codes "x" ∷ []) ≡ Err reasons.Number)

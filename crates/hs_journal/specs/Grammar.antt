@@ -5,6 +5,7 @@ use Rattle.std.specs.Prelude.{◌≡◌, ℕ, ◌+◌, ◌*◌, ◌/◌, ◌%◌
 use Rattle.std.specs.List.{AllByRecursion}
 use Rattle.std.specs.Fmt.{digits}
 use Rattle.hs_text.specs.Text.{text_of}
+use Rattle.hs_base.specs.declared.limits.TheConstants.{MAX_NODES, MAX_CLIENTS, MAX_BUFFERS}
 use Rattle.hs_base.specs.declared.ids.NodeId.{NodeId}
 use Rattle.hs_journal.specs.declared.journal.Draw.{Draw}
 use Rattle.hs_journal.specs.declared.journal.Draw.TheVariants as draws
@@ -59,7 +60,7 @@ abbrev pub Within : ℕ → ℕ → ℕ → Type 0
 Within least most number = (least ≤ number) × (number ≤ most)
 
 abbrev pub IsDraw : Draw → Type 0
-IsDraw (draws.Got buffer stamp) = (buffer ≤ 1023) × (stamp < 2 ^ 64)
+IsDraw (draws.Got buffer stamp) = (buffer < MAX_BUFFERS) × (stamp < 2 ^ 64)
 IsDraw (draws.Empty stamp) = stamp < 2 ^ 64
 
 -- a step of an agent whose node has so many clients
@@ -77,8 +78,8 @@ abbrev pub IsNodeBelow : ℕ → NodeId → Type 0
 IsNodeBelow nodes node = node.0 < nodes
 
 pub record IsJournal (J : PlainJournal) : Type 0 where
-  pub nodes : Within 1 16 J.nodes
-  pub clients : Within 1 16 J.clients
+  pub nodes : Within 1 MAX_NODES J.nodes
+  pub clients : Within 1 MAX_CLIENTS J.clients
   pub draw_lists : length J.draws ≡ J.nodes * J.clients
   pub log_lists : length J.logs ≡ J.nodes
   pub draws : AllByRecursion (AllByRecursion IsDraw) J.draws

@@ -13,15 +13,10 @@ use crate::line::{Numbers, numbers_in};
 use crate::place::Place;
 use crate::refusal::JournalReason;
 use crate::word::Keyword;
+use hs_base::limits::{MAX_BUFFERS, MAX_CLIENTS, MAX_NODES};
 use hs_base::{List, Memory, NodeId};
 use hs_text::{LineReasons, Stop, open_line};
 use std::alloc::Global;
-
-/// The most buffers of a node.
-const BUFFERS: u64 = 1024;
-
-/// The most nodes, and the most clients of a node.
-const MOST: u64 = 16;
 
 /// Why a line is refused before its numbers are looked at.
 const LINE_REASONS: LineReasons<JournalReason> = LineReasons {
@@ -139,9 +134,11 @@ impl Reader {
         } = numbers;
         match keyword {
             Keyword::Journal => {
-                first != 1 || (second < 1 || MOST < second) || (third < 1 || MOST < third)
+                first != 1
+                    || (second < 1 || u64::from(MAX_NODES) < second)
+                    || (third < 1 || u64::from(MAX_CLIENTS) < third)
             }
-            Keyword::Got => BUFFERS <= first,
+            Keyword::Got => u64::from(MAX_BUFFERS) <= first,
             Keyword::Chunk | Keyword::Crumb | Keyword::Trigger => u64::from(self.clients) <= first,
             Keyword::Told => u64::from(self.nodes) <= first,
             _ => false,
@@ -200,8 +197,8 @@ impl Reader {
 
     /// Takes the numbers of the first line.
     fn begin(&mut self, numbers: Numbers)
-        requires nodes { numbers.second ≤ 16 }
-        requires clients { numbers.third ≤ 16 }
+        requires nodes { numbers.second ≤ MAX_NODES }
+        requires clients { numbers.third ≤ MAX_CLIENTS }
         requires start { self.old.place ≡ Start }
         ensures { draft_of self.new ≡ after (draft_of self.old) JournalWord numbers }
     {

@@ -1,6 +1,7 @@
 //! Writing a journal.
 
 ghost use Rattle.std.specs.Prelude.{◌≡◌, ◌<◌, ◌+◌, ◌≤◌, ◌++◌, ◌∷◌, [], map, length, IfOk, OnOk};
+ghost use Rattle.hs_base.specs.declared.limits.TheConstants.{MAX_NODES};
 ghost use Rattle.hs_journal.specs.Views.{journal_of};
 ghost use Rattle.hs_journal.specs.Statements.{statement_line, draw_statement, step_statement, told_statement};
 ghost use Rattle.hs_journal.specs.Grammar.{IsJournal, draw_statements, log_statements, statements_text, journal_text};
@@ -86,7 +87,7 @@ fn push_steps(out: &mut Vec<u8>, steps: &[Step]) -> Result<(), Memory>
 
 /// Appends the logs of all nodes.
 fn push_logs(out: &mut Vec<u8>, logs: &[List<Step>]) -> Result<(), Memory>
-    requires { length logs.now ≤ 16 }
+    requires { length logs.now ≤ MAX_NODES }
     ensures { OnOk result (out.new.items ≡ out.old.items
         ++ statements_text (log_statements 0 (map (λ log. log.items) logs.now))) }
 {

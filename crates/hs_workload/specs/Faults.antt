@@ -9,6 +9,7 @@ use Rattle.hs_text.specs.Spelling.{spelled}
 use Rattle.hs_text.specs.Opening.{line_reasons}
 use Rattle.hs_text.specs.Judging.{Judging, first_fault_in}
 use Rattle.hs_records.specs.Plain.{Begin, Point, Fire}
+use Rattle.hs_base.specs.declared.limits.TheConstants.{MIN_SIZE, MAX_SIZE, MAX_BUFFERS, MAX_THRESHOLD, MAX_TRACES, MAX_PINS, MAX_STRIDE, MAX_PAYLOAD, MAX_OPERATIONS}
 use Rattle.hs_workload.specs.declared.refusal.Reason.{Reason}
 use Rattle.hs_workload.specs.declared.refusal.Reason.TheVariants as reasons
 use Rattle.hs_workload.specs.declared.refusal.Refusal.{Refusal}
@@ -74,7 +75,7 @@ has_wrong_hex version keyword words = list_any (is_no_hex version) (zip (places_
 
 -- the ranges of the settings: the index and the traces are not below the buffers
 abbrev pub least : ℕ → Setting → ℕ
-least buffers settings.Size = 64
+least buffers settings.Size = MIN_SIZE
 least buffers settings.Threshold = buffers
 least buffers settings.Traces = buffers
 least buffers settings.Pins = 0
@@ -84,16 +85,16 @@ abbrev pub most : Setting → ℕ
 most settings.Version = 2
 most settings.Nodes = 1
 most settings.Clients = 1
-most settings.Buffers = 1024
-most settings.Size = 32768
-most settings.Threshold = 1024
-most settings.Traces = 65536
-most settings.Pins = 1024
-most settings.Stride = 64
+most settings.Buffers = MAX_BUFFERS
+most settings.Size = MAX_SIZE
+most settings.Threshold = MAX_THRESHOLD
+most settings.Traces = MAX_TRACES
+most settings.Pins = MAX_PINS
+most settings.Stride = MAX_STRIDE
 
 abbrev pub is_out_of_range : Draft → Statement → Bool
 is_out_of_range draft (Put setting number) = nat_lt number (least draft.buffers setting) || nat_lt (most setting) number
-is_out_of_range draft (Operate (Point moment payload)) = nat_lt 65535 (length payload)
+is_out_of_range draft (Operate (Point moment payload)) = nat_lt MAX_PAYLOAD (length payload)
 is_out_of_range draft _ = false
 
 -- a client that is not the next in the order of node and number
@@ -119,12 +120,8 @@ leaves_open draft (Start node number) = draft.is_open
 leaves_open draft Finish = draft.is_open
 leaves_open draft _ = false
 
--- the most operations of a workload
-abbrev pub operation_limit : ℕ
-operation_limit = 262144
-
 abbrev pub is_one_too_many : Draft → Statement → Bool
-is_one_too_many draft (Operate operation) = nat_lt operation_limit (draft.pieces + operation_pieces draft.size operation)
+is_one_too_many draft (Operate operation) = nat_lt MAX_OPERATIONS (draft.pieces + operation_pieces draft.size operation)
 is_one_too_many draft _ = false
 
 -- ---- the reasons in their order

@@ -4,6 +4,7 @@ use Rattle.std.specs.Prelude.{◌≡◌, ℕ, ◌+◌, ◌==◌, ◌<◌, ◌≤
 use Rattle.hs_text.specs.Text.{number_of, hex_of, trace_digits, payload_of}
 use Rattle.hs_records.specs.Records.{piece_count}
 use Rattle.hs_records.specs.Plain.{Operation, Begin, Point, End, PlainWorkload}
+use Rattle.hs_base.specs.declared.limits.TheConstants.{MIN_SIZE, MAX_SIZE, MAX_NODES, MAX_CLIENTS, MAX_PAYLOAD, MAX_OPERATIONS}
 use Rattle.hs_workload.specs.declared.refusal.Reason.{Reason}
 use Rattle.hs_workload.specs.declared.refusal.Reason.TheVariants as reasons
 use Rattle.hs_workload.specs.declared.refusal.ReadError.{ReadError}
@@ -100,7 +101,7 @@ start_step d words = do
 
 -- the operations with so many more
 abbrev pub counted : ℕ → ℕ → Result ℕ Reason
-counted pieces more = unless (nat_lt 262144 (pieces + more)) reasons.TooMany (Ok (pieces + more))
+counted pieces more = unless (nat_lt MAX_OPERATIONS (pieces + more)) reasons.TooMany (Ok (pieces + more))
 
 -- a draft with one more operation, with which there are so many
 abbrev pub with_operation : Draft → Operation → ℕ → Draft
@@ -122,7 +123,7 @@ point_step d words = do
   second ← last_word reasons.Count first.1
   moment ← value_or reasons.Number (number_of first.0)
   bytes ← payload_length reasons.Hex second
-  unless (nat_lt 65535 bytes) reasons.Range
+  unless (nat_lt MAX_PAYLOAD bytes) reasons.Range
       (unless (not d.is_open) reasons.NoTrace (counted d.pieces (piece_count d.size bytes) >>= λ pieces. with_payload d moment pieces (payload_of second)))
 
 unfoldable pub end_step : Draft → List (List ℕ) → Result Draft Reason
@@ -171,12 +172,12 @@ workload_drafted d =
 
 -- what bounds the numbers of a draft whose lines had no fault
 pub record IsSound (d : Draft) : Type 0 where
-  pub nodes : d.nodes ≤ 16
-  pub clients : d.clients ≤ 16
+  pub nodes : d.nodes ≤ MAX_NODES
+  pub clients : d.clients ≤ MAX_CLIENTS
   pub started : d.started ≤ 256
-  pub size : 5 ≤ d.lines → 64 ≤ d.size
-  pub size_limit : d.size ≤ 32768
-  pub pieces : d.pieces ≤ 262144
+  pub size : 5 ≤ d.lines → MIN_SIZE ≤ d.size
+  pub size_limit : d.size ≤ MAX_SIZE
+  pub pieces : d.pieces ≤ MAX_OPERATIONS
   pub head : d.started ≡ 0 → d.lines ≤ 9
   pub body : 0 < d.started → 9 ≤ d.lines
   pub undone : d.is_done ≡ false → d.lines ≤ 9 + d.started + d.pieces

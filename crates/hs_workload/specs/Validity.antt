@@ -1,6 +1,7 @@
 -- Which workloads have a text, and when a text reads as a workload: it is that workload's text.
 use Rattle.std.specs.Prelude.{◌≡◌, ℕ, ◌+◌, ◌*◌, ◌^◌, ◌<◌, ◌≤◌, List, [], ◌∷◌, length, false, ⊤}
 use Rattle.std.specs.List.{All, AllByRecursion}
+use Rattle.hs_base.specs.declared.limits.TheConstants.{MIN_SIZE, MAX_SIZE, MAX_BUFFERS, MAX_THRESHOLD, MAX_TRACES, MAX_PINS, MAX_STRIDE, MAX_PAYLOAD, MAX_OPERATIONS}
 use Rattle.hs_text.specs.Text.{trace_digits}
 use Rattle.hs_records.specs.Plain.{Operation, Begin, Point, End, PlainWorkload}
 use Rattle.hs_records.specs.Records.{AreBracketed}
@@ -13,7 +14,7 @@ Within least most number = (least ≤ number) × (number ≤ most)
 -- an operation that has words
 abbrev pub HasWords : ℕ → Operation → Type 0
 HasWords version (Begin trace) = trace.0 < 16 ^ trace_digits version
-HasWords version (Point moment payload) = (moment < 2 ^ 64) × (length payload ≤ 65535) × All (λ b. b < 256) payload
+HasWords version (Point moment payload) = (moment < 2 ^ 64) × (length payload ≤ MAX_PAYLOAD) × All (λ b. b < 256) payload
 HasWords version End = ⊤
 HasWords version _ = ⊥
 
@@ -34,17 +35,17 @@ pub record IsValid (W : PlainWorkload) : Type 0 where
   pub version : Within 1 2 W.version
   pub nodes : Within 1 1 W.settings.nodes
   pub clients : Within 1 1 W.settings.clients
-  pub buffers : Within 1 1024 W.settings.buffers
-  pub size : Within 64 32768 W.settings.size
-  pub threshold : Within W.settings.buffers 1024 W.settings.threshold
-  pub traces : Within W.settings.buffers 65536 W.settings.traces
-  pub pins : Within 0 1024 W.settings.pins
-  pub stride : Within 1 64 W.settings.stride
+  pub buffers : Within 1 MAX_BUFFERS W.settings.buffers
+  pub size : Within MIN_SIZE MAX_SIZE W.settings.size
+  pub threshold : Within W.settings.buffers MAX_THRESHOLD W.settings.threshold
+  pub traces : Within W.settings.buffers MAX_TRACES W.settings.traces
+  pub pins : Within 0 MAX_PINS W.settings.pins
+  pub stride : Within 1 MAX_STRIDE W.settings.stride
   pub triggers : W.settings.triggers ≡ []
   pub autos : W.settings.autos ≡ []
   pub count : length W.clients ≡ W.settings.nodes * W.settings.clients
   pub each : AllByRecursion (IsClient W.version) W.clients
-  pub few : workload_pieces W.settings.size W.clients ≤ 262144
+  pub few : workload_pieces W.settings.size W.clients ≤ MAX_OPERATIONS
 
 -- the text reads as the workload
 pub record Reads (text : List ℕ) (W : PlainWorkload) : Type 0 where

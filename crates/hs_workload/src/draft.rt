@@ -12,18 +12,16 @@ ghost use Rattle.hs_workload.specs.Forward.{shut, IsSound, draft_of, with_settin
 use crate::operation::{Op, Workload};
 use crate::refusal::Reason;
 use crate::word::{Keyword, Setting};
+use hs_base::limits::{
+    MAX_BUFFERS, MAX_OPERATIONS, MAX_PAYLOAD, MAX_PINS, MAX_SIZE, MAX_STRIDE, MAX_THRESHOLD,
+    MAX_TRACES, MIN_SIZE,
+};
 use hs_base::{List, Memory, Settings, TraceId};
 use hs_records::piece_count;
 use hs_text::{
     LineReasons, Stop, Words, decode_payload, hex_in, number_in, open_line, payload_length,
 };
 use std::alloc::Global;
-
-/// The most operations of a workload, a point counted once for each of its pieces.
-const OPERATION_LIMIT: u32 = 262_144;
-
-/// The most bytes of a payload.
-const PAYLOAD_LIMIT: usize = 65_535;
 
 /// Why a line is refused before the words behind its first are looked at.
 const LINE_REASONS: LineReasons<Reason> = LineReasons {
@@ -112,12 +110,12 @@ impl Reader {
         match setting {
             Setting::Version => (1, 2),
             Setting::Nodes | Setting::Clients => (1, 1),
-            Setting::Buffers => (1, 1024),
-            Setting::Size => (64, 32_768),
-            Setting::Threshold => (buffers, 1024),
-            Setting::Traces => (buffers, 65_536),
-            Setting::Pins => (0, 1024),
-            Setting::Stride => (1, 64),
+            Setting::Buffers => (1, MAX_BUFFERS),
+            Setting::Size => (MIN_SIZE, MAX_SIZE),
+            Setting::Threshold => (buffers, MAX_THRESHOLD),
+            Setting::Traces => (buffers, MAX_TRACES),
+            Setting::Pins => (0, MAX_PINS),
+            Setting::Stride => (1, MAX_STRIDE),
         }
     }
 
@@ -218,7 +216,7 @@ impl Reader {
         ensures { Gives (λ n. n) result (counted (draft_of self.now).pieces more) }
     {
         let pieces = self.pieces + more;
-        if OPERATION_LIMIT < pieces {
+        if MAX_OPERATIONS < pieces {
             return Err(Stop::Fault(Reason::TooMany));
         }
         Ok(pieces)
@@ -263,7 +261,7 @@ impl Reader {
         let word = words.last(Reason::Count)?;
         let moment = number_in(moment, Reason::Number)?;
         let bytes = payload_length(word, Reason::Hex)?;
-        if PAYLOAD_LIMIT < bytes {
+        if MAX_PAYLOAD < bytes {
             return Err(Stop::Fault(Reason::Range));
         }
         if !self.is_open {
