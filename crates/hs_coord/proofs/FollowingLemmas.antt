@@ -1,5 +1,7 @@
 -- What a further message does to what the messages say of a group.
 use Rattle.std.proofs.Common.{◌≡◌, ℕ, Bool, true, false, not, ◌||◌, ◌&&◌, List, [], ◌∷◌, ◌++◌, Option, Some, None, refl, sym, ap, ◌∙◌, append_assoc, find, cond}
+use Rattle.std.proofs.lemmas.List.{append-nil}
+use Rattle.std.proofs.Math.Bool.{or-false, or_assoc}
 use Rattle.std.specs.Option.{option_or}
 use Rattle.std.proofs.lemmas.List.Folds.{find-append, list_any-append}
 use Rattle.std.proofs.lemmas.Bool.{or_parts}
@@ -26,33 +28,21 @@ module _ (group : GroupId) (messages : Messages) (m : Message) where
       by None = ap (λ b. cond b (Some m) None) other
       by (Some x) = refl
 
-or_false : (b : Bool) → (b || false) ≡ b
-or_false true = refl
-or_false false = refl
-
-or_assoc : (a b c : Bool) → (a || (b || c)) ≡ ((a || b) || c)
-or_assoc true b c = refl
-or_assoc false b c = refl
-
 pub has_crumb-push : (group : GroupId) (messages : Messages) (m : Message) (node : ℕ) → has_crumb group (messages ++ m ∷ []) node ≡ (has_crumb group messages node || (is_of group m && has_node m.told.crumbs node))
 has_crumb-push group messages m node =
     list_any-append (λ (x : Message). is_of group x && has_node x.told.crumbs node) messages (m ∷ [])
-    ∙ ap (λ b. has_crumb group messages node || b) (or_false (is_of group m && has_node m.told.crumbs node))
-
-pub append_nil : {X : Type 0} (xs : List X) → xs ++ [] ≡ xs
-append_nil [] = refl
-append_nil (x ∷ xs) = ap (λ l. x ∷ l) (append_nil xs)
+    ∙ ap (λ b. has_crumb group messages node || b) (or-false (is_of group m && has_node m.told.crumbs node))
 
 answered_after-push : (group : GroupId) (node : ℕ) (before messages : Messages) (m : Message)
     → is_answered_after group node before (messages ++ m ∷ []) ≡ (is_answered_after group node before messages || (has_ask group (before ++ messages) node && is_answer_from group node m))
 answered_after-push group node before [] m =
-    or_false (has_ask group before node && is_answer_from group node m)
-    ∙ ap (λ l. has_ask group l node && is_answer_from group node m) (sym (append_nil before))
+    or-false (has_ask group before node && is_answer_from group node m)
+    ∙ ap (λ l. has_ask group l node && is_answer_from group node m) (sym (append-nil before))
 answered_after-push group node before (x ∷ messages) m =
     ap (λ b. (has_ask group before node && is_answer_from group node x) || b)
     (answered_after-push group node (before ++ x ∷ []) messages m
     ∙ ap (λ l. is_answered_after group node (before ++ x ∷ []) messages || (has_ask group l node && is_answer_from group node m)) (append_assoc before (x ∷ []) messages))
-    ∙ or_assoc (has_ask group before node && is_answer_from group node x) (is_answered_after group node (before ++ x ∷ []) messages) (has_ask group (before ++ x ∷ messages) node && is_answer_from group node m)
+    ∙ sym (or_assoc (has_ask group before node && is_answer_from group node x) (is_answered_after group node (before ++ x ∷ []) messages) (has_ask group (before ++ x ∷ messages) node && is_answer_from group node m))
 
 pub is_answered-push : (group : GroupId) (messages : Messages) (m : Message) (node : ℕ)
     → is_answered group (messages ++ m ∷ []) node ≡ (is_answered group messages node || (has_ask group messages node && is_answer_from group node m))

@@ -1,5 +1,7 @@
 -- What the coordinator keeps still stands for its messages after one more.
 use Rattle.std.proofs.Common.{◌≡◌, ℕ, Bool, true, false, not, ◌||◌, ◌&&◌, List, [], ◌∷◌, ◌++◌, Option, Some, None, unwrap_or, refl, sym, ap, subst, ◌∙◌, true≢false, find, cond, map, nat_eq, eq-eqb, IsSome}
+use Rattle.std.proofs.lemmas.List.{map-append}
+use Rattle.std.proofs.Math.Bool.{or-false, and-false}
 use Rattle.std.specs.Cmp.{IsEquivalence}
 use Rattle.std.specs.Map.{lookup}
 use Rattle.std.specs.Option.{option_map_or}
@@ -91,17 +93,13 @@ module _ (messages : Messages) (m : Message) where
         record {
           group = b.group;
           laterals = b.laterals;
-          asked = λ n. b.asked n ∙ sym (ap (λ x. nat_eq n m.node.0 || x) (crumb n) ∙ or_false (nat_eq n m.node.0));
+          asked = λ n. b.asked n ∙ sym (ap (λ x. nat_eq n m.node.0 || x) (crumb n) ∙ or-false (nat_eq n m.node.0));
           waiting = λ n. b.waiting n ∙ sym (ap (λ x. (x && not (nat_eq n m.node.0)) && not (is_answered (group_of m) messages n)) (crumb n));
           had_ask = λ n. ap (λ x. x && not (is_first_sender (group_of m) messages n)) (crumb n) ∙ sym (ap (λ x. x && not (nat_eq n m.node.0)) (crumb n));
           stays = first_now (group_of m) messages m none (same_group-refl (group_of m));
           first_is = ap (λ o. unwrap_or o m) none;
         },
       )
-    where
-      or_false : (b : Bool) → (b || false) ≡ b
-      or_false true = refl
-      or_false false = refl
 
   met : (begun : Followed) (kept : Option Followed) → StandsFor (group_of m) messages kept → Begins m begun → (first : Message) × IsMet messages m first (unwrap_or kept begun)
   met begun None none b = met_now begun none b
@@ -168,21 +166,13 @@ module _ (messages : Messages) (m : Message) where
 
 -- a message of another group
 module _ (group : GroupId) (messages : Messages) (m : Message) (other : is_of group m ≡ false) where
-  or_false : (b : Bool) → (b || false) ≡ b
-  or_false true = refl
-  or_false false = refl
-
-  and_false : (b : Bool) → (b && false) ≡ false
-  and_false true = refl
-  and_false false = refl
-
   first_else : (n : ℕ) → is_first_sender group (messages ++ m ∷ []) n ≡ is_first_sender group messages n
   first_else n = ap (λ o. option_map_or (λ (x : Message). nat_eq n x.node.0) o false) (first_of_other group messages m other)
 
   crumb_else : (n : ℕ) → has_crumb group (messages ++ m ∷ []) n ≡ has_crumb group messages n
   crumb_else n =
       has_crumb-push group messages m n ∙ ap (λ b. has_crumb group messages n || (b && has_node m.told.crumbs n)) other
-      ∙ or_false (has_crumb group messages n)
+      ∙ or-false (has_crumb group messages n)
 
   pub asked_else : (n : ℕ) → is_asked group (messages ++ m ∷ []) n ≡ is_asked group messages n
   asked_else n = ap (λ b. b || has_crumb group (messages ++ m ∷ []) n) (first_else n) ∙ ap (λ b. is_first_sender group messages n || b) (crumb_else n)
@@ -191,8 +181,8 @@ module _ (group : GroupId) (messages : Messages) (m : Message) (other : is_of gr
   answered_else n =
       is_answered-push group messages m n
       ∙ ap (λ b. is_answered group messages n || (has_ask group messages n && ((b && nat_eq n m.node.0) && is_answer m.told.why))) other
-      ∙ ap (λ b. is_answered group messages n || b) (and_false (has_ask group messages n))
-      ∙ or_false (is_answered group messages n)
+      ∙ ap (λ b. is_answered group messages n || b) (and-false (has_ask group messages n))
+      ∙ or-false (is_answered group messages n)
 
   stands_else : (kept : Option Followed) → StandsFor group messages kept → StandsFor group (messages ++ m ∷ []) kept
   stands_else None none = first_of_other group messages m other ∙ none
@@ -209,10 +199,6 @@ module _ (group : GroupId) (messages : Messages) (m : Message) (other : is_of gr
         ∙ ap (λ b. (has_crumb group messages n && not (is_first_sender group messages n)) && not b) (answered_else n));
   }
 
-map_push : (messages : Messages) (m : Message) → map (λ (x : Message). x.node) (messages ++ m ∷ []) ≡ map (λ (x : Message). x.node) messages ++ m.node ∷ []
-map_push [] m = refl
-map_push (x ∷ messages) m = ap (λ l. x.node ∷ l) (map_push messages m)
-
 -- what the map has after the entry of one group was written
 abbrev pub Writes : List (GroupId × Followed) → List (GroupId × Followed) → GroupId → Followed → Type 0
 Writes old new group next = (q : GroupId) → lookup (same_group q) new ≡ cond (same_group group q) (Some next) (lookup (same_group q) old)
@@ -221,7 +207,7 @@ module _ (old : Kept) (messages : Messages) (m : Message) (begun next : Followed
     (h : HasTaken old messages) (b : Begins m begun) (t : Takes m (unwrap_or (lookup (same_group (group_of m)) old.groups) begun) next fresh) where
   pub taken : {new : Kept} → new.log ≡ old.log ++ m.node ∷ [] → Writes old.groups new.groups (group_of m) next → HasTaken new (messages ++ m ∷ [])
   taken {new} log writes = record {
-    log = log ∙ ap (λ l. l ++ m.node ∷ []) h.log ∙ sym (map_push messages m);
+    log = log ∙ ap (λ l. l ++ m.node ∷ []) h.log ∙ sym (map-append (λ (x : Message). x.node) messages (m ∷ []));
     groups = λ q. subst (StandsFor q (messages ++ m ∷ [])) (sym (writes q)) (by q (same_group (group_of m) q) refl);
   }
     where

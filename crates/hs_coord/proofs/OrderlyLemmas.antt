@@ -1,5 +1,6 @@
 -- The asked set of an orderly group is the least closed set.
 use Rattle.std.proofs.Common.{◌≡◌, ℕ, Bool, true, false, not, ◌||◌, ◌&&◌, List, [], ◌∷◌, ◌++◌, Option, Some, None, All, find, cond, get_or, nat_eq, eq-eqb, refl, sym, ap, subst, ◌∙◌, ⊎_elim, append_assoc, true≢false}
+use Rattle.std.proofs.lemmas.List.{append-nil}
 use Rattle.std.specs.List.{list_any}
 use Rattle.std.proofs.lemmas.List.Folds.{list_any_at, find-append}
 use Rattle.std.specs.Option.{option_map_or, option_or}
@@ -9,7 +10,7 @@ use Rattle.hs_base.specs.declared.ids.GroupId.{GroupId}
 use Rattle.hs_base.specs.NodeSets.{has_node}
 use Rattle.hs_coord.specs.Following.{Message, Messages, is_of, has_crumb, has_ask, is_asked, is_first_sender, is_answer, is_answer_from, is_answered, is_answered_after}
 use Rattle.hs_coord.specs.Orderly.{IsOrderly, IsClosed}
-use Rattle.hs_coord.proofs.FollowingLemmas.{first_stays, first_now, has_crumb-push, append_nil}
+use Rattle.hs_coord.proofs.FollowingLemmas.{first_stays, first_now, has_crumb-push}
 use Rattle.hs_coord.proofs.KeptLemmas.{asked_else, first_bit}
 
 -- where the messages of a group begin
@@ -103,7 +104,7 @@ module _ (group : GroupId) (set : ℕ → Bool) where
         by false other = has node (sym (asked_else group before m other node) ∙ e)
 
   has_all : (before later : Messages) → IsOrderly group (before ++ later) → IsClosed group (before ++ later) set → HasAsked before → HasAsked (before ++ later)
-  has_all before [] orderly closes has = subst HasAsked (sym (append_nil before)) has
+  has_all before [] orderly closes has = subst HasAsked (sym (append-nil before)) has
   has_all before (m ∷ later) orderly closes has =
       let same : (before ++ m ∷ []) ++ later ≡ before ++ m ∷ later = append_assoc before (m ∷ []) later in
       subst HasAsked same

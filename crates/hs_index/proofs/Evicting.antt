@@ -1,32 +1,14 @@
 -- What goes and what stays.
 use Rattle.std.proofs.Common.{◌≡◌, ℕ, suc, ◌+◌, ◌<◌, ◌≤◌, Bool, true, false, cond, not, ◌||◌, nat_lt, List, [], ◌∷◌, ◌++◌, length, map, Some, refl, sym, ap, subst, ◌∙◌, arith, append-nil}
+use Rattle.std.proofs.Math.Bool.{or-true}
 use Rattle.std.specs.Prelude.{find}
 use Rattle.std.specs.Option.{option_map_or}
-use Rattle.std.proofs.lemmas.Bool.{lt-ltb, le-ltb, ltb-false}
-use Rattle.std.proofs.lemmas.List.{length-append}
+use Rattle.std.proofs.lemmas.Bool.{lt-ltb, le-ltb, ltb-false, or_parts, or_from}
+use Rattle.std.proofs.lemmas.List.{length-append, nil_from_length}
 use Rattle.std.proofs.lemmas.List.Sums.{sum_by-cons, sum_by_push}
 use Rattle.hs_base.specs.declared.ids.TraceId.{TraceId}
 use Rattle.hs_index.specs.Index.{Noted, Indexed, is_of, nothing, noted_of, others, touch, chunk_count, count_chunks, is_over, leaving, kept, evicted}
 use Rattle.hs_index.proofs.Listed.{by_answer}
-
-or-right : (b : Bool) → (b || true) ≡ true
-or-right true = refl
-or-right false = refl
-
-or-none : (a b : Bool) → a ≡ false → b ≡ false → (a || b) ≡ false
-or-none a b p q = ap (λ x. x || b) p ∙ q
-
-pub or-left-false : (a b : Bool) → (a || b) ≡ false → a ≡ false
-or-left-false true b h = h
-or-left-false false b h = refl
-
-pub or-right-false : (a b : Bool) → (a || b) ≡ false → b ≡ false
-or-right-false true b h = absurd (cc)
-or-right-false false b h = h
-
-nil-from-length : {X : Type 0} (xs : List X) → length xs ≤ 0 → xs ≡ []
-nil-from-length [] h = refl
-nil-from-length (x ∷ xs) h = absurd (omega arith)
 
 module _ {L : Type 0} where
   pub count-cons : (t : Indexed L) (ts : List (Indexed L)) → count_chunks (t ∷ ts) ≡ chunk_count t.noted + count_chunks ts
@@ -74,13 +56,13 @@ module _ {L : Type 0} where
 
   module _ (threshold most : ℕ) where
     pub within-not-over : (ts : List (Indexed L)) → count_chunks ts ≤ threshold → length ts ≤ most → is_over threshold most ts ≡ false
-    within-not-over ts c l = or-none (nat_lt threshold (count_chunks ts)) (nat_lt most (length ts)) (le-ltb threshold (count_chunks ts) c) (le-ltb most (length ts) l)
+    within-not-over ts c l = or_from (nat_lt threshold (count_chunks ts)) (nat_lt most (length ts)) (le-ltb threshold (count_chunks ts) c) (le-ltb most (length ts) l)
 
     pub over-by-chunks : (ts : List (Indexed L)) → threshold < count_chunks ts → is_over threshold most ts ≡ true
     over-by-chunks ts h = ap (λ b. b || nat_lt most (length ts)) (lt-ltb threshold (count_chunks ts) h)
 
     pub over-by-traces : (ts : List (Indexed L)) → most < length ts → is_over threshold most ts ≡ true
-    over-by-traces ts h = ap (λ b. nat_lt threshold (count_chunks ts) || b) (lt-ltb most (length ts) h) ∙ or-right (nat_lt threshold (count_chunks ts))
+    over-by-traces ts h = ap (λ b. nat_lt threshold (count_chunks ts) || b) (lt-ltb most (length ts) h) ∙ or-true (nat_lt threshold (count_chunks ts))
 
     -- within the limits all stay
     pub all-stay : (ts : List (Indexed L)) → is_over threshold most ts ≡ false → kept threshold most ts ≡ ts
@@ -104,7 +86,7 @@ module _ {L : Type 0} where
         → evicted threshold most (t ∷ ts) ≡ evicted threshold most ts
     empty-goes t ts h none =
         first-goes t ts h
-        ∙ ap (λ l. map (leaving (count_chunks (t ∷ ts)) (length (t ∷ ts))) l ++ evicted threshold most ts) (nil-from-length t.noted.chunks none)
+        ∙ ap (λ l. map (leaving (count_chunks (t ∷ ts)) (length (t ∷ ts))) l ++ evicted threshold most ts) (nil_from_length t.noted.chunks (omega (arith, none)))
 
     -- after a trace with chunks nothing more goes, where there was one too many at most
     rest-is-within : (t : Indexed L) (ts : List (Indexed L)) → 0 < chunk_count t.noted → count_chunks (t ∷ ts) ≤ threshold + 1 → length (t ∷ ts) ≤ most + 1
@@ -130,11 +112,11 @@ module _ {L : Type 0} where
     count-kept (t ∷ ts) =
         by_answer (is_over threshold most (t ∷ ts))
         (λ y. subst (λ l. count_chunks l ≤ threshold) (sym (first-leaves t ts y)) (count-kept ts))
-        (λ n. subst (λ l. count_chunks l ≤ threshold) (sym (all-stay (t ∷ ts) n)) (ltb-false threshold (count_chunks (t ∷ ts)) (or-left-false (nat_lt threshold (count_chunks (t ∷ ts))) (nat_lt most (length (t ∷ ts))) n)))
+        (λ n. subst (λ l. count_chunks l ≤ threshold) (sym (all-stay (t ∷ ts) n)) (ltb-false threshold (count_chunks (t ∷ ts)) (or_parts (nat_lt threshold (count_chunks (t ∷ ts))) (nat_lt most (length (t ∷ ts))) n).0))
 
     pub length-kept : (ts : List (Indexed L)) → length (kept threshold most ts) ≤ most
     length-kept [] = omega arith
     length-kept (t ∷ ts) =
         by_answer (is_over threshold most (t ∷ ts))
         (λ y. subst (λ l. length l ≤ most) (sym (first-leaves t ts y)) (length-kept ts))
-        (λ n. subst (λ l. length l ≤ most) (sym (all-stay (t ∷ ts) n)) (ltb-false most (length (t ∷ ts)) (or-right-false (nat_lt threshold (count_chunks (t ∷ ts))) (nat_lt most (length (t ∷ ts))) n)))
+        (λ n. subst (λ l. length l ≤ most) (sym (all-stay (t ∷ ts) n)) (ltb-false most (length (t ∷ ts)) (or_parts (nat_lt threshold (count_chunks (t ∷ ts))) (nat_lt most (length (t ∷ ts))) n).1))

@@ -13,18 +13,14 @@ use Rattle.hs_index.proofs.Listed.{by_answer, same_trace_equiv, same_from_test}
 use Rattle.hs_base.specs.NodeSetLaws.{has-with_node, has-no_nodes}
 use Rattle.hs_index.proofs.Evicting.{within-not-over, all-stay, first-leaves, count-others, length-others}
 use Rattle.hs_index.proofs.LongestEnd.{within}
-use Rattle.std.proofs.lemmas.Bool.{ltb-false}
+use Rattle.std.proofs.lemmas.Bool.{ltb-false, or_parts}
+use Rattle.std.proofs.Math.Bool.{or-false}
 use Rattle.std.proofs.Common.{nat_lt}
 use Rattle.hs_index.specs.Index.{count_chunks}
-use Rattle.hs_index.proofs.Evicting.{or-left-false, or-right-false}
 
 bit-step : (b now before since brought : Bool) → before ≡ since → (b ≡ true → now ≡ (before || brought)) → (b ≡ false → now ≡ false) → now ≡ cond b (since || brought) false
 bit-step true now before since brought e y n = y refl ∙ ap (λ c. c || brought) e
 bit-step false now before since brought e y n = n refl
-
-or-false : (b : Bool) → (b || false) ≡ b
-or-false true = refl
-or-false false = refl
 
 -- ---- what one look-up finds
 
@@ -283,8 +279,8 @@ module _ {L : Type 0} where
               (λ o. ap (λ (n : Noted L). has_node n.crumbs node) (noted-out trace (others u ts) o) ∙ has-no_nodes node);
           order = turn-others u (last_touch earlier) (last_touch earlier) (λ trace n. refl) ts looks.order;
           within =
-              let chunks = ltb-false threshold (count_chunks ts) (or-left-false (nat_lt threshold (count_chunks ts)) (nat_lt most (length ts)) looks.within) in
-              let traces = ltb-false most (length ts) (or-right-false (nat_lt threshold (count_chunks ts)) (nat_lt most (length ts)) looks.within) in
+              let chunks = ltb-false threshold (count_chunks ts) (or_parts (nat_lt threshold (count_chunks ts)) (nat_lt most (length ts)) looks.within).0 in
+              let traces = ltb-false most (length ts) (or_parts (nat_lt threshold (count_chunks ts)) (nat_lt most (length ts)) looks.within).1 in
               let fewer = count-others u ts in
               let shorter = length-others u ts in
               within-not-over threshold most (others u ts) (omega (arith, chunks, fewer)) (omega (arith, traces, shorter));

@@ -1,6 +1,6 @@
 -- The queue of a pool, as it is drawn from and given to.
 use Rattle.std.proofs.Common.{◌≡◌, ℕ, zero, suc, ◌+◌, ◌<◌, ◌≤◌, Bool, true, false, ◌||◌, List, [], ◌∷◌, ◌++◌, length, drop, map, reverse, None, refl, sym, ap, ◌∙◌, subst, arith, length-append}
-use Rattle.std.proofs.lemmas.List.{length-map}
+use Rattle.std.proofs.lemmas.List.{length-map, map-append}
 use Rattle.std.specs.Prelude.{slice_get, nat_eq}
 use Rattle.std.specs.Cmp.{nat_eq_equiv}
 use Rattle.std.specs.VecDeque.{deque_capacity}
@@ -15,10 +15,6 @@ use Rattle.hs_pool.specs.declared.plain.PlainPool.TheInside.{Inside}
 use Rattle.hs_pool.specs.Pool.{Pool, IsAfter, IsOut, Extends, waiting, number_of}
 use Rattle.hs_pool.specs.Queue.{pool_of, IsPool}
 use Rattle.hs_pool.proofs.History.{is, extended, out_is_given}
-
-pub map-append : (xs ys : List Contents) → map number_of (xs ++ ys) ≡ map number_of xs ++ map number_of ys
-map-append [] ys = refl
-map-append (x ∷ xs) ys = ap (λ (l : List ℕ). x.number ∷ l) (map-append xs ys)
 
 -- a draw that got the front
 pub got : (old new : Pool) (chunk : Contents) → old.queue ≡ chunk ∷ new.queue → new.buffers ≡ old.buffers → new.events ≡ old.events + 1 → Extends old (Got chunk.number) new
@@ -36,7 +32,7 @@ empty old new none still buffers events history after =
 pub given : (old new : Pool) (chunk : Contents) → IsOut old chunk.number → new.queue ≡ old.queue ++ with_page chunk None ∷ [] → new.buffers ≡ old.buffers → new.events ≡ old.events + 1
     → Extends old (Given chunk.number) new
 given old new chunk out back buffers events history after =
-    let numbers : waiting new ≡ waiting old ++ chunk.number ∷ [] = ap (map number_of) back ∙ map-append old.queue (with_page chunk None ∷ []) in
+    let numbers : waiting new ≡ waiting old ++ chunk.number ∷ [] = ap (map number_of) back ∙ map-append number_of old.queue (with_page chunk None ∷ []) in
     extended old new history (Given chunk.number) after (out_is_given old history chunk.number after out) buffers
     (numbers ∙ ap (λ (l : List ℕ). l ++ chunk.number ∷ []) after.queue) events
 
@@ -67,7 +63,7 @@ turned number (x ∷ xs) none = step (nat_eq number x) (turned number xs) (subst
 -- one more that did not wait
 pub differ_and : (xs : List Contents) (y : Contents) → IsDistinct nat_eq (map number_of xs) → list_any (is y.number) (map number_of xs) ≡ false
     → IsDistinct nat_eq (map number_of (xs ++ y ∷ []))
-differ_and xs y once none = subst (IsDistinct nat_eq) (sym (map-append xs (y ∷ []))) (IsDistinct-push nat_eq_equiv (map number_of xs) y.number once (turned y.number (map number_of xs) none))
+differ_and xs y once none = subst (IsDistinct nat_eq) (sym (map-append number_of xs (y ∷ []))) (IsDistinct-push nat_eq_equiv (map number_of xs) y.number once (turned y.number (map number_of xs) none))
 
 -- what has a number below another, is below it
 member_below : (n q : ℕ) (xs : List Contents) → AllByRecursion (λ (chunk : Contents). chunk.number < n) xs → list_any (nat_eq q) (map number_of xs) ≡ true → q < n
