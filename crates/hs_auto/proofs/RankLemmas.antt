@@ -2,12 +2,13 @@
 use Rattle.std.proofs.Common.{cond, ◌≡◌, ℕ, zero, suc, ◌+◌, ◌-◌, ◌<◌, ◌≤◌, Bool, true, false, List, [], ◌∷◌, ◌++◌, length, take, get_or, slice_index, ltb, Some, None, refl, sym, ap, ◌∙◌, arith, subst, ◌==◌, eq-eqb, ⊎_elim}
 use Rattle.std.specs.List.{count_by, insert, remove, slice_get, Contains, CopiedTo, SameBelow, SameFrom}
 use Rattle.std.specs.List.Sorted.{IsNonDecreasing, IsPartitionPoint}
-use Rattle.std.proofs.lemmas.Bool.{cases_lt, cases_Bool, lt-ltb, le-ltb}
+use Rattle.std.proofs.lemmas.Bool.{cases_lt, cases_eq, cases_Bool, lt-ltb, le-ltb}
 use Rattle.std.proofs.lemmas.List.{get_or_default, same_lists, get_or-set_same, get_or-set_other}
 use Rattle.std.proofs.Math.ListN.{set, length-set}
 use Rattle.std.proofs.lemmas.List.Edits.{length-insert, get_or-insert_below, get_or-insert_at, get_or-insert_above, length-remove, get_or-remove_below, get_or-remove_above}
 use Rattle.std.proofs.lemmas.List.Sorted.{IsNonDecreasingBy-insert}
 use Rattle.std.proofs.lemmas.List.Sums.{sum_by-cons, sum_by_push, sum_by-insert, sum_by-remove}
+use Rattle.std.proofs.lemmas.List.Quantifiers.{all_pairs_remove}
 use borrow.Author.Tests.{eqb-true}
 use Rattle.hs_auto.specs.Ranks.{StandsSorted, IsPlace}
 
@@ -111,16 +112,9 @@ sorted_put sorted values i v order at =
 -- a rising list still rises without the element at i
 pub rising_remove : (xs : List ℕ) (i : ℕ) → i < length xs → IsNonDecreasing xs → IsNonDecreasing (remove xs i)
 rising_remove xs i in' rising j k d le within =
-    let shorter : length (remove xs i) + 1 ≡ length xs = length-remove xs i in' in
-    ⊎_elim
-    (λ (below : j < i).
-    ⊎_elim
-    (λ (under : k < i). rw (get_or-remove_below xs i d j below in', get_or-remove_below xs i d k under in') (rising j k d le (omega arith)))
-    (λ (above : i ≤ k). rw (get_or-remove_below xs i d j below in', get_or-remove_above xs i d k above in') (rising j (k + 1) d (omega arith) (omega arith)))
-    (cases_lt k i))
-    (λ (above : i ≤ j).
-    rw (get_or-remove_above xs i d j above in', get_or-remove_above xs i d k (omega arith) in') (rising (j + 1) (k + 1) d (omega arith) (omega arith)))
-    (cases_lt j i)
+    ⊎_elim (λ (same : j ≡ k). omega (arith, ap (λ n. get_or (remove xs i) n d) same))
+    (λ (apart : j ≡ k → ⊥). all_pairs_remove (λ (a b : ℕ). a ≤ b) xs i in' (λ a b e less inside. rising a b e (omega arith) inside) j k d (omega arith) within)
+    (cases_eq j k)
 
 -- the last value leaves from where it stands
 pub sorted_drop : (sorted values : List ℕ) (i x : ℕ) → StandsSorted sorted (values ++ x ∷ []) → i < length sorted → get_or sorted i x ≡ x → StandsSorted (remove sorted i) values
