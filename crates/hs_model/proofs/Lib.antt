@@ -11,3 +11,5 @@ pub mod Rising
 pub mod Ordered
 pub mod Whiles
 pub mod PageOrder
+pub mod Apart
+pub mod Saying

@@ -3,16 +3,18 @@
 -- is claimed at most once, and is not indexed then. Nothing stays beyond the limits, and nothing goes without need.
 use Rattle.std.specs.Prelude.{◌≡◌, ◌⊎◌, ℕ, ◌+◌, ◌<◌, ◌≤◌, Bool, true, false, ◌==◌, List, [], ◌∷◌, ◌++◌, length, map, Option, Some, None, if◌then◌else◌, filter, filter_map, slice_get}
 use Rattle.std.specs.List.{AllByRecursion, list_any}
-use Rattle.std.specs.Option.{option_map}
+use Rattle.std.specs.Option.{option_map, option_to_list}
 use Rattle.hs_base.specs.declared.ids.TraceId.{TraceId}
 use Rattle.hs_base.specs.declared.told.Group.{Group}
 use Rattle.hs_records.specs.Plain.{PlainSettings}
+use Rattle.hs_sched.specs.declared.share.Share.{Share}
 use Rattle.hs_words.specs.Pages.{Sheet}
 use Rattle.hs_model.specs.Standings.{ChunkStanding, Indexed, Pinned, Reported, Evicted, Abandoned, Taken, same_trace, same_group, trace_of, indexed_count, is_indexed, is_pinned, is_reported, is_evicted, is_let_go, stands, is_of_trace}
 use Rattle.hs_model.specs.State.{AgentState, ClaimedTrace, GivenPlace, claim_of, is_claimed}
 use Rattle.hs_model.specs.Evicting.{is_over, evict_trace, evict}
 use Rattle.hs_model.specs.Abandoning.{pinned_groups, count_of_id, is_no_greater, next_to_go, abandon_group, abandon}
-use Rattle.hs_model.specs.Stepping.{Event, after_event, after_from, after}
+use Rattle.hs_model.specs.Turning.{order_of, costs_of, visit}
+use Rattle.hs_model.specs.Stepping.{Input, Answered, Event, told_by, after_step, after_gave, after_event, after_from, after}
 
 -- ---- places
 
@@ -211,3 +213,23 @@ abbrev pub ClientsPagesRise : Type 0
 ClientsPagesRise =
     (settings : PlainSettings) (node : ℕ) (events : List Event) (trace : TraceId) → PagesRise (sheets_of (after settings node events).taken)
     → PagesRise (sheets_at (after settings node events).taken (reported_of (after settings node events) trace))
+
+-- ---- the ids in a turn
+
+-- A visit of one trigger id leaves what waits for another, with its costs.
+pub record IsLeftAlone (settings : PlainSettings) (state : AgentState) (share : Share) (id : ℕ) : Type 0 where
+  pub order : order_of (visit settings state share) id ≡ order_of state id
+  pub costs : costs_of (visit settings state share) id ≡ costs_of state id
+
+abbrev pub VisitsAreApart : Type 0
+VisitsAreApart = (settings : PlainSettings) (state : AgentState) (share : Share) (id : ℕ) → (share.trigger.0 ≡ id → ⊥) → IsLeftAlone settings state share id
+
+-- ---- messages
+
+-- An input adds its message to those that were said, or none; an offer's answer adds none.
+pub record SaysWhatItTells (settings : PlainSettings) (node : ℕ) (state : AgentState) : Type 0 where
+  pub inputs : (input : Input) → (after_step settings node state input).said ≡ state.said ++ option_to_list (told_by settings node state input)
+  pub answers : (answer : Answered) → (after_gave state answer).said ≡ state.said
+
+abbrev pub StepsSayWhatTheyTell : Type 0
+StepsSayWhatTheyTell = (settings : PlainSettings) (node : ℕ) (state : AgentState) → SaysWhatItTells settings node state

@@ -1,13 +1,14 @@
 -- One step of an agent: it takes a chunk, a crumb, a trigger or an ask, or makes a turn; or the first buffer of its hand was
 -- offered to the pool. Each step is noted in the log.
-use Rattle.std.specs.Prelude.{ℕ, ◌+◌, ◌==◌, Bool, false, List, [], ◌∷◌, ◌++◌, length, map, filter, find, Option, if◌then◌else◌, nat_le}
-use Rattle.std.specs.Option.{option_map_or}
+use Rattle.std.specs.Prelude.{ℕ, ◌+◌, ◌==◌, Bool, false, List, [], ◌∷◌, ◌++◌, length, map, filter, find, Option, Some, None, if◌then◌else◌, nat_le}
+use Rattle.std.specs.Option.{option_map_or, option_and_then}
 use Rattle.hs_base.specs.declared.ids.TraceId.{TraceId}
 use Rattle.hs_base.specs.declared.ids.TriggerId.{TriggerId}
 use Rattle.hs_base.specs.declared.settings.TriggerRule.{TriggerRule}
 use Rattle.hs_base.specs.declared.told.Ask.{Ask}
 use Rattle.hs_base.specs.declared.told.Crumb.{Crumb}
 use Rattle.hs_base.specs.declared.told.Group.{Group}
+use Rattle.hs_base.specs.declared.told.Told.{Told}
 use Rattle.hs_base.specs.declared.told.Trigger.{Trigger}
 use Rattle.hs_base.specs.declared.told.Why.TheVariants.{Fired, Answer}
 use Rattle.hs_journal.specs.declared.journal.Step.{Step}
@@ -155,6 +156,15 @@ take_input settings node state (Crumbed client crumb) = take_crumb settings crum
 take_input settings node state (Triggered client trigger) = take_trigger settings node trigger state
 take_input settings node state (Asked ask) = take_ask settings ask state
 take_input settings node state Turn = turn settings state
+
+-- what an input makes the agent tell the coordinator, if anything
+abbrev pub told_by : PlainSettings → ℕ → AgentState → Input → Option Told
+told_by settings node state (Chunk client sheet) = None
+told_by settings node state (Crumbed client crumb) =
+    option_and_then (λ claim. if has_crumb state.crumbs crumb then None else Some (late_of claim crumb)) (claim_of state.claims crumb.trace)
+told_by settings node state (Triggered client trigger) = if admits settings state.tried trigger then Some (told_of state.crumbs (group_of node state trigger) Fired) else None
+told_by settings node state (Asked ask) = Some (told_of state.crumbs ask Answer)
+told_by settings node state Turn = None
 
 -- the state of the node's agent after an input
 abbrev pub after_step : PlainSettings → ℕ → AgentState → Input → AgentState

@@ -1,6 +1,6 @@
 //! What holds of an agent after any events. These functions do nothing: their contracts say it.
 
-ghost use Rattle.hs_model.specs.Laws.{ListsHaveTheirChunks, StandingsPartition, HeldChunksAreInNoHand, TracesAreClaimedOnce, ClaimsHoldForGood, ChunksStandByTheirClaim, NothingClaimedIsEvicted, TheLeastGoes, LimitsHold, ReportedInOrder, EvictsWhileOver, IndexedStayTouched, AbandonsWhileOver, EventsGoOn, ClientsPagesRise};
+ghost use Rattle.hs_model.specs.Laws.{ListsHaveTheirChunks, StandingsPartition, HeldChunksAreInNoHand, TracesAreClaimedOnce, ClaimsHoldForGood, ChunksStandByTheirClaim, NothingClaimedIsEvicted, TheLeastGoes, LimitsHold, ReportedInOrder, EvictsWhileOver, IndexedStayTouched, AbandonsWhileOver, EventsGoOn, ClientsPagesRise, VisitsAreApart, StepsSayWhatTheyTell};
 
 /// The pinned and the reported chunks stand in their lists, each once, and the evicted, abandoned and
 /// reported ones in the hand, each once, until they are given back.
@@ -80,4 +80,14 @@ pub fn events_go_on()
 /// client by client.
 pub fn clients_pages_rise()
     ensures { ClientsPagesRise }
+{}
+
+/// A visit of one trigger id leaves what waits for any other, with its costs.
+pub fn visits_are_apart()
+    ensures { VisitsAreApart }
+{}
+
+/// An input adds its one message to those that were said, or none, and an offer's answer adds none.
+pub fn steps_say_what_they_tell()
+    ensures { StepsSayWhatTheyTell }
 {}
