@@ -1,6 +1,6 @@
--- While more chunks are pinned than may be, a group is abandoned: of the trigger ids the one with most pinned chunks is
--- chosen, the smallest among equals, and of its groups with a pinned chunk the one of least priority goes. A priority is
--- the rank of the group's lead, then its node, then its number. All pinned chunks of the group are abandoned.
+-- With too much pinned, one trigger id has to give: the one that holds most, and where several hold as many, the smallest.
+-- It gives up, whole, the group that matters least among those that still hold a chunk: the lowest rank of a lead, then the
+-- lowest node, then the lowest number. This is repeated until no more is pinned than may be.
 use Rattle.std.specs.Prelude.{ℕ, Bool, ◌==◌, nat_lt, List, [], ◌∷◌, ◌++◌, length, map, filter, filter_map, Option, Some, None, if◌then◌else◌, not}
 use Rattle.std.specs.Option.{option_and_then, option_map_or}
 use Rattle.std.specs.declared.cmp.Ordering.{Ordering}

@@ -1,5 +1,6 @@
--- A group claims each of its lead and its laterals that nobody claimed at this node, in that order. The indexed chunks of a
--- claimed trace become pinned for the group, in the order of arrival. The trace is no longer indexed, and keeps its crumbs.
+-- A group takes its lead, and then its laterals one by one, leaving out what is claimed at this node already. What the
+-- index has of a trace that is taken is pinned for the group from then on, oldest first, and the index drops the trace,
+-- while its crumbs stay known.
 use Rattle.std.specs.Prelude.{List, [], ◌∷◌, ◌++◌, fold, if◌then◌else◌}
 use Rattle.hs_base.specs.declared.ids.TraceId.{TraceId}
 use Rattle.hs_base.specs.declared.told.Ask.{Ask}

@@ -1,6 +1,6 @@
--- A chunk or a crumb of a trace that nobody claimed touches it: the trace is then the one touched last. While more chunks
--- than the threshold are indexed, or more traces than the limit are touched, the trace that was touched longest ago goes.
--- Its chunks are evicted, with the counts as they stood just before, and its crumbs are forgotten.
+-- The index of an agent: which trace was touched last, and what has to go when it is over a limit. Whole traces go, the
+-- longest untouched first, until the index is within both limits. Each of their chunks notes how much was indexed when its
+-- trace's time came, and nothing is left of their crumbs.
 use Rattle.std.specs.Prelude.{Bool, ◌||◌, nat_lt, List, [], ◌∷◌, ◌++◌, length, if◌then◌else◌}
 use Rattle.hs_base.specs.declared.ids.TraceId.{TraceId}
 use Rattle.hs_records.specs.Plain.{PlainSettings}

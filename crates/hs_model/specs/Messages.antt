@@ -1,6 +1,6 @@
--- What an agent tells the coordinator. The message of a trigger or of an ask names the group and all nodes to which crumbs
--- of its lead and laterals lead at this node, whoever claimed them. A crumb that comes late, for a claimed trace and to a
--- node that its crumbs did not name before, is told by itself.
+-- What an agent tells the coordinator. Of a group it names every node to which a crumb of the lead or of a lateral leads
+-- from here, even for a trace that another group holds. A crumb of a claimed trace that names a node for the first time is
+-- told by itself.
 use Rattle.std.specs.Prelude.{Bool, ◌&&◌, ◌==◌, List, [], ◌∷◌, ◌++◌, filter, fold, if◌then◌else◌}
 use Rattle.std.specs.List.{list_any}
 use Rattle.hs_base.specs.declared.ids.TraceId.{TraceId}

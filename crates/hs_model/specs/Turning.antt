@@ -1,6 +1,6 @@
--- In a turn the trigger ids are visited in rising order. What waits for an id is its pinned chunks: its groups by falling
--- priority, and of each group the chunks in the order in which they became pinned. A visit reports the longest front of
--- them whose used bytes the id's deficit and its weight in pages pay for.
+-- A turn reports what the trigger ids may send, each in its place in the rising order of ids. Of what is pinned for an id
+-- the group that matters most comes first, and within a group what was pinned first. A visit reports as many of these, from
+-- the front, as the id's deficit and its weight in pages pay for.
 use Rattle.std.specs.Prelude.{ℕ, Bool, false, not, ◌==◌, List, [], ◌∷◌, ◌++◌, map, filter, take, fold, if◌then◌else◌, slice_get}
 use Rattle.std.specs.Option.{option_map_or}
 use Rattle.hs_words.specs.Chunks.{used_of}
