@@ -10,10 +10,11 @@ use Rattle.hs_base.specs.declared.ids.TraceId.{TraceId}
 use Rattle.hs_base.specs.declared.ids.ClientId.{ClientId}
 use Rattle.hs_base.specs.declared.ids.RecordId.{RecordId}
 use Rattle.hs_words.specs.Pages.{Piece, Sheet}
-use Rattle.hs_collect.specs.Collected.{Placed, is_of, is_same, is_piece_of, pieces_from, page_pieces, pieces_of, IsWhole, AreWholes, AreCollected, end_of, CanPrecede, CanBeAdded, is_by, IsReordering}
+use Rattle.hs_collect.specs.Collected.{Placed, is_of, is_same, is_piece_of, pieces_from, page_pieces, pieces_of, AreWholes, AreCollected, end_of, CanPrecede, CanBeAdded, is_by, IsReordering}
 use Rattle.hs_collect.specs.Views.{Collection}
-use Rattle.hs_collect.proofs.Ids.{same_itself, same_ids}
+use Rattle.hs_collect.proofs.Ids.{same_itself}
 use Rattle.hs_collect.proofs.Listed.{pairs_head, pairs_tail}
+use Rattle.hs_collect.proofs.Lower.{found_holds}
 
 -- the pieces of a record on pages
 abbrev record_on : RecordId → List Sheet → List Placed
@@ -66,48 +67,37 @@ find-filter test (piece ∷ pieces) = by_test (test piece) (find-filter test pie
     by_test true later = refl
     by_test false later = later
 
-whole-same : (pieces others : List Placed) (whole : Placed) → filter (is_piece_of whole.id) pieces ≡ filter (is_piece_of whole.id) others → IsWhole pieces whole → IsWhole others whole
-whole-same pieces others whole same is =
-    let found : find (is_piece_of whole.id) pieces ≡ find (is_piece_of whole.id) others =
-    find-filter (is_piece_of whole.id) pieces ∙ ap (λ own. slice_get own 0) same ∙ sym (find-filter (is_piece_of whole.id) others) in
-    record {
-      moment = ap (option_map (λ (first : Placed). first.moment)) (sym found) ∙ is.moment;
-      payload = is.payload ∙ ap (flat_map (λ (piece : Placed). piece.payload)) same;
-    }
+first-same : (test : Placed → Bool) (pieces others : List Placed) → filter test pieces ≡ filter test others
+    → option_map (λ (first : Placed). first.moment) (find test others) ≡ option_map (λ (first : Placed). first.moment) (find test pieces)
+first-same test pieces others same =
+    ap (option_map (λ (first : Placed). first.moment)) (find-filter test others ∙ ap (λ own. slice_get own 0) (sym same) ∙ sym (find-filter test pieces))
 
 -- a piece is among those of its own record
-own_piece : (pieces : List Placed) (k : ℕ) (d : Placed) → k < length pieces → filter (is_piece_of (get_or pieces k d).id) pieces ≢ []
+own_piece : (pieces : List Placed) (k : ℕ) (d : Placed) → k < length pieces
+    → (moment : ℕ) × (option_map (λ (first : Placed). first.moment) (find (is_piece_of (get_or pieces k d).id) pieces) ≡ Some moment)
 own_piece [] k d within = absurd (omega arith)
-own_piece (piece ∷ pieces) zero d within = λ none.
-    let its = same_itself piece.id in
-    let rest = filter (is_piece_of piece.id) pieces in
-    let some : piece ∷ rest ≡ [] = sym (ap (λ b. cond b (piece ∷ rest) rest) its) ∙ none in
-    absurd (cc)
-own_piece (piece ∷ pieces) (suc k) d within = λ none. own_piece pieces k d (omega arith) (by_test (is_piece_of (get_or pieces k d).id piece) none)
+own_piece (piece ∷ pieces) zero d within = (piece.moment, ap (λ b. option_map (λ (first : Placed). first.moment) (cond b (Some piece) (find (is_piece_of piece.id) pieces))) (same_itself piece.id))
+own_piece (piece ∷ pieces) (suc k) d within = by_test (is_piece_of (get_or pieces k d).id piece) (own_piece pieces k d (omega arith))
   where
-    by_test : (b : Bool) → cond b (piece ∷ filter (is_piece_of (get_or pieces k d).id) pieces) (filter (is_piece_of (get_or pieces k d).id) pieces) ≡ []
-        → filter (is_piece_of (get_or pieces k d).id) pieces ≡ []
-    by_test true some = absurd (cc)
-    by_test false none = none
-
--- what holds of the ids of pieces holds of an id that one of them has
-one_holds : (P : RecordId → Type 0) (id : RecordId) (pieces : List Placed) → All (λ piece. P piece.id) pieces → filter (is_piece_of id) pieces ≢ [] → P id
-one_holds P id [] holds some = absurd (some refl)
-one_holds P id (piece ∷ pieces) holds some = by_test (is_piece_of id piece) refl some (one_holds P id pieces (All-tail (λ p. P p.id) piece pieces holds))
-  where
-    by_test : (b : Bool) → is_piece_of id piece ≡ b → cond b (piece ∷ filter (is_piece_of id) pieces) (filter (is_piece_of id) pieces) ≢ []
-        → (filter (is_piece_of id) pieces ≢ [] → P id) → P id
-    by_test true same here later = subst P (sym (same_ids id piece.id same)) (All-head (λ p. P p.id) piece pieces holds)
-    by_test false apart there later = later there
+    by_test : (b : Bool) → (moment : ℕ) × (option_map (λ (first : Placed). first.moment) (find (is_piece_of (get_or pieces k d).id) pieces) ≡ Some moment)
+        → (moment : ℕ) × (option_map (λ (first : Placed). first.moment) (cond b (Some piece) (find (is_piece_of (get_or pieces k d).id) pieces)) ≡ Some moment)
+    by_test true later = (piece.moment, refl)
+    by_test false later = later
 
 wholes-same : (pieces others wholes : List Placed) → ((id : RecordId) → filter (is_piece_of id) pieces ≡ filter (is_piece_of id) others) → AreWholes pieces wholes → AreWholes others wholes
 wholes-same pieces others wholes same are =
     record {
       ordered = are.ordered;
-      each = λ k d within. whole-same pieces others (get_or wholes k d) (same (get_or wholes k d).id) (are.each k d within);
+      each = λ k d within.
+          let id = (get_or wholes k d).id in
+          record {
+            moment = first-same (is_piece_of id) pieces others (same id) ∙ (are.each k d within).moment;
+            payload = (are.each k d within).payload ∙ ap (flat_map (λ (piece : Placed). piece.payload)) (same id);
+          };
       all = λ k d within.
           let id = (get_or others k d).id in
-          one_holds (λ id. Any (λ whole. whole.id ≡ id) wholes) id pieces are.all (λ none. own_piece others k d within (sym (same id) ∙ none));
+          let own = own_piece others k d within in
+          found_holds (λ id. Any (λ whole. whole.id ≡ id) wholes) id pieces own.0 are.all (sym (first-same (is_piece_of id) pieces others (same id)) ∙ own.1);
     }
 
 pub collect-same : (sheets others : List Sheet) (collection : Collection) → IsReordering sheets others → AreCollected sheets collection → AreCollected others collection

@@ -1,6 +1,6 @@
 //! The entries of a client's book, page by page.
 
-ghost use Rattle.std.specs.Prelude.{◌≡◌, ◌+◌, ◌<◌, ◌≤◌, ◌^◌, ◌++◌, length, OnOk, All};
+ghost use Rattle.std.specs.Prelude.{◌≡◌, ◌+◌, ◌<◌, ◌≤◌, ◌^◌, ◌++◌, length, OnOk, OnErr, All};
 ghost use Rattle.std.specs.HashMap.{get};
 ghost use Rattle.hs_ledger.specs.Books.{AreNumbered, record_count};
 ghost use Rattle.hs_ledger.specs.Fates.{FatedPage, fated_by, book_entries};
@@ -52,7 +52,8 @@ fn add_page(
 ) -> Result<(), Memory>
     requires fits { note.now.first + note.now.count < 2 ^ 32 }
     requires rises { next ≤ note.now.first + note.now.count }
-    ensures { OnOk result (entries.new.items ≡ with_page client next (record { note = note.now; fate = fate }) entries.old.items) }
+    ensures entries { OnOk result (entries.new.items ≡ with_page client next (record { note = note.now; fate = fate }) entries.old.items) }
+    ensures some { OnErr result (next < note.now.first + note.now.count) }
 {
     if note.first < next {
         join_last(entries, fate);
@@ -77,8 +78,9 @@ pub(crate) fn add_book(
     requires counted { All (λ note. 1 ≤ note.count) book.now.pages.items }
     requires numbered { AreNumbered book.now.pages.items }
     requires few { record_count book.now.pages.items < 2 ^ 32 }
-    ensures { OnOk result (entries.new.items ≡ entries.old.items
+    ensures entries { OnOk result (entries.new.items ≡ entries.old.items
         ++ book_entries book.now.client (fated_by (λ page draw. drawn_fate (get page_eq fates.now (record { client = book.now.client; page = page })) draw) 0 book.now.draws.items book.now.pages.items)) }
+    ensures some { OnErr result (0 < length book.now.pages.items) }
 {
     let draws = book.draws.as_slice();
     let mut next = 0;

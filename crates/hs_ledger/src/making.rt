@@ -1,6 +1,6 @@
 //! The ledger of a run.
 
-ghost use Rattle.std.specs.Prelude.{◌≡◌, IfOk, map, sum_by};
+ghost use Rattle.std.specs.Prelude.{◌≡◌, ◌+◌, ◌<◌, length, IfOk, OnErr, map, sum_by};
 ghost use Rattle.hs_journal.specs.Books.{client_book_of, agent_book_of};
 ghost use Rattle.hs_ledger.specs.Books.{BooksFit, record_count};
 ghost use Rattle.hs_ledger.specs.Fates.{entries_of};
@@ -15,7 +15,7 @@ use std::alloc::Global;
 
 /// The ledger of a run whose books fit: one entry for each record, in the order of node, client and
 /// number, with the fate of its first discarded piece, or else of its first piece, and totals that
-/// count the entries (`docs/RULES.md`, "The ledger"). The one error is want of memory.
+/// count the entries (`docs/RULES.md`, "The ledger"). The one error is want of memory; no books take none.
 pub fn make_ledger(
     alloc: Global,
     clients: &List<ClientBook>,
@@ -25,6 +25,7 @@ pub fn make_ledger(
     ensures entries { IfOk result (λ ledger. ledger.entries.items ≡ entries_of (map client_book_of clients.now.items) (map agent_book_of agents.now.items)) }
     ensures totals { IfOk result (λ ledger. ledger.totals ≡ totals_of (entries_of (map client_book_of clients.now.items) (map agent_book_of agents.now.items))) }
     ensures records { IfOk result (λ ledger. ledger.totals.records ≡ sum_by (λ book. record_count book.pages) (map client_book_of clients.now.items)) }
+    ensures some { OnErr result (0 < length clients.now.items + length agents.now.items) }
     ensures parts { IfOk result (λ ledger. parts_of ledger.totals ≡ ledger.totals.records) }
 {
     let fates = page_fates(alloc, agents.as_slice())?;

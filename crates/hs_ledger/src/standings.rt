@@ -1,6 +1,6 @@
 //! The fates of pages, from the agents' standings.
 
-ghost use Rattle.std.specs.Prelude.{◌≡◌, IfOk, OnOk, None, map};
+ghost use Rattle.std.specs.Prelude.{◌≡◌, ◌<◌, length, IfOk, OnOk, OnErr, None, map};
 ghost use Rattle.std.specs.HashMap.{get};
 ghost use Rattle.hs_base.specs.declared.ids.ClientId.{ClientId};
 ghost use Rattle.hs_journal.specs.Books.{agent_book_of};
@@ -21,7 +21,8 @@ pub(crate) struct PageId {
 
 /// Notes the fates of these standings.
 fn add_standings(fates: &mut HashMap<PageId, Fate>, standings: &[Standing]) -> Result<(), Memory>
-    ensures { OnOk result ((q : PageId) → get page_eq fates.new q ≡ newest (get page_eq fates.old q) q.client q.page standings.now) }
+    ensures fates { OnOk result ((q : PageId) → get page_eq fates.new q ≡ newest (get page_eq fates.old q) q.client q.page standings.now) }
+    ensures some { OnErr result (0 < length standings.now) }
 {
     for standing in standings {
         let id = PageId {
@@ -38,7 +39,8 @@ pub(crate) fn page_fates(
     alloc: Global,
     agents: &[AgentBook],
 ) -> Result<HashMap<PageId, Fate>, Memory>
-    ensures { IfOk result (λ fates. (q : PageId) → get page_eq fates q ≡ newest None q.client q.page (all_standings (map agent_book_of agents.now))) }
+    ensures fates { IfOk result (λ fates. (q : PageId) → get page_eq fates q ≡ newest None q.client q.page (all_standings (map agent_book_of agents.now))) }
+    ensures some { OnErr result (0 < length agents.now) }
 {
     let mut fates = HashMap::new(alloc);
     for book in agents {

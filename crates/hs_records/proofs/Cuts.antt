@@ -87,7 +87,7 @@ pieces-full size payload wide one = full (length payload) (piece_limit size) pay
 
 -- ---- counted
 
-counted : (most limit : ℕ) (payload : List ℕ) → length (cut_within most limit payload) ≡ count_cuts most limit (length payload) + 1
+pub counted : (most limit : ℕ) (payload : List ℕ) → length (cut_within most limit payload) ≡ count_cuts most limit (length payload) + 1
 counted zero limit payload = refl
 counted (suc most) limit payload = step (counted most limit (drop limit payload)) (nat_le (length payload) limit)
   where

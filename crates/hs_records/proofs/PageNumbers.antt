@@ -1,6 +1,6 @@
 -- The pages of a client's operations. On each the pieces' numbers rise one by one, since a piece that fills a page
 -- stands alone. A page begins with the next record, or goes on with the last one of the page before in one segment.
-use Rattle.std.proofs.Common.{◌≡◌, ◌⊎◌, ℕ, zero, suc, ◌+◌, ◌≤◌, Bool, true, false, cond, nat_le, List, [], ◌∷◌, ◌++◌, map, flat_map, length, take, drop, Some, None, refl, sym, ap, ◌∙◌, subst, arith, one-add, true≢false, inl, inr}
+use Rattle.std.proofs.Common.{◌≡◌, ◌⊎◌, ℕ, zero, suc, ◌+◌, ◌≤◌, Bool, true, false, cond, nat_le, List, [], ◌∷◌, ◌++◌, map, flat_map, length, take, drop, Some, None, refl, sym, ap, ◌∙◌, subst, arith, length-drop, one-add, true≢false, inl, inr}
 use Rattle.std.proofs.lemmas.Bool.{le-leb, leb-true}
 use Rattle.std.specs.List.{AllByRecursion}
 use Rattle.hs_base.specs.declared.ids.TraceId.{TraceId}
@@ -31,11 +31,6 @@ all-traced : (size : ℕ) (traces : Traces) (trace : TraceId) (pieces : List Pie
     → AllByRecursion (λ (piece : Piece). traces piece.number ≡ Some trace) pieces
 all-traced size traces trace [] each = tt
 all-traced size traces trace (piece ∷ pieces) each = (each.0.traced, all-traced size traces trace pieces each.1)
-
-length-drop_le : (n : ℕ) (xs : List Piece) → length (drop n xs) ≤ length xs
-length-drop_le zero xs = omega arith
-length-drop_le (suc n) [] = omega arith
-length-drop_le (suc n) (x ∷ xs) = let h = length-drop_le n xs in omega arith
 
 -- ---- one page
 
@@ -107,7 +102,7 @@ pages_behind (suc most) size traces next trace (piece ∷ pieces) few goes each 
     let run = is_run size (0 + cost_of piece) piece pieces (omega arith) goes.1 in
     let page : PlainPage = record { trace = trace; pieces = piece ∷ take k pieces } in
     let end : piece.number + 1 + length (take k pieces) ≡ end_of page = omega arith in
-    let fewer : length rest ≤ most = let shorter = length-drop_le k pieces in omega arith in
+    let fewer : length rest ≤ most = omega (arith, length-drop k pieces) in
     let later =
     pages_behind most size traces (end_of page) trace rest fewer (subst (λ n. Continues size n rest) end run.next) (all-drop (IsPiece size traces trace) k pieces each.1) in
     let takes : count_within (page_room size) (map cost_of (piece ∷ pieces)) ≡ suc k = ap (λ b. cond b (1 + k) 0) fits ∙ one-add k in

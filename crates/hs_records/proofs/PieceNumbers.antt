@@ -2,7 +2,7 @@
 -- fills a page. Each fits a page of its own, and its number is that of a record with the segment's trace.
 use Rattle.std.proofs.Common.{◌≡◌, ◌⊎◌, ℕ, zero, suc, ◌+◌, ◌<◌, ◌≤◌, Bool, true, false, nat_le, List, [], ◌∷◌, ◌++◌, map, flat_map, length, take, drop, Option, Some, option_map, refl, ap, ◌∙◌, subst, arith, length-drop, true≢false, inl, inr}
 use Rattle.std.proofs.lemmas.Bool.{leb-true}
-use Rattle.std.proofs.lemmas.List.{length-take-le}
+use Rattle.std.proofs.lemmas.List.{length-map, length-take-le}
 use Rattle.std.proofs.lemmas.Bool.Decides.{nat_tests}
 use Rattle.std.specs.List.{AllByRecursion, slice_get}
 use Rattle.hs_base.specs.declared.ids.TraceId.{TraceId}
@@ -10,6 +10,7 @@ use Rattle.hs_records.specs.Plain.{Operation, Begin, Point, Crumb, End, Fire, Sa
 use Rattle.hs_records.specs.Records.{Record, Piece, AreBracketed, numbered_from, record_at, piece_limit, cut_within, record_pieces, pieces_until_end}
 use Rattle.hs_records.specs.Pages.{cost_of, page_room}
 use Rattle.hs_records.specs.Laws.{Traces}
+use Rattle.hs_records.proofs.Cuts.{counted}
 
 -- the records of operations that find this trace open, the first of which is an operation of this number
 abbrev pub records_from : ℕ → Option TraceId → List Operation → List Record
@@ -80,15 +81,6 @@ full_well size number moment payload traces trace (next ∷ pieces) more last wi
       each = (record { narrow = omega arith; traced = traced }, later.each);
     }
 
-cut-some : (most limit number moment : ℕ) (payload : List ℕ) → 1 ≤ length (map (piece_of number moment) (cut_within most limit payload))
-cut-some zero limit number moment payload = omega arith
-cut-some (suc most) limit number moment payload = step (nat_le (length payload) limit)
-  where
-    step : (fits : Bool)
-        → 1 ≤ length (map (piece_of number moment) (elim fits as (λ _. List (List ℕ)) [ true ↦ payload ∷ [] | false ↦ take limit payload ∷ cut_within most limit (drop limit payload) ]))
-    step true = omega arith
-    step false = omega arith
-
 -- the pieces of what is cut at most so often, and what follows
 cut_well : (most size number moment : ℕ) (payload : List ℕ) (traces : Traces) (trace : TraceId) (more : List Piece) (last : ℕ) → 64 ≤ size → length payload ≤ most
     → traces number ≡ Some trace → AreWell size traces trace (number + 1) more last
@@ -112,7 +104,7 @@ cut_well (suc most) size number moment payload traces trace more last wide few t
         full_well size number moment (take (piece_limit size) payload) traces trace (map (piece_of number moment) (cut_within most (piece_limit size) (drop (piece_limit size) payload))) more last wide
         (length-take-le (piece_limit size) payload (omega arith))
         traced
-        (cut-some most (piece_limit size) number moment (drop (piece_limit size) payload))
+        (omega (arith, length-map (cut_within most (piece_limit size) (drop (piece_limit size) payload)) (piece_of number moment), counted most (piece_limit size) (drop (piece_limit size) payload)))
         (rest (omega arith))
 
 -- all pieces of a record, and what follows

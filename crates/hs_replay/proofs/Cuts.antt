@@ -1,5 +1,5 @@
 -- A player that has recorded some pieces of a payload, and has the rest of it still to record.
-use Rattle.std.proofs.Common.{◌≡◌, ℕ, ◌+◌, ◌<◌, ◌≤◌, List, [], ◌∷◌, ◌++◌, length, map, take, drop, sym, ap, ◌∙◌, arith, subst}
+use Rattle.std.proofs.Common.{◌≡◌, ℕ, ◌+◌, ◌<◌, ◌≤◌, List, [], ◌∷◌, ◌++◌, length, map, take, drop, sym, ap, ap₂, ◌∙◌, arith, subst}
 use Rattle.hs_records.specs.Records.{Piece, Segment, piece_limit, payload_pieces, piece_count, record_pieces}
 use Rattle.hs_replay.specs.declared.player.Player.{Player}
 use Rattle.hs_replay.specs.Players.{IsSound, Goes, Plan, IsPlaying, PlaysPieces}
@@ -30,16 +30,16 @@ pub record IsRecorded (moment : ℕ) (payload : List ℕ) (number : ℕ) (now ne
   pub goes : Goes 1 number now.core.trace now.core new.core
   pub played : PlaysPieces (piece_of now.core.number moment payload ∷ []) now new
 
-cut_once : AreCut → (limit moment : ℕ) (payload rest : List ℕ) (old now new : Player) → IsCutTo moment payload rest old now → limit ≡ piece_limit old.core.size → limit < length rest
-    → IsRecorded moment (take limit rest) now.core.number now new → IsCutTo moment payload (drop limit rest) old new
-cut_once are limit moment payload rest old now new is limit_is long recorded =
+pub cut_further : AreCut → (limit moment : ℕ) (payload rest full behind : List ℕ) (old now new : Player) → IsCutTo moment payload rest old now → limit ≡ piece_limit old.core.size → limit < length rest
+    → full ≡ take limit rest → behind ≡ drop limit rest → IsRecorded moment full now.core.number now new → IsCutTo moment payload behind old new
+cut_further are limit moment payload rest full behind old now new is limit_is long full_is behind_is recorded =
     let size = old.core.size in
     let wide : 64 ≤ size = omega (arith, is.sound.least, is.size_is) in
     let longer : piece_limit size < length rest = omega (arith, long, limit_is) in
-    let cut : payload_pieces size rest ≡ take limit rest ∷ payload_pieces size (drop limit rest) =
-    are.cut size rest wide longer ∙ ap (λ n. take n rest ∷ payload_pieces size (drop n rest)) (sym limit_is) in
-    let fewer : piece_count size (length rest) ≡ piece_count size (length (drop limit rest)) + 1 =
-    omega (arith, are.counted size rest, ap length cut, are.counted size (drop limit rest)) in
+    let cut : payload_pieces size rest ≡ full ∷ payload_pieces size behind =
+    are.cut size rest wide longer ∙ ap (λ n. take n rest ∷ payload_pieces size (drop n rest)) (sym limit_is)
+    ∙ ap₂ (λ piece more. piece ∷ payload_pieces size more) (sym full_is) (sym behind_is) in
+    let fewer : piece_count size (length rest) ≡ piece_count size (length behind) + 1 = omega (arith, are.counted size rest, ap length cut, are.counted size behind) in
     record {
       sound = recorded.sound;
       trace = recorded.goes.trace_is ∙ is.trace;
@@ -49,17 +49,10 @@ cut_once are limit moment payload rest old now new is limit_is long recorded =
       counted = omega (arith, recorded.goes.counted, is.counted, fewer);
       played = λ plan pieces later h.
           let from = is.played plan pieces later h in
-          let more : record_pieces size old.core.number moment rest ≡ piece_of now.core.number moment (take limit rest) ∷ record_pieces size old.core.number moment (drop limit rest) =
-          ap (map (piece_of old.core.number moment)) cut
-          ∙ ap (λ number. piece_of number moment (take limit rest) ∷ record_pieces size old.core.number moment (drop limit rest)) (sym is.number) in
-          recorded.played plan (record_pieces size old.core.number moment (drop limit rest) ++ pieces) later (subst (λ all. IsPlaying plan (all ++ pieces) later now) more from);
+          let more : record_pieces size old.core.number moment rest ≡ piece_of now.core.number moment full ∷ record_pieces size old.core.number moment behind =
+          ap (map (piece_of old.core.number moment)) cut ∙ ap (λ number. piece_of number moment full ∷ record_pieces size old.core.number moment behind) (sym is.number) in
+          recorded.played plan (record_pieces size old.core.number moment behind ++ pieces) later (subst (λ all. IsPlaying plan (all ++ pieces) later now) more from);
     }
-
-pub cut_further : AreCut → (limit moment : ℕ) (payload rest full behind : List ℕ) (old now new : Player) → IsCutTo moment payload rest old now → limit ≡ piece_limit old.core.size → limit < length rest
-    → full ≡ take limit rest → behind ≡ drop limit rest → IsRecorded moment full now.core.number now new → IsCutTo moment payload behind old new
-cut_further are limit moment payload rest full behind old now new is limit_is long full_is behind_is recorded =
-    let taken = subst (λ bytes. IsRecorded moment bytes now.core.number now new) full_is recorded in
-    subst (λ bytes. IsCutTo moment payload bytes old new) (sym behind_is) (cut_once are limit moment payload rest old now new is limit_is long taken)
 
 -- all of the payload is recorded
 pub record IsCut (moment : ℕ) (payload : List ℕ) (old new : Player) : Type 0 where

@@ -3,6 +3,7 @@
 use Rattle.std.proofs.Common.{◌≡◌, ℕ, zero, suc, ◌+◌, ◌<◌, ◌≤◌, Bool, true, false, cond, nat_le, nat_lt, ◌==◌, ◌&&◌, ◌||◌, List, [], ◌∷◌, ◌++◌, map, filter, flat_map, length, drop, unwrap_or, Option, Some, None, option_map, refl, sym, ap, ap₂, ◌∙◌, arith, inl, inr}
 use Rattle.std.proofs.lemmas.Bool.{cases_lt, false≢true}
 use Rattle.std.proofs.lemmas.Bool.Decides.{nat_tests}
+use Rattle.std.proofs.lemmas.Option.{slice_get_within}
 use Rattle.std.specs.List.{AllByRecursion, find, list_any, position_from, range_with_len, slice_get}
 use Rattle.hs_base.specs.declared.ids.TraceId.{TraceId}
 use Rattle.hs_base.specs.declared.told.Fate.{Fate}
@@ -179,11 +180,6 @@ pub count-notes : (number : ℕ) (pages : List PlainPage) → count_from number 
 count-notes number [] = refl
 count-notes number (page ∷ pages) = count-notes (end_of page) pages
 
-get-within : (k : ℕ) (r : Record) (records : List Record) → slice_get records k ≡ Some r → k < length records
-get-within k r [] at = absurd (cc)
-get-within zero r (first ∷ records) at = omega arith
-get-within (suc k) r (first ∷ records) at = let later = get-within k r records at in omega arith
-
 entries_are : (f : ℕ → List Entry) (fate : ℕ → Fate) (i : ℕ) (records : List Record) → ((k : ℕ) (r : Record) → slice_get records k ≡ Some r → f (i + k) ≡ entry_with (i + k) r.trace (fate (i + k)))
     → flat_map f (range_with_len i (length records)) ≡ entries_from fate i records
 entries_are f fate i [] are = refl
@@ -205,7 +201,7 @@ book_is buffers pages records are =
     by_number k r at =
         let none : 0 + k ≡ k = omega arith in
         let is : traces_of records (0 + k) ≡ Some r.trace = ap (traces_of records) none ∙ ap (option_map (λ (r : Record). r.trace)) at in
-        let within = get-within k r records at in
+        let within = slice_get_within records k r at in
         let some = some_page (0 + k) pages are.numbered (omega (arith, are.ends)) in
         entry_is buffers (0 + k) 0 r.trace pages some (of_trace (traces_of records) r.trace (0 + k) pages is are.each)
         ∙ ap (λ f. entry_with (0 + k) r.trace (fate_by f)) (null-pages buffers (0 + k) buffers 0 (traces_of records) pages (omega arith) are.each)

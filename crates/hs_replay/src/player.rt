@@ -1,6 +1,6 @@
 //! A client at its node, where nobody takes what it hands out.
 
-ghost use Rattle.std.specs.Prelude.{◌≡◌, ◌+◌, ◌<◌, ◌≤◌, [], ◌∷◌, ◌++◌, length, map, IfOk, IsSome, IsNone};
+ghost use Rattle.std.specs.Prelude.{◌≡◌, ◌+◌, ◌<◌, ◌≤◌, [], ◌∷◌, ◌++◌, length, map, IfOk, OnErr, IsSome, IsNone};
 ghost use Rattle.std.specs.Option.{option_to_list};
 ghost use Rattle.hs_records.specs.Records.{piece_count, record_pieces};
 ghost use Rattle.hs_client.specs.Core.{number_after};
@@ -134,10 +134,12 @@ impl Player {
         }
     }
 
-    /// The books of the client and of its node's agent, at which each page that was kept stands live.
+    /// The books of the client and of its node's agent, at which each page that was kept stands live. They
+    /// take no memory where none was.
     pub(crate) fn finish(self, alloc: Global) -> Result<(ClientBook, AgentBook), Memory>
         requires { IsNone self.core.trace }
-        ensures { IfOk result (λ books. AreBooksOf self books.0 books.1) }
+        ensures books { IfOk result (λ books. AreBooksOf self books.0 books.1) }
+        ensures some { OnErr result (0 < length self.kept.items) }
     {
         any_steps_make_the_book::<()>();
         let agent = AgentBook {
@@ -163,9 +165,10 @@ fn keep(kept: &mut List<Held<()>>, handed: Option<Held<()>>)
     }
 }
 
-/// A live standing of each page in these chunks.
+/// A live standing of each page in these chunks. No chunks take no memory.
 fn stand_live(alloc: Global, kept: &[Held<()>]) -> Result<List<Standing>, Memory>
-    ensures { IfOk result (λ standings. standings.items ≡ standings_of (map buffer_of kept.now)) }
+    ensures items { IfOk result (λ standings. standings.items ≡ standings_of (map buffer_of kept.now)) }
+    ensures some { OnErr result (0 < length kept.now) }
 {
     let mut standings = List::with_room(alloc, kept.len())?;
     for held in kept {

@@ -29,11 +29,11 @@ loop-page-preserved c =
     after_in fate c.as_slice-draws.result.now book.draws.items c.as_slice-note-items.result.now book.pages.items book.client c.args.entries.now.items c.loop-page.entries.items c.add_page.new.entries.items
     c.loop-page.page c.loop-page.next _ c.page_fate-fate.result _
     c.as_slice-draws.ensures c.as_slice-note-items.ensures c.requires.drawn c.requires.counted c.requires.numbered c.loop-page-test.true
-    c.loop-page.invariant.next c.loop-page.invariant.entries c.page_fate-fate.ensures c.in_ok-add_page.ensures in
+    c.loop-page.invariant.next c.loop-page.invariant.entries c.page_fate-fate.ensures c.in_ok-add_page.ensures.entries in
     record { next = after.next; entries = after.entries }
 
-pub returns : goal.returns
-returns c =
+pub returns-clause-entries : goal.returns-clause-entries
+returns-clause-entries c =
     let book = c.args.book.now in
     let fate = λ (page : ℕ) (draw : Draw). drawn_fate (get page_eq c.args.fates.now (record { client = book.client; page = page })) draw in
     let long = length-fated_by fate 0 book.draws.items book.pages.items c.requires.drawn in

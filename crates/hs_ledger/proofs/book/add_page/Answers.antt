@@ -19,8 +19,8 @@ if_below a b xs ys low = let is : nat_lt a b ≡ true = grind (arith, nat_tests)
 if_above : (a b : ℕ) (xs ys : List Entry) → b ≤ a → ys ≡ cond (nat_lt a b) xs ys
 if_above a b xs ys high = let is : nat_lt a b ≡ false = grind (arith, nat_tests) in ap (λ t. cond t xs ys) (sym is)
 
-pub returns : goal.returns
-returns c =
+pub returns-clause-entries : goal.returns-clause-entries
+returns-clause-entries c =
     let note = c.args.note.now in
     let next = c.args.next in
     let old = c.args.entries.now.items in

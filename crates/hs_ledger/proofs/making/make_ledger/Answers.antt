@@ -18,8 +18,8 @@ loop-book-preserved c =
     book_more (map agent_book_of c.args.agents.now.items) c.args.clients.now.items c.as_slice-book-items.result.now c.loop-book.book-index book
     (λ (page : ℕ). get page_eq c.in_ok-fates.fates (record { client = book.client; page = page })) c.loop-book.entries.items c.add_book.new.entries.items
     c.requires c.as_slice-book-items.ensures c.loop-book-test.true c.book-item.is
-    (λ page. c.in_ok-fates.ensures (record { client = book.client; page = page }) ∙ ap (λ agents. newest _ book.client page (all_standings (map agent_book_of agents))) c.as_slice.ensures)
-    c.loop-book.invariant c.in_ok-add_book.ensures
+    (λ page. c.in_ok-fates.ensures.fates (record { client = book.client; page = page }) ∙ ap (λ agents. newest _ book.client page (all_standings (map agent_book_of agents))) c.as_slice.ensures)
+    c.loop-book.invariant c.in_ok-add_book.ensures.entries
 
 pub of-totals-requires : goal.of-totals-requires
 of-totals-requires c =

@@ -8,5 +8,5 @@ pub loop-book-preserved : goal.loop-book-preserved
 loop-book-preserved c = λ q.
     let fate = get page_eq c.loop-book.fates q in
     newest-book fate _ q.client q.page c.args.agents.now c.loop-book.book-index c.book-item.result (omega arith) c.book-item.is
-    (c.in_ok-add_standings.ensures q ∙ ap (newest fate q.client q.page) c.as_slice.ensures)
+    (c.in_ok-add_standings.ensures.fates q ∙ ap (newest fate q.client q.page) c.as_slice.ensures)
     ∙ c.loop-book.invariant q

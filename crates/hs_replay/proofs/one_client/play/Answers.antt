@@ -21,4 +21,4 @@ returns c =
     let plan = plan_of c.args.buffers c.args.size c.count_calls-calls.result (map operation_of ops) in
     let none = drop_of_length-le ops {i = c.loop-operation.operation-index} (omega arith) in
     let at = subst (λ rest. IsAt plan (map operation_of rest) c.loop-operation.player) none c.loop-operation.invariant.1 in
-    IfOk-weaker c.finish.result _ _ (λ books are. are plan (map operation_of ops) at refl) c.finish.ensures
+    IfOk-weaker c.finish.result _ _ (λ books are. are plan (map operation_of ops) at refl) c.finish.ensures.books
