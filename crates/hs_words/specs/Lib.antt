@@ -6,3 +6,4 @@ pub mod Reading
 pub mod Pools
 pub mod PoolHistory
 pub mod PoolAnswers
+pub mod Ends
