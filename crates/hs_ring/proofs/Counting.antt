@@ -1,0 +1,128 @@
+-- What the rule says of the counts, and of the words and slots that a step changes.
+use Rattle.std.proofs.Common.{◌≡◌, ◌≢◌, ◌⊎◌, ℕ, zero, suc, ◌+◌, ◌-◌, ◌*◌, ◌/◌, ◌%◌, ◌<◌, ◌≤◌, List, [], ◌∷◌, ◌++◌, length, drop, set, get_or, Some, refl, sym, ap, ◌∙◌, subst, inl, inr, ⊎_elim, mod-eq_of_lt, mod-lt, arith}
+use mathlib.Core.Option.{some, some-injective, some-ne-none}
+use lib.ListN.{get_elem?}
+use Rattle.std.specs.Prelude.{Option, slice_get, count_by}
+use Rattle.atomic_table.specs.Table.{State, Me, Act, Valid, carried_after, stepped}
+use Rattle.atomic_table.proofs.Lists.{at_set}
+use Rattle.hs_words.specs.Chunks.{Contents}
+use Rattle.hs_words.specs.PoolHistory.{is_missed, is_empty}
+use Rattle.hs_words.specs.Ends.{events_of, drawn_in, given_in, is_any_got, is_any_given}
+use Rattle.hs_words.proofs.Deeds.{stamp_is}
+use Rattle.hs_words.proofs.Waiting.{few, waiting_length, drawn_kinds, given_kinds}
+use Rattle.hs_ring.specs.Views.{View}
+use Rattle.hs_ring.specs.Rule.{Plan, Facts, published, queue_of, Knows, Kept, Ring}
+use Rattle.hs_ring.specs.Steps.{drawn_of, published_of, IsStamp}
+
+-- ---- lists
+
+module _ {A : Type 0} where
+  pub at_length : (xs : List A) (i : ℕ) (x : A) → get_elem? xs i ≡ some x → i < length xs
+  at_length [] i x at = absurd (some-ne-none x (sym at))
+  at_length (y ∷ ys) zero x at = omega arith
+  at_length (y ∷ ys) (suc i) x at = let less = at_length ys i x at in omega arith
+
+  pub first_there : (xs : List A) → 0 < length xs → (x : A) × (get_elem? xs 0 ≡ some x)
+  first_there [] less = absurd (omega arith)
+  first_there (x ∷ xs) less = (x, refl)
+
+  pub none_there : (xs : List A) → length xs ≡ 0 → xs ≡ []
+  none_there [] e = refl
+  none_there (x ∷ xs) e = absurd (omega arith)
+
+  pub at_rest : (xs : List A) (i : ℕ) (x : A) → get_elem? (drop 1 xs) i ≡ some x → get_elem? xs (suc i) ≡ some x
+  at_rest [] i x at = absurd (some-ne-none x (sym at))
+  at_rest (y ∷ ys) i x at = at
+
+  -- an element of a list with one more, and its place
+  pub at_end : (xs : List A) (y x : A) (i : ℕ) → get_elem? (xs ++ y ∷ []) i ≡ some x → (get_elem? xs i ≡ some x) ⊎ ((i ≡ length xs) × (y ≡ x))
+  at_end [] y x zero at = inr (refl, some-injective y x at)
+  at_end [] y x (suc i) at = absurd (some-ne-none x (sym at))
+  at_end (z ∷ zs) y x zero at = inl at
+  at_end (z ∷ zs) y x (suc i) at = ⊎_elim (λ old. inl old) (λ new. inr (ap suc new.0, new.1)) (at_end zs y x i at)
+
+pub front_got : (xs : List ℕ) (x : ℕ) → get_elem? xs 0 ≡ some x → slice_get xs 0 ≡ Some x
+front_got [] x at = absurd (some-ne-none x (sym at))
+front_got (y ∷ ys) x at = ap (λ (z : ℕ). Some z) (some-injective y x at)
+
+-- ---- the word of the counts
+
+pub drawn_packed : (p d : ℕ) → d < 4294967296 → (p * 4294967296 + d) % 4294967296 ≡ d
+drawn_packed p d less = omega arith
+
+pub published_packed : (p d : ℕ) → d < 4294967296 → (p * 4294967296 + d) / 4294967296 ≡ p
+published_packed p d less = omega arith
+
+pub one_drawn : (p d word : ℕ) → p < 2147483648 → d < 2147483648 → word ≡ p * 4294967296 + d → (word + 1) % 18446744073709551616 ≡ p * 4294967296 + suc d
+one_drawn p d word small less is = let below : word + 1 < 18446744073709551616 = omega arith in mod-eq_of_lt below ∙ (let e : word + 1 ≡ p * 4294967296 + suc d = omega arith in e)
+
+pub one_published : (p d word : ℕ) → p < 2147483648 → d < 2147483648 → word ≡ p * 4294967296 + d → (word + 4294967296) % 18446744073709551616 ≡ suc p * 4294967296 + d
+one_published p d word small less is =
+    let below : word + 4294967296 < 18446744073709551616 = omega arith in mod-eq_of_lt below ∙ (let e : word + 4294967296 ≡ suc p * 4294967296 + d = omega arith in e)
+
+-- ---- the counts of a state
+
+module _ (plan : Plan) (s : State (Option Contents) View) (f : Facts) (k : Kept plan s f) where
+  abbrev n : ℕ
+  n = plan.buffers
+
+  pub line : length (queue_of n f.log) ≡ published n f.log - drawn_in f.log
+  line =
+      let waiting = waiting_length n (events_of f.log) k.lawful in
+      let draws = drawn_kinds f.log in
+      let gives = given_kinds f.log in
+      let voids = k.voids in
+      balanced (length (queue_of n f.log)) (count_by is_any_got (events_of f.log)) (count_by is_any_given (events_of f.log)) (count_by is_empty (events_of f.log)) (count_by is_missed (events_of f.log))
+      n (drawn_in f.log) (given_in f.log) waiting draws gives voids
+    where
+      balanced : (l g v e m n d o : ℕ) → l + g ≡ n + v → d ≡ g + e → o ≡ v + m → m + (d - (n + o)) ≡ e → l ≡ (n + o) - d
+      balanced l g v e m n d o w x y z = omega arith
+
+  pub lap : published n f.log ≤ drawn_in f.log + n
+  lap = let l = line in let most = few n (events_of f.log) k.lawful in omega arith
+
+  pub few_drawn : drawn_in f.log ≤ 262144
+  few_drawn = let most = k.left in let total = k.within.draws in omega arith
+
+  pub few_published : published n f.log ≤ 263168
+  few_published = let l = lap in let d = few_drawn in let most = k.within.few in omega arith
+
+  pub found_drawn : drawn_of (get_or s.words 0 0) ≡ drawn_in f.log
+  found_drawn = ap drawn_of k.counts ∙ drawn_packed (published n f.log) (drawn_in f.log) (let d = few_drawn in omega arith)
+
+  pub found_published : published_of (get_or s.words 0 0) ≡ published n f.log
+  found_published = ap published_of k.counts ∙ published_packed (published n f.log) (drawn_in f.log) (let d = few_drawn in omega arith)
+
+  -- the number of deeds is the stamp that the counts make
+  pub found_stamp : (entries : ℕ) → entries ≡ 2 * n → IsStamp entries (get_or s.words 0 0) (length f.log)
+  found_stamp entries is = let d = found_drawn in let p = found_published in let both = stamp_is f.log in omega arith
+
+  pub one_more_drawn : (get_or s.words 0 0 + 1) % 18446744073709551616 ≡ published n f.log * 4294967296 + suc (drawn_in f.log)
+  one_more_drawn = one_drawn (published n f.log) (drawn_in f.log) (get_or s.words 0 0) (let p = few_published in omega arith) (let d = few_drawn in omega arith) k.counts
+
+  pub one_more_published : (get_or s.words 0 0 + 4294967296) % 18446744073709551616 ≡ suc (published n f.log) * 4294967296 + drawn_in f.log
+  one_more_published = one_published (published n f.log) (drawn_in f.log) (get_or s.words 0 0) (let p = few_published in omega arith) (let d = few_drawn in omega arith) k.counts
+
+  pub entry_below : (number : ℕ) → number % (2 * n) < 2 * n
+  entry_below number = mod-lt number (let one = k.within.some in omega arith)
+
+-- ---- seats
+
+-- one seat's view is another
+pub reseated : (plan : Plan) (f : Facts) (views : List View) (id : ℕ) (w : View) → Knows plan f id w → ((j : ℕ) (v : View) → j ≢ id → get_elem? views j ≡ some v → Knows plan f j v)
+    → (j : ℕ) (v : View) → get_elem? (set views id w) j ≡ some v → Knows plan f j v
+reseated plan f views id w mine others j v at =
+    ⊎_elim (λ (here : (j ≡ id) × (w ≡ v)). subst (λ (x : View). Knows plan f j x) here.1 (subst (λ (i : ℕ). Knows plan f i w) (sym here.0) mine)) (λ (else : (j ≢ id) × (get_elem? views j ≡ some v)). others j v else.0 else.1)
+    (at_set views id j w v at)
+
+-- and one more seat
+pub seated_too : (plan : Plan) (f : Facts) (views : List View) (w : View) → Knows plan f (length views) w → ((j : ℕ) (v : View) → get_elem? views j ≡ some v → Knows plan f j v)
+    → (j : ℕ) (v : View) → get_elem? (views ++ w ∷ []) j ≡ some v → Knows plan f j v
+seated_too plan f views w new others j v at =
+    ⊎_elim (λ old. others j v old) (λ (last : (j ≡ length views) × (w ≡ v)). subst (λ (x : View). Knows plan f j x) last.1 (subst (λ (i : ℕ). Knows plan f i w) (sym last.0) new)) (at_end views w v j at)
+
+-- ---- what a step owes
+
+abbrev pub Goes : Plan → State (Option Contents) View → ℕ → ℕ → Me (Option Contents) View → ℕ → (ℕ → Me (Option Contents) View → Type 0) → Type 0
+Goes plan s i id me x then =
+    (w : View) × (a : Act (Option Contents)) × Valid s.homes me.1 a × Ring plan (stepped s i x id me.1 w a) × then (get_or s.words i 0) (w, carried_after me.1 a)

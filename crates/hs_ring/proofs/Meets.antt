@@ -1,0 +1,161 @@
+-- Two ends hear of what the other knows, by notes.
+use Rattle.std.proofs.Common.{◌≡◌, ℕ, suc, ◌≤◌, Bool, true, false, ◌==◌, List, [], ◌∷◌, ◌++◌, length, set, max, refl, sym, ap, ◌∙◌, subst, inl, inr, arith}
+use mathlib.Core.Option.{some}
+use lib.ListN.{get_elem?}
+use borrow.Author.Tests.{eqb-true}
+use Rattle.std.specs.List.{AllByRecursion}
+use Rattle.atomic_table.specs.Table.{Splits, Joins}
+use Rattle.atomic_table.proofs.Lists.{set_else}
+use Rattle.hs_words.specs.Ends.{Deed, Answer, met, got_by, answers_by, told_in, stamps_in, IsAt, put_if, answer_to}
+use Rattle.hs_words.proofs.Deeds.{all_both, at_below, draw_is_at, at_once}
+use Rattle.hs_ring.specs.Views.{Desk, Hand, nothing, drew, Post, Palm, View, nobody, drawing, giving, drawer_note, giver_note, post_after, all_left}
+use Rattle.hs_ring.specs.Rule.{Plan, Facts, HandOk, IsSettled, DeskOk, PostOk, Knows, Kept, Ring}
+use Rattle.hs_ring.proofs.Updates.{left_set, left_and}
+use Rattle.hs_ring.proofs.Counting.{reseated, seated_too}
+use Rattle.hs_ring.proofs.Draws.{St}
+
+-- ---- what a drawer answered was collected by it
+
+-- an answer of an end is a deed of that end
+at_answer : (log : List Deed) (end : ℕ) (P : ℕ → Type 0) → ((stamp : ℕ) (deed : Deed) → IsAt log stamp deed → deed.by ≡ end → P stamp) → AllByRecursion P (stamps_in (answers_by end log))
+at_answer [] end P known = tt
+at_answer (x ∷ xs) end P known = step (x.by == end) refl (at_answer xs end P (λ stamp deed at by. known stamp deed (inr at) by))
+  where
+    step : (b : Bool) → (x.by == end) ≡ b → AllByRecursion P (stamps_in (answers_by end xs)) → AllByRecursion P (stamps_in (put_if b (answer_to x (length xs)) (answers_by end xs)))
+    step true e rest = (known (length xs) x (inl (refl, refl)) (eqb-true x.by end e), rest)
+    step false e rest = rest
+
+module _ (plan : Plan) (s : St) (f : Facts) (k : Kept plan s f) (id : ℕ) (desk : Desk) (at : get_elem? s.views id ≡ some (drawing desk nothing)) where
+  abbrev own : DeskOk plan f id desk nothing
+  own = k.each_seat id (drawing desk nothing) at
+
+  -- an idle drawer has collected all that it drew
+  settled : (told : ℕ) (deed : Deed) → IsAt f.log told deed → deed.by ≡ suc desk.number → IsSettled f.log f.hands told
+  settled told deed seen by = (
+    at_below f.log told deed seen,
+    λ drawer number buffer stamp is same.
+        let hand : HandOk plan.buffers f.log f.cells f.spots drawer (drew number buffer stamp) = subst (HandOk plan.buffers f.log f.cells f.spots drawer) is (k.each_hand drawer) in
+        let seen' : IsAt f.log told (got_by (suc drawer) buffer) = subst (λ (t : ℕ). IsAt f.log t (got_by (suc drawer) buffer)) (sym same) (draw_is_at f.log number stamp (got_by (suc drawer) buffer) hand.2) in
+        let one : deed.by ≡ suc drawer = ap (λ (d : Deed). d.by) (at_once f.log told deed (got_by (suc drawer) buffer) seen seen') in
+        let this : drawer ≡ desk.number = omega arith in
+        let both : nothing ≡ drew number buffer stamp = sym own.hand_is ∙ ap f.hands (sym this) ∙ is in
+        absurd cc,
+  )
+
+  note_kept : Kept plan record { words = s.words; homes = s.homes; views = set s.views id (drawing desk nothing) ++ drawer_note desk.floor (stamps_in desk.answers) ∷ [] } f
+  note_kept =
+      record {
+        within = k.within;
+        homes = k.homes;
+        words = k.words;
+        counts = k.counts;
+        lawful = k.lawful;
+        spent = k.spent;
+        voids = k.voids;
+        each_cell = k.each_cell;
+        each_queued = k.each_queued;
+        each_hand = k.each_hand;
+        in_palm = k.in_palm;
+        left = (let e = left_set s.views id (drawing desk nothing) (drawing desk nothing) at in let a = left_and (set s.views id (drawing desk nothing)) (drawer_note desk.floor (stamps_in desk.answers)) in let l = k.left in omega arith);
+        by_giver = k.by_giver;
+        all_made = k.all_made;
+        still_open = k.still_open;
+        unmade = k.unmade;
+        each_seat = seated_too plan f (set s.views id (drawing desk nothing)) (drawer_note desk.floor (stamps_in desk.answers))
+            (own.floor, subst (λ (l : List Answer). AllByRecursion (IsSettled f.log f.hands) (stamps_in l)) (sym own.answers) (at_answer f.log (suc desk.number) (IsSettled f.log f.hands) settled))
+            (reseated plan f s.views id (drawing desk nothing) own (λ j v other seen. k.each_seat j v seen));
+      }
+
+pub notes_draws : (plan : Plan) (id : ℕ) (desk : Desk) → Splits (Ring plan) id (drawing desk nothing) (drawing desk nothing) (drawer_note desk.floor (stamps_in desk.answers))
+notes_draws plan id desk s (f, k) at = (f, note_kept plan s f k id desk at)
+
+-- ---- other notes change nothing but what seats know
+
+-- seats that know more
+pub known_kept : (plan : Plan) (s : St) (f : Facts) (views : List View) → Kept plan s f → all_left views ≡ all_left s.views → ((j : ℕ) (v : View) → get_elem? views j ≡ some v → Knows plan f j v)
+    → Kept plan record { words = s.words; homes = s.homes; views = views } f
+known_kept plan s f views k left each =
+    record {
+      within = k.within;
+      homes = k.homes;
+      words = k.words;
+      counts = k.counts;
+      lawful = k.lawful;
+      spent = k.spent;
+      voids = k.voids;
+      each_cell = k.each_cell;
+      each_queued = k.each_queued;
+      each_hand = k.each_hand;
+      in_palm = k.in_palm;
+      left = (let l = k.left in omega arith);
+      by_giver = k.by_giver;
+      all_made = k.all_made;
+      still_open = k.still_open;
+      unmade = k.unmade;
+      each_seat = each;
+    }
+
+pub notes_floor : (plan : Plan) (id : ℕ) (post : Post) (palm : Palm) → Splits (Ring plan) id (giving post palm) (giving post palm) (giver_note post.floor)
+notes_floor plan id post palm s (f, k) at =
+    let own : PostOk plan f id post palm = k.each_seat id (giving post palm) at in (
+      f,
+      known_kept plan s f (set s.views id (giving post palm) ++ giver_note post.floor ∷ []) k
+          (let e = left_set s.views id (giving post palm) (giving post palm) at in let a = left_and (set s.views id (giving post palm)) (giver_note post.floor) in omega arith)
+          (seated_too plan f (set s.views id (giving post palm)) (giver_note post.floor) own.floor (reseated plan f s.views id (giving post palm) own (λ j v other seen. k.each_seat j v seen))),
+    )
+
+-- two seats have new views, and know them to be true
+both_seats : (plan : Plan) (s : St) (f : Facts) (k : Kept plan s f) (id other : ℕ) (w x : View) → Knows plan f id w → Knows plan f other x → (j : ℕ) (v : View) → get_elem? (set (set s.views id w) other x) j ≡ some v → Knows plan f j v
+both_seats plan s f k id other w x one two =
+    reseated plan f (set s.views id w) other x two (λ j v far seen. reseated plan f s.views id w one (λ j' v' _ seen'. k.each_seat j' v' seen') j v seen)
+
+max_le : (a b c : ℕ) → a ≤ c → b ≤ c → max a b ≤ c
+max_le a b c p q = omega arith
+
+pub giver_hears : (plan : Plan) (id : ℕ) (post : Post) (palm : Palm) (other floor : ℕ) (stamps : List ℕ)
+    → Joins (Ring plan) id (giving post palm) other (drawer_note floor stamps) (giving (post_after post (met stamps) (max post.floor floor) post.misses) palm) nobody
+giver_hears plan id post palm other floor stamps s (f, k) at differ note_at =
+    let w : View = giving (post_after post (met stamps) (max post.floor floor) post.misses) palm in
+    let own : PostOk plan f id post palm = k.each_seat id (giving post palm) at in
+    let note : Knows plan f other (drawer_note floor stamps) = k.each_seat other (drawer_note floor stamps) (sym (set_else s.views id other w differ) ∙ note_at) in
+    let now : PostOk plan f id (post_after post (met stamps) (max post.floor floor) post.misses) palm =
+    record {
+      size = own.size;
+      seat = own.seat;
+      palm_is = own.palm_is;
+      made = own.made;
+      closed = own.closed;
+      closed_answers = own.closed_answers;
+      answers = own.answers;
+      misses = own.misses;
+      floor = max_le post.floor floor (length f.log) own.floor note.0;
+      unread = own.unread;
+      told = all_both (IsSettled f.log f.hands) stamps (told_in post.turns) note.1 own.told;
+    } in (
+      f,
+      known_kept plan s f (set (set s.views id w) other nobody) k
+          (let e = left_set s.views id (giving post palm) w at in let e' = left_set (set s.views id w) other (drawer_note floor stamps) nobody note_at in omega arith)
+          (both_seats plan s f k id other w nobody now tt),
+    )
+
+pub drawer_hears : (plan : Plan) (id : ℕ) (desk : Desk) (hand : Hand) (other floor : ℕ)
+    → Joins (Ring plan) id (drawing desk hand) other (giver_note floor) (drawing (record { size = desk.size; number = desk.number; left = desk.left; floor = max desk.floor floor; answers = desk.answers }) hand) nobody
+drawer_hears plan id desk hand other floor s (f, k) at differ note_at =
+    let desk' : Desk = record { size = desk.size; number = desk.number; left = desk.left; floor = max desk.floor floor; answers = desk.answers } in
+    let w : View = drawing desk' hand in
+    let own : DeskOk plan f id desk hand = k.each_seat id (drawing desk hand) at in
+    let note : floor ≤ length f.log = k.each_seat other (giver_note floor) (sym (set_else s.views id other w differ) ∙ note_at) in
+    let now : DeskOk plan f id desk' hand =
+    record {
+      size = own.size;
+      active = own.active;
+      seat = own.seat;
+      hand_is = own.hand_is;
+      answers = own.answers;
+      floor = max_le desk.floor floor (length f.log) own.floor note;
+    } in (
+      f,
+      known_kept plan s f (set (set s.views id w) other nobody) k
+          (let e = left_set s.views id (drawing desk hand) w at in let e' = left_set (set s.views id w) other (giver_note floor) nobody note_at in omega arith)
+          (both_seats plan s f k id other w nobody now tt),
+    )

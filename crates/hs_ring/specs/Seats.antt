@@ -1,0 +1,232 @@
+-- What a seat can do, and what contracts see of the seat of a lease, of a drawer and of the giver between two calls.
+use Rattle.std.specs.Prelude.{◌≡◌, ℕ, suc, ◌+◌, ◌*◌, ◌%◌, ◌<◌, ◌≤◌, [], ◌∷◌, length, Option, None}
+use Rattle.atomic_table.specs.Seated.{TableId}
+use Rattle.atomic_table.specs.declared.shared.Seat.{Seat}
+use Rattle.hs_words.specs.Chunks.{Contents, clear_chunk}
+use Rattle.hs_words.specs.Pools.{PoolName}
+use Rattle.hs_words.specs.PoolHistory.{Given, Missed}
+use Rattle.hs_words.specs.Ends.{answered, answers_in}
+use Rattle.hs_words.specs.declared.token.Given.{Given as Answered}
+use Rattle.hs_words.specs.declared.token.Given.TheVariants as given
+use Rattle.hs_ring.specs.Parts.{Leased, Drawing, Giving, AllBelow}
+use Rattle.hs_ring.specs.Views.{Desk, Hand, nothing, drew, kept, Post, Palm, bare, holds, lays, retakes, View, nobody, drawing, leasing, giving, drawer_note, giver_note, buffer_of, draw_of, desk_of, post_of, post_after, buffer_held, draw_held}
+
+abbrev pub Place : Type 0
+Place = Seat (Option Contents) View
+
+-- the two are one seat at the same table
+abbrev pub IsSameSeat : Place → Place → Type 0
+IsSameSeat s t = (t.table_id ≡ s.table_id) × (t.id ≡ s.id)
+
+-- the seat is at this table, which has a word for the counts and a word and a slot for each entry
+abbrev pub IsAt : TableId → Place → Type 0
+IsAt table s = (s.table_id ≡ table) × (table.words ≡ table.slots + 1) × (0 < table.slots) × (table.slots ≤ 2048)
+
+-- the name of a pool is that of its table
+abbrev pub name_of : TableId → PoolName
+name_of t = t.words ∷ t.slots ∷ t.views_name ∷ t.atom ∷ t.block ∷ t.offset ∷ t.slot_names
+
+-- ---- what a view can do next
+
+-- the number that the giver publishes next
+abbrev pub IsNext : ℕ → ℕ → Post → Type 0
+IsNext entries number post = 2 * number ≡ entries + 2 * length (answers_in post.turns)
+
+abbrev pub HandCanDraw : Desk → Hand → Type 0
+HandCanDraw desk nothing = 1 ≤ desk.left
+HandCanDraw desk (drew number buffer stamp) = ⊥
+HandCanDraw desk (kept buffer stamp) = ⊥
+
+abbrev pub CanDraw : View → Type 0
+CanDraw nobody = ⊥
+CanDraw (drawing desk hand) = HandCanDraw desk hand
+CanDraw (leasing buffer draw) = ⊥
+CanDraw (giving post palm) = ⊥
+CanDraw (drawer_note floor stamps) = ⊥
+CanDraw (giver_note floor) = ⊥
+
+abbrev pub HandCanCollect : ℕ → ℕ → Hand → Type 0
+HandCanCollect entries entry nothing = ⊥
+HandCanCollect entries entry (drew number buffer stamp) = entry ≡ number % entries
+HandCanCollect entries entry (kept buffer stamp) = ⊥
+
+abbrev pub CanCollect : ℕ → ℕ → View → Type 0
+CanCollect entries entry nobody = ⊥
+CanCollect entries entry (drawing desk hand) = HandCanCollect entries entry hand
+CanCollect entries entry (leasing buffer draw) = ⊥
+CanCollect entries entry (giving post palm) = ⊥
+CanCollect entries entry (drawer_note floor stamps) = ⊥
+CanCollect entries entry (giver_note floor) = ⊥
+
+abbrev pub HandCanLease : Hand → Type 0
+HandCanLease nothing = ⊥
+HandCanLease (drew number buffer stamp) = ⊥
+HandCanLease (kept buffer stamp) = Unit {0}
+
+abbrev pub PalmCanLease : Palm → Type 0
+PalmCanLease bare = ⊥
+PalmCanLease (holds buffer draw) = Unit {0}
+PalmCanLease (lays buffer draw) = ⊥
+PalmCanLease (retakes buffer draw) = ⊥
+
+abbrev pub CanLease : View → Type 0
+CanLease nobody = ⊥
+CanLease (drawing desk hand) = HandCanLease hand
+CanLease (leasing buffer draw) = ⊥
+CanLease (giving post palm) = PalmCanLease palm
+CanLease (drawer_note floor stamps) = ⊥
+CanLease (giver_note floor) = ⊥
+
+abbrev pub IsLease : View → Type 0
+IsLease nobody = ⊥
+IsLease (drawing desk hand) = ⊥
+IsLease (leasing buffer draw) = Unit {0}
+IsLease (giving post palm) = ⊥
+IsLease (drawer_note floor stamps) = ⊥
+IsLease (giver_note floor) = ⊥
+
+abbrev pub IsBare : Palm → Type 0
+IsBare bare = Unit {0}
+IsBare (holds buffer draw) = ⊥
+IsBare (lays buffer draw) = ⊥
+IsBare (retakes buffer draw) = ⊥
+
+abbrev pub CanTake : View → Type 0
+CanTake nobody = ⊥
+CanTake (drawing desk hand) = ⊥
+CanTake (leasing buffer draw) = ⊥
+CanTake (giving post palm) = IsBare palm
+CanTake (drawer_note floor stamps) = ⊥
+CanTake (giver_note floor) = ⊥
+
+abbrev pub PalmCanLay : ℕ → ℕ → Post → Palm → Type 0
+PalmCanLay entries number post bare = ⊥
+PalmCanLay entries number post (holds buffer draw) = IsNext entries number post
+PalmCanLay entries number post (lays buffer draw) = ⊥
+PalmCanLay entries number post (retakes buffer draw) = ⊥
+
+abbrev pub CanLay : ℕ → ℕ → View → Type 0
+CanLay entries number nobody = ⊥
+CanLay entries number (drawing desk hand) = ⊥
+CanLay entries number (leasing buffer draw) = ⊥
+CanLay entries number (giving post palm) = PalmCanLay entries number post palm
+CanLay entries number (drawer_note floor stamps) = ⊥
+CanLay entries number (giver_note floor) = ⊥
+
+abbrev pub PalmCanPublish : ℕ → ℕ → Contents → Post → Palm → Type 0
+PalmCanPublish entries number chunk post bare = ⊥
+PalmCanPublish entries number chunk post (holds buffer draw) = ⊥
+PalmCanPublish entries number chunk post (lays buffer draw) = IsNext entries number post × (chunk ≡ clear_chunk post.size buffer)
+PalmCanPublish entries number chunk post (retakes buffer draw) = ⊥
+
+abbrev pub CanPublish : ℕ → ℕ → Contents → View → Type 0
+CanPublish entries number chunk nobody = ⊥
+CanPublish entries number chunk (drawing desk hand) = ⊥
+CanPublish entries number chunk (leasing buffer draw) = ⊥
+CanPublish entries number chunk (giving post palm) = PalmCanPublish entries number chunk post palm
+CanPublish entries number chunk (drawer_note floor stamps) = ⊥
+CanPublish entries number chunk (giver_note floor) = ⊥
+
+abbrev pub PalmCanRetake : ℕ → ℕ → Post → Palm → Type 0
+PalmCanRetake entries number post bare = ⊥
+PalmCanRetake entries number post (holds buffer draw) = ⊥
+PalmCanRetake entries number post (lays buffer draw) = ⊥
+PalmCanRetake entries number post (retakes buffer draw) = IsNext entries (suc number) post
+
+abbrev pub CanRetake : ℕ → ℕ → View → Type 0
+CanRetake entries number nobody = ⊥
+CanRetake entries number (drawing desk hand) = ⊥
+CanRetake entries number (leasing buffer draw) = ⊥
+CanRetake entries number (giving post palm) = PalmCanRetake entries number post palm
+CanRetake entries number (drawer_note floor stamps) = ⊥
+CanRetake entries number (giver_note floor) = ⊥
+
+-- ---- between two calls
+
+abbrev pub lease_at : Place → Leased
+lease_at s = record { pool = name_of s.table_id; buffer = buffer_of s.me.0; draw = draw_of s.me.0 }
+
+abbrev pub IsLeaseSeat : Place → Type 0
+IsLeaseSeat s = s.me ≡ (leasing (buffer_of s.me.0) (draw_of s.me.0), [])
+
+-- what contracts see of a drawer whose seat knows this
+abbrev pub drawing_of : TableId → ℕ → Desk → Drawing
+drawing_of table buffers desk =
+    record {
+      pool = name_of table;
+      buffers = buffers;
+      size = desk.size;
+      number = desk.number;
+      left = desk.left;
+      floor = desk.floor;
+      answers = desk.answers;
+    }
+
+abbrev pub IsIdle : Place → Type 0
+IsIdle s = s.me ≡ (drawing (desk_of s.me.0) nothing, [])
+
+pub record IsDrawerSeat (table : TableId) (s : Place) (buffers left : ℕ) : Type 0 where
+  pub at : IsAt table s
+  pub idle : IsIdle s
+  pub halves : 2 * buffers ≡ table.slots
+  pub left_is : left ≡ (desk_of s.me.0).left
+  pub above : AllBelow (desk_of s.me.0).floor (desk_of s.me.0).answers
+
+-- what contracts see of a giver whose seat knows this
+abbrev pub giving_of : TableId → ℕ → Post → Giving
+giving_of table buffers post =
+    record {
+      pool = name_of table;
+      buffers = buffers;
+      size = post.size;
+      drawers = post.made;
+      floor = post.floor;
+      turns = post.turns;
+    }
+
+abbrev pub IsFree : Place → Type 0
+IsFree s = s.me ≡ (giving (post_of s.me.0) bare, [])
+
+pub record IsGiverSeat (table : TableId) (s : Place) (buffers published : ℕ) : Type 0 where
+  pub at : IsAt table s
+  pub free : IsFree s
+  pub halves : 2 * buffers ≡ table.slots
+  pub published_is : published ≡ buffers + length (answers_in (post_of s.me.0).turns)
+  pub none_closed : (post_of s.me.0).closed ≡ []
+  -- the counts are far from their type's end
+  pub few : published ≤ 4294967296
+  pub few_misses : (post_of s.me.0).misses ≤ 4294967296
+  pub above : AllBelow (post_of s.me.0).floor (answers_in (post_of s.me.0).turns)
+
+-- ---- in the middle of a give
+
+abbrev pub IsLaying : Place → ℕ → Type 0
+IsLaying s entry = s.me ≡ (giving (post_of s.me.0) (lays (buffer_held s.me.0) (draw_held s.me.0)), (entry, None) ∷ [])
+
+abbrev pub lease_held_at : Place → Leased
+lease_held_at s = record { pool = name_of s.table_id; buffer = buffer_held s.me.0; draw = draw_held s.me.0 }
+
+-- what the giver's post is after an answer
+abbrev pub given_post : View → ℕ → Post
+given_post v stamp = post_after (post_of v) (answered (record { stamp = stamp; event = Given (buffer_held v); draw = draw_held v })) (suc stamp) (post_of v).misses
+
+abbrev pub missed_post : View → ℕ → Post
+missed_post v stamp = post_after (post_of v) (answered (record { stamp = stamp; event = Missed; draw = 0 })) (suc stamp) (suc (post_of v).misses)
+
+-- a chunk that was laid is given, or comes back
+abbrev pub Publishes : {g : _} → Place → Contents → Answered Leased g → Place → Type 0
+Publishes old chunk (given.Given stamp) new = (new.me ≡ (giving (given_post old.me.0 stamp) bare, [])) × ((post_of old.me.0).floor ≤ stamp) × (draw_held old.me.0 < stamp)
+Publishes old chunk (given.Missed back stamp) new =
+    (new.me ≡ (giving (missed_post old.me.0 stamp) bare, [])) × ((post_of old.me.0).floor ≤ stamp) × (back.chunk ≡ chunk) × (back.lease ≡ lease_held_at old)
+Publishes old chunk (given.Unread back) new = ⊥
+
+-- the counts of a giver after an answer
+abbrev pub published_after : {g : _} → ℕ → Answered Leased g → ℕ
+published_after published (given.Given stamp) = published + 1
+published_after published (given.Missed back stamp) = published + 1
+published_after published (given.Unread back) = published
+
+abbrev pub misses_after : {g : _} → ℕ → Answered Leased g → ℕ
+misses_after misses (given.Given stamp) = misses
+misses_after misses (given.Missed back stamp) = misses + 1
+misses_after misses (given.Unread back) = misses

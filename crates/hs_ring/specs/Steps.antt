@@ -1,0 +1,60 @@
+-- What each step at the ring's table tells the end that makes it. A step tells what it found and how the seat's view goes on.
+use Rattle.std.specs.Prelude.{◌≡◌, ◌≢◌, ℕ, ◌+◌, ◌-◌, ◌*◌, ◌/◌, ◌%◌, ◌<◌, ◌≤◌, List, ◌∷◌, length, count_by, Option, Some, None}
+use Rattle.atomic_table.specs.Table.{Me, Step, rest}
+use Rattle.hs_words.specs.Chunks.{Contents, clear_chunk}
+use Rattle.hs_words.specs.PoolHistory.{is_missed, is_empty}
+use Rattle.hs_words.specs.Ends.{Deed, events_of, drawn_in, given_in, answers_in, IsTogether}
+use Rattle.hs_ring.specs.Views.{Post, View, giving, desk_of, post_of, having_got, having_missed_out, having_collected, having_laid, having_unread, having_given, having_missed, having_retaken, draw_held, floor_of}
+
+abbrev pub Seated : Type 0
+Seated = Me (Option Contents) View
+
+-- the two counts in a word, the stamp that they make, and the entry of the next draw
+abbrev pub drawn_of : ℕ → ℕ
+drawn_of word = word % 4294967296
+
+abbrev pub published_of : ℕ → ℕ
+published_of word = word / 4294967296
+
+-- A table of `entries` entries has half as many buffers, and so the stamp is drawn + published less that half.
+abbrev pub IsStamp : ℕ → ℕ → ℕ → Type 0
+IsStamp entries word stamp = 2 * stamp + entries ≡ 2 * (drawn_of word + published_of word)
+
+abbrev pub did_draw : Step (Option Contents) → Seated → ℕ → Seated → Type 0
+did_draw st m found m' =
+    (stamp : ℕ) × IsStamp st.slots found stamp × (floor_of m.0 ≤ stamp)
+    × (drawn_of found < published_of found → (buffer : ℕ)
+    × (m' ≡ (having_got m.0 (drawn_of found) buffer stamp, (drawn_of found % st.slots, Some (clear_chunk (desk_of m.0).size buffer)) ∷ m.1)))
+    × (published_of found ≤ drawn_of found → m' ≡ (having_missed_out m.0 stamp, m.1))
+
+abbrev pub did_collect : Step (Option Contents) → Seated → ℕ → Seated → Type 0
+did_collect st m found m' = m' ≡ (having_collected m.0, rest m.1)
+
+abbrev pub did_lay : Step (Option Contents) → Seated → ℕ → Seated → Type 0
+did_lay st m found m' = (found ≡ 0 → m' ≡ (having_laid m.0, (st.word - 1, None) ∷ m.1)) × (found ≢ 0 → m' ≡ (having_unread m.0, m.1))
+
+abbrev pub did_publish : Step (Option Contents) → Seated → ℕ → Seated → Type 0
+did_publish st m found m' =
+    (stamp : ℕ) × IsStamp st.slots found stamp × (floor_of m.0 ≤ stamp) × (draw_held m.0 < stamp)
+    × (2 * published_of found ≡ st.slots + 2 * length (answers_in (post_of m.0).turns)) × ((post_of m.0).misses ≤ published_of found)
+    × (drawn_of found ≤ published_of found → m' ≡ (having_given m.0 stamp, rest m.1))
+    × (published_of found < drawn_of found → m' ≡ (having_missed m.0 stamp, m.1))
+
+abbrev pub did_retake : Step (Option Contents) → Seated → ℕ → Seated → Type 0
+did_retake st m found m' = m' ≡ (having_retaken m.0, rest m.1)
+
+-- What is known when all drawers were closed: the deeds of all ends, and the counts.
+pub record IsOver (entries word : ℕ) (post : Post) (n : ℕ) (log : List Deed) : Type 0 where
+  pub buffers : 2 * n ≡ entries
+  pub together : IsTogether n post.turns post.closed log
+  pub drawn : drawn_of word ≡ drawn_in log
+  pub published : published_of word ≡ n + given_in log
+  pub misses : post.misses ≡ count_by is_missed (events_of log)
+  pub voids : count_by is_missed (events_of log) + (drawn_in log - (n + given_in log)) ≡ count_by is_empty (events_of log)
+
+abbrev pub Over : ℕ → ℕ → View → Type 0
+Over entries word (giving post palm) = post.made ≡ length post.closed → (n : ℕ) × (log : List Deed) × IsOver entries word post n log
+Over entries word view = Unit {0}
+
+abbrev pub did_look : Step (Option Contents) → Seated → ℕ → Seated → Type 0
+did_look st m found m' = (m' ≡ m) × Over st.slots found m.0

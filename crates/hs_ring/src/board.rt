@@ -1,0 +1,57 @@
+//! The table that all ends of a ring share, and what each seat at it knows.
+//!
+//! Word 0 has the two counts, 2^32 times the number published and the number drawn. Word e + 1 is 0, or one more than
+//! the number that was laid at entry e. Slot e holds the chunk of that number.
+
+use atomic_table::{Seat, Shared, Table, TableRule};
+use hs_words::Chunk;
+use std::alloc::Global;
+use std::marker::Model;
+use std::snapshot::Snapshot;
+
+/// One published number, in word 0.
+pub const PUBLISHED: u64 = 1 << 32;
+
+/// How many chunks a pool has, the first of them, which has the size of all, and the allowance of each drawer.
+#[derive(Drop)]
+pub struct Plan {
+    pub buffers: u32,
+    pub first: Snapshot<Chunk>,
+    pub allowances: Vec<u32>,
+}
+
+impl Model for Plan {
+    ghost use Rattle.hs_ring.specs.Rule.{Plan as TheValue};
+
+    ghost Value = { TheValue };
+
+    ghost view = { λ p. record { buffers = p.buffers; size = p.first.value.size; allowances = p.allowances.items } };
+}
+
+/// What a seat knows, which exists in proofs alone.
+pub struct View;
+
+impl Model for View {
+    ghost use Rattle.hs_ring.specs.Views.{View as TheValue, nobody};
+
+    ghost Value = { TheValue };
+
+    ghost view = { λ _. nobody };
+}
+
+/// The rule of the table.
+pub struct Law;
+
+impl TableRule<Option<Chunk>, View, Plan> for Law {
+    ghost use Rattle.hs_ring.specs.Rule.{Ring, first_view};
+
+    ghost holds = { Ring };
+
+    ghost first = { first_view };
+}
+
+pub type Board = Table<Option<Chunk>, View, Plan, Law, Global>;
+
+pub type Entries = Shared<Option<Chunk>, View, Plan, Law>;
+
+pub type Place = Seat<Option<Chunk>, View>;

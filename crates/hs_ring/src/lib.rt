@@ -1,0 +1,18 @@
+//! The pool of a node between threads, without a lock: a draw is one step on one word, a give another, and no call waits.
+#![tactic(auto)]
+
+mod board;
+mod closing;
+mod counts;
+mod drawer;
+mod giver;
+mod lease;
+mod plays;
+mod pool;
+mod steps;
+
+pub use closing::close;
+pub use drawer::Drawer;
+pub use giver::Giver;
+pub use lease::Lease;
+pub use pool::RingPool;
