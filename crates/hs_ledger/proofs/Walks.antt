@@ -74,25 +74,28 @@ fated_by-at fate page (draw ∷ draws) (note ∷ notes) (suc i) d e n same withi
 split_at : {X : Type 0} (xs : List X) (i : ℕ) (d : X) → i < length xs → xs ≡ take i xs ++ get_or xs i d ∷ drop (i + 1) xs
 split_at xs i d within = sym (take-append-drop i xs) ∙ ap (λ rest. take i xs ++ rest) (drop_more xs i d within)
 
--- a page's last record is among those of its book
-pub note_fits : (notes : List PageNote) (i : ℕ) (d : PageNote) → AreNumbered notes → All IsCounted notes → i < length notes → end_of (get_or notes i d) ≤ record_count notes
-note_fits notes i d numbered counted within =
-    let split = split_at notes i d within in
-    subst (λ ns. end_of (get_or notes i d) ≤ record_count ns) (sym split)
-    (ends_within (take i notes) (get_or notes i d) (drop (i + 1) notes) (subst AreNumbered split numbered) (subst (All IsCounted) split counted))
+-- a page's last record is among those of its book; a loop reads the list `ns`
+pub fits_in : (ns notes : List PageNote) (i : ℕ) (d : PageNote) → ns ≡ notes → AreNumbered notes → All IsCounted notes → i < length ns → record_count notes < 2 ^ 32 → end_of (get_or ns i d) < 2 ^ 32
+fits_in ns notes i d same numbered counted within few =
+    let split = split_at notes i d (omega (arith, ap length same)) in
+    let fits = ends_within (take i notes) (get_or notes i d) (drop (i + 1) notes) (subst AreNumbered split numbered) (subst (All IsCounted) split counted) in
+    omega (arith, fits, few, ap record_count split, ap (λ xs. end_of (get_or xs i d)) same)
 
 -- a page ends behind the last record before it
-pub note_rises : (notes : List PageNote) (i : ℕ) (d : PageNote) → AreNumbered notes → All IsCounted notes → i < length notes → record_count (take i notes) ≤ end_of (get_or notes i d)
-note_rises notes i d numbered counted within =
-    let some : 1 ≤ (get_or notes i d).count = counted i d within in
-    elim (begins (take i notes) (get_or notes i d) (drop (i + 1) notes) (subst AreNumbered (split_at notes i d within) numbered)) [ inl e ↦ omega arith | inr e ↦ omega arith ]
+pub rises_in : (ns notes : List PageNote) (i next : ℕ) (d : PageNote) → ns ≡ notes → AreNumbered notes → All IsCounted notes → i < length ns → next ≡ record_count (take i notes)
+    → next ≤ end_of (get_or ns i d)
+rises_in ns notes i next d same numbered counted within is =
+    let inside : i < length notes = omega (arith, ap length same) in
+    let some : 1 ≤ (get_or notes i d).count = counted i d inside in
+    let here = ap (λ xs. end_of (get_or xs i d)) same in
+    elim (begins (take i notes) (get_or notes i d) (drop (i + 1) notes) (subst AreNumbered (split_at notes i d inside) numbered)) [ inl e ↦ omega arith | inr e ↦ omega arith ]
 
 -- the state after a page of a book: the number of the next record, and the entries
 pub record IsAfter (client : ClientId) (init : List Entry) (notes : List PageNote) (pages : List FatedPage) (i number : ℕ) (found : List Entry) : Type 0 where
   pub next : number ≡ record_count (take i notes)
   pub entries : found ≡ init ++ book_entries client (take i pages)
 
-pub after_page : (fate : ℕ → Draw → Fate) (draws : List Draw) (notes : List PageNote) (client : ClientId) (init old new : List Entry) (i next : ℕ) (note : PageNote) (n : PageNote) (f : Fate) (e : Draw)
+after_page : (fate : ℕ → Draw → Fate) (draws : List Draw) (notes : List PageNote) (client : ClientId) (init old new : List Entry) (i next : ℕ) (note : PageNote) (n : PageNote) (f : Fate) (e : Draw)
     → length draws ≡ length notes → All IsCounted notes → AreNumbered notes → i < length notes
     → next ≡ record_count (take i notes) → old ≡ init ++ book_entries client (take i (fated_by fate 0 draws notes))
     → note ≡ get_or notes i n → f ≡ fate i (get_or draws i e) → new ≡ with_page client next (record { note = note; fate = f }) old
@@ -128,21 +131,7 @@ after_page fate draws notes client init old new i next note n f e same counted n
 abbrev pub no_note : PageNote
 no_note = record { trace = record { 0 = 0 }; first = 0; count = 0 }
 
--- the same three, of the lists as a loop reads them
-
-pub fits_in : (ns notes : List PageNote) (i : ℕ) (d : PageNote) → ns ≡ notes → AreNumbered notes → All IsCounted notes → i < length ns → record_count notes < 2 ^ 32 → end_of (get_or ns i d) < 2 ^ 32
-fits_in ns notes i d same numbered counted within few =
-    let fits = note_fits notes i d numbered counted (omega (arith, ap length same)) in
-    let here = ap (λ xs. end_of (get_or xs i d)) same in
-    omega (arith, fits, here)
-
-pub rises_in : (ns notes : List PageNote) (i next : ℕ) (d : PageNote) → ns ≡ notes → AreNumbered notes → All IsCounted notes → i < length ns → next ≡ record_count (take i notes)
-    → next ≤ end_of (get_or ns i d)
-rises_in ns notes i next d same numbered counted within is =
-    let rises = note_rises notes i d numbered counted (omega (arith, ap length same)) in
-    let here = ap (λ xs. end_of (get_or xs i d)) same in
-    omega (arith, rises, here, is)
-
+-- the same of the lists as a loop reads them
 pub after_in : (fate : ℕ → Draw → Fate) (ds draws : List Draw) (ns notes : List PageNote) (client : ClientId) (init old new : List Entry) (i next : ℕ) (n : PageNote) (f : Fate) (e : Draw)
     → ds ≡ draws → ns ≡ notes → length draws ≡ length notes → All IsCounted notes → AreNumbered notes → i < length ns
     → next ≡ record_count (take i notes) → old ≡ init ++ book_entries client (take i (fated_by fate 0 draws notes))

@@ -1,5 +1,6 @@
 -- At the end of a client's operations its player's notes and the pages that it kept make the plain books.
 use Rattle.std.proofs.Common.{◌≡◌, ℕ, zero, suc, ◌+◌, nat_lt, Bool, true, false, List, [], ◌∷◌, ◌++◌, length, map, reverse, Option, Some, None, IsNone, refl, sym, ap, ◌∙◌, arith}
+use Rattle.std.proofs.lemmas.List.FromFn.{length-map-range_with_len}
 use Rattle.std.proofs.lemmas.List.{append-nil}
 use Rattle.std.specs.Option.{option_to_list}
 use Rattle.std.specs.List.{flat_map}
@@ -14,8 +15,7 @@ use Rattle.hs_journal.specs.Books.{PlainClientBook, PlainAgentBook}
 use Rattle.hs_client.specs.Core.{Core, Step, Began, Wrote, Needed, Supplied, Ended_, Refused, all_pages, handed}
 use Rattle.hs_client.specs.Calls.{IsBook, after, open_trace, segments_of_steps, pages_of_steps, filled_chunks, handed_out, note_of}
 use Rattle.hs_replay.specs.declared.player.Player.{Player}
-use Rattle.hs_replay.specs.PlainBooks.{ArePlainBooks, first, plain_draws, live_standings}
-use Rattle.hs_replay.proofs.PlainStandings.{length-draws}
+use Rattle.hs_replay.specs.PlainBooks.{ArePlainBooks, first, plain_draw, plain_draws, live_standings}
 use Rattle.hs_replay.specs.Players.{Plan, IsAt, new_of, kept_by, plain_chunks, coming, with_all, standings_of}
 
 after-client : (new : Core (Unit {0})) (steps : List (Step (Unit {0}))) → (after new steps).client ≡ new.client
@@ -66,7 +66,7 @@ finished plan operations player client agent is book none planned client_is draw
     sym (append-nil (reverse (segments_of_steps steps))) ∙ ap (λ pieces. reverse (with_all pieces (segments_of_steps steps)) ++ []) (sym (nothing_comes plan.size player.core.number player.core.trace))
     ∙ is.playing.gives ∙ planned in
     let pages : pages_of_steps plan.size steps ≡ pages_of plan.size operations = ap (flat_map (segment_pages plan.size)) segments in
-    let each : length (pages_of_steps plan.size steps) ≡ player.pool.events = sym book.each ∙ ap length s.draws ∙ length-draws plan.buffers 0 player.pool.events in
+    let each : length (pages_of_steps plan.size steps) ≡ player.pool.events = sym book.each ∙ ap length s.draws ∙ length-map-range_with_len (plain_draw plan.buffers) 0 player.pool.events in
     let events : player.pool.events ≡ length (pages_of plan.size operations) = sym each ∙ ap length pages in
     let notes : core.pages ≡ map note_of (pages_of_steps plan.size steps) = sym (append-nil core.pages) ∙ ap (λ current. all_pages (at_rest core current)) (sym current) ∙ book.pages in
     let kept : kept_by player ≡ filled_chunks first 0 (pages_of_steps plan.size steps) (plain_chunks plan.buffers plan.size 0 player.pool.events) =

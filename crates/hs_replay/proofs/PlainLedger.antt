@@ -1,6 +1,7 @@
 -- The books of a client alone, whose pages that got a buffer all live, fit together, and their ledger has an entry for
 -- each of the client's records, with the fate that the whole list of its pages decides.
 use Rattle.std.proofs.Common.{◌≡◌, ℕ, ◌+◌, ◌<◌, ◌≤◌, ◌^◌, false, List, [], ◌∷◌, All, map, flat_map, filter, length, length-append, Option, Some, None, option_map, unwrap_or, refl, sym, ap, ◌∙◌, subst, arith, append-nil}
+use Rattle.std.proofs.lemmas.List.FromFn.{length-map-range_with_len}
 use Rattle.std.proofs.lemmas.List.{length-map}
 use Rattle.std.proofs.lemmas.List.Elements.{All-from_recursion}
 use Rattle.std.specs.List.{AllByRecursion, find, slice_get}
@@ -23,9 +24,9 @@ use Rattle.hs_ledger.specs.Books as notes
 use Rattle.hs_ledger.specs.Fates.{FatedPage, fated_pages, book_entries, page_fate}
 use Rattle.hs_ledger.specs.Fates as ledger
 use Rattle.hs_replay.specs.Fates.{client_entries, fate_of, entries_from}
-use Rattle.hs_replay.specs.PlainBooks.{ArePlainBooks, plain_draws, live_standings, first}
+use Rattle.hs_replay.specs.PlainBooks.{ArePlainBooks, plain_draw, plain_draws, live_standings, first}
 use Rattle.hs_replay.proofs.PageFates.{book_is, count-notes}
-use Rattle.hs_replay.proofs.PlainStandings.{length-draws, IsLive, all-live, found-live, fated_is, one_standing}
+use Rattle.hs_replay.proofs.PlainStandings.{IsLive, all-live, found-live, fated_is, one_standing}
 
 -- ---- the client's records
 
@@ -92,7 +93,7 @@ books_fit buffers traces pages last agent few are =
       each =
           All-from_recursion (BookFits agents) (book ∷ []) (
             record {
-              drawn = length-draws buffers 0 (length pages) ∙ sym (length-map pages note_of);
+              drawn = length-map-range_with_len (plain_draw buffers) 0 (length pages) ∙ sym (length-map pages note_of);
               counted = All-from_recursion (λ (note : PageNote). 1 ≤ note.count) (map note_of pages) (counted traces pages are.each);
               numbered = numbered pages are.numbered;
               standing = λ page buffer stamp got.

@@ -14,10 +14,6 @@ use Rattle.hs_ledger.specs.Fates.{FatedPage, fated_by}
 use Rattle.hs_replay.specs.PlainBooks.{plain_draws, live_standings, first}
 use Rattle.hs_replay.proofs.PageFates.{fated}
 
-pub length-draws : (buffers page count : ℕ) → length (plain_draws buffers page count) ≡ count
-length-draws buffers page zero = refl
-length-draws buffers page (suc count) = ap suc (length-draws buffers (page + 1) count)
-
 -- ---- each standing is live, and that of a page that got a buffer
 
 -- a page at some place of these draws, the first of which is that of this page, got a buffer

@@ -2,6 +2,7 @@
 use Rattle.std.proofs.Common.{◌≡◌, ℕ, zero, suc, ◌+◌, ◌-◌, ◌<◌, ◌≤◌, Bool, List, [], ◌∷◌, ◌++◌, map, reverse, Option, Some, None, refl, sym, ap, ap₂, ◌∙◌, subst, arith, append_assoc}
 use Rattle.std.proofs.lemmas.Bool.{lt-ltb, le-ltb}
 use Rattle.std.proofs.lemmas.List.{append-nil, reverse-append}
+use Rattle.std.proofs.lemmas.List.FromFn.{map-range_with_len_more}
 use Rattle.std.specs.Option.{option_to_list}
 use Rattle.std.specs.List.{range_with_len}
 use Rattle.hs_base.specs.declared.ids.TraceId.{TraceId}
@@ -20,20 +21,6 @@ use Rattle.hs_replay.specs.PlainBooks.{plain_draw, plain_draws}
 use Rattle.hs_replay.specs.Players.{new_of, ComesBy, Plan, plain_chunk, plain_chunks, buffers_from, kept_by, IsPlaying, with_all}
 
 -- ---- draws
-
-pub plain_draws-more : (buffers page count : ℕ) → plain_draws buffers page (count + 1) ≡ plain_draws buffers page count ++ plain_draw buffers (page + count) ∷ []
-plain_draws-more buffers page zero = let e : page + 0 ≡ page = omega arith in rw e refl
-plain_draws-more buffers page (suc count) =
-    let e : page + 1 + count ≡ page + suc count = omega arith in
-    let one : suc count + 1 ≡ suc (count + 1) = omega arith in
-    rw one (ap (λ draws. plain_draw buffers page ∷ draws) (plain_draws-more buffers (page + 1) count ∙ ap (λ n. plain_draws buffers (page + 1) count ++ plain_draw buffers n ∷ []) e))
-
-pub plain_chunks-more : (buffers size page count : ℕ) → plain_chunks buffers size page (count + 1) ≡ plain_chunks buffers size page count ++ plain_chunk buffers size (page + count) ∷ []
-plain_chunks-more buffers size page zero = let e : page + 0 ≡ page = omega arith in rw e refl
-plain_chunks-more buffers size page (suc count) =
-    let e : page + 1 + count ≡ page + suc count = omega arith in
-    let one : suc count + 1 ≡ suc (count + 1) = omega arith in
-    rw one (ap (λ chunks. plain_chunk buffers size page ∷ chunks) (plain_chunks-more buffers size (page + 1) count ∙ ap (λ n. plain_chunks buffers size (page + 1) count ++ plain_chunk buffers size n ∷ []) e))
 
 record IsFront (size n k : ℕ) (chunk : Contents) (rest : List Contents) : Type 0 where
   some : 0 < k
@@ -127,11 +114,11 @@ supplied_page plan pieces later old new buffer stamp moment payload more may cor
             number = ap (λ (c : Core (Unit {0})). c.number) core ∙ ap (number_after more) s.number;
             kept = kept ∙ s.kept;
             draws =
-                ap₂ (λ draws draw. draws ++ draw ∷ []) s.draws (drawn.stamp_is ∙ ap (plain_draw plan.buffers) (sym here)) ∙ sym (plain_draws-more plan.buffers 0 old.pool.events)
+                ap₂ (λ draws draw. draws ++ draw ∷ []) s.draws drawn.stamp_is ∙ sym (map-range_with_len_more (plain_draw plan.buffers) 0 old.pool.events old.pool.events here)
                 ∙ ap (plain_draws plan.buffers 0) (sym drawn.events);
             chunks =
-                ap₂ (λ chunks chunk. chunks ++ chunk ∷ []) s.chunks (drawn.buffer_is ∙ ap (plain_chunk plan.buffers plan.size) (sym here))
-                ∙ sym (plain_chunks-more plan.buffers plan.size 0 old.pool.events) ∙ ap (plain_chunks plan.buffers plan.size 0) (sym drawn.events);
+                ap₂ (λ chunks chunk. chunks ++ chunk ∷ []) s.chunks drawn.buffer_is
+                ∙ sym (map-range_with_len_more (plain_chunk plan.buffers plan.size) 0 old.pool.events old.pool.events here) ∙ ap (plain_chunks plan.buffers plan.size 0) (sym drawn.events);
             queue = drawn.queue;
           };
       gives = numbered plan pieces later old moment payload is;

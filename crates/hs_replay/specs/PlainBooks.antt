@@ -1,6 +1,7 @@
 -- The books of a client and its node's agent where the agent does nothing. Page k draws buffer k with the stamp k, as
 -- long as there are buffers, and then the pool is empty. Each page for which a buffer was got stands live.
-use Rattle.std.specs.Prelude.{◌≡◌, ℕ, zero, suc, ◌+◌, nat_lt, List, [], ◌∷◌, length, map, if◌then◌else◌, refl}
+use Rattle.std.specs.Prelude.{◌≡◌, ℕ, ◌+◌, nat_lt, List, [], ◌∷◌, length, map, if◌then◌else◌, refl}
+use Rattle.std.specs.List.{range_with_len}
 use Rattle.hs_base.specs.declared.ids.ClientId.{ClientId}
 use Rattle.hs_base.specs.declared.told.Fate.TheVariants.{Live}
 use Rattle.hs_records.specs.Plain.{Operation}
@@ -17,8 +18,7 @@ plain_draw buffers page = if nat_lt page buffers then Got page page else Empty p
 
 -- the draws of so many pages from this one on
 abbrev pub plain_draws : (buffers page count : ℕ) → List Draw
-plain_draws buffers page zero = []
-plain_draws buffers page (suc count) = plain_draw buffers page ∷ plain_draws buffers (page + 1) count
+plain_draws buffers page count = map (plain_draw buffers) (range_with_len page count)
 
 -- the standings of a client's pages from this one on, which have these draws
 abbrev pub live_standings : ClientId → ℕ → List Draw → List Standing

@@ -1,7 +1,7 @@
 -- A player: a client's core, its node's pool, and the chunks that the core handed out. A player comes by steps of the core,
 -- whose draws are draws of the pool. It is at the operations that are still to be played when, with what they come to,
 -- its steps give the segments that are planned.
-use Rattle.std.specs.Prelude.{◌≡◌, ℕ, zero, suc, ◌+◌, ◌-◌, ◌<◌, ◌≤◌, ◌^◌, nat_lt, false, List, [], ◌∷◌, ◌++◌, length, map, reverse, if◌then◌else◌, Option, Some, None, IsSome, is_some, refl}
+use Rattle.std.specs.Prelude.{◌≡◌, ℕ, ◌+◌, ◌-◌, ◌<◌, ◌≤◌, ◌^◌, nat_lt, false, List, [], ◌∷◌, ◌++◌, length, map, reverse, if◌then◌else◌, Option, Some, None, IsSome, is_some, refl}
 use Rattle.std.specs.Option.{option_to_list}
 use Rattle.std.specs.List.{flat_map, range_with_len}
 use Rattle.hs_base.specs.declared.ids.TraceId.{TraceId}
@@ -64,8 +64,7 @@ plain_chunk buffers size page = if nat_lt page buffers then Some (record { chunk
 
 -- what so many pages draw, from this one on
 abbrev pub plain_chunks : (buffers size page count : ℕ) → List (Option (Buffer (Unit {0})))
-plain_chunks buffers size page zero = []
-plain_chunks buffers size page (suc count) = plain_chunk buffers size page ∷ plain_chunks buffers size (page + 1) count
+plain_chunks buffers size page count = map (plain_chunk buffers size) (range_with_len page count)
 
 -- the buffers from one on, which wait after so many draws
 abbrev pub buffers_from : (buffers size events : ℕ) → List Contents
