@@ -166,3 +166,15 @@ fn no_box_is_lost_or_doubled(rt: HostRuntime) -> Result<(), Fail> {
     assert!(rt; numbers.iter().copied().eq(0..1_000));
     Ok(())
 }
+
+#[test]
+fn links_of_the_least_and_of_a_great_size_are_made(rt: HostRuntime) -> Result<(), Fail> {
+    let (sender, receiver) = link::<u32, Anything>(rt.alloc(), 1, 0, &Anything)?;
+    let mut rest = close_both(sender, receiver);
+    assert!(rt; rest.left() == 0 && rest.next() == None);
+    let (sender, mut receiver) = link::<u32, Anything>(rt.alloc(), 64, 262_144, &Anything)?;
+    let sender = send_numbers(&rt, rt.alloc(), sender, 262_144, 262_080)?;
+    assert!(rt; receiver.receive() == Some(0));
+    assert_eq!(rt; close_both(sender, receiver).left(), 262_143);
+    Ok(())
+}
