@@ -4,6 +4,7 @@
 
 mod auto;
 mod journal;
+mod link;
 mod pages;
 mod rate;
 
@@ -20,6 +21,7 @@ fn main(rt: HostRuntime) -> Result<()> {
     match name.as_str() {
         "auto" => auto::run(&rt, count),
         "journal" => journal::run(&rt, count),
+        "link" => link::run(&rt, count),
         "pages" => pages::run(&rt, count),
         _ => bail!("no bench has this name"),
     }

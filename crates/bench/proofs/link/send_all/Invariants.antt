@@ -1,0 +1,6 @@
+use Rattle.std.proofs.Common.{◌≡◌, length}
+use Rattle.hs_link.specs.Contents.{sent}
+use Rattle.bench.proofs.link.send_all.Given as goal
+
+abbrev pub invariant-loop-number : goal.invariant-loop-number
+invariant-loop-number g l = (length (sent l.sender) ≡ l.number) × (l.sender.room ≡ l.items)
