@@ -3,3 +3,5 @@
 
 #[cfg(test)]
 mod links;
+#[cfg(test)]
+mod rings;

@@ -1,0 +1,56 @@
+//! Rings: the calls of one thread, one after another.
+ghost use Rattle.std.specs.Prelude.{◌≡◌, ◌≤◌, ◌∷◌, [], IfOk};
+ghost use Rattle.hs_ring.specs.Parts.{AreNewEnds, Draws, Gives};
+
+use hs_base::List;
+use hs_ring::{Drawer, Giver, Lease, RingPool, close};
+use hs_words::{Drawn, Given, Held, Stock};
+use std::alloc::Global;
+use std::test::Fail;
+
+/// A pool of so many chunks of 64 bytes with one drawer.
+fn one_drawer(alloc: Global, chunks: u32, allowance: u32) -> Result<(Giver, Drawer), Fail>
+    requires { (1 ≤ chunks) × (chunks ≤ 1024) × (1 ≤ allowance) × (allowance ≤ 262144) }
+    ensures { IfOk result (λ ends. (ends.1.pool ≡ ends.0.pool) × (ends.1.size ≡ ends.0.size) × (ends.1.left ≡ allowance) × (ends.1.number ≡ 0) × (ends.0.drawers ≡ 1)) }
+{
+    let chunks = Stock::make(alloc, chunks, 64)?;
+    let (giver, mut drawers) = RingPool::make(alloc, chunks, &[allowance])?;
+    let Some(drawer) = drawers.pop() else {
+        unreachable!()
+    };
+    Ok((giver, drawer))
+}
+
+#[test]
+fn one_miss_for_one_empty_draw(rt: HostRuntime) -> Result<(), Fail> {
+    let (mut giver, mut drawer) = one_drawer(rt.alloc(), 1, 8)?;
+    let Drawn::Got { held, stamp } = drawer.draw() else {
+        return Err(Fail::from("the chunk was got"));
+    };
+    assert_eq!(rt; (held.chunk.number(), stamp), (0, 0));
+    let Drawn::Empty { stamp } = drawer.draw() else {
+        return Err(Fail::from("no chunk was left"));
+    };
+    assert_eq!(rt; stamp, 1);
+    let Given::Missed { held, stamp } = giver.give(held) else {
+        return Err(Fail::from("the number was void"));
+    };
+    assert_eq!(rt; stamp, 2);
+    let Given::Given { stamp } = giver.give(held) else {
+        return Err(Fail::from("the chunk was given"));
+    };
+    assert_eq!(rt; stamp, 3);
+    let Drawn::Got { held, stamp } = drawer.draw() else {
+        return Err(Fail::from("the chunk was got again"));
+    };
+    assert_eq!(rt; (held.chunk.number(), stamp), (0, 4));
+    assert_eq!(rt; drawer.left(), 5);
+    giver.meet(&mut drawer);
+    let mut rest = List::with_room(rt.alloc(), 1)?;
+    rest.push(held);
+    let mut drawers = List::with_room(rt.alloc(), 1)?;
+    drawers.push(drawer);
+    let tally = close(giver, drawers, rest);
+    assert_eq!(rt; (tally.gots, tally.empties, tally.gives, tally.misses), (2, 1, 1, 1));
+    Ok(())
+}
