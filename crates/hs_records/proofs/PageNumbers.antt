@@ -13,15 +13,10 @@ use Rattle.hs_records.proofs.PieceNumbers.{records_from, Goes, GoesFrom, behind,
 
 -- ---- lists
 
-all-take : {X : Type 0} (P : X → Type 0) (n : ℕ) (xs : List X) → AllByRecursion P xs → AllByRecursion P (take n xs)
-all-take P zero xs each = tt
-all-take P (suc n) [] each = tt
-all-take P (suc n) (x ∷ xs) each = (each.0, all-take P n xs each.1)
-
-all-drop : {X : Type 0} (P : X → Type 0) (n : ℕ) (xs : List X) → AllByRecursion P xs → AllByRecursion P (drop n xs)
-all-drop P zero xs each = each
-all-drop P (suc n) [] each = tt
-all-drop P (suc n) (x ∷ xs) each = all-drop P n xs each.1
+all-parted : {X : Type 0} (P : X → Type 0) (n : ℕ) (xs : List X) → AllByRecursion P xs → AllByRecursion P (take n xs) × AllByRecursion P (drop n xs)
+all-parted P zero xs each = (tt, each)
+all-parted P (suc n) [] each = (tt, tt)
+all-parted P (suc n) (x ∷ xs) each = let rest = all-parted P n xs each.1 in ((each.0, rest.0), rest.1)
 
 all-append : {X : Type 0} (P : X → Type 0) (xs ys : List X) → AllByRecursion P xs → AllByRecursion P ys → AllByRecursion P (xs ++ ys)
 all-append P [] ys here there = there
@@ -99,12 +94,13 @@ pages_behind (suc most) size traces next trace (piece ∷ pieces) few goes each 
     let fits : nat_le (0 + cost_of piece) (page_room size) ≡ true = le-leb (0 + cost_of piece) (page_room size) (omega (arith, each.0.narrow)) in
     let k = taken size (0 + cost_of piece) pieces in
     let rest = drop k pieces in
+    let parted = all-parted (IsPiece size traces trace) k pieces each.1 in
     let run = is_run size (0 + cost_of piece) piece pieces (omega arith) goes.1 in
     let page : PlainPage = record { trace = trace; pieces = piece ∷ take k pieces } in
     let end : piece.number + 1 + length (take k pieces) ≡ end_of page = omega arith in
     let fewer : length rest ≤ most = omega (arith, length-drop k pieces) in
     let later =
-    pages_behind most size traces (end_of page) trace rest fewer (subst (λ n. Continues size n rest) end run.next) (all-drop (IsPiece size traces trace) k pieces each.1) in
+    pages_behind most size traces (end_of page) trace rest fewer (subst (λ n. Continues size n rest) end run.next) parted.1 in
     let takes : count_within (page_room size) (map cost_of (piece ∷ pieces)) ≡ suc k = ap (λ b. cond b (1 + k) 0) fits ∙ one-add k in
     let runs : map (λ pieces. record { trace = trace; pieces = pieces }) (runs_within (suc most) size (piece ∷ pieces))
     ≡ page ∷ map (λ pieces. record { trace = trace; pieces = pieces }) (runs_within most size rest) =
@@ -114,7 +110,7 @@ pages_behind (suc most) size traces next trace (piece ∷ pieces) few goes each 
       begins = refl;
       follow = (elim goes.0 [ inl e ↦ inl e | inr e ↦ inr (refl, e) ], later.follow);
       ends = later.ends ∙ ap (λ n. behind n rest) (sym end) ∙ run.ends;
-      each = (record { some = omega arith; rises = (refl, run.rises); traced = (each.0.traced, all-traced size traces trace (take k pieces) (all-take (IsPiece size traces trace) k pieces each.1)) }, later.each);
+      each = (record { some = omega arith; rises = (refl, run.rises); traced = (each.0.traced, all-traced size traces trace (take k pieces) parted.0) }, later.each);
     })
 
 from_follow : (number next : ℕ) (trace : TraceId) (piece : Piece) (pieces : List Piece) (pages : List PlainPage) → piece.number ≡ number → BeginWith (piece ∷ pieces) pages
@@ -171,11 +167,8 @@ mutual
       let pieces = pieces_until_end size number ops in
       pages-append traces number (number + points ops) (number + length (records_from (place + 1) (Some trace) ops)) (segment_pages size (record { trace = trace; pieces = pieces })) (later_pages size number ops)
       (segment_is size number traces trace pieces (number + points ops) are.goes are.ends are.each) (open-pages size traces trace (place + 1) number ops wide well.1 agree)
-  closed-pages size traces place number (End ∷ ops) wide well agree = absurd (true≢false (sym well.0))
-  closed-pages size traces place number (Point moment payload ∷ ops) wide well agree = absurd (true≢false (sym well.0))
-  closed-pages size traces place number (Crumb node ∷ ops) wide well agree = absurd (true≢false (sym well.0))
   closed-pages size traces place number (Fire trigger ∷ ops) wide well agree = closed-pages size traces (place + 1) number ops wide well agree
-  closed-pages size traces place number (Sample moment auto value ∷ ops) wide well agree = absurd (true≢false (sym well.0))
+  closed-pages size traces place number (operation ∷ ops) wide well agree = absurd (true≢false (sym well.0))
 
   open-pages : (size : ℕ) (traces : Traces) (trace : TraceId) (place number : ℕ) (ops : List Operation) → 64 ≤ size → AreBracketed true ops
       → Agree traces number (records_from place (Some trace) ops)

@@ -120,10 +120,7 @@ abbrev pub points : List Operation → ℕ
 points [] = 0
 points (End ∷ ops) = 0
 points (Point moment payload ∷ ops) = points ops + 1
-points (Begin trace ∷ ops) = points ops
-points (Crumb node ∷ ops) = points ops
-points (Fire trigger ∷ ops) = points ops
-points (Sample moment auto value ∷ ops) = points ops
+points (operation ∷ ops) = points ops
 
 -- the traces of the first record and of those behind it
 pub agree-head : (traces : Traces) (number : ℕ) (r : Record) (records : List Record) → Agree traces number (r ∷ records) → traces number ≡ Some r.trace

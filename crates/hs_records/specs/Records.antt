@@ -5,7 +5,7 @@ use Rattle.std.specs.Prelude.{◌≡◌, ℕ, zero, suc, ◌+◌, ◌-◌, nat_l
 use Rattle.std.specs.List.{flat_map}
 use Rattle.hs_base.specs.declared.ids.TraceId.{TraceId}
 use Rattle.hs_base.specs.declared.limits.TheConstants.{FRAME_COST}
-use Rattle.hs_records.specs.Plain.{Operation, Begin, Point, Crumb, End, Fire, Sample}
+use Rattle.hs_records.specs.Plain.{Operation, Begin, Point, Crumb, End, Fire}
 
 -- ---- where operations stand
 
@@ -18,11 +18,8 @@ pub record NumberedOperation : Type 0 where
 -- the trace that is open behind an operation
 abbrev pub open_behind : Option TraceId → Operation → Option TraceId
 open_behind trace (Begin next) = Some next
-open_behind trace (Point moment payload) = trace
-open_behind trace (Crumb node) = trace
 open_behind trace End = None
-open_behind trace (Fire trigger) = trace
-open_behind trace (Sample moment auto value) = trace
+open_behind trace operation = trace
 
 -- operations from this number on, the first of which finds this trace open
 abbrev pub numbered_from : ℕ → Option TraceId → List Operation → List NumberedOperation
@@ -40,10 +37,8 @@ abbrev pub AreBracketed : Bool → List Operation → Type 0
 AreBracketed is_open [] = is_open ≡ false
 AreBracketed is_open (Begin trace ∷ operations) = (is_open ≡ false) × AreBracketed true operations
 AreBracketed is_open (End ∷ operations) = (is_open ≡ true) × AreBracketed false operations
-AreBracketed is_open (Point moment payload ∷ operations) = (is_open ≡ true) × AreBracketed is_open operations
-AreBracketed is_open (Crumb node ∷ operations) = (is_open ≡ true) × AreBracketed is_open operations
 AreBracketed is_open (Fire trigger ∷ operations) = AreBracketed is_open operations
-AreBracketed is_open (Sample moment auto value ∷ operations) = (is_open ≡ true) × AreBracketed is_open operations
+AreBracketed is_open (operation ∷ operations) = (is_open ≡ true) × AreBracketed is_open operations
 
 -- ---- records
 
@@ -56,11 +51,7 @@ pub record Record : Type 0 where
 abbrev pub record_in : Option TraceId → Operation → List Record
 record_in None operation = []
 record_in (Some trace) (Point moment payload) = record { trace = trace; moment = moment; payload = payload } ∷ []
-record_in (Some trace) (Begin next) = []
-record_in (Some trace) (Crumb node) = []
-record_in (Some trace) End = []
-record_in (Some trace) (Fire trigger) = []
-record_in (Some trace) (Sample moment auto value) = []
+record_in (Some trace) operation = []
 
 abbrev pub record_at : NumberedOperation → List Record
 record_at op = record_in op.trace op.operation
@@ -115,20 +106,14 @@ abbrev pub pieces_until_end : ℕ → ℕ → List Operation → List Piece
 pieces_until_end size number [] = []
 pieces_until_end size number (End ∷ ops) = []
 pieces_until_end size number (Point moment payload ∷ ops) = record_pieces size number moment payload ++ pieces_until_end size (number + 1) ops
-pieces_until_end size number (Begin trace ∷ ops) = pieces_until_end size number ops
-pieces_until_end size number (Crumb node ∷ ops) = pieces_until_end size number ops
-pieces_until_end size number (Fire trigger ∷ ops) = pieces_until_end size number ops
-pieces_until_end size number (Sample moment auto value ∷ ops) = pieces_until_end size number ops
+pieces_until_end size number (operation ∷ ops) = pieces_until_end size number ops
 
 -- the segments of operations, the first point of which is the record of this number
 abbrev pub segments_from : ℕ → ℕ → List Operation → List Segment
 segments_from size number [] = []
 segments_from size number (Begin trace ∷ ops) = record { trace = trace; pieces = pieces_until_end size number ops } ∷ segments_from size number ops
 segments_from size number (Point moment payload ∷ ops) = segments_from size (number + 1) ops
-segments_from size number (End ∷ ops) = segments_from size number ops
-segments_from size number (Crumb node ∷ ops) = segments_from size number ops
-segments_from size number (Fire trigger ∷ ops) = segments_from size number ops
-segments_from size number (Sample moment auto value ∷ ops) = segments_from size number ops
+segments_from size number (operation ∷ ops) = segments_from size number ops
 
 abbrev pub segments_of : ℕ → List Operation → List Segment
 segments_of size ops = segments_from size 0 ops
