@@ -1,0 +1,6 @@
+pub mod Timing
+pub mod Drawn
+pub mod Sending
+pub mod Samples
+pub mod TimingExamples
+pub mod SendingExamples
