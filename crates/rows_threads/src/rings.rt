@@ -51,6 +51,9 @@ fn one_miss_for_one_empty_draw(rt: HostRuntime) -> Result<(), Fail> {
     let mut drawers = List::with_room(rt.alloc(), 1)?;
     drawers.push(drawer);
     let tally = close(giver, drawers, rest);
-    assert_eq!(rt; (tally.gots, tally.empties, tally.gives, tally.misses), (2, 1, 1, 1));
+    assert_eq!(rt;
+        (tally.gots, tally.empties, tally.gives, tally.misses),
+        (2, 1, 1, 1)
+    );
     Ok(())
 }
