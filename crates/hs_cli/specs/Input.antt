@@ -1,18 +1,15 @@
 -- What a call took from its source: the whole input, which ended, or one byte more than an input may have.
 use Rattle.std.specs.Prelude.{◌≡◌, ℕ, ◌+◌, ◌≤◌, List, [], Option, length, IfSome}
 use Rattle.hs_base.specs.Outside.{Loses}
-
--- the most bytes that an input may have
-abbrev pub input_limit : ℕ
-input_limit = 16777216
+use Rattle.hs_base.specs.declared.limits.TheConstants.{MAX_INPUT}
 
 -- The source gave these bytes and no more came.
 pub record ReadWhole (old new : Option (List ℕ)) (input : List ℕ) : Type 0 where
   pub taken : Loses old new input
   pub end : IfSome new (λ rest. rest ≡ [])
-  pub short : length input ≤ input_limit
+  pub short : length input ≤ MAX_INPUT
 
 -- The source gave these bytes, one more than an input may have, and was asked for no more.
 pub record ReadBeyond (old new : Option (List ℕ)) (input : List ℕ) : Type 0 where
   pub taken : Loses old new input
-  pub long : length input ≡ input_limit + 1
+  pub long : length input ≡ MAX_INPUT + 1

@@ -3,11 +3,9 @@
 ghost use Rattle.std.specs.Prelude.{◌≡◌, IfOk, vec_len};
 ghost use Rattle.hs_cli.specs.Reading.{IsReadBy};
 
+use hs_base::limits::MAX_INPUT;
 use hs_base::{Memory, Source};
 use std::alloc::Global;
-
-/// The most bytes that an input may have.
-const INPUT_LIMIT: usize = 16_777_216;
 
 /// How many bytes are asked for at once.
 const PIECE: usize = 65_536;
@@ -40,8 +38,8 @@ pub(crate) fn read_all<S: Source>(alloc: Global, source: &mut S) -> Input
         return Input::NoMemory;
     };
     let mut text = Vec::new(alloc);
-    while text.len() <= INPUT_LIMIT {
-        let most = PIECE.min(INPUT_LIMIT + 1 - text.len());
+    while text.len() <= MAX_INPUT {
+        let most = PIECE.min(MAX_INPUT + 1 - text.len());
         let front = &mut piece[..most];
         let Ok(count) = source.read(front) else {
             return Input::Fault;

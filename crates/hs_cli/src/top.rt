@@ -2,9 +2,9 @@
 
 ghost use Rattle.std.specs.Prelude.{◌≡◌, ◌<◌, ◌≤◌, ◌⊎◌, ℕ, List, map, length, string_bytes, Some, ◌↔◌, IsTrue};
 ghost use Rattle.hs_base.specs.Outside.{Rose, Gains};
+ghost use Rattle.hs_base.specs.declared.limits.TheConstants.{MAX_INPUT};
 ghost use Rattle.hs_records.specs.Plain.{PlainWorkload};
 ghost use Rattle.hs_workload.specs.Validity.{Reads};
-ghost use Rattle.hs_cli.specs.Input.{input_limit};
 ghost use Rattle.hs_cli.specs.Messages.{IsCommand, usage_text, too_long_text};
 ghost use Rattle.hs_cli.specs.Written.{GainsFront};
 ghost use Rattle.hs_cli.specs.Endings.{Ends, Wrote, WroteFront};
@@ -125,7 +125,7 @@ pub fn hindsight<R: Threads + Sync, S: Source, K: Sink, G: Gate>(
     // out.
     ensures complete { (W : PlainWorkload) (input : List ℕ)
         → IsCommand (map (λ word. string_bytes word) words.now)
-        → S.left source.old ≡ Some input → Reads input W → length input ≤ input_limit
+        → S.left source.old ≡ Some input → Reads input W → length input ≤ MAX_INPUT
         → ¬ Rose (S.faults source.old) (S.faults source.new)
         → ¬ Rose (K.faults sink.old) (K.faults sink.new)
         → (result ≡ Status.Done) ⊎ (result ≡ Status.Memory) }

@@ -3,6 +3,7 @@
 use Rattle.std.specs.Prelude.{ℕ, ◌+◌, ◌==◌, Bool, false, List, [], ◌∷◌, ◌++◌, length, map, filter, find, Option, Some, None, if◌then◌else◌, nat_le}
 use Rattle.std.specs.Option.{option_map_or, option_and_then}
 use Rattle.hs_base.specs.declared.ids.TraceId.{TraceId}
+use Rattle.hs_base.specs.declared.limits.TheConstants.{TOKEN}
 use Rattle.hs_base.specs.declared.ids.TriggerId.{TriggerId}
 use Rattle.hs_base.specs.declared.settings.TriggerRule.{TriggerRule}
 use Rattle.hs_base.specs.declared.told.Ask.{Ask}
@@ -103,7 +104,7 @@ rule_of settings id = find (λ (rule : TriggerRule). rule.id.0 == id.0) settings
 -- whether the bucket of the trigger's id admits it
 abbrev pub admits : PlainSettings → List TriedTrigger → Trigger → Bool
 admits settings tried trigger =
-    option_map_or (λ (rule : TriggerRule). nat_le 1000000 (level_found rule.burst rule.rate (moments_of trigger.trigger tried) trigger.moment)) (rule_of settings trigger.trigger) false
+    option_map_or (λ (rule : TriggerRule). nat_le TOKEN (level_found rule.burst rule.rate (moments_of trigger.trigger tried) trigger.moment)) (rule_of settings trigger.trigger) false
 
 -- the group of the next admitted trigger, with its laterals
 abbrev pub group_of : ℕ → AgentState → Trigger → Ask

@@ -1,6 +1,7 @@
 //! The replay of a workload of one client, without an agent.
 
 ghost use Rattle.std.specs.Prelude.{◌≡◌, ◌<◌, ◌≤◌, [], ◌∷◌, false, IfOk, map, length};
+ghost use Rattle.hs_base.specs.declared.limits.TheConstants.{MAX_BUFFERS, MAX_OPERATIONS, MAX_SIZE, MIN_SIZE};
 ghost use Rattle.hs_records.specs.Records.{AreBracketed};
 ghost use Rattle.hs_workload.specs.Views.{operation_of, workload_of};
 ghost use Rattle.hs_workload.specs.LookBack.{operation_pieces};
@@ -69,11 +70,11 @@ fn play(
     operations: &[Op],
 ) -> Result<(ClientBook, AgentBook), Memory>
     requires some { 1 ≤ buffers }
-    requires few { buffers ≤ 1024 }
-    requires least { 64 ≤ size }
-    requires most { size ≤ 32768 }
+    requires few { buffers ≤ MAX_BUFFERS }
+    requires least { MIN_SIZE ≤ size }
+    requires most { size ≤ MAX_SIZE }
     requires bracketed { AreBracketed false (map operation_of operations.now) }
-    requires pieces { client_pieces size (map operation_of operations.now) ≤ 262144 }
+    requires pieces { client_pieces size (map operation_of operations.now) ≤ MAX_OPERATIONS }
     ensures { IfOk result (λ books. ArePlainBooks buffers size (map operation_of operations.now) (client_book_of books.0) (agent_book_of books.1)) }
 {
     let calls = count_calls(size, operations);
@@ -86,8 +87,8 @@ fn play(
 
 /// How many calls of a core the operations come to at most: a point counts once for each of its pieces.
 fn count_calls(size: u32, operations: &[Op]) -> u32
-    requires least { 64 ≤ size }
-    requires few { client_pieces size (map operation_of operations.now) ≤ 262144 }
+    requires least { MIN_SIZE ≤ size }
+    requires few { client_pieces size (map operation_of operations.now) ≤ MAX_OPERATIONS }
     ensures { result ≡ client_pieces size (map operation_of operations.now) }
 {
     let mut calls = 0;
@@ -99,8 +100,8 @@ fn count_calls(size: u32, operations: &[Op]) -> u32
 
 /// How many calls of a core an operation comes to at most.
 fn calls_of(size: u32, operation: &Op) -> u32
-    requires least { 64 ≤ size }
-    requires few { operation_pieces size (operation_of operation.now) ≤ 262144 }
+    requires least { MIN_SIZE ≤ size }
+    requires few { operation_pieces size (operation_of operation.now) ≤ MAX_OPERATIONS }
     ensures { result ≡ operation_pieces size (operation_of operation.now) }
 {
     match operation {

@@ -2,6 +2,7 @@
 
 ghost use Rattle.std.specs.Prelude.{◌≡◌, ◌+◌, ◌<◌, ◌≤◌, [], ◌∷◌, ◌++◌, length, map, IfOk, OnErr, IsSome, IsNone};
 ghost use Rattle.std.specs.Option.{option_to_list};
+ghost use Rattle.hs_base.specs.declared.limits.TheConstants.{FRAME_COST, MAX_BUFFERS, MAX_SIZE, MIN_SIZE};
 ghost use Rattle.hs_records.specs.Records.{piece_count, record_pieces};
 ghost use Rattle.hs_client.specs.Core.{number_after};
 ghost use Rattle.hs_words.specs.Buffers.{buffer_of, buffer_in};
@@ -31,9 +32,9 @@ impl Player {
     /// call but `finish` takes memory.
     pub(crate) fn make(alloc: Global, buffers: u32, size: u32, calls: u32) -> Result<Player, Memory>
         requires some { 1 ≤ buffers }
-        requires few { buffers ≤ 1024 }
-        requires least { 64 ≤ size }
-        requires most { size ≤ 32768 }
+        requires few { buffers ≤ MAX_BUFFERS }
+        requires least { MIN_SIZE ≤ size }
+        requires most { size ≤ MAX_SIZE }
         ensures sound { IfOk result IsSound }
         ensures start { IfOk result (IsAtStart buffers size calls) }
     {
@@ -103,7 +104,7 @@ impl Player {
         requires sound { IsSound self.old }
         requires open { IsSome self.old.core.trace }
         requires left { self.old.core.counted < self.old.core.calls }
-        requires narrow { 34 + length payload.now ≤ self.old.core.size }
+        requires narrow { FRAME_COST + length payload.now ≤ self.old.core.size }
         ensures sound { IsSound self.new }
         ensures goes { Goes 1 (number_after more self.old.core.number) self.old.core.trace self.old.core self.new.core }
         ensures played { PlaysPieces (record { number = self.old.core.number; moment = moment; payload = payload.now } ∷ []) self.old self.new }

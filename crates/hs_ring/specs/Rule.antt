@@ -8,6 +8,7 @@ use mathlib.Core.Option.{some}
 use mathlib.Core.Option as maybe
 use lib.ListN.{get_elem?}
 use Rattle.atomic_table.specs.Table.{State}
+use Rattle.hs_base.specs.declared.limits.TheConstants.{MAX_BUFFERS, MAX_OPERATIONS}
 use Rattle.hs_words.specs.Chunks.{Contents, clear_chunk}
 use Rattle.hs_words.specs.PoolHistory.{is_missed, is_empty, queue_after, IsHistoryBack}
 use Rattle.hs_words.specs.Ends.{Deed, got_by, events_of, drawn_in, given_in, answers_by, answers_in, told_in, IsDraw, IsGot, NoneSince, EachSpends, EachUnread, AreAnswers}
@@ -138,8 +139,8 @@ module _ (plan : Plan) (f : Facts) (j : ℕ) where
 
 pub record Within (plan : Plan) : Type 0 where
   pub some : 1 ≤ plan.buffers
-  pub few : plan.buffers ≤ 1024
-  pub draws : total plan.allowances ≤ 262144
+  pub few : plan.buffers ≤ MAX_BUFFERS
+  pub draws : total plan.allowances ≤ MAX_OPERATIONS
 
 pub record Kept (plan : Plan) (s : State (Option Contents) View) (f : Facts) : Type 0 where
   pub within : Within plan
