@@ -1,4 +1,4 @@
-//! Tables over what threads share: links, driven by one thread and by two.
+//! Tables over what threads share: links, driven by one thread and by two, and rings.
 #![tactic(auto)]
 
 #[cfg(test)]

@@ -1,20 +1,28 @@
 //! Rings: the calls of one thread, one after another.
-ghost use Rattle.std.specs.Prelude.{◌≡◌, ◌≤◌, ◌∷◌, [], IfOk};
-ghost use Rattle.hs_ring.specs.Parts.{AreNewEnds, Draws, Gives};
+ghost use Rattle.std.specs.Prelude.{◌≡◌, ◌≤◌, length, sum, IfOk};
+ghost use Rattle.hs_ring.specs.Parts.{AreNewEnds};
 
-use hs_base::List;
+use hs_base::{List, Memory};
 use hs_ring::{Drawer, Giver, Lease, RingPool, close};
 use hs_words::{Drawn, Given, Held, Stock};
 use std::alloc::Global;
 use std::test::Fail;
 
-/// A pool of so many chunks of 64 bytes with one drawer.
-fn one_drawer(alloc: Global, chunks: u32, allowance: u32) -> Result<(Giver, Drawer), Fail>
-    requires { (1 ≤ chunks) × (chunks ≤ 1024) × (1 ≤ allowance) × (allowance ≤ 262144) }
-    ensures { IfOk result (λ ends. (ends.1.pool ≡ ends.0.pool) × (ends.1.size ≡ ends.0.size) × (ends.1.left ≡ allowance) × (ends.1.number ≡ 0) × (ends.0.drawers ≡ 1)) }
+/// A pool of so many chunks of 64 bytes.
+fn pool_of(alloc: Global, chunks: u32, allowances: &[u32]) -> Result<(Giver, List<Drawer>), Memory>
+    requires chunks { (1 ≤ chunks) × (chunks ≤ 1024) }
+    requires allowances { (1 ≤ length allowances.now) × (sum allowances.now ≤ 262144) }
+    ensures { IfOk result (λ ends. AreNewEnds chunks 64 allowances.now ends.0 ends.1.items) }
 {
     let chunks = Stock::make(alloc, chunks, 64)?;
-    let (giver, mut drawers) = RingPool::make(alloc, chunks, &[allowance])?;
+    RingPool::make(alloc, chunks, allowances)
+}
+
+/// A pool of one chunk with one drawer.
+fn one_drawer(alloc: Global) -> Result<(Giver, Drawer), Memory>
+    ensures { IfOk result (λ ends. (ends.1.pool ≡ ends.0.pool) × (ends.1.size ≡ ends.0.size) × (ends.1.left ≡ 8) × (ends.1.number ≡ 0) × (ends.0.drawers ≡ 1)) }
+{
+    let (giver, mut drawers) = pool_of(alloc, 1, &[8])?;
     let Some(drawer) = drawers.pop() else {
         unreachable!()
     };
@@ -23,7 +31,7 @@ fn one_drawer(alloc: Global, chunks: u32, allowance: u32) -> Result<(Giver, Draw
 
 #[test]
 fn one_miss_for_one_empty_draw(rt: HostRuntime) -> Result<(), Fail> {
-    let (mut giver, mut drawer) = one_drawer(rt.alloc(), 1, 8)?;
+    let (mut giver, mut drawer) = one_drawer(rt.alloc())?;
     let Drawn::Got { held, stamp } = drawer.draw() else {
         return Err(Fail::from("the chunk was got"));
     };
