@@ -1,4 +1,4 @@
--- Pages of one trace that are added one behind another.
+-- Pages of one client that are added one behind another.
 use Rattle.std.proofs.Common.{◌≡◌, ℕ, ◌+◌, ◌<◌, ◌≤◌, ◌^◌, List, [], ◌∷◌, ◌++◌, All, Option, Some, None, IfSome, OnOk, Result, Ok, Err, length, length-append, refl, sym, ap, subst, ◌∙◌, inl, arith}
 use Rattle.std.specs.Option.{option_map}
 use Rattle.std.proofs.lemmas.List.Quantifiers.{all_pairs_push}
@@ -9,11 +9,11 @@ use Rattle.hs_words.specs.Reading.{Spells}
 use Rattle.hs_words.specs.Chunks.{Contents, with_page}
 use Rattle.hs_collect.specs.Collected.{AreCollected, CanPrecede, CanBeAdded, end_of}
 use Rattle.hs_collect.specs.Views.{Collection}
-use Rattle.rows_parts.specs.Pages.{header_at, HasSheet, HasAdded, IsBefore}
+use Rattle.rows_parts.specs.Pages.{HasSheet, HasAdded, IsBefore}
 
 -- a page to which no piece was added yet
-pub started : (chunk : Contents) (page first : ℕ) → chunk.page ≡ Some (record { header = header_at page first; pieces = [] }) → HasSheet chunk page first 0
-started chunk page first is = record { sheet = record { header = header_at page first; pieces = [] }; is = is; header = refl; count_is = refl }
+pub started : (chunk : Contents) (header : Header) → chunk.page ≡ Some (record { header = header; pieces = [] }) → HasSheet chunk header.page header.first 0
+started chunk header is = record { sheet = record { header = header; pieces = [] }; is = is; page_is = refl; first_is = refl; count_is = refl }
 
 -- and one to which a piece was
 pub one_more : (old new : Contents) (page first count : ℕ) (piece : Piece) → HasSheet old page first count → new ≡ with_page old (option_map (λ sheet. with_piece sheet piece) old.page) → HasSheet new page first (count + 1)
@@ -21,7 +21,8 @@ one_more old new page first count piece has is =
     record {
       sheet = with_piece has.sheet piece;
       is = ap (λ (k : Contents). k.page) is ∙ ap (λ (p : Option Sheet). option_map (λ sheet. with_piece sheet piece) p) has.is;
-      header = has.header;
+      page_is = has.page_is;
+      first_is = has.first_is;
       count_is = simp (length-append has.sheet.pieces (piece ∷ [])) (ap (λ n. n + 1) has.count_is);
     }
 
@@ -34,22 +35,19 @@ none_added collection are = record {
   before = All-nil (IsBefore 0 0);
 }
 
-precedes : (sheet before : Sheet) (page first : ℕ) → sheet.header ≡ header_at page first → IsBefore page first before → CanPrecede before sheet
-precedes sheet before page first header is =
-    let pages : sheet.header.page ≡ page = ap (λ (h : Header). h.page) header in
-    let firsts : sheet.header.first ≡ first = ap (λ (h : Header). h.first) header in
+precedes : (sheet before : Sheet) (page first : ℕ) → sheet.header.page ≡ page → sheet.header.first ≡ first → IsBefore page first before → CanPrecede before sheet
+precedes sheet before page first pages firsts is =
     record {
       differ = λ client same. absurd (omega (arith, same, is.0));
       rise = λ client trace. (omega (arith, is.0), inl (omega (arith, is.1)));
     }
 
-pub can_come : (sheets : List Sheet) (sheet : Sheet) (page first count : ℕ) → CanBeAdded sheets → All (IsBefore page first) sheets → sheet.header ≡ header_at page first → length sheet.pieces ≡ count → first + count ≤ 2 ^ 32
-    → CanBeAdded (sheets ++ sheet ∷ [])
-can_come sheets sheet page first count can before header len few =
-    let firsts : sheet.header.first ≡ first = ap (λ (h : Header). h.first) header in
+pub can_come : (sheets : List Sheet) (chunk : Contents) (page first count : ℕ) → CanBeAdded sheets → All (IsBefore page first) sheets → (has : HasSheet chunk page first count) → first + count ≤ 2 ^ 32
+    → CanBeAdded (sheets ++ has.sheet ∷ [])
+can_come sheets chunk page first count can before has few =
     record {
-      pairs = all_pairs_push CanPrecede sheets sheet can.pairs (λ k d within. precedes sheet _ page first header (before k d within));
-      fits = All-push (λ s. end_of s ≤ 2 ^ 32) sheets sheet can.fits (omega arith);
+      pairs = all_pairs_push CanPrecede sheets has.sheet can.pairs (λ k d within. precedes has.sheet _ page first has.page_is has.first_is (before k d within));
+      fits = All-push (λ s. end_of s ≤ 2 ^ 32) sheets has.sheet can.fits (omega (arith, has.first_is, has.count_is));
     }
 
 -- the bytes of a chunk's page
@@ -66,9 +64,8 @@ on_ok (Err e) P Q f p = tt
 later : (sheets : List Sheet) (page first page' first' : ℕ) → page ≤ page' → first ≤ first' → All (IsBefore page first) sheets → All (IsBefore page' first') sheets
 later sheets page first page' first' pages firsts before = λ k d within. (omega (arith, (before k d within).0), omega (arith, (before k d within).1))
 
-pub all_before : (sheets : List Sheet) (sheet : Sheet) (page first count : ℕ) → sheet.header ≡ header_at page first → length sheet.pieces ≡ count → All (IsBefore page first) sheets
-    → All (IsBefore (page + 1) (first + count)) (sheets ++ sheet ∷ [])
-all_before sheets sheet page first count header len before =
-    let pages : sheet.header.page ≡ page = ap (λ (h : Header). h.page) header in
-    let firsts : sheet.header.first ≡ first = ap (λ (h : Header). h.first) header in
-    All-push (IsBefore (page + 1) (first + count)) sheets sheet (later sheets page first (page + 1) (first + count) (omega arith) (omega arith) before) (omega arith, omega arith)
+pub all_before : (sheets : List Sheet) (chunk : Contents) (page first count : ℕ) (has : HasSheet chunk page first count) → All (IsBefore page first) sheets
+    → All (IsBefore (page + 1) (first + count)) (sheets ++ has.sheet ∷ [])
+all_before sheets chunk page first count has before =
+    All-push (IsBefore (page + 1) (first + count)) sheets has.sheet (later sheets page first (page + 1) (first + count) (omega arith) (omega arith) before)
+    (omega (arith, has.page_is), omega (arith, has.first_is, has.count_is))

@@ -3,7 +3,7 @@
 ghost use Rattle.std.specs.Prelude.{◌+◌, ◌<◌, ◌≤◌, ◌^◌, OnOk};
 ghost use Rattle.rows_parts.specs.Pages.{HasSheet, HasAdded};
 
-use hs_base::limits::MAX_SIZE;
+use hs_base::limits::{MAX_SIZE, MAX_TRACES, MIN_SIZE};
 use hs_base::{ClientId, Memory, RecordId, TraceId};
 use hs_collect::{Collector, TraceRecord};
 use hs_words::{Added, Chunk, Header, Stock};
@@ -63,21 +63,21 @@ fn records_are_joined_in_order(rt: HostRuntime) -> Result<(), Fail> {
     Ok(())
 }
 
-/// Starts a page of the trace 7, and fills it with records without bytes. Answers how many there are.
-fn fill_page(chunk: &mut Chunk, page: u32, first: u32) -> u32
+/// Starts a page of the trace, and fills it with at most so many records without bytes. Answers how many there are.
+fn fill_page(chunk: &mut Chunk, trace: u32, page: u32, first: u32, most: u32) -> u32
     ensures page { HasSheet chunk.new page first result }
-    ensures few { result ≤ 4000 }
+    ensures few { result ≤ most }
 {
     chunk.clear();
     chunk.start(Header {
-        trace: TraceId(7),
+        trace: TraceId(u128::from(trace)),
         client: ClientId { node: 0, number: 0 },
         page,
         first,
     });
     let mut count = 0u32;
-    for moment in 0..4000u64 {
-        match chunk.add(moment, &[]) {
+    for moment in 0..most {
+        match chunk.add(u64::from(moment), &[]) {
             Added::Added => count += 1,
             Added::NoRoom => break,
         }
@@ -111,7 +111,7 @@ fn a_trace_of_all_records(rt: HostRuntime) -> Result<(), Fail> {
     let mut collector = Collector::make(rt.alloc())?;
     let mut first = 0u32;
     for page in 0..80u32 {
-        let count = fill_page(&mut chunk, page, first);
+        let count = fill_page(&mut chunk, 7, page, first, 4000);
         assert!(rt; 0 < count && first < 1_000_000);
         add_page(&mut collector, &chunk, page, first, count)?;
         first += count;
@@ -121,6 +121,28 @@ fn a_trace_of_all_records(rt: HostRuntime) -> Result<(), Fail> {
     assert_eq!(rt; records.entries.len(), 261_920);
     for record in records.entries.as_slice() {
         assert!(rt; record.moment < 4000 && record.payload.is_empty());
+    }
+    Ok(())
+}
+
+/// 65,536 traces of one record each.
+#[test]
+fn as_many_traces_as_records(rt: HostRuntime) -> Result<(), Fail> {
+    let mut chunk = Stock::make(rt.alloc(), 1, MIN_SIZE)?
+        .pop()
+        .ok_or("a chunk was made")?;
+    let mut collector = Collector::make(rt.alloc())?;
+    let mut first = 0u32;
+    for page in 0..MAX_TRACES {
+        let count = fill_page(&mut chunk, page, page, first, 1);
+        assert!(rt; count == 1 && first < 1_000_000);
+        add_page(&mut collector, &chunk, page, first, count)?;
+        first += count;
+    }
+    let traces = collector.traces()?;
+    assert_eq!(rt; traces.len(), MAX_TRACES as usize);
+    for (number, trace) in traces.as_slice().iter().enumerate() {
+        assert_eq!(rt; trace.0, number as u128);
     }
     Ok(())
 }

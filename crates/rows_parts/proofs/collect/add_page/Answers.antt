@@ -11,7 +11,7 @@ add-requires c =
       page.sheet,
       before.are,
       spells _ page.sheet _ page.is c.bytes.ensures.spelled c.bytes.ensures.valid some,
-      can_come before.sheets page.sheet _ _ _ before.can before.before page.header page.count_is c.requires.few,
+      can_come before.sheets _ _ _ _ before.can before.before page c.requires.few,
     )
 
 pub returns : goal.returns
@@ -23,7 +23,7 @@ returns c =
     (λ ok. record {
       sheets = before.sheets ++ page.sheet ∷ [];
       are = ok before.sheets page.sheet before.are (spells _ page.sheet _ page.is c.bytes.ensures.spelled c.bytes.ensures.valid some);
-      can = can_come before.sheets page.sheet _ _ _ before.can before.before page.header page.count_is c.requires.few;
-      before = all_before before.sheets page.sheet _ _ _ page.header page.count_is before.before;
+      can = can_come before.sheets _ _ _ _ before.can before.before page c.requires.few;
+      before = all_before before.sheets _ _ _ _ page before.before;
     })
     c.add.ensures.ok
