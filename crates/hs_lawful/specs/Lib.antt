@@ -1,0 +1,11 @@
+pub mod Following
+pub mod Played
+pub mod Shape
+pub mod Pooled
+pub mod Passes
+pub mod Unreads
+pub mod Ends
+pub mod Pace
+pub mod Lawful
+pub mod Samples
+pub mod Workloads
