@@ -9,3 +9,4 @@ pub mod Pace
 pub mod Lawful
 pub mod Samples
 pub mod Workloads
+pub mod LawfulExamples
