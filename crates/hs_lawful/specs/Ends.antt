@@ -1,5 +1,5 @@
 -- How a journal ends. All agents made as many passes, at least as many as there are rounds: enough for every client to do all of
--- its operations. Every item that was sent, every ask and every message was taken, and no chunk is pinned.
+-- its operations. Nothing waits any more in a queue of a client, among the asks or among the messages, and nothing is pinned.
 use Rattle.std.specs.Prelude.{◌≡◌, ℕ, ◌+◌, ◌-◌, ◌/◌, Bool, true, false, ◌&&◌, ◌==◌, nat_le, max, List, [], ◌∷◌, length, map, fold, count_by, zip, refl}
 use Rattle.std.specs.List.{range_with_len, list_all}
 use Rattle.hs_journal.specs.declared.journal.Step.{Step}

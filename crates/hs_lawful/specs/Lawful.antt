@@ -1,13 +1,16 @@
 -- A journal is lawful for a workload where eleven clauses hold. They are asked in an order in which each can rely on those before
 -- it: what a give gives is known once the journal was followed. The first that fails is what is said of a journal.
 use Rattle.std.specs.Prelude.{◌≡◌, ℕ, Bool, true, not, List, [], ◌∷◌, Option, option_map, find}
+use Rattle.std.specs.List.{AllByRecursion}
 use Rattle.hs_journal.specs.Views.{PlainJournal}
 use Rattle.hs_records.specs.Plain.{PlainWorkload}
+use Rattle.hs_words.specs.PoolHistory.{IsPoolHistory}
 use Rattle.hs_lawful.specs.Ends.{is_followed, has_rounds, is_bare}
+use Rattle.hs_lawful.specs.Following.{NodeRun, followed}
 use Rattle.hs_lawful.specs.Pace.{has_pace}
 use Rattle.hs_lawful.specs.Passes.{has_passes, has_offers}
 use Rattle.hs_lawful.specs.Played.{Played, played}
-use Rattle.hs_lawful.specs.Pooled.{has_history, has_answers}
+use Rattle.hs_lawful.specs.Pooled.{has_history, has_answers, pool_history}
 use Rattle.hs_lawful.specs.Shape.{has_shape, has_stamps}
 use Rattle.hs_lawful.specs.Unreads.{has_unreads}
 
@@ -17,7 +20,7 @@ pub record IsLawful (W : PlainWorkload) (J : PlainJournal) : Type 0 where
   -- stamps number the events of each node
   pub L2 : has_stamps (played W J) ≡ true
   -- which are a history of its pool
-  pub L3 : has_history (played W J) ≡ true
+  pub L3 : AllByRecursion (λ (run : NodeRun). IsPoolHistory W.settings.buffers (pool_history run)) (followed W J).nodes
   -- a give answers the draw of its chunk
   pub L4 : has_answers (played W J) ≡ true
   -- each log is a list of whole passes

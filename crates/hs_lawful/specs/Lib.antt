@@ -7,6 +7,10 @@ pub mod Unreads
 pub mod Ends
 pub mod Pace
 pub mod Lawful
+pub mod Laws
 pub mod Samples
 pub mod Workloads
+pub mod Journals
+pub mod FollowingExamples
 pub mod LawfulExamples
+pub mod UnlawfulExamples

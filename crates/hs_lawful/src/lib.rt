@@ -1,4 +1,5 @@
-//! What it means that a journal is lawful for a workload, and what the two come to: the fate of each
-//! record and the report of each trace. The definitions stand in `specs/` (`docs/RULES.md`, "The lawful
-//! journal").
+//! What it means that a journal is lawful for a workload. The definitions stand in `specs/`; the laws of
+//! `laws` hold of them (`docs/RULES.md`, "The lawful journal").
 #![tactic(auto)]
+
+pub mod laws;

@@ -1,6 +1,6 @@
 -- Which operation of a client starts a page, and which one sends it. A page is started by the point to which its first piece
--- belongs. It goes to the agent when it can take no more: with the operation that starts the next page of its segment, and
--- else with the end of the segment. Operations are numbered from 0.
+-- belongs. It goes to the agent when it can take no more: with the operation that opens the page behind it in the segment,
+-- and else with the end of the segment. Operations are numbered from 0.
 use Rattle.std.specs.Prelude.{ℕ, Bool, true, false, List, [], ◌∷◌, map, filter, get_or, zip}
 use Rattle.std.specs.List.{flat_map}
 use Rattle.hs_records.specs.Plain.{Operation, Begin, Point, Crumb, End, Fire, Sample}

@@ -1,0 +1,3 @@
+pub mod Histories
+pub mod Decided
+pub mod Events
