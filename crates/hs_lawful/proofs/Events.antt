@@ -22,7 +22,6 @@ mapped P f None h = tt
 mapped P f (Some x) h = h x
 
 module _ (goes : EventsGoOn) (settings : PlainSettings) where
-
   performed : (rest : List Step) (run : NodeRun) (event : Event) → ComesByEvents settings run → ComesByEvents settings (perform settings rest run event)
   performed rest run event c = ap (λ state. after_event settings run.node state event) c ∙ sym (goes settings run.node run.events (event ∷ []))
 
