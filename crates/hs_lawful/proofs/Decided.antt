@@ -7,7 +7,7 @@ use Rattle.hs_journal.specs.Views.{PlainJournal}
 use Rattle.hs_records.specs.Plain.{PlainWorkload}
 use Rattle.hs_words.specs.PoolHistory.{IsPoolHistory}
 use Rattle.hs_lawful.specs.Following.{NodeRun, followed}
-use Rattle.hs_lawful.specs.Lawful.{IsLawful, Clause, clauses, first_failing, first_unlawful}
+use Rattle.hs_lawful.specs.Lawful.{IsLawful, Clause, clauses}
 use Rattle.hs_lawful.specs.Laws.{LawfulIsDecided}
 use Rattle.hs_lawful.specs.Played.{Played, played}
 use Rattle.hs_lawful.specs.Pooled.{is_history, pool_history}

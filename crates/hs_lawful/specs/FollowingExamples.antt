@@ -1,14 +1,13 @@
 -- What steps take, which asks are sent, and how far small journals can be followed.
-use Rattle.std.specs.Prelude.{◌≡◌, ℕ, true, false, List, [], ◌∷◌, map, length, refl}
+use Rattle.std.specs.Prelude.{◌≡◌, true, false, [], ◌∷◌, map, length, refl}
 use Rattle.hs_base.specs.declared.ids.NodeId.{NodeId}
 use Rattle.hs_base.specs.declared.told.Ask.{Ask}
-use Rattle.hs_base.specs.declared.told.Why.TheVariants.{Fired, Answer, Late}
+use Rattle.hs_base.specs.declared.told.Why.TheVariants.{Fired, Answer}
 use Rattle.hs_coord.specs.Messages.{Message, sample}
 use Rattle.hs_journal.specs.declared.journal.Draw.TheVariants.{Got}
-use Rattle.hs_journal.specs.declared.journal.Step.{Step}
 use Rattle.hs_lawful.specs.Following.{Chunks, Crumbs, Triggers, Asks, takes, taken, asks_to, NodeRun, followed, is_done}
 use Rattle.hs_lawful.specs.Journals
-use Rattle.hs_lawful.specs.Samples.{journal, alone, chunk, crumb, trigger, ask, turn, given}
+use Rattle.hs_lawful.specs.Samples.{journal, alone, chunk, crumb, ask, turn, given}
 use Rattle.hs_lawful.specs.Workloads.{one_point, three_traces, trigger_first, four_nodes}
 
 -- each step takes from one queue or from none

@@ -1,5 +1,5 @@
 -- For the worked examples: the journals of the small workloads, as one thread in lockstep makes them.
-use Rattle.std.specs.Prelude.{List, [], ◌∷◌}
+use Rattle.std.specs.Prelude.{[], ◌∷◌}
 use Rattle.hs_journal.specs.declared.journal.Draw.TheVariants.{Got, Empty}
 use Rattle.hs_journal.specs.Views.{PlainJournal}
 use Rattle.hs_lawful.specs.Samples.{journal, alone, chunk, crumb, trigger, ask, turn, given}

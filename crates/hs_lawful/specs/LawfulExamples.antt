@@ -1,14 +1,11 @@
 -- Journals that are lawful for small workloads.
-use Rattle.std.specs.Prelude.{◌≡◌, List, [], ◌∷◌, ◌++◌, None, refl}
-use Rattle.hs_journal.specs.declared.journal.Draw.{Draw}
+use Rattle.std.specs.Prelude.{◌≡◌, [], ◌∷◌, None, refl}
 use Rattle.hs_journal.specs.declared.journal.Draw.TheVariants.{Got, Empty}
-use Rattle.hs_journal.specs.Views.{PlainJournal}
 use Rattle.hs_sent.specs.Samples.{segment}
 use Rattle.hs_lawful.specs.Lawful.{first_unlawful}
-use Rattle.hs_lawful.specs.Samples.{journal, alone, chunk, crumb, trigger, ask, turn, given, missed, unread}
+use Rattle.hs_lawful.specs.Samples.{journal, alone, chunk, turn, missed, unread}
 use Rattle.hs_lawful.specs.Journals
 use Rattle.hs_lawful.specs.Workloads.{nothing, one_point, three_points, three_traces, touched_again, trigger_first, evicted_then_claimed, two_ids, one_token, short_of_pins, four_nodes, no_pins, refused_trigger, side_by_side}
-use Rattle.hs_journal.specs.declared.journal.Step.TheVariants.{Chunk}
 
 no_operations : first_unlawful nothing Journals.of_nothing ≡ None
 no_operations = refl

@@ -1,7 +1,7 @@
 -- Agents and coordinator keep pace with the clients. An operation has a round, by the stride, and a draw that of the operation that
 -- starts its page. The gives of a pass come behind the draws of earlier rounds and before those of later rounds. What the
 -- rounds up to one send is taken by the pass behind it, or at least 64 items more than by the pass before it; and likewise asks.
-use Rattle.std.specs.Prelude.{◌≡◌, ℕ, zero, suc, ◌+◌, ◌-◌, ◌*◌, Bool, true, false, ◌&&◌, ◌==◌, nat_lt, nat_le, min, List, [], ◌∷◌, length, map, take, count_by, zip, find, unwrap_or, refl, if◌then◌else◌}
+use Rattle.std.specs.Prelude.{◌≡◌, ℕ, zero, suc, ◌+◌, ◌-◌, ◌*◌, Bool, true, ◌&&◌, nat_lt, nat_le, min, List, length, take, count_by, zip, find, unwrap_or, refl, if◌then◌else◌}
 use Rattle.std.specs.List.{range_with_len, list_all}
 use Rattle.hs_base.specs.declared.limits.TheConstants.{MAX_TAKEN}
 use Rattle.hs_coord.specs.Following.{Messages}
@@ -9,7 +9,7 @@ use Rattle.hs_journal.specs.declared.journal.Step.{Step}
 use Rattle.hs_records.specs.Plain.{PlainSettings}
 use Rattle.hs_sent.specs.Drawn.{DrawnPage, stamp_of}
 use Rattle.hs_sent.specs.Sending.{Sent, ClientSends, sent_within}
-use Rattle.hs_lawful.specs.Following.{Queue, Chunks, Crumbs, Triggers, Asks, taken, asks_to, is_from, NodeRun, Run}
+use Rattle.hs_lawful.specs.Following.{Queue, Chunks, Crumbs, Triggers, Asks, asks_to, is_from, NodeRun, Run}
 use Rattle.hs_lawful.specs.Passes.{passes_of, steps_in, taken_in}
 use Rattle.hs_lawful.specs.Played.{Played, state_behind}
 use Rattle.hs_lawful.specs.Pooled.{node_pages}

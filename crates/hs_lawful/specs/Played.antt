@@ -1,7 +1,6 @@
 -- A workload beside a journal and the run in which the journal was followed: what the clauses of the lawful journal look at.
-use Rattle.std.specs.Prelude.{ℕ, List, map, take, unwrap_or, slice_get}
+use Rattle.std.specs.Prelude.{ℕ, List, take}
 use Rattle.std.specs.List.{range_with_len}
-use Rattle.hs_journal.specs.declared.journal.Step.{Step}
 use Rattle.hs_journal.specs.Views.{PlainJournal}
 use Rattle.hs_model.specs.State.{AgentState}
 use Rattle.hs_model.specs.Stepping.{after}

@@ -3,12 +3,11 @@ use Rattle.std.specs.Prelude.{◌≡◌, List, [], ◌∷◌, ◌++◌, Some, re
 use Rattle.hs_journal.specs.declared.journal.Draw.{Draw}
 use Rattle.hs_journal.specs.declared.journal.Draw.TheVariants.{Got, Empty}
 use Rattle.hs_journal.specs.declared.journal.Step.TheVariants.{Chunk}
-use Rattle.hs_journal.specs.Views.{PlainJournal}
 use Rattle.hs_records.specs.Plain.{PlainWorkload}
 use Rattle.hs_sent.specs.Samples.{settings, workload, segment}
 use Rattle.hs_lawful.specs.Lawful.{first_unlawful}
 use Rattle.hs_lawful.specs.Samples.{journal, alone, chunk, crumb, trigger, ask, turn, given, missed, unread}
-use Rattle.hs_lawful.specs.Workloads.{one_point, three_points, three_traces, trigger_first, evicted_then_claimed, four_nodes, side_by_side}
+use Rattle.hs_lawful.specs.Workloads.{one_point, three_points, three_traces, trigger_first, four_nodes, side_by_side}
 
 -- three pages that were drawn in their order
 abbrev three : List Draw

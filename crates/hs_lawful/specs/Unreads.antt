@@ -1,8 +1,8 @@
 -- An offer is unread where the entry of the pool that it would fill still has a draw in it that nobody has collected. A journal
 -- shows that this could be: the offer's place is that of an earlier draw, which got a buffer whose chunk was not given yet, and
 -- whose client has not drawn again as far as the log can tell.
-use Rattle.std.specs.Prelude.{◌≡◌, ℕ, ◌+◌, ◌-◌, ◌*◌, ◌/◌, Bool, true, false, not, ◌&&◌, ◌==◌, nat_lt, nat_le, List, [], ◌∷◌, length, map, take, filter, zip, count_by, Option, slice_get, refl}
-use Rattle.std.specs.List.{flat_map, range_with_len, list_all, list_any}
+use Rattle.std.specs.Prelude.{◌≡◌, ℕ, ◌+◌, ◌-◌, ◌*◌, ◌/◌, Bool, false, not, ◌&&◌, ◌==◌, nat_lt, nat_le, List, length, map, take, filter, zip, count_by, slice_get, refl}
+use Rattle.std.specs.List.{range_with_len, list_all, list_any}
 use Rattle.std.specs.Option.{option_map_or}
 use Rattle.hs_journal.specs.declared.journal.Step.{Step}
 use Rattle.hs_model.specs.State.{AgentState, GivenPlace}

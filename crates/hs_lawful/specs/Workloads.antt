@@ -1,7 +1,7 @@
 -- For the worked examples: small workloads. Pages have 64 bytes, and a page with one point of one byte has 35 used bytes.
 use Rattle.std.specs.Prelude.{ℕ, List, [], ◌∷◌, ◌++◌, replicate}
 use Rattle.hs_base.specs.declared.settings.TriggerRule.{TriggerRule}
-use Rattle.hs_records.specs.Plain.{Operation, Point, End, PlainSettings, PlainWorkload}
+use Rattle.hs_records.specs.Plain.{Operation, Point, End, PlainWorkload}
 use Rattle.hs_sent.specs.Samples.{rule, settings, on_nodes, workload, begin, point, crumb, fire, segment}
 
 -- the id 1, of which ten triggers are admitted

@@ -1,7 +1,7 @@
 -- The lockstep schedule. In a round each client in turn does its next operations, as many as the stride, and then the agents make
 -- a pass each, and then the coordinator. Behind the last round only passes are made, while anything waits. A machine keeps how
 -- far each client is, and the journal up to now; whatever else it needs is read off these two.
-use Rattle.std.specs.Prelude.{ℕ, zero, suc, ◌+◌, ◌-◌, ◌*◌, ◌/◌, ◌%◌, Bool, true, false, ◌==◌, nat_lt, min, List, [], ◌∷◌, ◌++◌, length, map, set, replicate, reverse, fold, filter, count_by, zip, unwrap_or, slice_get, sum_by, if◌then◌else◌}
+use Rattle.std.specs.Prelude.{ℕ, zero, suc, ◌+◌, ◌-◌, ◌*◌, ◌/◌, true, false, nat_lt, min, List, [], ◌∷◌, ◌++◌, length, map, set, replicate, reverse, fold, filter, count_by, zip, unwrap_or, slice_get, sum_by}
 use Rattle.std.specs.List.{flat_map, range_with_len}
 use Rattle.std.specs.Option.{option_map_or}
 use Rattle.hs_base.specs.declared.ids.NodeId.{NodeId}
@@ -11,13 +11,13 @@ use Rattle.hs_journal.specs.declared.journal.Draw.TheVariants as draws
 use Rattle.hs_journal.specs.declared.journal.Step.{Step}
 use Rattle.hs_journal.specs.declared.journal.Step.TheVariants as steps
 use Rattle.hs_journal.specs.Views.{PlainJournal}
-use Rattle.hs_records.specs.Plain.{Operation, PlainWorkload}
+use Rattle.hs_records.specs.Plain.{PlainWorkload}
 use Rattle.hs_records.specs.Pages.{pages_of}
 use Rattle.hs_sent.specs.Timing.{TimedPage, timed_pages}
-use Rattle.hs_sent.specs.Sending.{Sent, ClientSends, operations_at, place_of, sent_within}
+use Rattle.hs_sent.specs.Sending.{ClientSends, operations_at, place_of, sent_within}
 use Rattle.hs_words.specs.PoolHistory.{queue_after}
 use Rattle.hs_lawful.specs.Ends.{is_bare, rounds_of}
-use Rattle.hs_lawful.specs.Following.{Queue, Chunks, Crumbs, Triggers, Asks, taken, asks_to, is_from, NodeRun, Run, followed, log_at}
+use Rattle.hs_lawful.specs.Following.{Queue, Chunks, Crumbs, Triggers, Asks, taken, asks_to, is_from, NodeRun, Run, followed}
 use Rattle.hs_lawful.specs.Played.{played}
 use Rattle.hs_lawful.specs.Pooled.{pool_events, pool_history}
 
