@@ -1,9 +1,11 @@
 //! Names of traces, nodes, clients, records, triggers and groups.
 
 use std::alloc::{AllocError, AllocFailed};
+use thiserror::Error;
 
 /// Want of memory.
-#[derive(Clone, Copy, Debug, PartialEq, Eq)]
+#[derive(Clone, Copy, Debug, PartialEq, Eq, Error)]
+#[error("out of memory")]
 pub struct Memory;
 
 impl From<AllocError> for Memory {
@@ -19,7 +21,8 @@ impl<T: Drop> From<AllocFailed<T>> for Memory {
 }
 
 /// A read or a write that failed. The object that failed counts it (`docs/RULES.md`, "The outside").
-#[derive(Clone, Copy, Debug, PartialEq, Eq)]
+#[derive(Clone, Copy, Debug, PartialEq, Eq, Error)]
+#[error("a read or a write failed")]
 pub struct Failed;
 
 /// A trace, by its id of 128 bits. A text of version 1 names only ids below 2^64.

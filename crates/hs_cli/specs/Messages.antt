@@ -3,7 +3,8 @@ use Rattle.std.specs.Prelude.{◌≡◌, ℕ, List, [], ◌∷◌, ◌++◌, cod
 use Rattle.std.specs.Fmt.{digits}
 use Rattle.hs_text.specs.Text.{line_of, text_of}
 use Rattle.hs_workload.specs.declared.refusal.Reason.{Reason}
-use Rattle.hs_workload.specs.declared.refusal.Reason.TheVariants.{Truncated, Byte, Spaces, Word, Count, Number, Hex, Range, Order, Unknown, Open, NoTrace, StillOpen, TooMany}
+use Rattle.hs_workload.specs.declared.refusal.Reason.TheVariants.{NoTrace}
+use Rattle.hs_workload.specs.Reasons.{reason_text}
 
 -- The one word that is a command.
 abbrev pub IsCommand : List (List ℕ) → Type 0
@@ -14,22 +15,6 @@ usage_text = text_of (codes "usage: hindsight replay [--json] | run [--json] | r
 
 abbrev pub too_long_text : List ℕ
 too_long_text = text_of (codes "refused input longer than 16777216 bytes" ∷ [])
-
-abbrev pub reason_text : Reason → List ℕ
-reason_text Truncated = codes "Truncated"
-reason_text Byte = codes "Byte"
-reason_text Spaces = codes "Spaces"
-reason_text Word = codes "Word"
-reason_text Count = codes "Count"
-reason_text Number = codes "Number"
-reason_text Hex = codes "Hex"
-reason_text Range = codes "Range"
-reason_text Order = codes "Order"
-reason_text Unknown = codes "Unknown"
-reason_text Open = codes "Open"
-reason_text NoTrace = codes "NoTrace"
-reason_text StillOpen = codes "StillOpen"
-reason_text TooMany = codes "TooMany"
 
 -- what is written of an input whose first bad line is this one, for this reason
 abbrev pub refusal_text : ℕ → Reason → List ℕ

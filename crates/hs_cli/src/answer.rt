@@ -3,11 +3,11 @@
 ghost use Rattle.std.specs.Prelude.{◌≡◌, ◌++◌, IfOk, OnOk, codes};
 ghost use Rattle.hs_cli.specs.Endings.{IsReplayed, IsRefused};
 ghost use Rattle.hs_cli.specs.Answers.{IsAnswer};
-ghost use Rattle.hs_cli.specs.Messages.{reason_text, refusal_text};
+ghost use Rattle.hs_cli.specs.Messages.{refusal_text};
 
 use hs_base::Memory;
 use hs_replay::{Form, replay, write_outcome};
-use hs_workload::{ReadError, Reason, Refusal, read_workload};
+use hs_workload::{ReadError, Refusal, read_workload};
 use std::alloc::Global;
 
 /// What is due for a whole input.
@@ -39,28 +39,6 @@ fn refusal_line(alloc: Global, refusal: Refusal) -> Result<Vec<u8>, Memory>
     ensures { IfOk result (λ line. line.items ≡ refusal_text refusal.line refusal.reason) }
 {
     let line = refusal.line;
-    let reason = reason_word(refusal.reason);
+    let reason = refusal.reason.word();
     Ok(format!(in alloc; "refused line {line} {reason}\n")?.into_bytes())
-}
-
-/// The word for a reason.
-fn reason_word(reason: Reason) -> &'static str
-    ensures { result.now ≡ reason_text reason }
-{
-    match reason {
-        Reason::Truncated => "Truncated",
-        Reason::Byte => "Byte",
-        Reason::Spaces => "Spaces",
-        Reason::Word => "Word",
-        Reason::Count => "Count",
-        Reason::Number => "Number",
-        Reason::Hex => "Hex",
-        Reason::Range => "Range",
-        Reason::Order => "Order",
-        Reason::Unknown => "Unknown",
-        Reason::Open => "Open",
-        Reason::NoTrace => "NoTrace",
-        Reason::StillOpen => "StillOpen",
-        Reason::TooMany => "TooMany",
-    }
 }

@@ -1,3 +1,4 @@
+pub mod Reasons
 pub mod Views
 pub mod Statements
 pub mod Grammar

@@ -1,5 +1,11 @@
 //! Why a text is no journal.
 
+ghost use Rattle.std.specs.Prelude.{◌≡◌};
+ghost use Rattle.hs_journal.specs.Reasons.{reason_text};
+
+use std::fmt;
+use thiserror::Error;
+
 /// What is wrong with a line (`docs/FORMATS.md`, "The journal"). The reasons stand in the order in
 /// which they are asked.
 #[derive(Clone, Copy, Debug, PartialEq, Eq)]
@@ -22,18 +28,45 @@ pub enum JournalReason {
     Order,
 }
 
+impl JournalReason {
+    /// The reason's word, as a refusal names it.
+    pub fn word(self) -> &'static str
+        ensures { result.now ≡ reason_text self }
+    {
+        match self {
+            JournalReason::Truncated => "Truncated",
+            JournalReason::Byte => "Byte",
+            JournalReason::Spaces => "Spaces",
+            JournalReason::Word => "Word",
+            JournalReason::Count => "Count",
+            JournalReason::Number => "Number",
+            JournalReason::Range => "Range",
+            JournalReason::Order => "Order",
+        }
+    }
+}
+
+impl fmt::Display for JournalReason {
+    fn fmt<W: fmt::Write>(&self, f: &mut fmt::Formatter<W>) -> fmt::Result {
+        write!(f, "{}", self.word())
+    }
+}
+
 /// The first bad line, from 1, and the first reason that it has.
-#[derive(Clone, Copy, Debug, PartialEq, Eq)]
+#[derive(Clone, Copy, Debug, PartialEq, Eq, Error)]
+#[error("line {line} {reason}")]
 pub struct JournalRefusal {
     pub line: u32,
     pub reason: JournalReason,
 }
 
 /// Why there is no journal.
-#[derive(Clone, Copy, Debug, PartialEq, Eq)]
+#[derive(Clone, Copy, Debug, PartialEq, Eq, Error)]
 pub enum JournalError {
     /// The text is no journal.
+    #[error("refused {0}")]
     Refused(JournalRefusal),
     /// Memory ran out.
+    #[error("out of memory")]
     Memory,
 }

@@ -1,6 +1,7 @@
 //! Pages as a reader gets them.
 
 use hs_base::{Bytes, ClientId, List, TraceId};
+use thiserror::Error;
 
 /// Where a page belongs: to this trace, written by this client. `page` counts the client's pages and `first` its
 /// records, up to the one that the page begins in; both from 0.
@@ -27,14 +28,18 @@ pub struct Page {
 }
 
 /// What is wrong with bytes that are no page, tried in this order (`docs/FORMATS.md`, "The page").
-#[derive(Clone, Copy, Debug, PartialEq, Eq)]
+#[derive(Clone, Copy, Debug, PartialEq, Eq, Error)]
 pub enum PageFault {
     /// They end within the header.
+    #[error("the bytes end within the header")]
     Short,
     /// The header says another length than theirs.
+    #[error("the header says another length")]
     Used,
     /// Behind the header are more or fewer pieces than it says, or it says that there is none.
+    #[error("the header says another count of pieces")]
     Count,
     /// Nothing: they are a page, and there was no memory to hold it.
+    #[error("out of memory")]
     Memory,
 }

@@ -1,5 +1,11 @@
 //! Why a text is no workload.
 
+ghost use Rattle.std.specs.Prelude.{◌≡◌};
+ghost use Rattle.hs_workload.specs.Reasons.{reason_text};
+
+use std::fmt;
+use thiserror::Error;
+
 /// What is wrong with a line (`docs/FORMATS.md`, "Refusals"). The reasons stand in the order in which
 /// they are asked.
 #[derive(Clone, Copy, Debug, PartialEq, Eq)]
@@ -34,18 +40,51 @@ pub enum Reason {
     TooMany,
 }
 
+impl Reason {
+    /// The reason's word, as a refusal names it.
+    pub fn word(self) -> &'static str
+        ensures { result.now ≡ reason_text self }
+    {
+        match self {
+            Reason::Truncated => "Truncated",
+            Reason::Byte => "Byte",
+            Reason::Spaces => "Spaces",
+            Reason::Word => "Word",
+            Reason::Count => "Count",
+            Reason::Number => "Number",
+            Reason::Hex => "Hex",
+            Reason::Range => "Range",
+            Reason::Order => "Order",
+            Reason::Unknown => "Unknown",
+            Reason::Open => "Open",
+            Reason::NoTrace => "NoTrace",
+            Reason::StillOpen => "StillOpen",
+            Reason::TooMany => "TooMany",
+        }
+    }
+}
+
+impl fmt::Display for Reason {
+    fn fmt<W: fmt::Write>(&self, f: &mut fmt::Formatter<W>) -> fmt::Result {
+        write!(f, "{}", self.word())
+    }
+}
+
 /// The first bad line, from 1, and the first reason that it has.
-#[derive(Clone, Copy, Debug, PartialEq, Eq)]
+#[derive(Clone, Copy, Debug, PartialEq, Eq, Error)]
+#[error("line {line} {reason}")]
 pub struct Refusal {
     pub line: u32,
     pub reason: Reason,
 }
 
 /// Why there is no workload.
-#[derive(Clone, Copy, Debug, PartialEq, Eq)]
+#[derive(Clone, Copy, Debug, PartialEq, Eq, Error)]
 pub enum ReadError {
     /// The text is no workload.
+    #[error("refused {0}")]
     Refused(Refusal),
     /// Memory ran out.
+    #[error("out of memory")]
     Memory,
 }

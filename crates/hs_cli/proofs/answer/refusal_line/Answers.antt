@@ -1,6 +1,6 @@
 use Rattle.std.proofs.Common.{◌≡◌, ◌++◌, ℕ, List, [], ◌∷◌, decimal, codes, sym, ap, ◌∙◌, append_assoc}
 use Rattle.std.proofs.lemmas.List.{append-nil}
-use Rattle.hs_cli.specs.Messages.{reason_text}
+use Rattle.hs_workload.specs.Reasons.{reason_text}
 use Rattle.hs_cli.proofs.answer.refusal_line.Goals as goal
 
 -- the line's end, taken apart and put together
@@ -12,4 +12,4 @@ returns c =
     let line = decimal c.args.refusal.line in
     ap (λ v. v.items) c.into_bytes.ensures.value ∙ c.in_ok-format.ensures.ok
     ∙ ap (λ (rest : List ℕ). codes "refused line " ++ rest)
-    (ap (λ (reason : List ℕ). line ++ 32 ∷ (reason ++ 10 ∷ [])) c.reason_word-reason.ensures ∙ regrouped line (reason_text c.args.refusal.reason))
+    (ap (λ (reason : List ℕ). line ++ 32 ∷ (reason ++ 10 ∷ [])) c.word-reason.ensures ∙ regrouped line (reason_text c.args.refusal.reason))
