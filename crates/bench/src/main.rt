@@ -3,6 +3,9 @@
 #![tactic(auto)]
 
 mod auto;
+mod collect;
+mod coord;
+mod index;
 mod journal;
 mod link;
 mod pages;
@@ -20,6 +23,9 @@ fn main(rt: HostRuntime) -> Result<()> {
     let count: u32 = count.parse().ok().context("a bench wants a number")?;
     match name.as_str() {
         "auto" => auto::run(&rt, count),
+        "collect" => collect::run(&rt, count),
+        "coord" => coord::run(&rt, count),
+        "index" => index::run(&rt, count),
         "journal" => journal::run(&rt, count),
         "link" => link::run(&rt, count),
         "pages" => pages::run(&rt, count),

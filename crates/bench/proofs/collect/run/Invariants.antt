@@ -1,0 +1,5 @@
+use Rattle.fixtures.specs.Pages.{HasAdded}
+use Rattle.bench.proofs.collect.run.Given as goal
+
+abbrev pub invariant-loop-page : goal.invariant-loop-page
+invariant-loop-page g l = HasAdded l.collector l.page l.first

@@ -1,0 +1,94 @@
+//! Turns over two queues of equal items.
+
+ghost use Rattle.std.specs.Prelude.{◌≡◌, ◌+◌, ℕ, [], replicate, if◌then◌else◌, ◌==◌, IfOk, IsSome};
+ghost use Rattle.hs_base.specs.Rules.{AreRules};
+ghost use Rattle.hs_sched.specs.Turns.{share_of, shares_of};
+
+use fixtures::greatest_rules;
+use hs_base::limits::{MAX_SIZE, MAX_TRIGGER};
+use hs_base::{List, Memory, TriggerId, TriggerRule};
+use hs_sched::{Queues, Scheduler, visits_are_fair};
+use std::alloc::Global;
+use std::test::Fail;
+
+const COST: u32 = 44;
+
+/// So many items of one cost wait for the ids 1 and 2.
+#[derive(Drop)]
+struct Waiting {
+    one: u32,
+    two: u32,
+}
+
+impl Queues for Waiting {
+    ghost costs = { λ s id. if id == 1 then replicate s.one 44
+        else (if id == 2 then replicate s.two 44 else []) };
+
+    ghost sends = { λ s id t. t.one + t.two + 1 ≡ s.one + s.two };
+
+    fn next_cost(&self, trigger: TriggerId) -> Option<u32> {
+        let count = match trigger.0 {
+            1 => self.one,
+            2 => self.two,
+            _ => 0,
+        };
+        if count == 0 { None } else { Some(COST) }
+    }
+
+    fn send_next(&mut self, trigger: TriggerId) {
+        if trigger.0 == 1 {
+            self.one -= 1;
+        } else {
+            self.two -= 1;
+        }
+    }
+}
+
+/// The id 1 with weight 2, and the id 2 with weight 1.
+fn two_rules(alloc: Global) -> Result<List<TriggerRule>, Memory>
+    ensures rules { IfOk result (λ rules. AreRules rules.items) }
+    ensures declared { IfOk result (λ rules. IsSome (share_of (record { shares = shares_of rules.items; size = 64 }) 1)
+        × IsSome (share_of (record { shares = shares_of rules.items; size = 64 }) 2)) }
+{
+    let mut rules = List::with_room(alloc, 2)?;
+    rules.push(TriggerRule {
+        id: TriggerId(1),
+        weight: 2,
+        burst: 1,
+        rate: 1,
+    });
+    rules.push(TriggerRule {
+        id: TriggerId(2),
+        weight: 1,
+        burst: 1,
+        rate: 1,
+    });
+    Ok(rules)
+}
+
+#[test]
+fn turns_share_by_weight(rt: HostRuntime) -> Result<(), Fail> {
+    let rules = two_rules(rt.alloc())?;
+    let mut scheduler = Scheduler::make(rt.alloc(), &rules, 64)?;
+    let mut waiting = Waiting { one: 6, two: 3 };
+    for (one, two, first, second) in [(4, 2, 40, 20), (1, 1, 36, 40), (0, 0, 0, 0)] {
+        scheduler.turn(&mut waiting);
+        assert_eq!(rt; waiting.one, one);
+        assert_eq!(rt; waiting.two, two);
+        assert_eq!(rt; scheduler.deficit(TriggerId(1)), first);
+        assert_eq!(rt; scheduler.deficit(TriggerId(2)), second);
+    }
+    visits_are_fair();
+    Ok(())
+}
+
+/// As many trigger ids as there may be, and none.
+#[test]
+fn most_rules_and_none(rt: HostRuntime) -> Result<(), Fail> {
+    for count in [0, MAX_TRIGGER] {
+        let rules = greatest_rules(rt.alloc(), count)?;
+        assert_eq!(rt; rules.len(), usize::from(count));
+        Scheduler::make(rt.alloc(), &rules, MAX_SIZE)?;
+    }
+    Ok(())
+}

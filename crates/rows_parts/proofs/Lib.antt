@@ -1,5 +1,0 @@
-pub mod BookLemmas
-pub mod ClaimLemmas
-pub mod PageLemmas
-pub mod RuleLemmas
-pub mod Sheets
