@@ -1,5 +1,5 @@
 -- What the coordinator keeps still stands for its messages after one more.
-use Rattle.std.proofs.Common.{◌≡◌, ℕ, Bool, true, false, not, ◌||◌, ◌&&◌, List, [], ◌∷◌, ◌++◌, Option, Some, None, unwrap_or, refl, sym, ap, subst, ◌∙◌, true≢false, find, cond, map, nat_eq, eq-eqb, IsSome}
+use Rattle.std.proofs.Common.{◌≡◌, ℕ, Bool, true, false, not, ◌||◌, ◌&&◌, [], ◌∷◌, ◌++◌, Option, Some, None, unwrap_or, refl, sym, ap, subst, ◌∙◌, true≢false, find, cond, nat_eq, eq-eqb, IsSome}
 use Rattle.std.proofs.lemmas.List.{map-append}
 use Rattle.std.proofs.Math.Bool.{or-false, and-false}
 use Rattle.std.specs.Cmp.{IsEquivalence}
@@ -14,6 +14,7 @@ use Rattle.hs_coord.specs.declared.followed.Followed.{Followed}
 use Rattle.hs_coord.specs.Following.{Message, Messages, same_group, is_of, has_crumb, has_ask, is_asked, is_first_sender, is_answer, is_answer_from, is_answered, first_of, AreAsks}
 use Rattle.hs_coord.specs.Answers.{IsAskedSet}
 use Rattle.hs_coord.specs.Kept.{Kept, IsFollowed, StandsFor, HasTaken}
+use Rattle.hs_coord.specs.Leading.{Begins, Takes, Writes}
 use Rattle.hs_coord.proofs.BitLemmas.{asked_bit, ask_bit, waiting_bit}
 use Rattle.hs_coord.proofs.FollowingLemmas.{first_stays, first_now, first_of_other, has_crumb-push, is_answered-push, unanswered, no_message_no_crumb}
 
@@ -39,20 +40,6 @@ same_group_laws = record {
     symm : (a b : GroupId) (r : Bool) → same_group a b ≡ r → same_group a b ≡ same_group b a
     symm a b true e = e ∙ sym (subst (λ (x : GroupId). same_group x a ≡ true) (same_group-true a b e) (same_group-refl a))
     symm a b false e = e ∙ sym (same_group_sym a b e)
-
--- an entry before the first message of its group
-pub record Begins (m : Message) (entry : Followed) : Type 0 where
-  pub group : entry.ask.group ≡ m.told.group
-  pub laterals : entry.ask.laterals ≡ m.told.laterals
-  pub asked : (n : ℕ) → has_node entry.asked n ≡ nat_eq n m.node.0
-  pub waiting : (n : ℕ) → has_node entry.waiting n ≡ false
-
--- an entry before and after a message, which leads to the fresh nodes
-pub record Takes (m : Message) (entry next : Followed) (fresh : NodeSet) : Type 0 where
-  pub fresh_is : (n : ℕ) → has_node fresh n ≡ (has_node m.told.crumbs n && not (has_node entry.asked n))
-  pub asked : (n : ℕ) → has_node next.asked n ≡ (has_node entry.asked n || has_node m.told.crumbs n)
-  pub waiting : (n : ℕ) → has_node next.waiting n ≡ ((has_node entry.waiting n && not (nat_eq n m.node.0 && is_answer m.told.why)) || has_node fresh n)
-  pub ask : next.ask ≡ entry.ask
 
 abbrev group_of : Message → GroupId
 group_of m = m.told.group.id
@@ -198,10 +185,6 @@ module _ (group : GroupId) (messages : Messages) (m : Message) (other : is_of gr
         ∙ ap (λ b. (has_crumb group messages n && not b) && not (is_answered group (messages ++ m ∷ []) n)) (first_else n)
         ∙ ap (λ b. (has_crumb group messages n && not (is_first_sender group messages n)) && not b) (answered_else n));
   }
-
--- what the map has after the entry of one group was written
-abbrev pub Writes : List (GroupId × Followed) → List (GroupId × Followed) → GroupId → Followed → Type 0
-Writes old new group next = (q : GroupId) → lookup (same_group q) new ≡ cond (same_group group q) (Some next) (lookup (same_group q) old)
 
 module _ (old : Kept) (messages : Messages) (m : Message) (begun next : Followed) (fresh : NodeSet)
     (h : HasTaken old messages) (b : Begins m begun) (t : Takes m (unwrap_or (lookup (same_group (group_of m)) old.groups) begun) next fresh) where

@@ -1,5 +1,6 @@
 pub mod BitLemmas
 pub mod FollowingLemmas
 pub mod KeptLemmas
+pub mod OpenLemmas
 pub mod SettledLemmas
 pub mod OrderlyLemmas

@@ -1,21 +1,18 @@
 -- Every ask was answered exactly where no entry has a node that waits.
-use Rattle.std.proofs.Common.{◌≡◌, ℕ, Bool, true, false, not, ◌&&◌, Option, Some, None, All, IfSome, slice_get, refl, sym, ap, subst, ◌∙◌, true≢false, MatchBool, ◌↔◌, ◌<◌, length, get_or, ◌≤◌, ⊎_elim, arith}
-use Rattle.std.specs.List.{IsDistinct, AllWithin, HoldsAt}
-use Rattle.std.proofs.lemmas.List.Elements.{All-from_all_within}
+use Rattle.std.proofs.Common.{◌≡◌, ℕ, Bool, true, false, not, ◌&&◌, Option, Some, None, All, IfSome, slice_get, refl, sym, ap, subst, ◌∙◌, true≢false, ◌↔◌, get_or, nat_eq, eq-eqb}
+use Rattle.std.specs.List.{IsDistinct}
 use Rattle.std.specs.Map.{lookup, keys_of}
-use Rattle.std.proofs.lemmas.Option.{slice_get_cases}
+use Rattle.std.proofs.lemmas.Option.{slice_get-get_or}
+use Rattle.std.proofs.lemmas.Bool.{eqb-true}
 use Rattle.std.proofs.lemmas.Map.Entries.{All-lookup, lookup_from_place}
 use Rattle.hs_base.specs.declared.ids.GroupId.{GroupId}
 use Rattle.hs_base.specs.NodeSets.{has_node}
 use Rattle.hs_coord.specs.declared.followed.Followed.{Followed}
 use Rattle.hs_coord.specs.Following.{Messages, same_group, has_ask, is_answered, is_first_sender, IsSettled}
-use Rattle.hs_coord.specs.Kept.{Kept, IsFollowed, StandsFor, HasTaken}
+use Rattle.hs_coord.specs.Kept.{Kept, IsFollowed, StandsFor, HasTaken, count_open}
 use Rattle.hs_coord.proofs.FollowingLemmas.{no_message_no_crumb}
 use Rattle.hs_coord.proofs.KeptLemmas.{same_group_laws}
-
--- no node waits
-abbrev pub IsQuiet : GroupId × Followed → Type 0
-IsQuiet p = (node : ℕ) → has_node p.1.waiting node ≡ false
+use Rattle.hs_coord.proofs.OpenLemmas.{IsQuiet, quiet_if_none_open, none_open_if_quiet}
 
 module _ (state : Kept) (messages : Messages) (h : HasTaken state messages) where
   pub settled_if_quiet : All IsQuiet state.groups → IsSettled messages
@@ -41,19 +38,12 @@ module _ (state : Kept) (messages : Messages) (h : HasTaken state messages) wher
       quiet true false a = absurd (true≢false (sym (a refl)))
       quiet false done a = refl
 
--- what a walk over the entries answers, where no two are of one group
-pub settled_by_walk : (state : Kept) (messages : Messages) → HasTaken state messages → IsDistinct same_group (keys_of state.groups) → (r : Bool)
-    → MatchBool r (AllWithin IsQuiet state.groups 0 (length state.groups)) ((k : ℕ) × (k < length state.groups) × HoldsAt (λ p. IsQuiet p → ⊥) state.groups k)
-    → (r ≡ true) ↔ IsSettled messages
-settled_by_walk state messages h distinct true quiet = (λ _. settled_if_quiet state messages h (All-from_all_within IsQuiet state.groups quiet), λ _. refl)
-settled_by_walk state messages h distinct false found = (
-  λ e. absurd (true≢false (sym e)),
-  λ settled. absurd (found.2 (at found.0 found.1).0 (quiet_if_settled state messages h distinct settled found.0 _ (at found.0 found.1).1)),
+-- what the number of the open groups says, where no two entries are of one group
+pub settled_by_count : (state : Kept) (messages : Messages) → HasTaken state messages → IsDistinct same_group (keys_of state.groups) → (open_groups : ℕ) → open_groups ≡ count_open state.groups
+    → (nat_eq open_groups 0 ≡ true) ↔ IsSettled messages
+settled_by_count state messages h distinct open_groups counted = (
+  λ none. settled_if_quiet state messages h (quiet_if_none_open state.groups (sym counted ∙ eqb-true open_groups 0 none)),
+  λ settled.
+      eq-eqb open_groups 0
+      (counted ∙ none_open_if_quiet state.groups (λ k d within. quiet_if_settled state messages h distinct settled k (get_or state.groups k d) (slice_get-get_or state.groups k d within))),
 )
-  where
-    at : (k : ℕ) → k < length state.groups → (d : GroupId × Followed) × (slice_get state.groups k ≡ Some (get_or state.groups k d))
-    at k within =
-        ⊎_elim
-        (λ (w : (x : GroupId × Followed) × (k < length state.groups) × (slice_get state.groups k ≡ Some x) × (get_or state.groups k x ≡ x)). (w.0, w.2 ∙ ap Some (sym w.3)))
-        (λ (past : (length state.groups ≤ k) × (slice_get state.groups k ≡ None)). absurd (omega arith))
-        (slice_get_cases state.groups k).1

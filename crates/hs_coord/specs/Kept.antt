@@ -1,7 +1,8 @@
 -- What the coordinator keeps in place of the messages that it has taken: the nodes that told them, in order, and of each
 -- group one entry with its first message's ask, its asked set, and the nodes whose ask waits for its answer.
-use Rattle.std.specs.Prelude.{◌≡◌, ℕ, not, ◌&&◌, List, Option, Some, None, find, map}
-use Rattle.std.specs.Map.{lookup}
+use Rattle.std.specs.Prelude.{◌≡◌, ℕ, Bool, not, ◌&&◌, ◌==◌, List, Option, Some, None, find, map, count_by}
+use Rattle.std.specs.List.{IsDistinct}
+use Rattle.std.specs.Map.{lookup, keys_of}
 use Rattle.hs_base.specs.declared.ids.NodeId.{NodeId}
 use Rattle.hs_base.specs.declared.ids.GroupId.{GroupId}
 use Rattle.hs_base.specs.NodeSets.{has_node}
@@ -31,3 +32,16 @@ StandsFor group messages (Some entry) = IsFollowed group messages entry
 pub record HasTaken (kept : Kept) (messages : Messages) : Type 0 where
   pub log : kept.log ≡ map (λ (m : Message). m.node) messages
   pub groups : (group : GroupId) → StandsFor group messages (lookup (same_group group) kept.groups)
+
+-- whether an ask of an entry's group waits for its answer
+abbrev pub is_open : Followed → Bool
+is_open entry = not (entry.waiting.0 == 0)
+
+-- how many groups have such an ask
+abbrev pub count_open : List (GroupId × Followed) → ℕ
+count_open groups = count_by (λ p. is_open p.1) groups
+
+-- the number of the groups with such an ask, and each group once
+pub record IsCounted (waiting : ℕ) (groups : List (GroupId × Followed)) : Type 0 where
+  pub count : waiting ≡ count_open groups
+  pub distinct : IsDistinct same_group (keys_of groups)

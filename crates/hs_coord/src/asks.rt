@@ -8,3 +8,12 @@ pub struct Asks {
     pub ask: Ask,
     pub to: NodeSet,
 }
+
+/// What a message of a group leads to, and whether an ask of the group waited for its answer before the message, and waits
+/// after it.
+#[derive(Clone, Copy)]
+pub struct Led {
+    pub asks: Asks,
+    pub was_open: bool,
+    pub is_open: bool,
+}

@@ -4,9 +4,10 @@ ghost use Rattle.std.specs.Prelude.{◌≡◌, ℕ, ◌<◌, ◌≤◌, ◌↔�
 ghost use Rattle.hs_base.specs.NodeSets.{has_node};
 ghost use Rattle.hs_coord.specs.Following.{Messages, message, AreAsks, IsSettled};
 ghost use Rattle.hs_coord.specs.Kept.{HasTaken};
+ghost use Rattle.hs_coord.specs.Leading.{Leads};
 ghost use Rattle.hs_coord.specs.Answers.{IsAskedSet};
 
-use crate::asks::Asks;
+use crate::asks::{Asks, Led};
 use crate::followed::Followed;
 use hs_base::limits::MAX_NODES;
 use hs_base::{GroupId, List, Memory, NodeId, NodeSet, Told};
@@ -21,18 +22,20 @@ pub struct Coordinator {
     nodes: u16,
     log: List<NodeId>,
     groups: IndexMap<GroupId, Followed>,
+    /// The number of groups with an ask that waits for its answer.
+    waiting: usize,
 }
 
 impl Model for Coordinator {
     ghost use Rattle.std.specs.Prelude.{◌≤◌};
     ghost use Rattle.hs_base.specs.declared.limits.TheConstants.{MAX_NODES};
-    ghost use Rattle.hs_coord.specs.Kept.{Kept};
+    ghost use Rattle.hs_coord.specs.Kept.{Kept, IsCounted};
 
     ghost Value = { Kept };
 
     ghost view = { λ a. record { nodes = a.nodes; log = a.log.items; groups = a.groups.entries } };
 
-    ghost invariant = { λ a. a.nodes ≤ MAX_NODES };
+    ghost invariant = { λ a. (a.nodes ≤ MAX_NODES) × IsCounted a.waiting a.groups.entries };
 }
 
 impl Coordinator {
@@ -47,6 +50,7 @@ impl Coordinator {
             nodes,
             log: List::new(alloc),
             groups: IndexMap::new(alloc),
+            waiting: 0,
         })
     }
 
@@ -67,14 +71,12 @@ impl Coordinator {
         ensures memory { OnErr result (self.new ≡ self.old) }
     {
         self.log.reserve(1)?;
-        let Ok(entry) = self.groups.entry(told.group.id) else {
-            return Err(Memory);
-        };
-        let followed = entry.or_insert(Followed::begin(node, &told));
-        let to = followed.take(node, &told);
-        let ask = followed.ask;
+        let known = self.groups.len();
+        prove!(known < usize::MAX);
+        let led = follow(&mut self.groups, node, &told)?;
         self.log.push(node);
-        Ok(Asks { ask, to })
+        self.waiting = self.waiting - usize::from(led.was_open) + usize::from(led.is_open);
+        Ok(led.asks)
     }
 
     /// A group's asked set, or `None` where no message was of the group.
@@ -93,9 +95,7 @@ impl Coordinator {
         ensures { (messages : Messages) → HasTaken self.now messages
             → (IsTrue result ↔ IsSettled messages) }
     {
-        self.groups
-            .iter()
-            .all(|(_, followed)| followed.waiting.is_empty())
+        self.waiting == 0
     }
 
     /// The nodes that told the messages, in their order.
@@ -105,4 +105,31 @@ impl Coordinator {
     {
         &self.log
     }
+}
+
+/// Takes a message of a node into its group's entry, which the group's first message makes. After `Memory` the
+/// groups are as they were.
+fn follow(
+    groups: &mut IndexMap<GroupId, Followed>,
+    node: NodeId,
+    told: &Told,
+) -> Result<Led, Memory>
+    requires { node.0 < MAX_NODES }
+    ensures led { IfOk result
+        (Leads groups.old.entries groups.new.entries (message node told.now)) }
+    ensures memory { OnErr result (groups.new.entries ≡ groups.old.entries) }
+{
+    let Ok(entry) = groups.entry(told.group.id) else {
+        return Err(Memory);
+    };
+    let followed = entry.or_insert(Followed::begin(node, told));
+    let was_open = followed.is_open();
+    let to = followed.take(node, told);
+    let ask = followed.ask;
+    let is_open = followed.is_open();
+    Ok(Led {
+        asks: Asks { ask, to },
+        was_open,
+        is_open,
+    })
 }

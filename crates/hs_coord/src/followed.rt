@@ -3,6 +3,7 @@
 ghost use Rattle.std.specs.Prelude.{◌≡◌, ℕ, ◌<◌, ◌&&◌, ◌||◌, ◌==◌, not, false};
 ghost use Rattle.hs_base.specs.NodeSets.{has_node};
 ghost use Rattle.hs_coord.specs.Following.{is_answer};
+ghost use Rattle.hs_coord.specs.Kept.{is_open};
 
 use hs_base::limits::MAX_NODES;
 use hs_base::{Ask, NodeId, NodeSet, Told, Why};
@@ -54,5 +55,12 @@ impl Followed {
         self.asked = self.asked.union(told.crumbs);
         self.waiting = self.waiting.without(answered).union(fresh);
         fresh
+    }
+
+    /// Whether an ask waits for its answer.
+    pub fn is_open(&self) -> bool
+        ensures { result ≡ is_open self.now }
+    {
+        !self.waiting.is_empty()
     }
 }

@@ -1,30 +1,40 @@
-use Rattle.std.proofs.Common.{◌≡◌, ◌∷◌, ◌++◌, [], unwrap_or, arith, refl, ap, subst, ◌∙◌}
-use Rattle.std.specs.Map.{lookup}
-use Rattle.std.proofs.lemmas.Grind.{common_steps}
-use Rattle.hs_coord.specs.declared.followed.Followed.{Followed}
-use Rattle.hs_coord.specs.Following.{message, same_group}
+use Rattle.std.proofs.Common.{◌≡◌, ◌≤◌, ◌∷◌, ◌++◌, [], arith, refl, ap, subst, ◌∙◌}
+use Rattle.hs_coord.specs.Following.{message}
 use Rattle.hs_coord.specs.Kept.{Kept}
-use Rattle.hs_coord.proofs.KeptLemmas.{Takes, taken, asked_for}
+use Rattle.hs_coord.specs.Leading.{Leads}
+use Rattle.hs_coord.proofs.KeptLemmas.{taken, asked_for}
+use Rattle.hs_coord.proofs.OpenLemmas.{bit, bit-le, from_bool-bit, counted_led, no_less, few}
 use Rattle.hs_coord.proofs.coordinator.Coordinator.step.Goals as goal
 
 pub returns-clause-taken : goal.returns-clause-taken
 returns-clause-taken c = λ messages h.
-    let kept : c.or_insert-followed.result.now ≡ unwrap_or (lookup (same_group c.args.told.group.id) c.args.self.now.groups) c.begin.result =
-    c.or_insert-followed.ensures.value ∙ ap (λ o. unwrap_or o c.begin.result) (c.in-Ok.ensures.value ∙ ap (λ (s : Kept). lookup (same_group c.args.told.group.id) s.groups) c.self.view_is) in
-    let b = c.begin.ensures in
-    let t = c.take-to.ensures in
-    taken c.args.self.now messages (message c.args.node c.args.told) c.begin.result c.take-to.new.self c.take-to.result h
-    (record { group = b.group; laterals = b.laterals; asked = b.asked; waiting = b.waiting })
-    (subst (λ (e : Followed). Takes (message c.args.node c.args.told) e c.take-to.new.self c.take-to.result) kept (record { fresh_is = t.fresh; asked = t.asked; waiting = t.waiting; ask = t.ask }))
-    (c.push.ensures.items ∙ ap (λ l. l ++ c.args.node ∷ []) (c.in_ok-reserve.ensures.items ∙ ap (λ (s : Kept). s.log) c.self.view_is))
-    (λ q. let written = (c.in-Ok.ensures.update.0 c.take-to.new.self).0 q in grind (arith, common_steps))
+    let l = subst (λ (s : Kept). Leads s.groups c.follow.new.groups.entries (message c.args.node c.args.told) c.in_ok-led.led) c.self.view_is c.in_ok-led.ensures.led in
+    taken c.args.self.now messages (message c.args.node c.args.told) l.begun l.next c.in_ok-led.led.asks.to h l.begins l.takes
+    (c.push.ensures.items ∙ ap (λ x. x ++ c.args.node ∷ []) (c.in_ok-reserve.ensures.items ∙ ap (λ (s : Kept). s.log) c.self.view_is))
+    l.writes
 
 pub returns-clause-asks : goal.returns-clause-asks
 returns-clause-asks c = λ messages h.
-    let kept : c.or_insert-followed.result.now ≡ unwrap_or (lookup (same_group c.args.told.group.id) c.args.self.now.groups) c.begin.result =
-    c.or_insert-followed.ensures.value ∙ ap (λ o. unwrap_or o c.begin.result) (c.in-Ok.ensures.value ∙ ap (λ (s : Kept). lookup (same_group c.args.told.group.id) s.groups) c.self.view_is) in
-    let b = c.begin.ensures in
-    let t = c.take-to.ensures in
-    asked_for c.args.self.now messages (message c.args.node c.args.told) c.begin.result c.take-to.new.self c.take-to.result h
-    (record { group = b.group; laterals = b.laterals; asked = b.asked; waiting = b.waiting })
-    (subst (λ (e : Followed). Takes (message c.args.node c.args.told) e c.take-to.new.self c.take-to.result) kept (record { fresh_is = t.fresh; asked = t.asked; waiting = t.waiting; ask = t.ask })) _ refl refl
+    let l = subst (λ (s : Kept). Leads s.groups c.follow.new.groups.entries (message c.args.node c.args.told) c.in_ok-led.led) c.self.view_is c.in_ok-led.ensures.led in
+    asked_for c.args.self.now messages (message c.args.node c.args.told) l.begun l.next c.in_ok-led.led.asks.to h l.begins l.takes c.in_ok-led.led.asks l.ask refl
+
+pub overflow_sub-self : goal.overflow_sub-self
+overflow_sub-self c =
+    no_less _ _ _ _ c.in_ok-led.ensures.led c.self.inside.waiting c.from.result c.self.invariant.1 (c.from.ensures ∙ from_bool-bit c.in_ok-led.led.was_open)
+
+pub overflow_add-self : goal.overflow_add-self
+overflow_add-self c =
+    let small = few c.self.inside.groups.entries c.self.inside.waiting c.self.invariant.1 in
+    let one : c.from-2.result ≡ bit c.in_ok-led.led.is_open = c.from-2.ensures ∙ from_bool-bit c.in_ok-led.led.is_open in
+    let groups = c.len-known.ensures.len in
+    let most = c.len-known.ensures.small in
+    let bound : bit c.in_ok-led.led.is_open ≤ 1 = bit-le c.in_ok-led.led.is_open in
+    omega (arith, small, one, groups, most, bound)
+
+pub invariant_of-self-2 : goal.invariant_of-self-2
+invariant_of-self-2 c = (
+  c.self.invariant.0,
+  counted_led _ _ _ _ c.in_ok-led.ensures.led c.self.inside.waiting c.from.result c.from-2.result c.self.invariant.1
+      (c.from.ensures ∙ from_bool-bit c.in_ok-led.led.was_open)
+      (c.from-2.ensures ∙ from_bool-bit c.in_ok-led.led.is_open),
+)
