@@ -7,6 +7,6 @@ mod queues;
 mod scheduler;
 mod share;
 
-pub use laws::visits_are_fair;
+pub use laws::{turns_move_items, visits_are_fair};
 pub use queues::Queues;
 pub use scheduler::Scheduler;
