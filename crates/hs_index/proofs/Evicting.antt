@@ -1,10 +1,10 @@
 -- What goes and what stays.
-use Rattle.std.proofs.Common.{◌≡◌, ℕ, suc, ◌+◌, ◌<◌, ◌≤◌, Bool, true, false, cond, not, ◌||◌, nat_lt, List, [], ◌∷◌, ◌++◌, length, map, Some, refl, sym, ap, subst, ◌∙◌, arith, append-nil}
+use Rattle.std.proofs.Common.{◌≡◌, ℕ, suc, ◌+◌, ◌<◌, ◌≤◌, true, false, cond, not, ◌||◌, nat_lt, List, [], ◌∷◌, ◌++◌, length, map, Some, refl, sym, ap, subst, ◌∙◌, arith, append-nil}
 use Rattle.std.proofs.Math.Bool.{or-true}
 use Rattle.std.specs.Prelude.{find}
 use Rattle.std.specs.Option.{option_map_or}
 use Rattle.std.proofs.lemmas.Bool.{lt-ltb, le-ltb, ltb-false, or_parts, or_from}
-use Rattle.std.proofs.lemmas.List.{length-append, nil_from_length}
+use Rattle.std.proofs.lemmas.List.{length-append, length-map, nil_from_length}
 use Rattle.std.proofs.lemmas.List.Sums.{sum_by-cons, sum_by_push}
 use Rattle.hs_base.specs.declared.ids.TraceId.{TraceId}
 use Rattle.hs_index.specs.Index.{Noted, Indexed, is_of, nothing, noted_of, others, touch, chunk_count, count_chunks, is_over, leaving, kept, evicted}
@@ -120,3 +120,21 @@ module _ {L : Type 0} where
         by_answer (is_over threshold most (t ∷ ts))
         (λ y. subst (λ l. length l ≤ most) (sym (first-leaves t ts y)) (length-kept ts))
         (λ n. subst (λ l. length l ≤ most) (sym (all-stay (t ∷ ts) n)) (ltb-false most (length (t ∷ ts)) (or_parts (nat_lt threshold (count_chunks (t ∷ ts))) (nat_lt most (length (t ∷ ts))) n).1))
+
+    -- what stays and what goes make up all
+    pub count-split : (ts : List (Indexed L)) → count_chunks (kept threshold most ts) + length (evicted threshold most ts) ≡ count_chunks ts
+    count-split [] = refl
+    count-split (t ∷ ts) =
+        by_answer (is_over threshold most (t ∷ ts))
+        (λ y.
+        let stay = ap count_chunks (first-leaves t ts y) in
+        let go = ap length (first-goes t ts y) in
+        let own = length-append (map (leaving (count_chunks (t ∷ ts)) (length (t ∷ ts))) t.noted.chunks) (evicted threshold most ts) in
+        let each = length-map t.noted.chunks (leaving (count_chunks (t ∷ ts)) (length (t ∷ ts))) in
+        let whole = count-cons t ts in
+        let rest = count-split ts in
+        omega (arith, stay, go, own, each, whole, rest))
+        (λ n.
+        let stay = ap count_chunks (all-stay (t ∷ ts) n) in
+        let go = ap length (none-go (t ∷ ts) n) in
+        omega (arith, stay, go))

@@ -5,13 +5,15 @@ use Rattle.std.specs.List.{IsDistinct}
 use Rattle.std.specs.Option.{option_map_or, option_or}
 use Rattle.std.specs.Map.{keys_of, values_of, lookup, lookup_entry, remove_entry, set_value}
 use Rattle.std.proofs.Math.Seq.{take-suc}
-use Rattle.std.proofs.lemmas.List.{reverse-append, map-append, take_all}
-use Rattle.std.proofs.lemmas.List.Sums.{sum_by-cons}
+use Rattle.std.proofs.lemmas.List.{reverse-append, map-append, take_all, length-append}
+use Rattle.std.proofs.lemmas.List.Sums.{sum_by-cons, sum_by_push}
 use Rattle.std.proofs.lemmas.Option.{slice_get_within, get_or_from_slice_get, none-some}
 use Rattle.std.proofs.lemmas.Map.Entries.{sum_by-remove_entry}
 use Rattle.lru.specs.LruCache.{lru_cache, promoted, put_entries}
 use Rattle.hs_base.specs.declared.ids.TraceId.{TraceId}
-use Rattle.hs_index.specs.Index.{Noted, Indexed, same_trace, is_of, nothing, noted_of, touch, chunk_count, count_chunks}
+use Rattle.hs_base.specs.declared.ids.NodeId.{NodeId}
+use Rattle.hs_words.specs.Buffers.{Buffer}
+use Rattle.hs_index.specs.Index.{Noted, Indexed, same_trace, is_of, nothing, noted_of, others, touch, with_chunk, with_crumb, chunk_count, count_chunks}
 use Rattle.hs_index.specs.Touched.{indexed, listed}
 use Rattle.hs_index.proofs.Listed.{by_answer, listed-cons, count-listed, find-cons, found-here, find-missing, others-missing, others-listed, noted-listed, promoted-set}
 
@@ -132,3 +134,37 @@ module _ {L : Type 0} (trace : TraceId) where
       (λ y. absurd (none-some e (sym h ∙ ap (λ b. cond b (Some e) (lookup_entry (same_trace trace) es)) y)))
       (λ n. ap (λ b. cond b es (e ∷ remove_entry (same_trace trace) es)) n
       ∙ ap (λ l. e ∷ l) (remove-missing es (sym (ap (λ b. cond b (Some e) (lookup_entry (same_trace trace) es)) n) ∙ h)))
+
+-- ---- the other traces' chunks and the trace's own make up all
+
+module _ {L : Type 0} (trace : TraceId) where
+  own-count : (o : Option (Noted L)) → chunk_count (unwrap_or o nothing) ≡ unwrap_or (option_map chunk_count o) 0
+  own-count None = refl
+  own-count (Some noted) = refl
+
+  pub count-whole : (es : List (TraceId × Noted L)) → IsDistinct same_trace (keys_of es)
+      → count_chunks (others trace (listed es)) + chunk_count (noted_of trace (listed es)) ≡ count_chunks (listed es)
+  count-whole es d =
+      let rest : count_chunks (others trace (listed es)) ≡ sum_by chunk_count (values_of (remove_entry (same_trace trace) es)) =
+      ap count_chunks (others-listed trace es d) ∙ count-listed (remove_entry (same_trace trace) es) in
+      let own : chunk_count (noted_of trace (listed es)) ≡ unwrap_or (option_map chunk_count (lookup (same_trace trace) es)) 0 =
+      ap chunk_count (noted-listed trace es d) ∙ own-count (lookup (same_trace trace) es) in
+      let parts = sum_by-remove_entry chunk_count (same_trace trace) es in
+      let all = count-listed es in
+      omega (arith, rest, own, parts, all)
+
+  -- so a chunk more makes one more, and a crumb none
+  pub count-with_chunk : (es : List (TraceId × Noted L)) (buffer : Buffer L) → IsDistinct same_trace (keys_of es)
+      → count_chunks (touch trace (with_chunk (noted_of trace (listed es)) buffer) (listed es)) ≡ count_chunks (listed es) + 1
+  count-with_chunk es buffer d =
+      let whole = count-whole es d in
+      let last = sum_by_push (λ t. chunk_count t.noted) (others trace (listed es)) (record { trace = trace; noted = with_chunk (noted_of trace (listed es)) buffer }) in
+      let one = length-append (noted_of trace (listed es)).chunks (buffer ∷ []) in
+      omega (arith, whole, last, one)
+
+  pub count-with_crumb : (es : List (TraceId × Noted L)) (node : NodeId) → IsDistinct same_trace (keys_of es)
+      → count_chunks (touch trace (with_crumb (noted_of trace (listed es)) node) (listed es)) ≡ count_chunks (listed es)
+  count-with_crumb es node d =
+      let whole = count-whole es d in
+      let last = sum_by_push (λ t. chunk_count t.noted) (others trace (listed es)) (record { trace = trace; noted = with_crumb (noted_of trace (listed es)) node }) in
+      omega (arith, whole, last)

@@ -1,7 +1,7 @@
 -- What contracts see of an index: its two limits, and the indexed traces from the one that was touched longest ago to the
 -- one touched last, each with its chunks in the order of arrival and the nodes to which its crumbs lead. A touch moves a
 -- trace to the end. While there are more chunks or more traces than the limits allow, the trace touched longest ago goes.
-use Rattle.std.specs.Prelude.{ℕ, Bool, if◌then◌else◌, not, ◌||◌, ◌==◌, nat_lt, List, [], ◌∷◌, ◌++◌, length, map, filter, find, sum_by}
+use Rattle.std.specs.Prelude.{◌≤◌, ℕ, Bool, if◌then◌else◌, not, ◌||◌, ◌==◌, nat_lt, List, [], ◌∷◌, ◌++◌, length, map, filter, find, flat_map, sum_by}
 use Rattle.std.specs.Option.{option_map_or}
 use Rattle.hs_base.specs.declared.ids.TraceId.{TraceId}
 use Rattle.hs_base.specs.declared.ids.NodeId.{NodeId}
@@ -78,6 +78,15 @@ count_chunks touched = sum_by (λ t. chunk_count t.noted) touched
 -- whether there are more chunks or more traces than may stay
 abbrev pub is_over : {L : Type 0} → ℕ → ℕ → List (Indexed L) → Bool
 is_over threshold most touched = nat_lt threshold (count_chunks touched) || nat_lt most (length touched)
+
+-- within both limits
+pub record IsWithin {L : Type 0} (index : Index L) : Type 0 where
+  pub chunks : count_chunks index.touched ≤ index.threshold
+  pub traces : length index.touched ≤ index.most
+
+-- all chunks, trace after trace from the one touched longest ago, and of each in the order of arrival
+abbrev pub chunks_left : {L : Type 0} → List (Indexed L) → List (Buffer L)
+chunks_left touched = flat_map (λ t. t.noted.chunks) touched
 
 -- a chunk that goes, with the counts of the indexed chunks and traces just before its trace went
 pub record Leaving (L : Type 0) : Type 0 where

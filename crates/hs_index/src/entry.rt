@@ -1,6 +1,6 @@
 //! What is indexed of one trace.
 
-ghost use Rattle.std.specs.Prelude.{◌≡◌, ◌<◌, length, map, OnOk, OnErr, IfErr};
+ghost use Rattle.std.specs.Prelude.{◌≡◌, ◌+◌, ◌++◌, ◌<◌, ◌≤◌, length, map, OnOk, OnErr, IfErr};
 ghost use Rattle.hs_index.specs.Index.{nothing, with_chunk, with_crumb, leaving, leaving_of};
 ghost use Rattle.hs_words.specs.Buffers.{buffer_of};
 ghost use Rattle.hs_index.specs.Touched.{IsLast};
@@ -116,6 +116,23 @@ impl<L: Token> Entry<L> {
             });
         }
         gone
+    }
+
+    /// Puts the chunks behind others, where there is room for them. Takes no memory.
+    pub fn join(self, others: &mut List<Held<L>>)
+        requires { length others.old.items + length self.chunks ≤ others.old.room }
+        ensures items { map buffer_of others.new.items
+            ≡ map buffer_of others.old.items ++ self.chunks }
+        ensures room { others.old.room ≤ others.new.room }
+    {
+        let Entry {
+            held,
+            gone: _,
+            crumbs: _,
+        } = self;
+        for held in held.into_vec() {
+            others.push(held);
+        }
     }
 
     /// All of it.

@@ -1,7 +1,7 @@
 //! The index.
 
-ghost use Rattle.std.specs.Prelude.{◌≡◌, ◌<◌, ◌≤◌, length, map, find, None, IfOk, IfErr, OnOk, OnErr, IsOk, IsSome};
-ghost use Rattle.hs_index.specs.Index.{leaving_of, is_of, new_index, noted_of, count_chunks, arrived, crumbed, going};
+ghost use Rattle.std.specs.Prelude.{◌≡◌, ◌+◌, ◌<◌, ◌≤◌, length, map, find, None, IfOk, IfErr, OnOk, OnErr, IsOk, IsSome};
+ghost use Rattle.hs_index.specs.Index.{leaving_of, is_of, new_index, noted_of, count_chunks, chunks_left, arrived, crumbed, going, IsWithin};
 ghost use Rattle.hs_words.specs.Buffers.{buffer_of};
 ghost use Rattle.hs_index.specs.Calls.{after_call, Arrived, Crumbed, Claimed};
 
@@ -51,6 +51,8 @@ impl<L: Token> TraceIndex<L> {
         requires started { IsSome held.chunk.page }
         ensures gone { IfOk result (λ gone. map leaving_of gone.items ≡ going (arrived self.old (buffer_of held))) }
         ensures after { OnOk result (self.new ≡ after_call self.old (Arrived (buffer_of held))) }
+        ensures count { IfOk result (λ gone. count_chunks self.new.touched + length gone.items ≡ count_chunks self.old.touched + 1) }
+        ensures within { IsWithin self.new }
         ensures back { IfErr result (λ back. buffer_of back ≡ buffer_of held) }
         ensures same { OnErr result (self.new ≡ self.old) }
     {
@@ -67,6 +69,8 @@ impl<L: Token> TraceIndex<L> {
         requires node { crumb.node.0 < MAX_NODES }
         ensures gone { IfOk result (λ gone. map leaving_of gone.items ≡ going (crumbed self.old crumb.trace crumb.node)) }
         ensures after { OnOk result (self.new ≡ after_call self.old (Crumbed crumb.trace crumb.node)) }
+        ensures count { IfOk result (λ gone. count_chunks self.new.touched + length gone.items ≡ count_chunks self.old.touched) }
+        ensures within { IsWithin self.new }
         ensures same { OnErr result (self.new ≡ self.old) }
         ensures fresh { OnErr result (find (is_of crumb.trace) self.old.touched ≡ None) }
     {
@@ -80,8 +84,23 @@ impl<L: Token> TraceIndex<L> {
         ensures held { IfOk result (λ taken. map buffer_of taken.held.items ≡ (noted_of trace self.old.touched).chunks) }
         ensures crumbs { IfOk result (λ taken. taken.crumbs ≡ (noted_of trace self.old.touched).crumbs) }
         ensures after { self.new ≡ after_call self.old (Claimed trace) }
+        ensures count { IfOk result (λ taken. count_chunks self.new.touched + length taken.held.items ≡ count_chunks self.old.touched) }
+        ensures within { IsWithin self.new }
     {
         Ok(self.recent.take(trace).release())
+    }
+
+    /// All chunks that are left, trace by trace from the one touched longest ago, each trace's in the order of
+    /// arrival. `Memory` comes where there is none for the list; the chunks are then gone.
+    pub fn finish(self) -> Result<List<Held<L>>, Memory>
+        ensures { IfOk result (λ left. map buffer_of left.items ≡ chunks_left self.touched) }
+    {
+        let TraceIndex {
+            threshold: _,
+            most: _,
+            recent,
+        } = self;
+        recent.into_chunks()
     }
 
     /// The nodes to which crumbs of an indexed trace lead. There are none where the trace is not indexed.

@@ -1,7 +1,7 @@
 //! The indexed traces in the order of their last touch.
 
 ghost use Rattle.std.specs.Prelude.{◌≡◌, ◌+◌, ◌-◌, ◌<◌, ◌≤◌, ◌^◌, ◌++◌, [], ◌∷◌, length, map, find, IfOk, IfSome, IfNone, IfErr, OnOk, OnErr, None, true};
-ghost use Rattle.hs_index.specs.Index.{leaving_of, is_of, is_over, noted_of, others, touch, with_chunk, with_crumb, chunk_count, count_chunks, kept, evicted};
+ghost use Rattle.hs_index.specs.Index.{leaving_of, is_of, is_over, noted_of, others, touch, with_chunk, with_crumb, chunk_count, count_chunks, chunks_left, kept, evicted};
 ghost use Rattle.hs_words.specs.Buffers.{buffer_of};
 ghost use Rattle.hs_index.specs.Touched.{indexed};
 
@@ -55,6 +55,7 @@ impl<L: Token> Recent<L> {
         requires { length self.old.traces < self.old.room }
         ensures ok { OnOk result (self.new.traces
             ≡ touch trace (with_chunk (noted_of trace self.old.traces) (buffer_of held)) self.old.traces) }
+        ensures count { OnOk result (count_chunks self.new.traces ≡ count_chunks self.old.traces + 1) }
         ensures room { self.new.room ≡ self.old.room }
         ensures err { OnErr result (self.new.traces ≡ self.old.traces) }
         ensures back { IfErr result (λ back. buffer_of back ≡ buffer_of held) }
@@ -86,6 +87,7 @@ impl<L: Token> Recent<L> {
         requires node { crumb.node.0 < MAX_NODES }
         ensures ok { OnOk result (self.new.traces
             ≡ touch crumb.trace (with_crumb (noted_of crumb.trace self.old.traces) crumb.node) self.old.traces) }
+        ensures count { OnOk result (count_chunks self.new.traces ≡ count_chunks self.old.traces) }
         ensures room { self.new.room ≡ self.old.room }
         ensures err { OnErr result (self.new.traces ≡ self.old.traces) }
         ensures fresh { OnErr result (find (is_of crumb.trace) self.old.traces ≡ None) }
@@ -136,6 +138,7 @@ impl<L: Token> Recent<L> {
     pub fn take(&mut self, trace: TraceId) -> Entry<L>
         ensures taken { result ≡ noted_of trace self.old.traces }
         ensures others { self.new.traces ≡ others trace self.old.traces }
+        ensures count { count_chunks self.new.traces + chunk_count result ≡ count_chunks self.old.traces }
         ensures room { self.new.room ≡ self.old.room }
     {
         if self.cache.len() == 0 {
@@ -180,6 +183,17 @@ impl<L: Token> Recent<L> {
             }
         }
         List::new(*self.cache.allocator())
+    }
+
+    /// All chunks, trace by trace in the order of their last touch, or `Memory` where there is no memory for the list.
+    pub fn into_chunks(mut self) -> Result<List<Held<L>>, Memory>
+        ensures { IfOk result (λ left. map buffer_of left.items ≡ chunks_left self.traces) }
+    {
+        let mut left = List::with_room(*self.cache.allocator(), self.chunks() as usize)?;
+        while let Some((_, entry)) = self.take_oldest() {
+            entry.join(&mut left);
+        }
+        Ok(left)
     }
 
     /// The nodes to which crumbs of a trace lead.

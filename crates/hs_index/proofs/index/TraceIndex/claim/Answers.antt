@@ -19,3 +19,6 @@ invariant_of-self g c =
           omega (arith, long, fewer, most);
       room = c.take.ensures.room ∙ c.self.invariant.room;
     }
+
+pub returns-clause-within : goal.returns-clause-within
+returns-clause-within g c = let now = invariant_of-self g c in record { chunks = now.chunks; traces = now.traces }

@@ -1,6 +1,7 @@
-use Rattle.std.proofs.Common.{◌≤◌, length, ap, subst, List, sym, ◌∙◌, arith}
-use Rattle.hs_index.specs.Index.{Indexed, noted_of, with_crumb, count_chunks}
-use Rattle.hs_index.proofs.Evicting.{count-parts, count-touch, length-touch, count-kept, length-kept}
+use Rattle.std.proofs.Common.{◌≡◌, ◌≤◌, length, ap, subst, List, sym, ◌∙◌, arith}
+use Rattle.std.proofs.lemmas.List.{length-map}
+use Rattle.hs_index.specs.Index.{Index, Indexed, evicted, leaving_of, noted_of, with_crumb, count_chunks}
+use Rattle.hs_index.proofs.Evicting.{count-parts, count-touch, length-touch, count-kept, length-kept, count-split}
 use Rattle.hs_index.proofs.index.TraceIndex.crumb.Goals as goal
 
 pub evict-requires-clause-chunks : goal.evict-requires-clause-chunks
@@ -26,3 +27,16 @@ invariant_of-self-2 g c = record {
   traces = subst (λ (l : List (Indexed g.row.L.Denot)). length l ≤ c.self.inside.most) (sym c.evict.ensures.stay) (length-kept c.self.inside.threshold c.self.inside.most c.add_crumb.new.self.traces);
   room = c.evict.ensures.room ∙ c.in_ok-add_crumb.ensures.room ∙ c.self.invariant.room;
 }
+
+pub returns-clause-within : goal.returns-clause-within
+returns-clause-within g c = let now = invariant_of-self-2 g c in record { chunks = now.chunks; traces = now.traces }
+
+pub returns-clause-count : goal.returns-clause-count
+returns-clause-count g c =
+    let split = count-split c.self.inside.threshold c.self.inside.most c.add_crumb.new.self.traces in
+    let stay = ap count_chunks c.evict.ensures.stay in
+    let long : length c.evict.result.items ≡ length (evicted c.self.inside.threshold c.self.inside.most c.add_crumb.new.self.traces) =
+    sym (length-map c.evict.result.items (leaving_of {L = g.row.L.Denot} {g = g.L.Token})) ∙ ap length c.evict.ensures.gone in
+    let more = c.in_ok-add_crumb.ensures.count in
+    let seen = ap (λ (i : Index g.row.L.Denot). count_chunks i.touched) c.self.view_is in
+    omega (arith, split, stay, long, more, seen)

@@ -1,16 +1,16 @@
-use Rattle.std.proofs.Common.{rules, Fits, w32, ◌≡◌, ◌+◌, ◌∷◌, [], length, None, Some, sym, ap, ◌∙◌, arith}
+use Rattle.std.proofs.Common.{rules, Fits, w32, ◌≡◌, ◌+◌, ◌∷◌, [], length, None, Some, sym, ap, subst, ◌∙◌, arith}
 use Rattle.std.specs.Prelude.{sum_by}
 use Rattle.std.specs.Map.{values_of, lookup, set_value}
 use Rattle.std.proofs.lemmas.Map.Steps.{set_value_same}
 use Rattle.lru.specs.LruCache.{LruCache, promoted}
 use Rattle.hs_base.specs.declared.ids.TraceId.{TraceId}
-use Rattle.hs_index.specs.Index.{Noted, same_trace, noted_of, touch, with_chunk, chunk_count}
+use Rattle.hs_index.specs.Index.{Noted, same_trace, noted_of, touch, with_chunk, chunk_count, count_chunks}
 use Rattle.hs_words.specs.Buffers.{buffer_of}
 use Rattle.hs_index.specs.Touched.{Touched, listed}
 use Rattle.hs_index.proofs.Listed.{count-listed, find-missing}
 use Rattle.hs_index.proofs.Outcomes.{on_err}
 use Rattle.std.proofs.lemmas.List.{length-append}
-use Rattle.hs_index.proofs.Touching.{noted-found, noted-missing, touch-missing, touch-found, length-touched, count-touched}
+use Rattle.hs_index.proofs.Touching.{noted-found, noted-missing, touch-missing, touch-found, length-touched, count-touched, count-with_chunk}
 use Rattle.hs_index.proofs.recent.Recent.add.Goals as goal
 
 pub invariant_of-self : goal.invariant_of-self
@@ -78,3 +78,15 @@ returns-in-Ok-clause-ok g c =
     ∙ ap (λ (n : Noted g.row.L.Denot). touch c.args.trace n (listed c.self.inside.cache.entries))
     (c.in_ok-add-in-None.ensures.ok ∙ ap (λ (n : Noted g.row.L.Denot). with_chunk n (buffer_of c.args.held)) (c.new-entry.ensures ∙ sym (noted-missing c.args.trace c.self.inside.cache.entries missing)))
     ∙ ap (λ (t : Touched g.row.L.Denot). touch c.args.trace (with_chunk (noted_of c.args.trace t.traces) (buffer_of c.args.held)) t.traces) c.self.view_is
+
+pub returns-in_ok-add-in-Some-clause-count : goal.returns-in_ok-add-in-Some-clause-count
+returns-in_ok-add-in-Some-clause-count g c =
+    ap count_chunks (returns-in_ok-add-in-Some-clause-ok g c)
+    ∙ subst (λ (t : Touched g.row.L.Denot). count_chunks (touch c.args.trace (with_chunk (noted_of c.args.trace t.traces) (buffer_of c.args.held)) t.traces) ≡ count_chunks t.traces + 1) c.self.view_is
+    (count-with_chunk c.args.trace c.self.inside.cache.entries (buffer_of c.args.held) c.len.ensures.valid.0)
+
+pub returns-in-Ok-clause-count : goal.returns-in-Ok-clause-count
+returns-in-Ok-clause-count g c =
+    ap count_chunks (returns-in-Ok-clause-ok g c)
+    ∙ subst (λ (t : Touched g.row.L.Denot). count_chunks (touch c.args.trace (with_chunk (noted_of c.args.trace t.traces) (buffer_of c.args.held)) t.traces) ≡ count_chunks t.traces + 1) c.self.view_is
+    (count-with_chunk c.args.trace c.self.inside.cache.entries (buffer_of c.args.held) c.len.ensures.valid.0)

@@ -1,12 +1,12 @@
-use Rattle.std.proofs.Common.{rules, Fits, w32, ◌≡◌, length, sym, ap, ◌∙◌, arith}
+use Rattle.std.proofs.Common.{rules, Fits, w32, ◌≡◌, ◌+◌, List, length, sym, ap, subst, ◌∙◌, arith}
 use Rattle.std.specs.Prelude.{sum_by}
 use Rattle.std.specs.Map.{values_of, remove_entry}
 use Rattle.lru.specs.LruCache.{LruCache}
 use Rattle.hs_base.specs.declared.ids.TraceId.{TraceId}
-use Rattle.hs_index.specs.Index.{Noted, same_trace, noted_of, others, chunk_count}
+use Rattle.hs_index.specs.Index.{Noted, Indexed, same_trace, noted_of, others, chunk_count, count_chunks}
 use Rattle.hs_index.specs.Touched.{Touched, listed}
 use Rattle.hs_index.proofs.Listed.{others-listed}
-use Rattle.hs_index.proofs.Touching.{noted-found, noted-missing, found-entry, missing-entry, remove-missing, count-remove, length-remove}
+use Rattle.hs_index.proofs.Touching.{noted-found, noted-missing, found-entry, missing-entry, remove-missing, count-remove, length-remove, count-whole}
 use Rattle.hs_index.proofs.recent.Recent.take.Goals as goal
 
 pub overflow_cast-self : goal.overflow_cast-self
@@ -74,3 +74,15 @@ returns-in-None-clause-others g c =
     ap (λ (k : LruCache TraceId (Noted g.row.L.Denot)). listed k.entries) c.pop_entry.ensures.entries
     ∙ sym (others-listed c.args.trace c.self.inside.cache.entries c.len.ensures.valid.0)
     ∙ ap (λ (t : Touched g.row.L.Denot). others c.args.trace t.traces) c.self.view_is
+
+pub returns-in-Some-clause-count : goal.returns-in-Some-clause-count
+returns-in-Some-clause-count g c =
+    ap (λ (p : List (Indexed g.row.L.Denot) × Noted g.row.L.Denot). count_chunks p.0 + chunk_count p.1) (λ i. (returns-in-Some-clause-others g c i, returns-in-Some-clause-taken g c i))
+    ∙ subst (λ (t : Touched g.row.L.Denot). count_chunks (others c.args.trace t.traces) + chunk_count (noted_of c.args.trace t.traces) ≡ count_chunks t.traces) c.self.view_is
+    (count-whole c.args.trace c.self.inside.cache.entries c.len.ensures.valid.0)
+
+pub returns-in-None-clause-count : goal.returns-in-None-clause-count
+returns-in-None-clause-count g c =
+    ap (λ (p : List (Indexed g.row.L.Denot) × Noted g.row.L.Denot). count_chunks p.0 + chunk_count p.1) (λ i. (returns-in-None-clause-others g c i, returns-in-None-clause-taken g c i))
+    ∙ subst (λ (t : Touched g.row.L.Denot). count_chunks (others c.args.trace t.traces) + chunk_count (noted_of c.args.trace t.traces) ≡ count_chunks t.traces) c.self.view_is
+    (count-whole c.args.trace c.self.inside.cache.entries c.len.ensures.valid.0)
