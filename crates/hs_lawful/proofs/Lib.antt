@@ -1,3 +1,5 @@
 pub mod Histories
 pub mod Decided
 pub mod Events
+pub mod Steps
+pub mod Orders

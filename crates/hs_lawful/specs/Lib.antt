@@ -8,6 +8,7 @@ pub mod Ends
 pub mod Pace
 pub mod Lawful
 pub mod Laws
+pub mod Orders
 pub mod Samples
 pub mod Workloads
 pub mod Journals

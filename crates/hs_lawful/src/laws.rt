@@ -1,8 +1,9 @@
 //! What holds of lawful journals. These functions do nothing: their contracts say it.
 
 ghost use Rattle.hs_lawful.specs.Laws.{HistoriesAreDecided, LawfulIsDecided, AgentsComeByEvents};
+ghost use Rattle.hs_lawful.specs.Orders.{FollowingPlaysOut, OrdersAgree, DoneIsAtRest};
 
-use hs_model::laws::events_go_on;
+use hs_model::laws::{events_go_on, steps_say_what_they_tell};
 
 /// The test of a pool's history answers yes exactly for histories.
 pub fn histories_are_decided()
@@ -20,3 +21,24 @@ pub fn agents_come_by_events()
 {
     events_go_on();
 }
+
+/// Following a journal, the lowest node first, performs its steps as far as that is possible, each when it is
+/// ready.
+pub fn following_plays_out()
+    ensures { FollowingPlaysOut }
+{
+    steps_say_what_they_tell();
+}
+
+/// In whatever order the steps of a journal are performed, each when it is ready and until none is, they come
+/// to the same: a journal has one outcome.
+pub fn orders_agree()
+    ensures { OrdersAgree }
+{
+    steps_say_what_they_tell();
+}
+
+/// Where no step is left, none is ready.
+pub fn done_is_at_rest()
+    ensures { DoneIsAtRest }
+{}
