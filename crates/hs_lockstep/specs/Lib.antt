@@ -1,2 +1,3 @@
 pub mod Lockstep
+pub mod Laws
 pub mod Examples
