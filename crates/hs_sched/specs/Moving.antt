@@ -8,41 +8,41 @@ use Rattle.hs_sched.specs.Sending.{SendsEach}
 
 -- How queues hold items: those that wait for an id, the next one first; those that were sent, the first one first; and
 -- what an item costs.
-pub record Lanes (Q T : Type 0) : Type 0 where
+pub record ItemQueues (Q T : Type 0) : Type 0 where
   pub waiting : Q → ℕ → List T
   pub sent : Q → List T
   pub cost : T → ℕ
 
 -- the costs of what waits, by id
-abbrev pub costs_in : {Q T : Type 0} → Lanes Q T → Q → ℕ → List ℕ
-costs_in lanes queues id = map lanes.cost (lanes.waiting queues id)
+abbrev pub costs_in : {Q T : Type 0} → ItemQueues Q T → Q → ℕ → List ℕ
+costs_in held queues id = map held.cost (held.waiting queues id)
 
 -- one send: the id's next item goes behind what was sent, and what waits for other ids stays
-pub record MovesNext {Q T : Type 0} (lanes : Lanes Q T) (old : Q) (id : ℕ) (new : Q) : Type 0 where
+pub record MovesNext {Q T : Type 0} (held : ItemQueues Q T) (old : Q) (id : ℕ) (new : Q) : Type 0 where
   pub item : T
-  pub taken : lanes.waiting old id ≡ item ∷ lanes.waiting new id
-  pub put : lanes.sent new ≡ lanes.sent old ++ item ∷ []
-  pub others : (other : ℕ) → other ≢ id → lanes.waiting new other ≡ lanes.waiting old other
+  pub taken : held.waiting old id ≡ item ∷ held.waiting new id
+  pub put : held.sent new ≡ held.sent old ++ item ∷ []
+  pub others : (other : ℕ) → other ≢ id → held.waiting new other ≡ held.waiting old other
 
 -- what a turn sends for one share
-abbrev pub moved_for : {Q T : Type 0} → Lanes Q T → ℕ → Q → Share → List T
-moved_for lanes size queues share = take (count_sent size share (costs_in lanes queues share.trigger.0)) (lanes.waiting queues share.trigger.0)
+abbrev pub moved_for : {Q T : Type 0} → ItemQueues Q T → ℕ → Q → Share → List T
+moved_for held size queues share = take (count_sent size share (costs_in held queues share.trigger.0)) (held.waiting queues share.trigger.0)
 
 -- a turn: of each id the first `sent_for` items went, in the order of the ids, and the others wait as they did
-pub record TurnMoves {Q T : Type 0} (lanes : Lanes Q T) (s : Schedule) (old new : Q) : Type 0 where
-  pub sent : lanes.sent new ≡ lanes.sent old ++ flat_map (moved_for lanes s.size old) s.shares
-  pub left : (id : ℕ) → lanes.waiting new id ≡ drop (sent_for s (costs_in lanes old) id) (lanes.waiting old id)
+pub record TurnMoves {Q T : Type 0} (held : ItemQueues Q T) (s : Schedule) (old new : Q) : Type 0 where
+  pub sent : held.sent new ≡ held.sent old ++ flat_map (moved_for held s.size old) s.shares
+  pub left : (id : ℕ) → held.waiting new id ≡ drop (sent_for s (costs_in held old) id) (held.waiting old id)
 
 -- Where the costs are those of the items, and each send moves the next item, the sends of a turn move these.
 abbrev pub TurnsMoveItems : {Q : Type 0} → (T : Type 0) → (Q → ℕ → List ℕ) → (Q → ℕ → Q → Type 0) → Type 0
 TurnsMoveItems {Q} T costs sends =
-    (lanes : Lanes Q T) (s : Schedule) (old new : Q) → IsSchedule s → ((queues : Q) (id : ℕ) → costs queues id ≡ costs_in lanes queues id)
-    → ((before : Q) (id : ℕ) (after : Q) → sends before id after → MovesNext lanes before id after)
-    → SendsEach sends old (sent_ids s (costs old)) new → TurnMoves lanes s old new
+    (held : ItemQueues Q T) (s : Schedule) (old new : Q) → IsSchedule s → ((queues : Q) (id : ℕ) → costs queues id ≡ costs_in held queues id)
+    → ((before : Q) (id : ℕ) (after : Q) → sends before id after → MovesNext held before id after)
+    → SendsEach sends old (sent_ids s (costs old)) new → TurnMoves held s old new
 
 -- ---- examples: two ids, with pages of 64 bytes and items that are their costs
 
-abbrev shelves : Lanes (ℕ → List ℕ) ℕ
+abbrev shelves : ItemQueues (ℕ → List ℕ) ℕ
 shelves = record { waiting = λ q id. q id; sent = λ q. []; cost = λ item. item }
 
 abbrev waits : ℕ → List ℕ
