@@ -1,22 +1,28 @@
 -- The forward reading of a line agrees with the list of reasons: it refuses a line for its first reason, and takes a
 -- line without one for what it says.
-use Rattle.std.proofs.Common.{◌≡◌, ℕ, suc, ◌+◌, true, false, not, ◌||◌, nat_lt, nat_eq, List, [], ◌∷◌, length, Option, Some, None, Result, Ok, refl, ap, arith}
+use Rattle.std.proofs.Common.{◌≡◌, ℕ, suc, ◌+◌, ◌≤◌, Bool, true, false, not, ◌||◌, nat_lt, nat_le, nat_eq, List, [], ◌∷◌, length, cond, Option, Some, None, Result, Ok, Err, refl, ap, arith}
 use Rattle.std.specs.Prelude.{is_none, option_map, option_and_then}
-use borrow.Author.Tests.{ne_eqb}
-use Rattle.hs_text.specs.Text.{number_of, hex_of, trace_digits, payload_of}
+use borrow.Author.Tests.{ne_eqb, leb-true}
+use Rattle.hs_base.specs.declared.ids.TraceId.{TraceId}
+use Rattle.hs_text.specs.Text.{number_of, payload_of}
 use Rattle.hs_text.specs.Steps.{◌>>=◌, unless, value_or, first_that_holds}
-use Rattle.hs_text.specs.Agreement.{Agrees, agrees_unless, agrees_check, agrees_value, agrees_opened}
+use Rattle.hs_text.specs.Spelling.{spelled-every}
+use Rattle.hs_text.specs.Agreement.{Agrees, agrees_unless, agrees_check, agrees_opened}
 use Rattle.hs_records.specs.Records.{piece_count}
-use Rattle.hs_records.specs.Plain.{Begin, Point, End}
+use Rattle.hs_records.specs.Plain.{Begin, Point}
 use Rattle.hs_workload.specs.declared.refusal.Reason.{Reason}
 use Rattle.hs_workload.specs.declared.refusal.Reason.TheVariants as reasons
-use Rattle.hs_workload.specs.declared.word.Setting.{Setting}
+use Rattle.hs_workload.specs.declared.word.Setting.TheVariants as settings
 use Rattle.hs_workload.specs.declared.word.Keyword.{Keyword}
 use Rattle.hs_workload.specs.declared.word.Keyword.TheVariants as keywords
-use Rattle.hs_workload.specs.Statements.{Statement, Put, Start, Operate, Finish, keyword_of, says, statement_of}
-use Rattle.hs_workload.specs.LookBack.{Draft}
-use Rattle.hs_workload.specs.Faults.{may_stand, is_out_of_range, is_out_of_order, statement_reasons, form_reasons, keyword_reasons, before_words, fault_at}
-use Rattle.hs_workload.specs.Forward.{after, with_setting, with_operation, with_payload, counted, set_step, start_step, begin_step, point_step, end_step, finish_step, keyword_step, found_step, line_step}
+use Rattle.hs_workload.specs.declared.word.Kind.{Kind}
+use Rattle.hs_workload.specs.declared.word.Kind.TheVariants as kinds
+use Rattle.hs_workload.specs.declared.line.Numbers.{Numbers}
+use Rattle.hs_workload.specs.Settings.{setting_in}
+use Rattle.hs_workload.specs.Statements.{Statement, Watch, Operate, keyword_text, all_keywords, keywords_told_apart, keyword_of, kind_of, kind_count, auto_rule, number_count, numbers_of, numbers_at, numbers_say, trace_of, traces_of, fire, watch_said, says, statement_of}
+use Rattle.hs_workload.specs.LookBack.{Past}
+use Rattle.hs_workload.specs.Faults.{may_stand, is_out_of_range, is_out_of_order, names_unknown, begins_while_open, lacks_trace, leaves_open, is_one_too_many, has_no_kind, is_count_of, has_wrong_count, has_wrong_number, has_wrong_hex, statement_reasons, version_of, keyword_reasons, before_words, fault_at}
+use Rattle.hs_workload.specs.Forward.{Draft, past_of, after, with_payload, counted, statement_step, four_numbers, numbers_step, begin_step, point_step, trigger_step, auto_step, keyword_step, found_step, line_step}
 
 not_one : (n : ℕ) → not (nat_eq (suc (suc n)) 1) ≡ true
 not_one n = ap not (ne_eqb (suc (suc n)) 1 (λ e. omega arith))
@@ -24,89 +30,227 @@ not_one n = ap not (ne_eqb (suc (suc n)) 1 (λ e. omega arith))
 not_two : (n : ℕ) → not (nat_eq (suc (suc (suc n))) 2) ≡ true
 not_two n = ap not (ne_eqb (suc (suc (suc n))) 2 (λ e. omega arith))
 
-not_none : (n : ℕ) → not (nat_eq (suc n) 0) ≡ true
-not_none n = ap not (ne_eqb (suc n) 0 (λ e. omega arith))
+-- ---- what is asked of a statement
 
-set_agrees : (d : Draft) (setting : Setting) (words : List (List ℕ))
-    → Agrees (after d) (set_step d setting words) (first_that_holds (form_reasons d (keywords.Setting setting) words)) (says d.version (keywords.Setting setting) words)
-unfolding set_step
-set_agrees d setting [] = refl
-set_agrees d setting (w ∷ []) =
-    agrees_value (after d) reasons.Number (number_of w) false (λ n. unless (is_out_of_range d (Put setting n)) reasons.Range (Ok (with_setting d setting n)))
-    (λ o. first_that_holds (statement_reasons d (option_map (λ n. Put setting n) o))) (option_map (λ n. Put setting n))
-    (λ n _. agrees_unless (after d) (is_out_of_range d (Put setting n)) reasons.Range (Ok (with_setting d setting n)) None (Some (Put setting n)) (λ _. refl))
-set_agrees d setting (v ∷ w ∷ words) = rw (not_one (length words)) refl
+step_agrees : (d : Draft) (s : Statement) → Agrees (after d) (statement_step d s) (first_that_holds (statement_reasons (past_of d) (Some s))) (Some s)
+step_agrees d s =
+    agrees_unless (after d) (is_out_of_range (past_of d) s) reasons.Range _ _ (Some s) (λ _.
+    agrees_unless (after d) (is_out_of_order (past_of d) s) reasons.Order _ _ (Some s) (λ _.
+    agrees_unless (after d) (names_unknown (past_of d) s) reasons.Unknown _ _ (Some s) (λ _.
+    agrees_unless (after d) (begins_while_open (past_of d) s) reasons.Open _ _ (Some s) (λ _.
+    agrees_unless (after d) (lacks_trace (past_of d) s) reasons.NoTrace _ _ (Some s) (λ _.
+    agrees_unless (after d) (leaves_open (past_of d) s) reasons.StillOpen _ _ (Some s) (λ _.
+    agrees_unless (after d) (is_one_too_many (past_of d) s) reasons.TooMany (Ok (after d s)) None (Some s) (λ _. refl)))))))
 
-start_agrees : (d : Draft) (words : List (List ℕ)) → Agrees (after d) (start_step d words) (first_that_holds (form_reasons d keywords.Client words)) (says d.version keywords.Client words)
-unfolding start_step
-start_agrees d [] = refl
-start_agrees d (a ∷ []) = refl
-start_agrees d (a ∷ b ∷ []) =
-    let last : ℕ → ℕ → Result Draft Reason = λ v n. unless (is_out_of_order d (Start v n)) reasons.Order (unless d.is_open reasons.StillOpen (Ok (after d (Start v n)))) in
-    let said : Option ℕ → Option Statement = option_and_then (λ v. option_map (λ n. Start v n) (number_of b)) in
-    agrees_value (after d) reasons.Number (number_of a) (is_none (number_of b) || false) (λ v. value_or reasons.Number (number_of b) >>= last v) (λ o. first_that_holds (statement_reasons d (said o))) said
-    (λ v _. agrees_value (after d) reasons.Number (number_of b) false (last v) (λ o. first_that_holds (statement_reasons d (option_map (λ n. Start v n) o))) (option_map (λ n. Start v n))
-    (λ n _. agrees_unless (after d) (is_out_of_order d (Start v n)) reasons.Order _ _ (Some (Start v n)) (λ _. agrees_unless (after d) d.is_open reasons.StillOpen _ None (Some (Start v n)) (λ _. refl))))
-start_agrees d (a ∷ b ∷ c ∷ words) = rw (not_two (length words)) refl
+-- ---- lines of numbers alone
 
-begin_agrees : (d : Draft) (words : List (List ℕ)) → Agrees (after d) (begin_step d words) (first_that_holds (form_reasons d keywords.Begin words)) (says d.version keywords.Begin words)
+-- numbers by their places, or that a word is none
+abbrev number_list : Option (List ℕ) → Result Numbers Reason
+number_list None = Err reasons.Number
+number_list (Some ns) = Ok (numbers_at ns)
+
+one_number : (a : List ℕ) (o : Option ℕ) → number_of a ≡ o → four_numbers (a ∷ []) ≡ number_list (numbers_of (a ∷ []))
+unfolding four_numbers
+one_number a None e = rw e refl
+one_number a (Some m) e = rw e refl
+
+two_numbers : (a b : List ℕ) (o p : Option ℕ) → number_of a ≡ o → number_of b ≡ p → four_numbers (a ∷ b ∷ []) ≡ number_list (numbers_of (a ∷ b ∷ []))
+unfolding four_numbers
+two_numbers a b None p e f = rw e refl
+two_numbers a b (Some m) None e f = rw (e, f) refl
+two_numbers a b (Some m) (Some n) e f = rw (e, f) refl
+
+three_numbers : (a b c : List ℕ) (o p q : Option ℕ) → number_of a ≡ o → number_of b ≡ p → number_of c ≡ q → four_numbers (a ∷ b ∷ c ∷ []) ≡ number_list (numbers_of (a ∷ b ∷ c ∷ []))
+unfolding four_numbers
+three_numbers a b c None p q e f g = rw e refl
+three_numbers a b c (Some l) None q e f g = rw (e, f) refl
+three_numbers a b c (Some l) (Some m) None e f g = rw (e, f, g) refl
+three_numbers a b c (Some l) (Some m) (Some n) e f g = rw (e, f, g) refl
+
+all_numbers : (a b c d : List ℕ) (o p q r : Option ℕ) → number_of a ≡ o → number_of b ≡ p → number_of c ≡ q → number_of d ≡ r
+    → four_numbers (a ∷ b ∷ c ∷ d ∷ []) ≡ number_list (numbers_of (a ∷ b ∷ c ∷ d ∷ []))
+unfolding four_numbers
+all_numbers a b c d None p q r e f g h = rw e refl
+all_numbers a b c d (Some k) None q r e f g h = rw (e, f) refl
+all_numbers a b c d (Some k) (Some l) None r e f g h = rw (e, f, g) refl
+all_numbers a b c d (Some k) (Some l) (Some m) None e f g h = rw (e, f, g, h) refl
+all_numbers a b c d (Some k) (Some l) (Some m) (Some n) e f g h = rw (e, f, g, h) refl
+
+four_numbers-is : (words : List (List ℕ)) → length words ≤ 4 → four_numbers words ≡ number_list (numbers_of words)
+unfolding four_numbers
+four_numbers-is [] few = refl
+four_numbers-is (a ∷ []) few = one_number a (number_of a) refl
+four_numbers-is (a ∷ b ∷ []) few = two_numbers a b (number_of a) (number_of b) refl refl
+four_numbers-is (a ∷ b ∷ c ∷ []) few = three_numbers a b c (number_of a) (number_of b) (number_of c) refl refl refl
+four_numbers-is (a ∷ b ∷ c ∷ d ∷ []) few = all_numbers a b c d (number_of a) (number_of b) (number_of c) (number_of d) refl refl refl refl
+four_numbers-is (a ∷ b ∷ c ∷ d ∷ e ∷ more) few = absurd (omega (arith, few))
+
+few_numbers : (k : Keyword) → number_count k ≤ 4
+few_numbers k = leb-true (number_count k) 4 (spelled-every keyword_text all_keywords (λ w. nat_le (number_count w) 4) keywords_told_apart refl k)
+
+few_behind : (kind : Kind) → kind_count kind ≤ 4
+few_behind kinds.Exception = omega arith
+few_behind kinds.Percentile = omega arith
+few_behind kinds.Category = omega arith
+few_behind kinds.Queue = omega arith
+
+pub count_is : (a b : ℕ) → not (nat_eq a b) ≡ false → a ≡ b
+count_is a b is = grind arith
+
+-- what such a line says
+abbrev pub plain_said : Keyword → List (List ℕ) → Option Statement
+plain_said k words = cond (nat_eq (length words) (number_count k)) (option_map (λ ns. numbers_say k (numbers_at ns)) (numbers_of words)) None
+
+numbers_agree : (d : Draft) (k : Keyword) (o : Option (List ℕ))
+    → Agrees (after d) (number_list o >>= λ n. statement_step d (numbers_say k n))
+    (first_that_holds ((is_none o, reasons.Number) ∷ statement_reasons (past_of d) (option_map (λ ns. numbers_say k (numbers_at ns)) o)))
+    (option_map (λ ns. numbers_say k (numbers_at ns)) o)
+numbers_agree d k None = refl
+numbers_agree d k (Some ns) = step_agrees d (numbers_say k (numbers_at ns))
+
+plain_agrees : (d : Draft) (k : Keyword) (words : List (List ℕ))
+    → Agrees (after d) (numbers_step d k words)
+    (first_that_holds ((not (nat_eq (length words) (number_count k)), reasons.Count) ∷ (is_none (numbers_of words), reasons.Number) ∷ statement_reasons (past_of d) (plain_said k words)))
+    (plain_said k words)
+plain_agrees d k words =
+    agrees_unless (after d) (not (nat_eq (length words) (number_count k))) reasons.Count _ _ (plain_said k words) (λ counted.
+    let few = few_numbers k in
+    let count = count_is (length words) (number_count k) counted in
+    let same : nat_eq (length words) (number_count k) ≡ true = grind arith in
+    let numbers = four_numbers-is words (omega (arith, few, count)) in
+    rw (numbers, same) (numbers_agree d k (numbers_of words)))
+
+-- ---- the other lines
+
+-- the reasons of a first word that may stand
+abbrev form_reasons : Past → Keyword → List (List ℕ) → List (Bool × Reason)
+form_reasons past k words =
+    (has_no_kind k words, reasons.Word) ∷ (has_wrong_count k words, reasons.Count) ∷ (has_wrong_number k words, reasons.Number)
+    ∷ (has_wrong_hex (version_of past) k words, reasons.Hex) ∷ statement_reasons past (says (version_of past) k words)
+
+abbrev FormAgrees : Draft → Keyword → List (List ℕ) → Type 0
+FormAgrees d k words = Agrees (after d) (keyword_step d k words) (first_that_holds (form_reasons (past_of d) k words)) (says (version_of (past_of d)) k words)
+
+begin_of : (d : Draft) (o : Option TraceId)
+    → Agrees (after d) (value_or reasons.Hex o >>= λ t. statement_step d (Operate (Begin t)))
+    (first_that_holds ((is_none (option_and_then (λ t. option_map (λ ts. t ∷ ts) (Some [])) o) || false, reasons.Hex)
+    ∷ statement_reasons (past_of d) (option_map (λ t. Operate (Begin t)) o)))
+    (option_map (λ t. Operate (Begin t)) o)
+begin_of d None = refl
+begin_of d (Some t) = step_agrees d (Operate (Begin t))
+
+begin_agrees : (d : Draft) (words : List (List ℕ)) → FormAgrees d keywords.Begin words
 unfolding begin_step
 begin_agrees d [] = refl
-begin_agrees d (a ∷ []) =
-    let begun : ℕ → Statement = λ id. Operate (Begin (record { 0 = id })) in
-    let last : ℕ → ℕ → Result Draft Reason = λ id pieces. Ok (record (with_operation d (Begin (record { 0 = id })) pieces) { is_open = true }) in
-    agrees_value (after d) reasons.Hex (hex_of (trace_digits d.version) a) false (λ id. unless d.is_open reasons.Open (counted d.pieces 1 >>= last id))
-    (λ o. first_that_holds (statement_reasons d (option_map begun o))) (option_map begun)
-    (λ id _. agrees_unless (after d) d.is_open reasons.Open _ _ (Some (begun id)) (λ _.
-    agrees_check (after d) (nat_lt 262144 (d.pieces + 1)) reasons.TooMany (d.pieces + 1) (last id) None (Some (begun id)) (λ _. refl)))
+begin_agrees d (a ∷ []) = begin_of d (trace_of (version_of (past_of d)) a)
 begin_agrees d (a ∷ b ∷ words) = rw (not_one (length words)) refl
 
-payload_agrees : (d : Draft) (m : ℕ) (p : Option (List ℕ))
+point_of : (d : Draft) (o : Option ℕ) (p : Option (List ℕ))
     → Agrees (after d)
-    ((value_or reasons.Hex p >>= λ bytes. Ok (length bytes)) >>= λ n.
-    unless (nat_lt 65535 n) reasons.Range (unless (not d.is_open) reasons.NoTrace (counted d.pieces (piece_count d.size n) >>= λ pieces. with_payload d m pieces p)))
-    (first_that_holds ((is_none p || false, reasons.Hex) ∷ statement_reasons d (option_map (λ bytes. Operate (Point m bytes)) p))) (option_map (λ bytes. Operate (Point m bytes)) p)
-payload_agrees d m None = refl
-payload_agrees d m (Some bytes) =
+    (value_or reasons.Number o >>= λ m. (value_or reasons.Hex p >>= λ bytes. Ok (length bytes)) >>= λ n.
+    unless (nat_lt 65535 n) reasons.Range
+    (unless (not d.is_open) reasons.NoTrace (counted d.pieces (piece_count (setting_in d.head settings.Size) n) >>= λ pieces. with_payload d m pieces p)))
+    (first_that_holds ((is_none (option_and_then (λ n. option_map (λ ns. n ∷ ns) (Some [])) o), reasons.Number) ∷ (is_none p, reasons.Hex)
+    ∷ statement_reasons (past_of d) (option_and_then (λ m. option_map (λ bytes. Operate (Point m bytes)) p) o)))
+    (option_and_then (λ m. option_map (λ bytes. Operate (Point m bytes)) p) o)
+point_of d None p = refl
+point_of d (Some m) None = refl
+point_of d (Some m) (Some bytes) =
     let said : Option Statement = Some (Operate (Point m bytes)) in
-    let pieces = d.pieces + piece_count d.size (length bytes) in
+    let pieces = d.pieces + piece_count (setting_in d.head settings.Size) (length bytes) in
     agrees_unless (after d) (nat_lt 65535 (length bytes)) reasons.Range _ _ said (λ _. agrees_unless (after d) (not d.is_open) reasons.NoTrace _ _ said (λ _.
     agrees_check (after d) (nat_lt 262144 pieces) reasons.TooMany pieces (λ n. with_payload d m n (Some bytes)) None said (λ _. refl)))
 
-point_agrees : (d : Draft) (words : List (List ℕ)) → Agrees (after d) (point_step d words) (first_that_holds (form_reasons d keywords.Point words)) (says d.version keywords.Point words)
+point_agrees : (d : Draft) (words : List (List ℕ)) → FormAgrees d keywords.Point words
 unfolding point_step
 point_agrees d [] = refl
 point_agrees d (a ∷ []) = refl
-point_agrees d (a ∷ b ∷ []) =
-    let said : Option ℕ → Option Statement = option_and_then (λ m. option_map (λ bytes. Operate (Point m bytes)) (payload_of b)) in
-    agrees_value (after d) reasons.Number (number_of a) false _ (λ o. first_that_holds ((is_none (payload_of b) || false, reasons.Hex) ∷ statement_reasons d (said o))) said (λ m _. payload_agrees d m (payload_of b))
+point_agrees d (a ∷ b ∷ []) = point_of d (number_of a) (payload_of b)
 point_agrees d (a ∷ b ∷ c ∷ words) = rw (not_two (length words)) refl
 
-end_agrees : (d : Draft) (words : List (List ℕ)) → Agrees (after d) (end_step d words) (first_that_holds (form_reasons d keywords.End words)) (says d.version keywords.End words)
-unfolding end_step
-end_agrees d [] =
-    agrees_unless (after d) (not d.is_open) reasons.NoTrace _ _ (Some (Operate End)) (λ _.
-    agrees_check (after d) (nat_lt 262144 (d.pieces + 1)) reasons.TooMany (d.pieces + 1) (λ pieces. Ok (record (with_operation d End pieces) { is_open = false })) None (Some (Operate End)) (λ _. refl))
-end_agrees d (a ∷ words) = rw (not_none (length words)) refl
+trigger_of : (d : Draft) (o p : Option ℕ) (q : Option TraceId) (r : Option (List TraceId))
+    → Agrees (after d)
+    (value_or reasons.Number o >>= λ m. value_or reasons.Number p >>= λ i. value_or reasons.Hex q >>= λ l. value_or reasons.Hex r >>= λ ls. statement_step d (fire m i l ls))
+    (first_that_holds ((is_none (option_and_then (λ n. option_map (λ ns. n ∷ ns) (option_and_then (λ n. option_map (λ ns. n ∷ ns) (Some [])) p)) o), reasons.Number)
+    ∷ (is_none (option_and_then (λ t. option_map (λ ts. t ∷ ts) r) q) || false, reasons.Hex)
+    ∷ statement_reasons (past_of d) (option_and_then (λ m. option_and_then (λ i. option_and_then (λ l. option_map (fire m i l) r) q) p) o)))
+    (option_and_then (λ m. option_and_then (λ i. option_and_then (λ l. option_map (fire m i l) r) q) p) o)
+trigger_of d None p q r = refl
+trigger_of d (Some m) None q r = refl
+trigger_of d (Some m) (Some i) None r = refl
+trigger_of d (Some m) (Some i) (Some l) None = refl
+trigger_of d (Some m) (Some i) (Some l) (Some ls) = step_agrees d (fire m i l ls)
 
-finish_agrees : (d : Draft) (words : List (List ℕ)) → Agrees (after d) (finish_step d words) (first_that_holds (form_reasons d keywords.Done words)) (says d.version keywords.Done words)
-unfolding finish_step
-finish_agrees d [] = agrees_unless (after d) d.is_open reasons.StillOpen _ None (Some Finish) (λ _. refl)
-finish_agrees d (a ∷ words) = rw (not_none (length words)) refl
+trigger_agrees : (d : Draft) (words : List (List ℕ)) → FormAgrees d keywords.Trigger words
+unfolding trigger_step
+trigger_agrees d [] = refl
+trigger_agrees d (a ∷ []) = refl
+trigger_agrees d (a ∷ b ∷ []) = refl
+trigger_agrees d (a ∷ b ∷ c ∷ words) =
+    agrees_unless (after d) (nat_lt 32 (length words)) reasons.Count _ _ (says (version_of (past_of d)) keywords.Trigger (a ∷ b ∷ c ∷ words)) (λ few.
+    let within : nat_le (length words) 32 ≡ true = grind arith in
+    rw within (trigger_of d (number_of a) (number_of b) (trace_of (version_of (past_of d)) c) (traces_of (version_of (past_of d)) words)))
 
-keyword_agrees : (d : Draft) (keyword : Keyword) (words : List (List ℕ)) → Agrees (after d) (keyword_step d keyword words) (first_that_holds (form_reasons d keyword words)) (says d.version keyword words)
-keyword_agrees d (keywords.Setting setting) words = set_agrees d setting words
-keyword_agrees d keywords.Client words = start_agrees d words
+watched_of : (d : Draft) (kind : Kind) (o : Option ℕ) (p : Option (List ℕ))
+    → Agrees (after d) (value_or reasons.Number o >>= λ n. number_list p >>= λ ns. statement_step d (Watch n (auto_rule kind ns)))
+    (first_that_holds ((is_none (option_and_then (λ n. option_map (λ ns. n ∷ ns) p) o), reasons.Number)
+    ∷ statement_reasons (past_of d) (option_and_then (λ n. option_map (λ ns. Watch n (auto_rule kind (numbers_at ns))) p) o)))
+    (option_and_then (λ n. option_map (λ ns. Watch n (auto_rule kind (numbers_at ns))) p) o)
+watched_of d kind None p = refl
+watched_of d kind (Some n) None = refl
+watched_of d kind (Some n) (Some ns) = step_agrees d (Watch n (auto_rule kind (numbers_at ns)))
+
+-- an autotrigger of a kind
+kind_agrees : (d : Draft) (a : List ℕ) (words : List (List ℕ)) (kind : Kind)
+    → Agrees (after d)
+    (unless (not (nat_eq (length words) (kind_count kind))) reasons.Count
+    (value_or reasons.Number (number_of a) >>= λ n. four_numbers words >>= λ ns. statement_step d (Watch n (auto_rule kind ns))))
+    (first_that_holds ((not (nat_eq (length words) (kind_count kind)), reasons.Count) ∷ (is_none (numbers_of (a ∷ words)), reasons.Number)
+    ∷ statement_reasons (past_of d) (watch_said kind a words)))
+    (watch_said kind a words)
+kind_agrees d a words kind =
+    agrees_unless (after d) (not (nat_eq (length words) (kind_count kind))) reasons.Count _ _ (watch_said kind a words) (λ counted.
+    let few = few_behind kind in
+    let count = count_is (length words) (kind_count kind) counted in
+    let same : nat_eq (length words) (kind_count kind) ≡ true = grind arith in
+    let numbers = four_numbers-is words (omega (arith, few, count)) in
+    rw (numbers, same) (watched_of d kind (number_of a) (numbers_of words)))
+
+found_kind_agrees : (d : Draft) (a : List ℕ) (words : List (List ℕ)) (o : Option Kind)
+    → Agrees (after d)
+    (value_or reasons.Word o >>= λ kind. unless (not (nat_eq (length words) (kind_count kind))) reasons.Count
+    (value_or reasons.Number (number_of a) >>= λ n. four_numbers words >>= λ ns. statement_step d (Watch n (auto_rule kind ns))))
+    (first_that_holds ((is_none o, reasons.Word) ∷ (not (is_count_of o words), reasons.Count) ∷ (is_none (numbers_of (a ∷ words)), reasons.Number)
+    ∷ statement_reasons (past_of d) (option_and_then (λ kind. watch_said kind a words) o)))
+    (option_and_then (λ kind. watch_said kind a words) o)
+found_kind_agrees d a words None = refl
+found_kind_agrees d a words (Some kind) = kind_agrees d a words kind
+
+auto_agrees : (d : Draft) (words : List (List ℕ)) → FormAgrees d keywords.Auto words
+unfolding auto_step
+auto_agrees d [] = refl
+auto_agrees d (a ∷ []) = refl
+auto_agrees d (a ∷ b ∷ words) = found_kind_agrees d a words (kind_of b)
+
+keyword_agrees : (d : Draft) (keyword : Keyword) (words : List (List ℕ)) → FormAgrees d keyword words
+keyword_agrees d (keywords.Setting setting) words = plain_agrees d (keywords.Setting setting) words
+keyword_agrees d keywords.TriggerId words = plain_agrees d keywords.TriggerId words
+keyword_agrees d keywords.Auto words = auto_agrees d words
+keyword_agrees d keywords.Client words = plain_agrees d keywords.Client words
 keyword_agrees d keywords.Begin words = begin_agrees d words
 keyword_agrees d keywords.Point words = point_agrees d words
-keyword_agrees d keywords.End words = end_agrees d words
-keyword_agrees d keywords.Done words = finish_agrees d words
+keyword_agrees d keywords.Crumb words = plain_agrees d keywords.Crumb words
+keyword_agrees d keywords.End words = plain_agrees d keywords.End words
+keyword_agrees d keywords.Trigger words = trigger_agrees d words
+keyword_agrees d keywords.Sample words = plain_agrees d keywords.Sample words
+keyword_agrees d keywords.Done words = plain_agrees d keywords.Done words
 
-found_agrees : (d : Draft) (keyword : Keyword) (words : List (List ℕ)) → Agrees (after d) (found_step d (keyword, words)) (first_that_holds (keyword_reasons d keyword words)) (says d.version keyword words)
+found_agrees : (d : Draft) (keyword : Keyword) (words : List (List ℕ))
+    → Agrees (after d) (found_step d (keyword, words)) (first_that_holds (keyword_reasons (past_of d) keyword words)) (says (version_of (past_of d)) keyword words)
 found_agrees d keyword words =
-    agrees_unless (after d) (not (may_stand d keyword)) reasons.Word (keyword_step d keyword words) (first_that_holds (form_reasons d keyword words)) (says d.version keyword words)
-    (λ _. keyword_agrees d keyword words)
+    agrees_unless (after d) (not (may_stand (past_of d) keyword)) reasons.Word (keyword_step d keyword words) (first_that_holds (form_reasons (past_of d) keyword words))
+    (says (version_of (past_of d)) keyword words) (λ _. keyword_agrees d keyword words)
 
-pub line_agrees : (d : Draft) (line : List ℕ) → Agrees (after d) (line_step d line) (fault_at d line) (statement_of d.version line)
+pub line_agrees : (d : Draft) (line : List ℕ) → Agrees (after d) (line_step d line) (fault_at (past_of d) line) (statement_of (version_of (past_of d)) line)
 unfolding line_step fault_at
-line_agrees d line = agrees_opened (after d) before_words keyword_of (keyword_reasons d) (says d.version) (found_step d) (found_agrees d) line
+line_agrees d line = agrees_opened (after d) before_words keyword_of (keyword_reasons (past_of d)) (says (version_of (past_of d))) (found_step d) (found_agrees d) line

@@ -1,28 +1,24 @@
 -- A text has no fault exactly where it is the text of a valid workload, and then of no other workload.
-use Rattle.std.proofs.Common.{◌≡◌, ℕ, List, None, Ok, refl, sym, ap, subst, ◌∙◌}
+use Rattle.std.proofs.Common.{◌≡◌, ℕ, List, None, Result, Ok, Err, refl, sym, ap, ◌∙◌}
+use Rattle.std.specs.Prelude.{IfOk, IfErr, MatchResult}
 use Rattle.hs_text.specs.Judging.{first_fault_in}
-use Rattle.hs_text.specs.JudgingLaws.{Makes, faultless_made, run, run_clean, same_lines}
+use Rattle.hs_text.specs.JudgingLaws.{run, run_clean, same_lines}
 use Rattle.hs_records.specs.Plain.{PlainWorkload}
+use Rattle.hs_workload.specs.declared.refusal.ReadError.{ReadError}
+use Rattle.hs_workload.specs.declared.refusal.ReadError.TheVariants as errors
+use Rattle.hs_workload.specs.declared.operation.Workload.{Workload}
+use Rattle.hs_workload.specs.Views.{workload_of}
 use Rattle.hs_workload.specs.Grammar.{workload_statements, workload_lines}
 use Rattle.hs_workload.specs.Validity.{IsValid, Reads}
-use Rattle.hs_workload.specs.LookBack.{Draft, draft_said}
-use Rattle.hs_workload.specs.Faults.{judging, first_fault}
-use Rattle.hs_workload.specs.Forward.{line_step, workload_drafted}
-use Rattle.hs_workload.proofs.Taken.{workload_reader}
-use Rattle.hs_workload.proofs.Runs.{after_all, start, lines_run}
-use Rattle.hs_workload.proofs.Valid.{allowed}
-use Rattle.hs_workload.proofs.Whole.{drafted, done_last, speaks, known_lines, reads_taken}
+use Rattle.hs_workload.specs.Faults.{judging, first_fault, Refuses}
+use Rattle.hs_workload.specs.Forward.{fresh, line_step, workload_drafted}
+use Rattle.hs_workload.proofs.Seen.{workload_reader}
+use Rattle.hs_workload.proofs.Whole.{first_fault-judged}
+use Rattle.hs_workload.proofs.Runs.{lines_run}
+use Rattle.hs_workload.proofs.Clients.{allowed, whole_draft, drafted, done_last}
 
-pub first_fault-judged : (text : List ℕ) → first_fault text ≡ first_fault_in judging text
-unfolding first_fault
-first_fault-judged text = refl
-
--- the draft behind the lines of a workload
-abbrev whole_draft : PlainWorkload → Draft
-whole_draft W = after_all start (workload_statements W)
-
-workload_run : (W : PlainWorkload) → IsValid W → run line_step start (workload_lines W) ≡ Ok (whole_draft W)
-workload_run W v = lines_run start (workload_lines W) (workload_statements W) (known_lines start W.version (workload_statements W) (speaks W)) (allowed W v)
+workload_run : (W : PlainWorkload) → IsValid W → run line_step fresh (workload_lines W) ≡ Ok (whole_draft W)
+workload_run W v = lines_run W.version fresh (workload_statements W) (allowed W v)
 
 -- a text of a workload has no fault
 pub reads_clean : (text : List ℕ) (W : PlainWorkload) → Reads text W → first_fault text ≡ None
@@ -32,18 +28,13 @@ reads_clean text W r =
 pub reads_once : (text : List ℕ) (V W : PlainWorkload) → Reads text V → Reads text W → V ≡ W
 reads_once text V W v w =
     let lines = same_lines workload_reader (whole_draft V) (whole_draft W) (workload_lines V) (workload_lines W) (workload_run V v.valid) (workload_run W w.valid) (sym v.spelled ∙ w.spelled) in
-    let ends : Ok (whole_draft V) ≡ Ok (whole_draft W) = sym (workload_run V v.valid) ∙ ap (run line_step start) lines ∙ workload_run W w.valid in
+    let ends : Ok (whole_draft V) ≡ Ok (whole_draft W) = sym (workload_run V v.valid) ∙ ap (run line_step fresh) lines ∙ workload_run W w.valid in
     let same : whole_draft V ≡ whole_draft W = cc in
-    sym (drafted V v.valid.triggers v.valid.autos) ∙ ap workload_drafted same ∙ drafted W w.valid.triggers w.valid.autos
+    sym (drafted V) ∙ ap workload_drafted same ∙ drafted W
 
--- what the reader makes of a text is the workload of the text
-pub made_reads : (text : List ℕ) (d : Draft) → Makes workload_reader text d → Reads text (workload_drafted d)
-made_reads text d made =
-    let reads = reads_taken made.earlier made.sees.statements made.sees.taken (ap (λ (x : Draft). x.is_done) (sym made.sees.drafted) ∙ made.ended) in
-    subst (λ (x : Draft). Reads text (workload_drafted x)) (sym made.sees.drafted)
-    (subst (λ (t : List ℕ). Reads t (workload_drafted (draft_said made.sees.statements))) (sym made.spelled) reads)
-
-pub clean_reads : (text : List ℕ) → first_fault text ≡ None → (W : PlainWorkload) × Reads text W
-clean_reads text e =
-    let made = faultless_made workload_reader text (sym (first_fault-judged text) ∙ e) in
-    (workload_drafted made.0, made_reads text made.0 made.1)
+-- a workload's text is read as that workload
+pub only_this : (text : List ℕ) (r : Result Workload ReadError) → IfOk r (λ w. Reads text (workload_of w)) → IfErr r (Refuses (first_fault text))
+    → (W : PlainWorkload) → Reads text W → MatchResult r (λ w. workload_of w ≡ W) (λ e. e ≡ errors.Memory)
+only_this text (Ok w) found refused W reads = reads_once text (workload_of w) W found reads
+only_this text (Err errors.Memory) found refused W reads = refl
+only_this text (Err (errors.Refused refusal)) found refused W reads = let none = reads_clean text W reads in absurd cc

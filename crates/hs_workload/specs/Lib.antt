@@ -1,8 +1,9 @@
 pub mod Reasons
 pub mod Views
+pub mod Settings
 pub mod Statements
 pub mod Grammar
-pub mod Validity
 pub mod LookBack
+pub mod Validity
 pub mod Faults
 pub mod Forward

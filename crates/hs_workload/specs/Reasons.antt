@@ -1,5 +1,5 @@
 -- The word of each reason, by which a refusal names it.
-use Rattle.std.specs.Prelude.{◌≡◌, ℕ, List, codes, refl}
+use Rattle.std.specs.Prelude.{ℕ, List, codes}
 use Rattle.hs_workload.specs.declared.refusal.Reason.{Reason}
 use Rattle.hs_workload.specs.declared.refusal.Reason.TheVariants.{Truncated, Byte, Spaces, Word, Count, Number, Hex, Range, Order, Unknown, Open, NoTrace, StillOpen, TooMany}
 

@@ -12,7 +12,7 @@ operation_of (ops.Begin trace) = plain.Begin trace
 operation_of (ops.Point moment payload) = plain.Point moment payload.items
 operation_of (ops.Crumb node) = plain.Crumb node
 operation_of ops.End = plain.End
-operation_of (ops.Trigger trigger) = plain.Fire trigger
+operation_of (ops.Trigger trigger) = plain.Fire trigger.value
 operation_of (ops.Sample moment auto value) = plain.Sample moment auto value
 
 -- the operations of a list

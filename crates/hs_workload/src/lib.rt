@@ -4,6 +4,7 @@
 
 mod draft;
 mod laws;
+mod line;
 mod operation;
 mod reader;
 mod refusal;

@@ -13,8 +13,9 @@ pub enum Op {
     Crumb { node: NodeId },
     /// Closes the open trace.
     End,
-    /// A trigger of the client's own.
-    Trigger { trigger: Trigger },
+    /// A trigger of the client's own. It stands in memory of its own, since it is ten times as wide as any
+    /// other operation.
+    Trigger { trigger: Box<Trigger> },
     /// A sample for the autotrigger of this number.
     Sample { moment: u64, auto: u32, value: u64 },
 }

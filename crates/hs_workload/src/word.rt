@@ -1,8 +1,13 @@
-//! The first words of lines.
+//! The first words of lines, and the kinds of autotriggers.
 
 ghost use Rattle.std.specs.Prelude.{◌≡◌};
-ghost use Rattle.hs_workload.specs.Statements.{setting_line};
+ghost use Rattle.hs_workload.specs.Settings.{setting_place, least, most};
+ghost use Rattle.hs_workload.specs.Statements.{number_count, kind_count};
 
+use hs_base::limits::{
+    MAX_BUFFERS, MAX_CLIENTS, MAX_NODES, MAX_PINS, MAX_SIZE, MAX_STRIDE, MAX_THRESHOLD, MAX_TRACES,
+    MIN_SIZE,
+};
 use hs_text::Spelled;
 
 /// A number of the head, which stands on lines 1 to 9.
@@ -23,39 +28,114 @@ pub enum Setting {
 #[derive(Clone, Copy, Debug, PartialEq, Eq)]
 pub enum Keyword {
     Setting(Setting),
+    TriggerId,
+    Auto,
     Client,
     Begin,
     Point,
+    Crumb,
     End,
+    Trigger,
+    Sample,
     Done,
 }
 
+/// The kind of an autotrigger.
+#[derive(Clone, Copy, Debug, PartialEq, Eq)]
+pub enum Kind {
+    Exception,
+    Percentile,
+    Category,
+    Queue,
+}
+
 impl Setting {
-    /// The line on which the setting stands, from 1.
-    pub fn line(self) -> u32
-        ensures { result ≡ setting_line self }
+    /// How many settings stand before this one.
+    pub fn place(self) -> usize
+        ensures { result ≡ setting_place self }
     {
         match self {
-            Setting::Version => 1,
-            Setting::Nodes => 2,
-            Setting::Clients => 3,
-            Setting::Buffers => 4,
-            Setting::Size => 5,
-            Setting::Threshold => 6,
-            Setting::Traces => 7,
-            Setting::Pins => 8,
-            Setting::Stride => 9,
+            Setting::Version => 0,
+            Setting::Nodes => 1,
+            Setting::Clients => 2,
+            Setting::Buffers => 3,
+            Setting::Size => 4,
+            Setting::Threshold => 5,
+            Setting::Traces => 6,
+            Setting::Pins => 7,
+            Setting::Stride => 8,
+        }
+    }
+
+    /// The least value.
+    pub fn least(self) -> u32
+        ensures { result ≡ least self }
+    {
+        match self {
+            Setting::Size => MIN_SIZE,
+            Setting::Threshold | Setting::Pins => 0,
+            _ => 1,
+        }
+    }
+
+    /// The greatest value.
+    pub fn most(self) -> u32
+        ensures { result ≡ most self }
+    {
+        match self {
+            Setting::Version => 2,
+            Setting::Nodes => u32::from(MAX_NODES),
+            Setting::Clients => u32::from(MAX_CLIENTS),
+            Setting::Buffers => MAX_BUFFERS,
+            Setting::Size => MAX_SIZE,
+            Setting::Threshold => MAX_THRESHOLD,
+            Setting::Traces => MAX_TRACES,
+            Setting::Pins => MAX_PINS,
+            Setting::Stride => MAX_STRIDE,
         }
     }
 }
 
-/// The words that a line may begin with.
-const KEYWORDS: [Keyword; 14] = [
-    Keyword::Begin,
+impl Keyword {
+    /// How many numbers stand behind the word, where only numbers do.
+    pub fn number_count(self) -> usize
+        ensures { result ≡ number_count self }
+    {
+        match self {
+            Keyword::Setting(_) | Keyword::Crumb => 1,
+            Keyword::TriggerId => 4,
+            Keyword::Client => 2,
+            Keyword::Sample => 3,
+            _ => 0,
+        }
+    }
+}
+
+impl Kind {
+    /// How many numbers stand behind the kind.
+    pub fn number_count(self) -> usize
+        ensures { result ≡ kind_count self }
+    {
+        match self {
+            Kind::Exception => 1,
+            Kind::Percentile | Kind::Category => 3,
+            Kind::Queue => 4,
+        }
+    }
+}
+
+/// The words that a line may begin with, those of the most lines first.
+const KEYWORDS: [Keyword; 19] = [
     Keyword::Point,
+    Keyword::Begin,
     Keyword::End,
+    Keyword::Crumb,
+    Keyword::Trigger,
+    Keyword::Sample,
     Keyword::Client,
     Keyword::Done,
+    Keyword::TriggerId,
+    Keyword::Auto,
     Keyword::Setting(Setting::Version),
     Keyword::Setting(Setting::Nodes),
     Keyword::Setting(Setting::Clients),
@@ -65,6 +145,14 @@ const KEYWORDS: [Keyword; 14] = [
     Keyword::Setting(Setting::Traces),
     Keyword::Setting(Setting::Pins),
     Keyword::Setting(Setting::Stride),
+];
+
+/// The kinds of autotriggers.
+const KINDS: [Kind; 4] = [
+    Kind::Exception,
+    Kind::Percentile,
+    Kind::Category,
+    Kind::Queue,
 ];
 
 impl Spelled for Keyword {
@@ -85,10 +173,15 @@ impl Spelled for Keyword {
             Keyword::Setting(Setting::Traces) => b"traces",
             Keyword::Setting(Setting::Pins) => b"pins",
             Keyword::Setting(Setting::Stride) => b"stride",
+            Keyword::TriggerId => b"triggerid",
+            Keyword::Auto => b"auto",
             Keyword::Client => b"client",
             Keyword::Begin => b"begin",
             Keyword::Point => b"point",
+            Keyword::Crumb => b"crumb",
             Keyword::End => b"end",
+            Keyword::Trigger => b"trigger",
+            Keyword::Sample => b"sample",
             Keyword::Done => b"done",
         }
     }
@@ -98,4 +191,27 @@ impl Spelled for Keyword {
     }
 
     ghost told_apart = { keywords_told_apart };
+}
+
+impl Spelled for Kind {
+    ghost use Rattle.hs_workload.specs.Statements.{kind_text, all_kinds, kinds_told_apart};
+
+    ghost spelling = { kind_text };
+
+    ghost every = { all_kinds };
+
+    fn text(self) -> &'static [u8] {
+        match self {
+            Kind::Exception => b"exception",
+            Kind::Percentile => b"percentile",
+            Kind::Category => b"category",
+            Kind::Queue => b"queue",
+        }
+    }
+
+    fn all() -> &'static [Kind] {
+        &KINDS
+    }
+
+    ghost told_apart = { kinds_told_apart };
 }

@@ -14,42 +14,123 @@ const HEAD: &[u8] =
 const EXAMPLE: &[u8] =
     b"hindsight 1\nnodes 1\nclients 1\nbuffers 1\nsize 64\nthreshold 1\ntraces 4\npins 4\nstride 8\nclient 0 0\nbegin 0000000000000001\npoint 100 00112233445566778899\npoint 101 00112233445566778899\npoint 102 00112233445566778899\nend\ndone\n";
 
+/// Two nodes of two clients each, a trigger id and two autotriggers, twelve lines.
+const DECLARED: &[u8] =
+    b"hindsight 1\nnodes 2\nclients 2\nbuffers 1\nsize 64\nthreshold 0\ntraces 1\npins 0\nstride 1\ntriggerid 3 1 2 0\nauto 0 exception 3\nauto 1 queue 3 16 9900 4\n";
+
 /// Texts that end in the head, with their first bad line and its reason.
-const HEADS: [(&[u8], u32, Reason); 14] = [
+const HEADS: [(&[u8], u32, Reason); 30] = [
     (b"", 1, Reason::Truncated),
     (b"hindsight 1", 1, Reason::Truncated),
     (b"hindsight 1\n", 2, Reason::Truncated),
     (b"hindsight\t1\n", 1, Reason::Byte),
     (b" hindsight 1\n", 1, Reason::Spaces),
     (b"nodes 1\n", 1, Reason::Word),
+    (b"hindsight 0\n", 1, Reason::Range),
     (b"hindsight 3\n", 1, Reason::Range),
     (b"hindsight 01\n", 1, Reason::Number),
     (b"hindsight 1 1\n", 1, Reason::Count),
-    (b"hindsight 1\nnodes 2\n", 2, Reason::Range),
-    (b"hindsight 1\nnodes 1\nclients 2\n", 3, Reason::Range),
+    (b"hindsight 1\nnodes 0\n", 2, Reason::Range),
+    (b"hindsight 1\nnodes 17\n", 2, Reason::Range),
+    (b"hindsight 1\nnodes 16\nclients 0\n", 3, Reason::Range),
+    (b"hindsight 1\nnodes 16\nclients 17\n", 3, Reason::Range),
     (
-        b"hindsight 1\nnodes 1\nclients 1\nbuffers 2\nsize 64\nthreshold 1\n",
+        b"hindsight 1\nnodes 16\nclients 16\nbuffers 0\n",
+        4,
+        Reason::Range,
+    ),
+    (
+        b"hindsight 1\nnodes 1\nclients 1\nbuffers 1025\n",
+        4,
+        Reason::Range,
+    ),
+    (
+        b"hindsight 1\nnodes 1\nclients 1\nbuffers 1024\nsize 63\n",
+        5,
+        Reason::Range,
+    ),
+    (
+        b"hindsight 1\nnodes 1\nclients 1\nbuffers 1\nsize 32769\n",
+        5,
+        Reason::Range,
+    ),
+    (
+        b"hindsight 1\nnodes 1\nclients 1\nbuffers 2\nsize 64\nthreshold 1025\n",
         6,
         Reason::Range,
     ),
     (
-        b"hindsight 1\nnodes 1\nclients 1\nbuffers 2\nsize 64\nthreshold 2\ntraces 1\n",
+        b"hindsight 1\nnodes 1\nclients 1\nbuffers 2\nsize 32768\nthreshold 0\ntraces 0\n",
         7,
         Reason::Range,
     ),
+    (
+        b"hindsight 1\nnodes 1\nclients 1\nbuffers 2\nsize 64\nthreshold 1024\ntraces 65537\n",
+        7,
+        Reason::Range,
+    ),
+    (
+        b"hindsight 1\nnodes 1\nclients 1\nbuffers 2\nsize 64\nthreshold 0\ntraces 65536\npins 1025\n",
+        8,
+        Reason::Range,
+    ),
+    (
+        b"hindsight 1\nnodes 1\nclients 1\nbuffers 2\nsize 64\nthreshold 0\ntraces 1\npins 1024\nstride 0\n",
+        9,
+        Reason::Range,
+    ),
+    (
+        b"hindsight 1\nnodes 1\nclients 1\nbuffers 2\nsize 64\nthreshold 0\ntraces 1\npins 0\nstride 65\n",
+        9,
+        Reason::Range,
+    ),
+    (
+        b"hindsight 1\nnodes 1\nclients 1\nbuffers 2\nsize 64\nthreshold 0\ntraces 1\npins 0\nstride 64\n",
+        10,
+        Reason::Truncated,
+    ),
+    (b"hindsight 2\nnodes x\n", 2, Reason::Number),
+    (b"hindsight 2\nnodes\n", 2, Reason::Count),
+    (b"hindsight 2\nclients 1\n", 2, Reason::Word),
+    (b"hindsight 2\nclient 0 0\n", 2, Reason::Word),
     // A fault on an early line is told before one on a later line.
     (b"hindsight 0\nnodes\n", 1, Reason::Range),
 ];
 
 /// Lines behind the head, with the first bad line and its reason.
-const BODIES: [(&[u8], u32, Reason); 19] = [
-    (b"triggerid 1 1 1 1\n", 10, Reason::Word),
-    (b"auto 0 exception 1\n", 10, Reason::Word),
+const BODIES: [(&[u8], u32, Reason); 40] = [
+    (b"triggerid 0 1 1 1\n", 10, Reason::Range),
+    (b"triggerid 65 1 1 1\n", 10, Reason::Range),
+    (b"triggerid 64 0 1 1\n", 10, Reason::Range),
+    (b"triggerid 64 101 1 1\n", 10, Reason::Range),
+    (b"triggerid 64 100 0 1\n", 10, Reason::Range),
+    (b"triggerid 64 100 1001 1\n", 10, Reason::Range),
+    (b"triggerid 64 100 1000 1000001\n", 10, Reason::Range),
+    (
+        b"triggerid 64 100 1000 1000000\ntriggerid 64 1 1 0\n",
+        11,
+        Reason::Order,
+    ),
+    (b"triggerid 2 1 1 0\ntriggerid 1 1 1 0\n", 11, Reason::Order),
+    (b"triggerid 1 1 1\n", 10, Reason::Count),
+    (b"triggerid 1 1 1 x\n", 10, Reason::Number),
+    (b"auto 0 exception 1\n", 10, Reason::Unknown),
+    (b"auto 1 exception 1\n", 10, Reason::Order),
+    (b"auto 16 exception 1\n", 10, Reason::Range),
+    (b"auto 0\n", 10, Reason::Count),
+    (b"auto x y z\n", 10, Reason::Word),
+    (b"auto 0 exception 1 2\n", 10, Reason::Count),
+    (b"auto 0 percentile 1 1 1\n", 10, Reason::Range),
+    (b"auto 0 percentile 1 1025 1\n", 10, Reason::Range),
+    (b"auto 0 category 1 1024 0\n", 10, Reason::Range),
+    (b"auto 0 category 1 1024 10000\n", 10, Reason::Range),
+    (b"auto 0 queue 1 2 9999 0\n", 10, Reason::Range),
+    (b"auto 0 queue 1 2 9999 33\n", 10, Reason::Range),
     (b"client 0 1\n", 10, Reason::Order),
     (b"client 0 18446744073709551616\n", 10, Reason::Number),
     (b"point 1 aa\nzzz\n", 10, Reason::Word),
     (b"client 0 0\nclient 0 1\n", 11, Reason::Word),
-    (b"client 0 0\ncrumb 0\n", 11, Reason::Word),
+    (b"client 0 0\ncrumb 0\n", 11, Reason::NoTrace),
     (b"client 0 0\npoint 1 aa\nzzz\n", 11, Reason::NoTrace),
     (b"client 0 0\nend\n", 11, Reason::NoTrace),
     (b"client 0 0\nbegin 1\n", 11, Reason::Hex),
@@ -75,6 +156,84 @@ const BODIES: [(&[u8], u32, Reason); 19] = [
     (b"client 0 0\npoint x AA\n", 11, Reason::Number),
     (b"client 0 0\nend  1\n", 11, Reason::Spaces),
     (b"client 0 0\npoint 1\n", 11, Reason::Count),
+];
+
+/// Lines behind the declarations, with the first bad line and its reason.
+const OPERATIONS: [(&[u8], u32, Reason); 26] = [
+    (b"triggerid 4 1 1 1\n", 13, Reason::Word),
+    (b"auto 3 exception 3\n", 13, Reason::Order),
+    (b"auto 2 exception 4\n", 13, Reason::Unknown),
+    (b"client 0 0\nauto 2 exception 3\n", 14, Reason::Word),
+    (b"client 0 0\ndone\n", 14, Reason::Word),
+    (b"client 0 0\nclient 1 0\n", 14, Reason::Order),
+    (
+        b"client 0 0\nclient 0 1\nclient 1 0\nclient 1 1\nclient 2 0\n",
+        17,
+        Reason::Word,
+    ),
+    (
+        b"client 0 0\nbegin 0000000000000001\nclient 1 0\n",
+        15,
+        Reason::Order,
+    ),
+    (
+        b"client 0 0\nbegin 0000000000000001\nclient 0 1\n",
+        15,
+        Reason::StillOpen,
+    ),
+    (
+        b"client 0 0\nbegin 0000000000000001\ncrumb 2\n",
+        15,
+        Reason::Range,
+    ),
+    (
+        b"client 0 0\nbegin 0000000000000001\ncrumb 1\ncrumb\n",
+        16,
+        Reason::Count,
+    ),
+    (b"client 0 0\ncrumb 1\n", 14, Reason::NoTrace),
+    (b"client 0 0\ncrumb 2\n", 14, Reason::Range),
+    (b"client 0 0\nsample 1 0 2\n", 14, Reason::NoTrace),
+    (b"client 0 0\nsample 1 2 2\n", 14, Reason::Unknown),
+    (b"client 0 0\nsample 1 16 0\n", 14, Reason::Unknown),
+    (b"client 0 0\nsample 1 0\n", 14, Reason::Count),
+    (
+        b"client 0 0\nbegin 0000000000000001\nsample 1 1 18446744073709551615\nzzz\n",
+        16,
+        Reason::Word,
+    ),
+    (b"client 0 0\ntrigger 1 3\n", 14, Reason::Count),
+    (
+        b"client 0 0\ntrigger 1 x 0000000000000001\n",
+        14,
+        Reason::Number,
+    ),
+    (
+        b"client 0 0\ntrigger 1 65 000000000000001\n",
+        14,
+        Reason::Hex,
+    ),
+    (
+        b"client 0 0\ntrigger 1 65 0000000000000001\n",
+        14,
+        Reason::Unknown,
+    ),
+    (
+        b"client 0 0\ntrigger 1 3 0000000000000001 000000000000000A\n",
+        14,
+        Reason::Hex,
+    ),
+    (
+        b"client 0 0\ntrigger 1 3 0000000000000001 0000000000000001\nzzz\n",
+        15,
+        Reason::Word,
+    ),
+    (
+        b"client 0 0\ntrigger 1 259 0000000000000001\n",
+        14,
+        Reason::Unknown,
+    ),
+    (b"client 0 0\nsample 1 4294967296 0\n", 14, Reason::Unknown),
 ];
 
 fn expect_refusal(rt: &impl Abort, alloc: Global, text: &[u8], line: u32, reason: Reason) {
@@ -225,5 +384,48 @@ fn no_operation_is_read(rt: HostRuntime) -> Result<(), Fail> {
     text.extend_from_slice(b"client 0 0\ndone\n")?;
     let workload = read_workload(rt.alloc(), &text)?;
     assert!(rt; workload.clients.get(0).ok_or("no client")?.is_empty());
+    Ok(())
+}
+
+#[test]
+fn operations_are_refused(rt: HostRuntime) -> Result<(), Fail> {
+    expect_behind(&rt, rt.alloc(), DECLARED, &OPERATIONS)?;
+    Ok(())
+}
+
+/// A trigger with so many laterals.
+fn trigger(alloc: Global, laterals: u32) -> Result<Vec<u8>, AllocError> {
+    let mut text = DECLARED.to_vec(alloc)?;
+    text.extend_from_slice(b"client 0 0\ntrigger 7 3 0000000000000001")?;
+    for _ in 0..laterals {
+        text.extend_from_slice(b" 000000000000000b")?;
+    }
+    text.extend_from_slice(b"\nclient 0 1\nclient 1 0\nclient 1 1\ndone\n")?;
+    Ok(text)
+}
+
+#[test]
+fn a_trigger_has_at_most_32_laterals(rt: HostRuntime) -> Result<(), Fail> {
+    let workload = read_workload(rt.alloc(), &trigger(rt.alloc(), 32)?)?;
+    assert_eq!(rt; workload.settings.triggers.len(), 1);
+    assert_eq!(rt; workload.settings.autos.len(), 2);
+    assert_eq!(rt; workload.clients.len(), 4);
+    let client = workload.clients.get(0).ok_or("no client")?;
+    match client.get(0).ok_or("no operation")? {
+        Op::Trigger { trigger } => {
+            assert_eq!(rt; trigger.moment, 7);
+            assert_eq!(rt; trigger.lead, TraceId(1));
+            assert_eq!(rt; trigger.laterals.len(), 32);
+            assert_eq!(rt; trigger.laterals.get(31), Some(TraceId(11)));
+        }
+        _ => assert!(rt; false, "not a trigger"),
+    }
+    expect_refusal(
+        &rt,
+        rt.alloc(),
+        &trigger(rt.alloc(), 33)?,
+        14,
+        Reason::Count,
+    );
     Ok(())
 }

@@ -1,4 +1,5 @@
-use Rattle.hs_workload.proofs.Faultless.{clean_reads, reads_clean}
+use Rattle.hs_workload.proofs.Whole.{clean_reads}
+use Rattle.hs_workload.proofs.Faultless.{reads_clean}
 use Rattle.hs_workload.proofs.laws.faultless_texts_read.Goals as goal
 
 pub returns-clause-reads : goal.returns-clause-reads

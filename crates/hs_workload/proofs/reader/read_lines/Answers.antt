@@ -5,20 +5,20 @@ use Rattle.hs_text.specs.declared.stop.Stop.TheVariants.{Fault}
 use Rattle.hs_records.specs.Plain.{PlainWorkload}
 use Rattle.hs_workload.specs.declared.refusal.ReadError.{ReadError}
 use Rattle.hs_workload.specs.declared.refusal.Reason.TheVariants.{Truncated}
-use Rattle.hs_workload.specs.LookBack.{Draft}
 use Rattle.hs_workload.specs.Faults.{first_fault, Refuses}
 use Rattle.hs_workload.specs.Validity.{Reads}
-use Rattle.hs_workload.specs.Forward.{draft_of, error_at}
-use Rattle.hs_workload.proofs.Taken.{workload_reader, sound_seen}
-use Rattle.hs_workload.proofs.Faultless.{first_fault-judged, made_reads}
+use Rattle.hs_workload.specs.Forward.{Draft, fresh, IsSound, draft_of, error_at}
+use Rattle.hs_workload.proofs.Seen.{workload_reader}
+use Rattle.hs_workload.proofs.Keeps.{keeps_fresh, sound}
+use Rattle.hs_workload.proofs.Whole.{first_fault-judged, made_reads}
 use Rattle.hs_workload.proofs.Reading.{IsAt, at_next, stopped}
 use Rattle.hs_workload.proofs.reader.read_lines.Goals as goal
 
 pub loop-line-init : goal.loop-line-init
 loop-line-init c =
     record {
-      at = subst (λ (d : Draft). IsAt c.args.text.now c.args.text.now d) (sym c.new-reader.ensures.draft) (reading_starts workload_reader c.args.text.now);
-      sound = c.new-reader.ensures.sound;
+      at = subst (λ (d : Draft). IsAt c.args.text.now c.args.text.now d) (sym c.new-reader.ensures) (reading_starts workload_reader c.args.text.now);
+      sound = subst (λ (d : Draft). IsSound d) (sym c.new-reader.ensures) (sound fresh keeps_fresh);
     }
 
 pub loop-line-preserved : goal.loop-line-preserved
@@ -27,7 +27,7 @@ loop-line-preserved c =
     let at : IsAt c.args.text.now c.in-Some.behind.now next =
     at_next c.args.text.now c.loop-line.rest.now c.in-Some.line.now c.in-Some.behind.now (draft_of c.loop-line.reader) next c.loop-line.invariant.at
     (record { split = c.in-Some.ensures.some; one = c.in-Some.ensures.line }) c.in_default-read_line.ensures in
-    record { at = at; sound = sound_seen next at.earlier at.sees }
+    record { at = at; sound = sound next at.sees.keeps }
 
 pub returns-in-Err-clause-refused : goal.returns-in-Err-clause-refused
 returns-in-Err-clause-refused c =

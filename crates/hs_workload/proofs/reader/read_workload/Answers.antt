@@ -1,4 +1,4 @@
-use Rattle.hs_workload.proofs.Reading.{only_this}
+use Rattle.hs_workload.proofs.Faultless.{only_this}
 use Rattle.hs_workload.proofs.reader.read_workload.Goals as goal
 
 pub returns-clause-only : goal.returns-clause-only
