@@ -1,21 +1,26 @@
 -- What each status says of a call: of its words, of what it took from its source and of what its sink gained.
 -- `left` and `written` are before and after the call.
-use Rattle.std.specs.Prelude.{◌≡◌, ℕ, List, Option, Some}
+use Rattle.std.specs.Prelude.{◌≡◌, ◌⊎◌, ℕ, true, false, List, Option, Some}
 use Rattle.hs_base.specs.Outside.{Rose, Gains}
 use Rattle.hs_records.specs.Plain.{PlainWorkload}
 use Rattle.hs_workload.specs.declared.refusal.Refusal.{Refusal}
 use Rattle.hs_workload.specs.Validity.{Reads}
 use Rattle.hs_workload.specs.Faults.{first_fault}
 use Rattle.hs_replay.specs.OutcomeText.{outcome_text}
+use Rattle.hs_replay.specs.Replayable.{can_replay}
 use Rattle.hs_cli.specs.Input.{ReadWhole, ReadBeyond}
 use Rattle.hs_cli.specs.Written.{GainsFront}
-use Rattle.hs_cli.specs.Messages.{IsCommand, usage_text, too_long_text, refusal_text}
+use Rattle.hs_cli.specs.Messages.{IsCommand, usage_text, too_long_text, beyond_text, refusal_text}
 use Rattle.hs_cli.specs.declared.status.Status.{Status}
 use Rattle.hs_cli.specs.declared.status.Status.TheVariants.{Done, Usage, Refused, ReadFault, WriteFault, Memory, TooLong}
 
--- The input is this workload, and its outcome is this text.
+-- The input is this workload, which the replay can run, and its outcome is this text.
 abbrev pub IsReplayed : List ℕ → List ℕ → Type 0
-IsReplayed input text = (W : PlainWorkload) × Reads input W × (text ≡ outcome_text W)
+IsReplayed input text = (W : PlainWorkload) × Reads input W × (can_replay W ≡ true) × (text ≡ outcome_text W)
+
+-- The input is this workload, which the replay cannot run yet, and this text says so.
+abbrev pub IsBeyond : List ℕ → List ℕ → Type 0
+IsBeyond input text = (W : PlainWorkload) × Reads input W × (can_replay W ≡ false) × (text ≡ beyond_text)
 
 -- The input is no workload, and this text names its first bad line with the line's first reason.
 pub record IsRefused (input text : List ℕ) : Type 0 where
@@ -28,7 +33,7 @@ pub record IsRefused (input text : List ℕ) : Type 0 where
 abbrev pub IsDue : List (List ℕ) → Option (List ℕ) → Option (List ℕ) → Status → List ℕ → Type 0
 IsDue words left left' Usage text = ¬ IsCommand words × (left' ≡ left) × (text ≡ usage_text)
 IsDue words left left' Done text = IsCommand words × ((input : List ℕ) × ReadWhole left left' input × IsReplayed input text)
-IsDue words left left' Refused text = IsCommand words × ((input : List ℕ) × ReadWhole left left' input × IsRefused input text)
+IsDue words left left' Refused text = IsCommand words × ((input : List ℕ) × ReadWhole left left' input × (IsRefused input text ⊎ IsBeyond input text))
 IsDue words left left' TooLong text = IsCommand words × ((input : List ℕ) × ReadBeyond left left' input × (text ≡ too_long_text))
 IsDue words left left' ReadFault text = ⊥
 IsDue words left left' WriteFault text = ⊥

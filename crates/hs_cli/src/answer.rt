@@ -6,7 +6,7 @@ ghost use Rattle.hs_cli.specs.Answers.{IsAnswer};
 ghost use Rattle.hs_cli.specs.Messages.{refusal_text};
 
 use hs_base::Memory;
-use hs_replay::{Form, replay, write_outcome};
+use hs_replay::{Form, can_replay, replay, write_outcome};
 use hs_workload::{ReadError, Refusal, read_workload};
 use std::alloc::Global;
 
@@ -17,6 +17,8 @@ pub(crate) enum Answer {
     Outcome(Vec<u8>),
     /// It is none, and this says why.
     Refusal(Vec<u8>),
+    /// It is a workload that the replay cannot run yet.
+    Beyond,
 }
 
 /// What is due for a whole input.
@@ -25,6 +27,9 @@ pub(crate) fn answer_to(alloc: Global, input: &[u8]) -> Result<Answer, Memory>
 {
     match read_workload(alloc, input) {
         Ok(workload) => {
+            if !can_replay(&workload) {
+                return Ok(Answer::Beyond);
+            }
             let outcome = replay(alloc, &workload)?;
             let text = write_outcome(alloc, &outcome, Form::Text)?;
             Ok(Answer::Outcome(text.into_vec()))

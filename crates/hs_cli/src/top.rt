@@ -1,10 +1,11 @@
 //! The top call.
 
-ghost use Rattle.std.specs.Prelude.{◌≡◌, ◌<◌, ◌≤◌, ◌⊎◌, ℕ, List, map, length, string_bytes, Some, ◌↔◌, IsTrue};
+ghost use Rattle.std.specs.Prelude.{◌≡◌, ◌<◌, ◌≤◌, ◌⊎◌, ℕ, List, map, length, string_bytes, true, Some, ◌↔◌, IsTrue};
 ghost use Rattle.hs_base.specs.Outside.{Rose, Gains};
 ghost use Rattle.hs_base.specs.declared.limits.TheConstants.{MAX_INPUT};
 ghost use Rattle.hs_records.specs.Plain.{PlainWorkload};
 ghost use Rattle.hs_workload.specs.Validity.{Reads};
+ghost use Rattle.hs_replay.specs.Replayable.{can_replay};
 ghost use Rattle.hs_cli.specs.Messages.{IsCommand, usage_text, too_long_text};
 ghost use Rattle.hs_cli.specs.Written.{GainsFront};
 ghost use Rattle.hs_cli.specs.Endings.{Ends, Wrote, WroteFront};
@@ -14,6 +15,7 @@ use crate::reading::{Input, read_all};
 use crate::status::Status;
 use crate::writing::write_all;
 use hs_base::{Gate, Sink, Source};
+use hs_workload::one_workload_a_text;
 use std::alloc::Global;
 use std::marker::Sync;
 use std::thread::Threads;
@@ -24,6 +26,9 @@ const USAGE: &[u8] =
 
 /// What is written of an input that is too long.
 const TOO_LONG: &[u8] = b"refused input longer than 16777216 bytes\n";
+
+/// What is written of a workload that the replay cannot run yet.
+const BEYOND: &[u8] = b"refused workload beyond replay\n";
 
 /// Whether the words are a command: the one word `replay`.
 fn is_command(words: &[String]) -> bool
@@ -61,6 +66,7 @@ fn call<S: Source, K: Sink>(alloc: Global, words: &[String], source: &mut S, sin
         Input::Whole(input) => match answer_to(alloc, &input) {
             Ok(Answer::Outcome(text)) => finish(sink, &text, Status::Done),
             Ok(Answer::Refusal(text)) => finish(sink, &text, Status::Refused),
+            Ok(Answer::Beyond) => finish(sink, BEYOND, Status::Refused),
             Err(_) => Status::Memory,
         },
     }
@@ -76,7 +82,7 @@ pub fn hindsight<R: Threads + Sync, S: Source, K: Sink, G: Gate>(
     sink: &mut K,
     _gate: &G,
 ) -> Status
-    // The input was read whole and is a workload, and the sink gained that workload's outcome.
+    // The input was read whole and is a workload that the replay can run, and the sink gained that workload's outcome.
     ensures done { result ≡ Status.Done
         → Wrote (map (λ word. string_bytes word) words.now) (S.left source.old) (S.left source.new)
         (K.written sink.old) (K.written sink.new) Status.Done }
@@ -89,7 +95,8 @@ pub fn hindsight<R: Threads + Sync, S: Source, K: Sink, G: Gate>(
     ensures no_command { ¬ IsCommand (map (λ word. string_bytes word) words.now)
         → (result ≡ Status.Usage) ⊎ (result ≡ Status.WriteFault) }
 
-    // The input was read whole and is no workload, and the sink gained its first bad line and reason.
+    // The input was read whole and is no workload, and the sink gained its first bad line and reason; or it is a
+    // workload that the replay cannot run yet, and the sink gained the text that says so.
     ensures refused { result ≡ Status.Refused
         → Wrote (map (λ word. string_bytes word) words.now) (S.left source.old) (S.left source.new)
         (K.written sink.old) (K.written sink.new) Status.Refused }
@@ -121,14 +128,15 @@ pub fn hindsight<R: Threads + Sync, S: Source, K: Sink, G: Gate>(
         → IsCommand (map (λ word. string_bytes word) words.now) }
     ensures memory_writes { result ≡ Status.Memory → K.written sink.new ≡ K.written sink.old }
 
-    // A command over a workload that is short enough is done where nothing fails, unless memory runs
-    // out.
+    // A command over a workload that the replay can run and that is short enough is done where nothing fails,
+    // unless memory runs out.
     ensures complete { (W : PlainWorkload) (input : List ℕ)
         → IsCommand (map (λ word. string_bytes word) words.now)
-        → S.left source.old ≡ Some input → Reads input W → length input ≤ MAX_INPUT
+        → S.left source.old ≡ Some input → Reads input W → can_replay W ≡ true → length input ≤ MAX_INPUT
         → ¬ Rose (S.faults source.old) (S.faults source.new)
         → ¬ Rose (K.faults sink.old) (K.faults sink.new)
         → (result ≡ Status.Done) ⊎ (result ≡ Status.Memory) }
 {
+    one_workload_a_text();
     call(alloc, words, source, sink)
 }

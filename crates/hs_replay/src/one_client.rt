@@ -1,6 +1,6 @@
 //! The replay of a workload of one client, without an agent.
 
-ghost use Rattle.std.specs.Prelude.{◌≡◌, ◌<◌, ◌≤◌, [], ◌∷◌, false, IfOk, map, length};
+ghost use Rattle.std.specs.Prelude.{◌≡◌, ◌<◌, ◌≤◌, [], ◌∷◌, false, true, IfOk, map, length};
 ghost use Rattle.hs_base.specs.declared.limits.TheConstants.{MAX_BUFFERS, MAX_OPERATIONS, MAX_SIZE, MIN_SIZE};
 ghost use Rattle.hs_records.specs.Records.{AreBracketed};
 ghost use Rattle.hs_workload.specs.Views.{operation_of, workload_of};
@@ -12,6 +12,7 @@ ghost use Rattle.hs_ledger.specs.Fates.{entries_of as book_entries_of};
 ghost use Rattle.hs_ledger.specs.Totals.{totals_of};
 ghost use Rattle.hs_replay.specs.Fates.{entries_of};
 ghost use Rattle.hs_replay.specs.PlainBooks.{ArePlainBooks};
+ghost use Rattle.hs_replay.specs.Replayable.{can_replay};
 
 use crate::player::Player;
 use hs_base::{List, Memory};
@@ -28,11 +29,12 @@ pub struct Outcome {
     pub ledger: Ledger,
 }
 
-/// Replays a workload of one client. Page k of the client draws buffer k with the stamp k, as long as there
-/// are buffers, and nothing is given back (`docs/RULES.md`, "The replay of one client"). The one error
+/// Replays a workload that this replay can run. Page k of its client draws buffer k with the stamp k, as long
+/// as there are buffers, and nothing is given back (`docs/RULES.md`, "The replay of one client"). The one error
 /// is want of memory.
 pub fn replay(alloc: Global, workload: &Workload) -> Result<Outcome, Memory>
-    requires { IsValid (workload_of workload.now) }
+    requires valid { IsValid (workload_of workload.now) }
+    requires can { can_replay (workload_of workload.now) ≡ true }
     ensures version { IfOk result (λ outcome. outcome.version ≡ workload.now.version) }
     ensures entries { IfOk result (λ outcome. outcome.ledger.entries.items ≡ entries_of (workload_of workload.now)) }
     ensures totals { IfOk result (λ outcome. outcome.ledger.totals ≡ totals_of (entries_of (workload_of workload.now))) }

@@ -11,13 +11,14 @@ const HEAD: &str =
     "hindsight 1\nnodes 1\nclients 1\nbuffers 1\nsize 64\nthreshold 1\ntraces 4\npins 4\nstride 8\nclient 0 0\n";
 
 /// Lines behind the head, and the refusal.
-const LINES: [(&str, &str); 18] = [
+const LINES: [(&str, &str); 19] = [
     ("begin 0000000000000001", "11 Truncated"),
     ("begin\t0000000000000001\n", "11 Byte"),
     ("\n", "11 Spaces"),
     (" end\n", "11 Spaces"),
     ("begin  0000000000000001\n", "11 Spaces"),
-    ("crumb 0\n", "11 Word"),
+    ("auto 0 exception 1\n", "11 Word"),
+    ("crumb 0\n", "11 NoTrace"),
     ("begin 0000000000000001 2\n", "11 Count"),
     ("begin 0000000000000001\npoint 07 aa\n", "12 Number"),
     ("begin 000000000000000A\n", "11 Hex"),
@@ -38,19 +39,19 @@ const LINES: [(&str, &str); 18] = [
 /// Heads, and the refusal.
 const HEADS: [(&str, &str); 11] = [
     ("hindsight 3\n", "1 Range"),
-    ("hindsight 1\nnodes 2\n", "2 Range"),
-    ("hindsight 1\nnodes 1\nclients 2\n", "3 Range"),
+    ("hindsight 1\nnodes 17\n", "2 Range"),
+    ("hindsight 1\nnodes 1\nclients 17\n", "3 Range"),
     ("hindsight 1\nnodes 1\nclients 1\nbuffers 1025\n", "4 Range"),
     (
         "hindsight 1\nnodes 1\nclients 1\nbuffers 2\nsize 63\n",
         "5 Range",
     ),
     (
-        "hindsight 1\nnodes 1\nclients 1\nbuffers 2\nsize 64\nthreshold 1\n",
+        "hindsight 1\nnodes 1\nclients 1\nbuffers 2\nsize 64\nthreshold 1025\n",
         "6 Range",
     ),
     (
-        "hindsight 1\nnodes 1\nclients 1\nbuffers 2\nsize 64\nthreshold 2\ntraces 1\n",
+        "hindsight 1\nnodes 1\nclients 1\nbuffers 2\nsize 64\nthreshold 0\ntraces 0\n",
         "7 Range",
     ),
     ("hindsight 1\nclients 1\n", "2 Word"),
@@ -60,9 +61,18 @@ const HEADS: [(&str, &str); 11] = [
         "10 Order",
     ),
     (
-        "hindsight 1\nnodes 1\nclients 1\nbuffers 1\nsize 64\nthreshold 1\ntraces 4\npins 4\nstride 8\ntriggerid 1 1 10 0\n",
-        "10 Word",
+        "hindsight 1\nnodes 1\nclients 1\nbuffers 1\nsize 64\nthreshold 1\ntraces 4\npins 4\nstride 8\nauto 0 exception 1\n",
+        "10 Unknown",
     ),
+];
+
+/// Workloads that the replay cannot run yet: two clients, a crumb, a threshold and a limit of traces below the
+/// buffers.
+const BEYOND: [&str; 4] = [
+    "hindsight 1\nnodes 1\nclients 2\nbuffers 1\nsize 64\nthreshold 1\ntraces 1\npins 0\nstride 1\nclient 0 0\nclient 0 1\ndone\n",
+    "hindsight 1\nnodes 1\nclients 1\nbuffers 1\nsize 64\nthreshold 1\ntraces 1\npins 0\nstride 1\nclient 0 0\nbegin 0000000000000001\ncrumb 0\nend\ndone\n",
+    "hindsight 1\nnodes 1\nclients 1\nbuffers 2\nsize 64\nthreshold 1\ntraces 2\npins 0\nstride 1\nclient 0 0\ndone\n",
+    "hindsight 1\nnodes 1\nclients 1\nbuffers 2\nsize 64\nthreshold 2\ntraces 1\npins 0\nstride 1\nclient 0 0\ndone\n",
 ];
 
 fn assert_refused<R: Threads + Sync + AllocGlobal + Abort>(
@@ -91,6 +101,19 @@ fn each_reason(rt: HostRuntime) -> Result<(), Fail> {
 fn bad_heads(rt: HostRuntime) -> Result<(), Fail> {
     for (input, want) in HEADS {
         assert_refused(&rt, input, want)?;
+    }
+    Ok(())
+}
+
+#[test]
+fn workloads_beyond_the_replay(rt: HostRuntime) -> Result<(), Fail> {
+    for input in BEYOND {
+        let (status, written) = replayed(&rt, input.as_bytes())?;
+        assert_eq!(rt; status, 3);
+        assert_eq!(rt;
+            written.as_slice(),
+            b"refused workload beyond replay\n".as_slice()
+        );
     }
     Ok(())
 }

@@ -1,6 +1,6 @@
-use Rattle.std.proofs.Common.{ℕ, List, sym, subst, refl}
+use Rattle.std.proofs.Common.{ℕ, List, inl, inr, sym, subst, refl}
 use Rattle.hs_cli.specs.Input.{ReadWhole}
-use Rattle.hs_cli.specs.Messages.{usage_text, too_long_text}
+use Rattle.hs_cli.specs.Messages.{usage_text, too_long_text, beyond_text}
 use Rattle.hs_cli.specs.Endings.{IsReplayed, IsRefused}
 use Rattle.hs_cli.specs.declared.status.Status.TheVariants.{Done, Usage, Refused, TooLong}
 use Rattle.hs_cli.proofs.EndingLemmas.{finished}
@@ -27,4 +27,10 @@ returns-in-Ok-Refusal g c =
     let left = g.S.Source.left in
     let whole = subst (λ (input : List ℕ). ReadWhole (left c.args.source.now) (left c.read_all.new.source) input) (sym c.deref.ensures.value) c.in-Whole.ensures.read.0 in
     let refused = subst (λ (text : List ℕ). IsRefused c.deref.result.now text) (sym c.deref-in-Ok-Refusal.ensures.value) (rw c.in-Ok-Refusal.field-0-is at c.in-Ok-Refusal.ensures) in
-    finished _ _ _ _ _ _ _ _ _ Refused c.finish-in-Ok-Refusal.result _ (c.if-not-is_command.ensures.0 refl, (c.deref.result.now, whole, refused)) c.in-Whole.ensures.read.1 c.finish-in-Ok-Refusal.ensures
+    finished _ _ _ _ _ _ _ _ _ Refused c.finish-in-Ok-Refusal.result _ (c.if-not-is_command.ensures.0 refl, (c.deref.result.now, whole, inl refused)) c.in-Whole.ensures.read.1 c.finish-in-Ok-Refusal.ensures
+
+pub returns-in-Ok-Beyond : goal.returns-in-Ok-Beyond
+returns-in-Ok-Beyond g c =
+    let left = g.S.Source.left in
+    let whole = subst (λ (input : List ℕ). ReadWhole (left c.args.source.now) (left c.read_all.new.source) input) (sym c.deref.ensures.value) c.in-Whole.ensures.read.0 in
+    finished _ _ _ _ _ _ _ _ _ Refused c.finish-in-Ok-Beyond.result beyond_text (c.if-not-is_command.ensures.0 refl, (c.deref.result.now, whole, inr (rw c.in-Ok-Beyond.field-0-is at c.in-Ok-Beyond.ensures))) c.in-Whole.ensures.read.1 c.finish-in-Ok-Beyond.ensures
