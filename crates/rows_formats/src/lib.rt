@@ -7,6 +7,8 @@ mod base;
 #[cfg(test)]
 mod journal;
 #[cfg(test)]
+mod make;
+#[cfg(test)]
 mod records;
 #[cfg(test)]
 mod text;

@@ -1,0 +1,73 @@
+//! What is made of a seed. The values were worked out from the definitions of the two generators, by a
+//! program of its own.
+
+use hs_base::TraceId;
+use hs_make::{MAX_REQUESTS, make_workload};
+use hs_workload::{Op, Workload};
+use std::test::Fail;
+
+/// Seeds, with the first word that each draws, and the client that serves its first request.
+const FIRST_WORDS: [(u64, u128, usize); 3] = [
+    (0, 0x5317_5d61_490b_23df, 3),
+    (1, 0xcfc5_d07f_6f03_c29b, 1),
+    (u64::MAX, 0x56cc_f8ce_948e_27b2, 0),
+];
+
+/// The operations of each client in three requests of seed 7.
+const THREE_REQUESTS: [usize; 12] = [9, 0, 0, 6, 4, 0, 0, 3, 5, 0, 0, 0];
+
+/// The payload of the only point of client 3 on node 1 there.
+const PAYLOAD: [u8; 11] = [
+    0xe1, 0xcf, 0xcf, 0x4d, 0x34, 0xbe, 0x41, 0x92, 0x17, 0x2c, 0x6b,
+];
+
+/// The operations in as many requests of seed 7 as may be.
+const MOST_REQUESTS: usize = 109_887;
+
+/// How many operations all clients have.
+fn count_operations(workload: &Workload) -> usize {
+    let mut count = 0usize;
+    for client in workload.clients.as_slice() {
+        count = count.saturating_add(client.len());
+    }
+    count
+}
+
+#[test]
+fn traces_are_first_words(rt: HostRuntime) -> Result<(), Fail> {
+    for (seed, word, client) in FIRST_WORDS {
+        let workload = make_workload(rt.alloc(), seed, 1)?;
+        let operations = workload.clients.get(client).ok_or("no client")?;
+        match operations.get(0).ok_or("no operation")? {
+            Op::Begin { trace } => assert_eq!(rt; *trace, TraceId(word), "seed {seed}"),
+            _ => assert!(rt; false, "not a begin"),
+        }
+    }
+    Ok(())
+}
+
+#[test]
+fn three_requests(rt: HostRuntime) -> Result<(), Fail> {
+    let workload = make_workload(rt.alloc(), 7, 3)?;
+    assert_eq!(rt; workload.clients.len(), 12);
+    for (place, want) in THREE_REQUESTS.iter().enumerate() {
+        let operations = workload.clients.get(place).ok_or("no client")?;
+        assert_eq!(rt; operations.len(), *want, "client {place}");
+    }
+    let operations = workload.clients.get(7).ok_or("no client")?;
+    match operations.get(1).ok_or("no operation")? {
+        Op::Point { moment, payload } => {
+            assert_eq!(rt; *moment, 1010);
+            assert_eq!(rt; payload.as_slice(), PAYLOAD.as_slice());
+        }
+        _ => assert!(rt; false, "not a point"),
+    }
+    Ok(())
+}
+
+#[test]
+fn most_requests(rt: HostRuntime) -> Result<(), Fail> {
+    let workload = make_workload(rt.alloc(), 7, MAX_REQUESTS)?;
+    assert_eq!(rt; count_operations(&workload), MOST_REQUESTS);
+    Ok(())
+}
