@@ -1,0 +1,65 @@
+//! What holds of the outcomes of lawful journals. These functions do nothing: their contracts say it.
+
+ghost use Rattle.hs_outcome.specs.Records.{EachRecordHasOneEntry, TotalsCountTheRecords, ReportsShowTheirTraces};
+ghost use Rattle.hs_outcome.specs.Causes.{AgentsKeepTheirModel, EvictedOnlyWhereOver, NoBufferIsOutTwice, EmptyOnlyWhereEmpty};
+ghost use Rattle.hs_outcome.specs.Versions.{VersionsHaveOneOutcome};
+
+use hs_lawful::laws::agents_come_by_events;
+use hs_model::laws::{
+    chunks_stand_by_their_claim, limits_hold, lists_have_their_chunks, traces_are_claimed_once,
+};
+use hs_records::pages_carry_the_records;
+
+/// A ledger has the records of the workload, each once and in their order.
+pub fn each_record_has_one_entry()
+    ensures { EachRecordHasOneEntry }
+{
+    pages_carry_the_records();
+}
+
+/// The five totals sum to the number of records.
+pub fn totals_count_the_records()
+    ensures { TotalsCountTheRecords }
+{
+    each_record_has_one_entry();
+}
+
+/// A report shows each record of its trace once, whole or as a gap, and both in order.
+pub fn reports_show_their_traces()
+    ensures { ReportsShowTheirTraces }
+{
+    each_record_has_one_entry();
+}
+
+/// The laws of the agent's model hold of each agent of a journal.
+pub fn agents_keep_their_model()
+    ensures { AgentsKeepTheirModel }
+{
+    lists_have_their_chunks();
+    limits_hold();
+    traces_are_claimed_once();
+    chunks_stand_by_their_claim();
+    agents_come_by_events();
+}
+
+/// No agent evicts at or below both limits.
+pub fn evicted_only_where_over()
+    ensures { EvictedOnlyWhereOver }
+{
+    agents_come_by_events();
+}
+
+/// A buffer that is got was given back as often as it was got before.
+pub fn no_buffer_is_out_twice()
+    ensures { NoBufferIsOutTwice }
+{}
+
+/// A draw finds nothing only where no buffer waits.
+pub fn empty_only_where_empty()
+    ensures { EmptyOnlyWhereEmpty }
+{}
+
+/// A workload comes to the same in either version.
+pub fn versions_have_one_outcome()
+    ensures { VersionsHaveOneOutcome }
+{}
