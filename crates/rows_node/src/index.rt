@@ -61,6 +61,14 @@ fn are_gone(
     }
 }
 
+/// Whether the last chunk has this number. Takes it out.
+fn pops(left: &mut List<Held<()>>, number: u32) -> bool {
+    match left.pop() {
+        Some(held) => held.chunk.number() == number,
+        None => false,
+    }
+}
+
 /// Whether the index has so many chunks and traces.
 fn holds(index: &TraceIndex<()>, chunks: u32, traces: u32) -> bool {
     index.chunks() == chunks && index.traces() == traces
@@ -116,7 +124,8 @@ fn chunks_of(alloc: Global) -> Result<List<Chunk>, Fail> {
     )
 }
 
-/// Chunks of the traces 1, 2, 1, 3, of which three may stay. The stock's last chunk comes first.
+/// Chunks of the traces 1, 2, 1, 3, of which three may stay. The stock's last chunk comes first. At the end those of trace 1
+/// are left, and behind them that of trace 3.
 #[test]
 fn eviction_takes_the_longest_untouched(rt: HostRuntime) -> Result<(), Fail> {
     let mut chunks = chunks_of(rt.alloc())?;
@@ -126,6 +135,9 @@ fn eviction_takes_the_longest_untouched(rt: HostRuntime) -> Result<(), Fail> {
     assert!(rt; is_none(arrive(&mut index, chunks.pop(), 1)));
     assert!(rt; are_gone(arrive(&mut index, chunks.pop(), 3), 1, 1022, 4, 3));
     assert!(rt; holds(&index, 3, 2));
+    let mut left = index.finish().ok().ok_or("memory")?;
+    assert!(rt; pops(&mut left, 1020) && pops(&mut left, 1021) && pops(&mut left, 1023));
+    assert!(rt; left.is_empty());
     Ok(())
 }
 

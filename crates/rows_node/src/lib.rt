@@ -9,3 +9,5 @@ mod index;
 mod pins;
 #[cfg(test)]
 mod sched;
+#[cfg(test)]
+mod shelf;
