@@ -1,2 +1,1 @@
 pub mod ClaimLemmas
-pub mod ShelfLemmas

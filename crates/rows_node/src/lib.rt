@@ -9,5 +9,3 @@ mod index;
 mod pins;
 #[cfg(test)]
 mod sched;
-#[cfg(test)]
-mod shelf;

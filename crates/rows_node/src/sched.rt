@@ -2,15 +2,12 @@
 
 ghost use Rattle.std.specs.Prelude.{◌≡◌, ◌+◌, ℕ, [], replicate, if◌then◌else◌, ◌==◌, IfOk, IsSome};
 ghost use Rattle.hs_base.specs.Rules.{AreRules};
-ghost use Rattle.hs_sched.specs.Turns.{share_of, shares_of, IsSchedule};
-ghost use Rattle.hs_sched.specs.Moving.{TurnMoves};
-ghost use Rattle.rows_node.specs.Shelves.{shelf_items};
+ghost use Rattle.hs_sched.specs.Turns.{share_of, shares_of};
 
-use crate::shelf::Shelf;
-use fixtures::greatest_rules;
+use fixtures::{Shelf, greatest_rules, turn_shelf};
 use hs_base::limits::{MAX_SIZE, MAX_TRIGGER};
 use hs_base::{List, Memory, TriggerId, TriggerRule};
-use hs_sched::{Queues, Scheduler, turns_move_items, visits_are_fair};
+use hs_sched::{Queues, Scheduler, visits_are_fair};
 use std::alloc::Global;
 use std::collections::VecDeque;
 use std::test::Fail;
@@ -86,16 +83,6 @@ fn turns_share_by_weight(rt: HostRuntime) -> Result<(), Fail> {
     Ok(())
 }
 
-/// A turn over a shelf. Its sends move, id after id, what each visit pays for from the front.
-fn turn(scheduler: &mut Scheduler, shelf: &mut Shelf)
-    requires schedule { IsSchedule scheduler.old }
-    requires size { scheduler.old.size ≡ 64 }
-    ensures { TurnMoves shelf_items scheduler.old shelf.old shelf.new }
-{
-    scheduler.turn(shelf);
-    turns_move_items::<Shelf, u32>();
-}
-
 /// The costs that wait for the ids 1 and 2.
 const ONE: [u32; 3] = [44, 45, 46];
 
@@ -117,7 +104,7 @@ fn a_turn_moves_the_first_items(rt: HostRuntime) -> Result<(), Fail> {
     assert!(rt; one.len() < 4 && two.len() < 4);
     let sent = List::with_room(rt.alloc(), 8)?;
     let mut shelf = Shelf { one, two, sent };
-    turn(&mut scheduler, &mut shelf);
+    turn_shelf(&mut scheduler, &mut shelf);
     assert_eq!(rt; shelf.sent.as_slice(), [44, 45, 50].as_slice());
     assert_eq!(rt; shelf.one.len(), 1);
     assert_eq!(rt; shelf.two.len(), 1);
