@@ -1,0 +1,59 @@
+-- What is known as the drawers of a locked pool are closed.
+use Rattle.std.proofs.Common.{◌≡◌, ℕ, suc, ◌+◌, List, [], ◌∷◌, ◌++◌, length, refl, sym, ap, ◌∙◌, subst, arith, length-append}
+use Rattle.atomic_table.specs.Seated.{TableId}
+use Rattle.atomic_table.specs.Table.{Joins}
+use Rattle.hs_words.specs.Pools.{PoolName}
+use Rattle.hs_ring.specs.Parts.{Drawing, AreInOrder, answers_of_all}
+use Rattle.hs_ring.specs.Seats.{name_of}
+use Rattle.hs_locked.specs.Views.{nothing, Post, bare, away, View, nobody, giving, drawing, desk_of, post_of, having_closed}
+use Rattle.hs_locked.specs.Rule.{Plan, Locked}
+use Rattle.hs_locked.specs.Seats.{Place, IsFree, drawing_of}
+use Rattle.hs_locked.specs.Making.{closed_post}
+use Rattle.hs_locked.proofs.Owed.{Mine, closes_at}
+
+-- ---- names
+
+-- the table with this name
+back : PoolName → TableId
+back (w ∷ s ∷ v ∷ a ∷ b ∷ o ∷ names) = record { words = w; slots = s; views_name = v; atom = a; block = b; offset = o; slot_names = names }
+back _ = record { words = 0; slots = 0; views_name = 0; atom = 0; block = 0; offset = 0; slot_names = [] }
+
+back_name : (t : TableId) → back (name_of t) ≡ t
+unfolding back
+back_name t = refl
+
+-- two tables with one name are one
+pub one_table : (t u : TableId) → name_of t ≡ name_of u → t ≡ u
+one_table t u e = sym (back_name t) ∙ ap back e ∙ back_name u
+
+-- ---- the drawers, the last first
+
+pub answers_length : (drawers : List Drawing) → length (answers_of_all drawers) ≡ length drawers
+answers_length [] = refl
+answers_length (x ∷ xs) = ap suc (answers_length xs)
+
+in_order_at : (pool : PoolName) (number : ℕ) (xs : List Drawing) (d : Drawing) (done : List Drawing) → AreInOrder pool number ((xs ++ d ∷ []) ++ done) → (d.pool ≡ pool) × (d.number ≡ number + length xs)
+in_order_at pool number [] d done order = (order.0, (let e = order.1 in omega arith))
+in_order_at pool number (x ∷ xs) d done order = let r = in_order_at pool (suc number) xs d done order.2 in (r.0, (let e = r.1 in omega arith))
+
+-- the last drawer that is still open
+pub record IsLast (table : TableId) (seat : Place) (closed made : ℕ) : Type 0 where
+  pub table_is : seat.table_id ≡ table
+  pub last : suc (desk_of seat.me.0).number + closed ≡ made
+
+pub is_last : (table : TableId) (seat : Place) (all xs : List Drawing) (d : Drawing) (done : List Drawing) (post first : Post) → AreInOrder (name_of table) 0 all → length all ≡ first.made
+    → (xs ++ d ∷ []) ++ done ≡ all → post ≡ closed_post first (answers_of_all done) → drawing_of seat.table_id (desk_of seat.me.0) ≡ d → IsLast table seat (length post.closed) post.made
+is_last table seat all xs d done post first order many parts post_is view =
+    let here = in_order_at (name_of table) 0 xs d done (subst (AreInOrder (name_of table) 0) (sym parts) order) in
+    let number : (desk_of seat.me.0).number ≡ 0 + length xs = ap (λ (x : Drawing). x.number) view ∙ here.1 in
+    let closed : length post.closed ≡ length done = ap (λ (p : Post). length p.closed) post_is ∙ answers_length done in
+    let made : post.made ≡ first.made = ap (λ (p : Post). p.made) post_is in
+    record {
+      table_is = one_table seat.table_id table (ap (λ (x : Drawing). x.pool) view ∙ here.0);
+      last = (let l = ap (λ (l : List Drawing). length l) parts in let a = length-append (xs ++ d ∷ []) done in let b = length-append xs (d ∷ []) in omega arith);
+    }
+
+pub closes_last : (plan : Plan) (table : TableId) (s seat : Place) → IsFree s → seat.me ≡ (drawing (desk_of seat.me.0) nothing away, []) → IsLast table seat (length (post_of s.me.0).closed) (post_of s.me.0).made
+    → Joins (Locked plan) s.id s.me.0 seat.id seat.me.0 (having_closed s.me.0 seat.me.0) nobody
+closes_last plan table s seat free idle last =
+    closes_at plan s.id s.me.0 (post_of s.me.0) seat.id seat.me.0 (desk_of seat.me.0) (ap (λ (m : Mine). m.0) free) (ap (λ (m : Mine). m.0) idle) last.last

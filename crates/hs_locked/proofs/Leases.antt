@@ -1,0 +1,205 @@
+-- A drawer makes a lease of the buffer that it got, and the giver takes a lease back.
+use Rattle.std.proofs.Common.{◌≡◌, ◌≢◌, ℕ, suc, ◌+◌, ◌*◌, ◌≤◌, [], ◌∷◌, ◌++◌, length, set, refl, sym, ap, ◌∙◌, subst, ⊎_elim, arith, length-set}
+use mathlib.Core.Option.{some}
+use lib.ListN.{get_elem?}
+use Rattle.atomic_table.specs.Table.{Splits, Joins}
+use Rattle.atomic_table.proofs.Lists.{at_set, set_else}
+use Rattle.hs_locked.specs.Views.{Desk, Hand, nothing, kept, Post, bare, holds, away, View, nobody, drawing, leasing, giving, all_left, total}
+use Rattle.hs_locked.specs.Rule.{Plan, Spot, waits, with_drawer, leased, with_giver, Facts, queue_of, gots_in, HasLease, HandOk, DeskOk, PostOk, Knows, Kept, Locked}
+use Rattle.hs_locked.proofs.Updates.{put, put_cases, put_here, put_else, left_set, left_and}
+use Rattle.hs_locked.proofs.Stays.{IsEnd, drawers_end, givers_end, Moves, facts_after, hand_stays, in_palm_stays, knows_stays, reseated, seated_too}
+use Rattle.hs_locked.proofs.Turns.{St}
+
+-- ---- a lease is made
+
+module _ (plan : Plan) (s : St) (f : Facts) (k : Kept plan s f) (id : ℕ) (desk : Desk) (b t : ℕ) (at : get_elem? s.views id ≡ some (drawing desk (kept b t) away)) where
+  abbrev d₀ : ℕ
+  d₀ = desk.number
+
+  abbrev new : ℕ
+  new = length s.views
+
+  own : DeskOk plan f id desk (kept b t) away
+  own = k.each_seat id (drawing desk (kept b t) away) at
+
+  ender : IsEnd f id (suc d₀)
+  ender = drawers_end plan f id desk (kept b t) away own
+
+  had : HandOk plan.buffers f.log f.spots d₀ (kept b t)
+  had = subst (HandOk plan.buffers f.log f.spots d₀) own.hand_is (k.each_hand d₀)
+
+  abbrev spots' : ℕ → Spot
+  spots' = put f.spots b (leased new)
+
+  abbrev hands' : ℕ → Hand
+  hands' = put f.hands d₀ nothing
+
+  abbrev after_lease : Facts
+  after_lease = facts_after f [] f.tickets f.holder f.stored f.slot f.stands spots' hands' f.palm
+
+  not_b : (b' : ℕ) → f.spots b' ≢ with_drawer d₀ → b' ≢ b
+  not_b b' far same = far (ap f.spots same ∙ had.0)
+
+  lease_moves : Moves f [] f.stands spots' hands' f.palm (suc d₀) (with_drawer d₀)
+  lease_moves =
+      record {
+        by = tt;
+        names = λ _ _. tt;
+        spots_stay = λ b' far. put_else f.spots b (leased new) b' (not_b b' far);
+        hands_stay = λ d other. put_else f.hands d₀ nothing d (λ same. other (ap suc same));
+        stands_stay = λ _ _. refl;
+        palm_stays = λ _. refl;
+      }
+
+  lease_desk : DeskOk plan after_lease id desk nothing away
+  lease_desk =
+      record {
+        buffers = own.buffers;
+        size = own.size;
+        active = own.active;
+        seat = own.seat;
+        hand_is = put_here f.hands d₀ nothing;
+        stand_is = own.stand_is;
+        answers = own.answers;
+        floor = own.floor;
+      }
+
+  lease_hands : (d : ℕ) → HandOk plan.buffers f.log spots' d (hands' d)
+  lease_hands d =
+      put_cases (HandOk plan.buffers f.log spots' d) f.hands d₀ nothing d
+      (λ same. tt)
+      (λ other. hand_stays plan f [] f.tickets f.holder f.stored f.slot f.stands spots' hands' f.palm (suc d₀) (with_drawer d₀) lease_moves d (λ e. other cc) (f.hands d) (k.each_hand d))
+
+  lease_seats : (j : ℕ) (v : View) → get_elem? (set s.views id (drawing desk nothing away) ++ leasing b t ∷ []) j ≡ some v → Knows plan after_lease j v
+  lease_seats = seated_too plan after_lease (set s.views id (drawing desk nothing away)) (leasing b t)
+      (put_here f.spots b (leased new) ∙ ap leased (sym (length-set s.views id (drawing desk nothing away))), had.1, had.2, had.3)
+      (reseated plan after_lease s.views id (drawing desk nothing away) lease_desk
+      (λ j v far seen. knows_stays plan f [] f.tickets f.holder f.stored f.slot f.stands spots' hands' f.palm (suc d₀) (with_drawer d₀) lease_moves id ender j far (λ e. cc) v (k.each_seat j v seen)))
+
+  lease_queue : (i buffer : ℕ) → get_elem? (queue_of plan.buffers f.log) i ≡ some buffer → spots' buffer ≡ waits (gots_in f.log + i)
+  lease_queue i buffer seen = let was = k.each_queued i buffer seen in lease_moves.spots_stay buffer (λ e. let both = sym was ∙ e in absurd cc) ∙ was
+
+  pub lease_kept : Kept plan record { words = s.words; homes = s.homes; views = set s.views id (drawing desk nothing away) ++ leasing b t ∷ [] } after_lease
+  lease_kept =
+      record {
+        within = k.within;
+        homes = k.homes;
+        words = k.words;
+        taken = k.taken;
+        turn = k.turn;
+        ahead = k.ahead;
+        store_ok = k.store_ok;
+        slot_ok = k.slot_ok;
+        spent = k.spent;
+        each_queued = lease_queue;
+        each_hand = lease_hands;
+        in_palm = in_palm_stays plan f [] f.tickets f.holder f.stored f.slot f.stands spots' hands' f.palm (suc d₀) (with_drawer d₀) lease_moves (λ e. cc) f.palm k.in_palm;
+        each_stand = k.each_stand;
+        left =
+            (let e = left_set s.views id (drawing desk (kept b t) away) (drawing desk nothing away) at in
+            let a = left_and (set s.views id (drawing desk nothing away)) (leasing b t) in
+            let l = k.left in
+            let r : f.tickets + all_left (set s.views id (drawing desk nothing away) ++ leasing b t ∷ []) ≤ 2 * total plan.allowances = omega arith in
+            r);
+        all_made = k.all_made;
+        still_open = k.still_open;
+        gone = λ d high. (lease_moves.hands_stay d (λ e. let a = own.active in omega arith) ∙ (k.gone d high).0, (k.gone d high).1);
+        each_seat = lease_seats;
+      }
+
+pub leases : (plan : Plan) (id : ℕ) (desk : Desk) (b t : ℕ) → Splits (Locked plan) id (drawing desk (kept b t) away) (drawing desk nothing away) (leasing b t)
+leases plan id desk b t s (f, k) at = (_, lease_kept plan s f k id desk b t at)
+
+-- ---- a lease comes back
+
+module _ (plan : Plan) (s : St) (f : Facts) (k : Kept plan s f) (id : ℕ) (post : Post) (other b t : ℕ) (at : get_elem? s.views id ≡ some (giving post bare away)) (differ : ¬ (other ≡ id))
+    (lease_at : get_elem? (set s.views id (giving post (holds b t) away)) other ≡ some (leasing b t)) where
+  abbrev n : ℕ
+  n = plan.buffers
+
+  abbrev w : View
+  w = giving post (holds b t) away
+
+  ours : PostOk plan f id post bare away
+  ours = k.each_seat id (giving post bare away) at
+
+  giver_end : IsEnd f id 0
+  giver_end = givers_end plan f id post bare away ours
+
+  has : HasLease n f.log f.spots b t (leased other)
+  has = k.each_seat other (leasing b t) (sym (set_else s.views id other w differ) ∙ lease_at)
+
+  abbrev spots₁ : ℕ → Spot
+  spots₁ = put f.spots b with_giver
+
+  abbrev after_take : Facts
+  after_take = facts_after f [] f.tickets f.holder f.stored f.slot f.stands spots₁ f.hands (holds b t)
+
+  take_moves : Moves f [] f.stands spots₁ f.hands (holds b t) 0 (leased other)
+  take_moves =
+      record {
+        by = tt;
+        names = λ _ _. tt;
+        spots_stay = λ b' far. put_else f.spots b with_giver b' (λ same. far (ap f.spots same ∙ has.0));
+        hands_stay = λ _ _. refl;
+        stands_stay = λ _ _. refl;
+        palm_stays = λ no. absurd (no refl);
+      }
+
+  take_post : PostOk plan after_take id post (holds b t) away
+  take_post =
+      record {
+        buffers = ours.buffers;
+        size = ours.size;
+        seat = ours.seat;
+        palm_is = refl;
+        stand_is = ours.stand_is;
+        made = ours.made;
+        closed = ours.closed;
+        closed_answers = ours.closed_answers;
+        answers = ours.answers;
+        floor = ours.floor;
+        unread = ours.unread;
+      }
+
+  take_seats : (j : ℕ) (v : View) → get_elem? (set (set s.views id w) other nobody) j ≡ some v → Knows plan after_take j v
+  take_seats = reseated plan after_take (set s.views id w) other nobody tt
+      (λ j v away_from seen. ⊎_elim
+      (λ (here : (j ≡ id) × (w ≡ v)). subst (λ (x : View). Knows plan after_take j x) here.1 (subst (λ (i : ℕ). Knows plan after_take i w) (sym here.0) take_post))
+      (λ (else : (j ≢ id) × (get_elem? s.views j ≡ some v)).
+      knows_stays plan f [] f.tickets f.holder f.stored f.slot f.stands spots₁ f.hands (holds b t) 0 (leased other) take_moves id giver_end j else.0 (λ e. away_from cc) v (k.each_seat j v else.1))
+      (at_set s.views id j w v seen))
+
+  take_queue : (i buffer : ℕ) → get_elem? (queue_of n f.log) i ≡ some buffer → spots₁ buffer ≡ waits (gots_in f.log + i)
+  take_queue i buffer seen = let was = k.each_queued i buffer seen in take_moves.spots_stay buffer (λ e. let both = sym was ∙ e in absurd cc) ∙ was
+
+  pub take_kept : Kept plan record { words = s.words; homes = s.homes; views = set (set s.views id w) other nobody } after_take
+  take_kept =
+      record {
+        within = k.within;
+        homes = k.homes;
+        words = k.words;
+        taken = k.taken;
+        turn = k.turn;
+        ahead = k.ahead;
+        store_ok = k.store_ok;
+        slot_ok = k.slot_ok;
+        spent = k.spent;
+        each_queued = take_queue;
+        each_hand = λ d. hand_stays plan f [] f.tickets f.holder f.stored f.slot f.stands spots₁ f.hands (holds b t) 0 (leased other) take_moves d (λ e. cc) (f.hands d) (k.each_hand d);
+        in_palm = (put_here f.spots b with_giver, has.1, has.2, has.3);
+        each_stand = k.each_stand;
+        left =
+            (let e = left_set s.views id (giving post bare away) w at in
+            let e' = left_set (set s.views id w) other (leasing b t) nobody lease_at in
+            let l = k.left in
+            let r : f.tickets + all_left (set (set s.views id w) other nobody) ≤ 2 * total plan.allowances = omega arith in
+            r);
+        all_made = k.all_made;
+        still_open = k.still_open;
+        gone = k.gone;
+        each_seat = take_seats;
+      }
+
+pub takes_lease : (plan : Plan) (id : ℕ) (post : Post) (other b t : ℕ) → Joins (Locked plan) id (giving post bare away) other (leasing b t) (giving post (holds b t) away) nobody
+takes_lease plan id post other b t s (f, k) at differ lease_at = (_, take_kept plan s f k id post other b t at differ lease_at)

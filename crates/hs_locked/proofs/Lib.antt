@@ -1,0 +1,12 @@
+mod Updates
+mod Stores
+mod Stays
+mod Turns
+mod Events
+mod Leases
+mod Meets
+mod Life
+mod Owed
+mod Making
+mod Closings
+mod Seating

@@ -1,0 +1,174 @@
+-- The rule of the table of a locked pool. Word 0 is how many tickets were taken, word 1 how many turns are over. Each turn is one
+-- event of the pool, so the number of a ticket is the stamp of its event. Slot 0 is the store, at home or with the end whose
+-- turn it is.
+use Rattle.std.specs.Prelude.{◌≡◌, ℕ, suc, ◌+◌, ◌*◌, ◌<◌, ◌≤◌, List, [], length, reverse, slice_index, count_by}
+use Rattle.std.specs.List.{AllByRecursion}
+use mathlib.Core.Option.{some, none}
+use mathlib.Core.Option as maybe
+use lib.ListN.{get_elem?}
+use Rattle.atomic_table.specs.Table.{State}
+use Rattle.hs_base.specs.declared.limits.TheConstants.{MAX_BUFFERS, MAX_OPERATIONS}
+use Rattle.hs_words.specs.PoolHistory.{queue_after}
+use Rattle.hs_words.specs.Ends.{Deed, events_of, answers_by, answers_in, is_any_got, IsGot, NoneSince, EachSpends, EachUnread, AreAnswers, Counts}
+use Rattle.hs_pool.specs.Pool.{IsAfter, HasSize}
+use Rattle.hs_locked.specs.declared.store.Store.{Store}
+use Rattle.hs_locked.specs.Views.{Desk, Hand, nothing, kept, Post, Palm, bare, holds, Stand, away, queued, inside, closing, View, nobody, drawing, leasing, giving, drawer_note, giver_note, total, all_left}
+
+-- how many buffers there are, their size, and the allowances of the drawers
+pub record Plan : Type 0 where
+  pub buffers : ℕ
+  pub size : ℕ
+  pub allowances : List ℕ
+
+-- A buffer's one place: in the queue, with the number that it leaves under, counting all that leave from 0; with a drawer; with
+-- the lease of a seat; with the giver.
+pub data Spot : Type 0 where
+  waits : ℕ → Spot
+  with_drawer : ℕ → Spot
+  leased : ℕ → Spot
+  with_giver : Spot
+
+-- the store is in its slot, or with an end
+pub data Slot : Type 0 where
+  home : Slot
+  out : ℕ → Slot
+
+-- what the rule knows beside the table: all deeds, the tickets and the end that has each, the store as it was when it was in its
+-- slot, the places, what each end has in hand and how it stands, their seats, how many drawers were made, and how many of
+-- these are not closed. End 0 is the giver, and end d + 1 the drawer d.
+pub record Facts : Type 0 where
+  pub log : List Deed
+  pub tickets : ℕ
+  pub holder : ℕ → ℕ
+  pub stored : Store
+  pub slot : Slot
+  pub stands : ℕ → Stand
+  pub spots : ℕ → Spot
+  pub hands : ℕ → Hand
+  pub seats : ℕ → ℕ
+  pub palm : Palm
+  pub giver : ℕ
+  pub made : ℕ
+  pub opened : ℕ
+
+abbrev pub queue_of : ℕ → List Deed → List ℕ
+queue_of n log = queue_after n (events_of log)
+
+-- how many buffers left the queue
+abbrev pub gots_in : List Deed → ℕ
+gots_in log = count_by is_any_got (events_of log)
+
+-- ---- the store
+
+-- The store is as these deeds leave it.
+pub record StoreOk (plan : Plan) (log : List Deed) (store : Store) : Type 0 where
+  pub buffers : store.pool.buffers ≡ plan.buffers
+  pub after : IsAfter (reverse (events_of log)) store.pool
+  pub sized : HasSize plan.size store.pool
+  pub counted : Counts log store.tally
+  pub none_missed : store.tally.misses ≡ 0
+
+abbrev pub HasTheStore : Stand → Type 0
+HasTheStore away = ⊥
+HasTheStore (queued ticket) = ⊥
+HasTheStore (inside store) = Unit {0}
+HasTheStore (closing store) = Unit {0}
+
+abbrev pub SlotOk : maybe.Option (maybe.Option Store) → Store → (ℕ → Stand) → Slot → Type 0
+SlotOk place stored stands home = place ≡ some (some stored)
+SlotOk place stored stands (out end) = HasTheStore (stands end)
+
+-- ---- the lock
+
+module _ (f : Facts) (end : ℕ) where
+  abbrev pub StandOk : Stand → Type 0
+  StandOk away = Unit {0}
+  StandOk (queued ticket) = (f.holder ticket ≡ end) × (length f.log ≤ ticket) × (ticket < f.tickets)
+  StandOk (inside store) = (f.holder (length f.log) ≡ end) × (length f.log < f.tickets) × (f.slot ≡ out end) × (store ≡ f.stored)
+  StandOk (closing store) = (f.opened ≡ 0) × (end ≡ 0) × (f.slot ≡ out end) × (store ≡ f.stored)
+
+-- ---- hands
+
+abbrev pub HasLease : ℕ → List Deed → (ℕ → Spot) → ℕ → ℕ → Spot → Type 0
+HasLease n log spots buffer draw spot = (spots buffer ≡ spot) × IsGot log draw buffer × NoneSince buffer draw log × (buffer < n)
+
+abbrev pub HandOk : ℕ → List Deed → (ℕ → Spot) → ℕ → Hand → Type 0
+HandOk n log spots drawer nothing = Unit {0}
+HandOk n log spots drawer (kept buffer stamp) = HasLease n log spots buffer stamp (with_drawer drawer)
+
+abbrev pub PalmOk : ℕ → List Deed → (ℕ → Spot) → Palm → Type 0
+PalmOk n log spots bare = Unit {0}
+PalmOk n log spots (holds buffer draw) = HasLease n log spots buffer draw with_giver
+
+-- ---- views
+
+-- what the seat j knows is true
+module _ (plan : Plan) (f : Facts) (j : ℕ) where
+  pub record DeskOk (desk : Desk) (hand : Hand) (stand : Stand) : Type 0 where
+    pub buffers : desk.buffers ≡ plan.buffers
+    pub size : desk.size ≡ plan.size
+    pub active : desk.number < f.opened
+    pub seat : f.seats desk.number ≡ j
+    pub hand_is : f.hands desk.number ≡ hand
+    pub stand_is : f.stands (suc desk.number) ≡ stand
+    pub answers : desk.answers ≡ answers_by (suc desk.number) f.log
+    pub floor : desk.floor ≤ length f.log
+
+  pub record PostOk (post : Post) (palm : Palm) (stand : Stand) : Type 0 where
+    pub buffers : post.buffers ≡ plan.buffers
+    pub size : post.size ≡ plan.size
+    pub seat : f.giver ≡ j
+    pub palm_is : f.palm ≡ palm
+    pub stand_is : f.stands 0 ≡ stand
+    pub made : post.made ≡ f.made
+    pub closed : f.opened + length post.closed ≡ f.made
+    pub closed_answers : AreAnswers (suc f.opened) f.log post.closed
+    pub answers : answers_in post.turns ≡ answers_by 0 f.log
+    pub floor : post.floor ≤ length f.log
+    pub unread : EachUnread plan.buffers f.log post.turns
+
+  abbrev pub Knows : View → Type 0
+  Knows nobody = Unit {0}
+  Knows (drawing desk hand stand) = DeskOk desk hand stand
+  Knows (leasing buffer draw) = HasLease plan.buffers f.log f.spots buffer draw (leased j)
+  Knows (giving post palm stand) = PostOk post palm stand
+  Knows (drawer_note floor stamps) = floor ≤ length f.log
+  Knows (giver_note floor) = floor ≤ length f.log
+
+-- ---- the whole
+
+pub record Within (plan : Plan) : Type 0 where
+  pub some_there : 1 ≤ plan.buffers
+  pub few : plan.buffers ≤ MAX_BUFFERS
+  pub draws : total plan.allowances ≤ MAX_OPERATIONS
+
+pub record Kept (plan : Plan) (s : State Store View) (f : Facts) : Type 0 where
+  pub within : Within plan
+  pub homes : length s.homes ≡ 1
+  pub words : length s.words ≡ 2
+  pub taken : slice_index s.words 0 ≡ f.tickets
+  pub turn : slice_index s.words 1 ≡ length f.log
+  pub ahead : length f.log ≤ f.tickets
+  pub store_ok : StoreOk plan f.log f.stored
+  pub slot_ok : SlotOk (get_elem? s.homes 0) f.stored f.stands f.slot
+  pub spent : EachSpends f.log
+  pub each_queued : (i buffer : ℕ) → get_elem? (queue_of plan.buffers f.log) i ≡ some buffer → f.spots buffer ≡ waits (gots_in f.log + i)
+  pub each_hand : (drawer : ℕ) → HandOk plan.buffers f.log f.spots drawer (f.hands drawer)
+  pub in_palm : PalmOk plan.buffers f.log f.spots f.palm
+  pub each_stand : (end : ℕ) → StandOk f end (f.stands end)
+  pub left : f.tickets + all_left s.views ≤ 2 * total plan.allowances
+  pub all_made : AllByRecursion (λ (deed : Deed). deed.by ≤ f.made) f.log
+  pub still_open : f.opened ≤ f.made
+  -- a drawer that is not made yet, or closed, has nothing and waits for nothing
+  pub gone : (drawer : ℕ) → f.opened ≤ drawer → (f.hands drawer ≡ nothing) × (f.stands (suc drawer) ≡ away)
+  pub each_seat : (j : ℕ) (v : View) → get_elem? s.views j ≡ some v → Knows plan f j v
+
+abbrev pub Locked : Plan → State Store View → Type 0
+Locked plan s = (f : Facts) × Kept plan s f
+
+-- the giver's seat before any drawer is made
+abbrev pub first_post : Plan → Post
+first_post plan = record { buffers = plan.buffers; size = plan.size; spare = plan.allowances; made = 0; closed = []; floor = 0; turns = [] }
+
+abbrev pub first_view : Plan → View
+first_view plan = giving (first_post plan) bare away

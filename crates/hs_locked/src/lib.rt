@@ -1,0 +1,19 @@
+//! The pool of a node between threads, behind a ticket lock: the simple way to share a pool, kept as the ring's yardstick
+//! (`docs/RULES.md`, "The locked pool").
+#![tactic(auto)]
+
+mod board;
+mod closing;
+mod drawer;
+mod giver;
+mod lease;
+mod lock;
+mod plays;
+mod pool;
+mod store;
+
+pub use closing::close;
+pub use drawer::LockedDrawer;
+pub use giver::LockedGiver;
+pub use lease::LockedLease;
+pub use pool::LockedPool;
