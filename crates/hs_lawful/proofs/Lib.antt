@@ -3,3 +3,5 @@ pub mod Decided
 pub mod Events
 pub mod Steps
 pub mod Orders
+pub mod Logs
+pub mod Extending

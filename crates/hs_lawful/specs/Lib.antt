@@ -9,6 +9,7 @@ pub mod Pace
 pub mod Lawful
 pub mod Laws
 pub mod Orders
+pub mod Extending
 pub mod Samples
 pub mod Workloads
 pub mod Journals

@@ -2,6 +2,7 @@
 
 ghost use Rattle.hs_lawful.specs.Laws.{HistoriesAreDecided, LawfulIsDecided, AgentsComeByEvents};
 ghost use Rattle.hs_lawful.specs.Orders.{FollowingPlaysOut, OrdersAgree, DoneIsAtRest};
+ghost use Rattle.hs_lawful.specs.Extending.{JournalsGoOn, RunsAreOfTheJournal, StepsAreNoted};
 
 use hs_model::laws::{events_go_on, steps_say_what_they_tell};
 
@@ -41,4 +42,21 @@ pub fn orders_agree()
 /// Where no step is left, none is ready.
 pub fn done_is_at_rest()
     ensures { DoneIsAtRest }
+{}
+
+/// What was performed of a journal is performed of one that goes on behind it, with more left.
+pub fn journals_go_on()
+    ensures { JournalsGoOn }
+{
+    following_plays_out();
+}
+
+/// The nodes of a run are those of its journal: what was performed of a log and what is left are that log.
+pub fn runs_are_of_the_journal()
+    ensures { RunsAreOfTheJournal }
+{}
+
+/// A step is noted in the log of its agent, and leaves what the clients of its node send.
+pub fn steps_are_noted()
+    ensures { StepsAreNoted }
 {}
