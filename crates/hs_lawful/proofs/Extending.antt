@@ -39,12 +39,12 @@ module _ {X Y : Type 0} (f : X → Y) where
   map_set (y ∷ xs) (suc i) x = ap (λ rest. f y ∷ rest) (map_set xs i x)
 
 module _ {X : Type 0} (P : X → Type 0) where
-  all_set : (xs : List X) (i : ℕ) (x : X) → AllByRecursion P xs → P x → AllByRecursion P (set xs i x)
+  pub all_set : (xs : List X) (i : ℕ) (x : X) → AllByRecursion P xs → P x → AllByRecursion P (set xs i x)
   all_set [] i x all h = tt
   all_set (y ∷ xs) zero x all h = (h, all.1)
   all_set (y ∷ xs) (suc i) x all h = (all.0, all_set xs i x all.1 h)
 
-  all_get : (xs : List X) (i : ℕ) (x : X) → AllByRecursion P xs → slice_get xs i ≡ Some x → P x
+  pub all_get : (xs : List X) (i : ℕ) (x : X) → AllByRecursion P xs → slice_get xs i ≡ Some x → P x
   all_get [] i x all h = let no : None ≡ Some x = h in absurd cc
   all_get (y ∷ xs) zero x all h = subst P (some_same y x h) all.0
   all_get (y ∷ xs) (suc i) x all h = all_get xs i x all.1 h

@@ -5,3 +5,4 @@ pub mod Steps
 pub mod Orders
 pub mod Logs
 pub mod Extending
+pub mod Supplied

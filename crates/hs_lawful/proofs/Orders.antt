@@ -20,7 +20,7 @@ use Rattle.std.specs.Prelude.{count_by}
 
 -- ---- places
 
-same_or : (i j : ℕ) → (i ≡ j) ⊎ (i ≢ j)
+pub same_or : (i j : ℕ) → (i ≡ j) ⊎ (i ≢ j)
 same_or zero zero = inl refl
 same_or zero (suc j) = inr (λ e. let no : zero ≡ suc j = e in absurd (omega (arith, no)))
 same_or (suc i) zero = inr (λ e. let no : suc i ≡ zero = e in absurd (omega (arith, no)))

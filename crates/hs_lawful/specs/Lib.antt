@@ -13,6 +13,7 @@ pub mod Extending
 pub mod Samples
 pub mod Workloads
 pub mod Journals
+pub mod Supply
 pub mod FollowingExamples
 pub mod LawfulExamples
 pub mod UnlawfulExamples

@@ -3,6 +3,7 @@
 ghost use Rattle.hs_lawful.specs.Laws.{HistoriesAreDecided, LawfulIsDecided, AgentsComeByEvents};
 ghost use Rattle.hs_lawful.specs.Orders.{FollowingPlaysOut, OrdersAgree, DoneIsAtRest};
 ghost use Rattle.hs_lawful.specs.Extending.{JournalsGoOn, RunsAreOfTheJournal, StepsAreNoted};
+ghost use Rattle.hs_lawful.specs.Supply.{NothingIsTakenUnsent};
 
 use hs_model::laws::{events_go_on, steps_say_what_they_tell};
 
@@ -60,3 +61,10 @@ pub fn runs_are_of_the_journal()
 pub fn steps_are_noted()
     ensures { StepsAreNoted }
 {}
+
+/// No agent has taken more than was sent to it, and the coordinator has heard no more than was said.
+pub fn nothing_is_taken_unsent()
+    ensures { NothingIsTakenUnsent }
+{
+    steps_say_what_they_tell();
+}

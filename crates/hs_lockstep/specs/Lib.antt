@@ -1,3 +1,4 @@
 pub mod Lockstep
 pub mod Laws
+pub mod Clauses
 pub mod Examples

@@ -1,0 +1,19 @@
+-- Clauses of the lawful journal that the lockstep schedule keeps, whatever the workload.
+use Rattle.std.specs.Prelude.{◌≡◌, true}
+use Rattle.hs_records.specs.Plain.{PlainWorkload}
+use Rattle.hs_lawful.specs.Ends.{is_followed, has_rounds}
+use Rattle.hs_lawful.specs.Played.{played}
+use Rattle.hs_lawful.specs.Unreads.{has_unreads}
+use Rattle.hs_lockstep.specs.Lockstep.{lockstep}
+
+-- Every step of the schedule is ready when its turn comes: following the journal leaves none over.
+abbrev pub ScheduleIsFollowed : Type 0
+ScheduleIsFollowed = (W : PlainWorkload) → is_followed (played W (lockstep W)) ≡ true
+
+-- No offer of the schedule is unread.
+abbrev pub ScheduleHasUnreads : Type 0
+ScheduleHasUnreads = (W : PlainWorkload) → has_unreads (played W (lockstep W)) ≡ true
+
+-- All agents make equally many passes, at least as many as there are rounds.
+abbrev pub ScheduleHasRounds : Type 0
+ScheduleHasRounds = (W : PlainWorkload) → has_rounds (played W (lockstep W)) ≡ true
