@@ -4,3 +4,6 @@ pub mod Machines
 pub mod Takes
 pub mod Unread
 pub mod Turns
+pub mod Walks
+pub mod Rooms
+pub mod Followed

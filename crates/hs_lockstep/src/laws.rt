@@ -1,9 +1,12 @@
 //! What holds of the lockstep schedule. These functions do nothing: their contracts say it.
 
 ghost use Rattle.hs_lockstep.specs.Laws.{VersionsHaveOneSchedule};
-ghost use Rattle.hs_lockstep.specs.Clauses.{ScheduleHasUnreads, ScheduleHasRounds};
+ghost use Rattle.hs_lockstep.specs.Clauses.{ScheduleIsFollowed, ScheduleHasUnreads, ScheduleHasRounds};
 
-use hs_lawful::laws::{following_plays_out, runs_are_of_the_journal};
+use hs_lawful::laws::{
+    done_is_at_rest, following_plays_out, journals_go_on, nothing_is_taken_unsent, orders_agree,
+    runs_are_of_the_journal, steps_are_noted,
+};
 
 /// A workload has one schedule, whichever version it is written in.
 pub fn versions_have_one_schedule()
@@ -24,4 +27,17 @@ pub fn schedule_has_rounds()
 {
     following_plays_out();
     runs_are_of_the_journal();
+}
+
+/// Following the schedule leaves no step over.
+pub fn schedule_is_followed()
+    ensures { ScheduleIsFollowed }
+{
+    following_plays_out();
+    orders_agree();
+    done_is_at_rest();
+    journals_go_on();
+    runs_are_of_the_journal();
+    steps_are_noted();
+    nothing_is_taken_unsent();
 }
