@@ -1,0 +1,5 @@
+//! Tables over the lock-free pool, driven by one thread and by five.
+#![tactic(auto)]
+
+#[cfg(test)]
+mod rings;
