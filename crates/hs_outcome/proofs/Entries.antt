@@ -162,7 +162,7 @@ module _ (carried : PagesCarryTheRecords) (client : ClientId) (fates : ℕ → D
 
 -- ---- all clients
 
-same_length : (draws : List (List Draw)) (clients : List (List Operation)) (size place : ℕ)
+pub same_length : (draws : List (List Draw)) (clients : List (List Operation)) (size place : ℕ)
     → same_counts (map length draws) (map (λ ops. length (pages_of size ops)) clients) ≡ true
     → length (unwrap_or (slice_get draws place) []) ≡ length (pages_of size (unwrap_or (slice_get clients place) []))
 same_length [] [] size place h = refl
@@ -173,7 +173,7 @@ same_length (drawn ∷ draws) (ops ∷ clients) size zero h =
 same_length (drawn ∷ draws) (ops ∷ clients) size (suc place) h =
     same_length draws clients size place (and_parts (nat_eq (length drawn) (length (pages_of size ops))) (same_counts (map length draws) (map (λ ops. length (pages_of size ops)) clients)) h).1
 
-ends_at : (clients : List (List Operation)) (place : ℕ) → AllByRecursion (AreBracketed false) clients → AreBracketed false (unwrap_or (slice_get clients place) [])
+pub ends_at : (clients : List (List Operation)) (place : ℕ) → AllByRecursion (AreBracketed false) clients → AreBracketed false (unwrap_or (slice_get clients place) [])
 ends_at [] place all = refl
 ends_at (ops ∷ clients) zero all = all.0
 ends_at (ops ∷ clients) (suc place) all = ends_at clients place all.1

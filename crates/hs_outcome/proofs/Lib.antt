@@ -5,3 +5,5 @@ pub mod Shown
 pub mod Moves
 pub mod Kept
 pub mod Buffers
+pub mod Sheets
+pub mod Origins

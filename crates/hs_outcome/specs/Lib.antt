@@ -3,6 +3,7 @@ pub mod Reports
 pub mod OutcomeText
 pub mod Records
 pub mod Causes
+pub mod Origins
 pub mod Versions
 pub mod Examples
 pub mod TextExamples

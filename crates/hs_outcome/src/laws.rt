@@ -2,13 +2,17 @@
 
 ghost use Rattle.hs_outcome.specs.Records.{EachRecordHasOneEntry, TotalsCountTheRecords, ReportsShowTheirTraces};
 ghost use Rattle.hs_outcome.specs.Causes.{AgentsKeepTheirModel, EvictedOnlyWhereOver, NoBufferIsOutTwice, EmptyOnlyWhereEmpty};
+ghost use Rattle.hs_outcome.specs.Origins.{EachFateHasItsCause};
 ghost use Rattle.hs_outcome.specs.Versions.{VersionsHaveOneOutcome};
 
-use hs_lawful::laws::agents_come_by_events;
+use hs_lawful::laws::{
+    agents_come_by_events, following_plays_out, runs_are_of_the_journal, steps_are_noted,
+};
 use hs_model::laws::{
     chunks_stand_by_their_claim, limits_hold, lists_have_their_chunks, traces_are_claimed_once,
 };
 use hs_records::pages_carry_the_records;
+use hs_sent::laws::timed_pages_are_the_pages;
 
 /// A ledger has the records of the workload, each once and in their order.
 pub fn each_record_has_one_entry()
@@ -63,3 +67,14 @@ pub fn empty_only_where_empty()
 pub fn versions_have_one_outcome()
     ensures { VersionsHaveOneOutcome }
 {}
+
+/// The fate of each record of a lawful journal is that of one of its pages: of the draw, or of the chunk that the
+/// agent took.
+pub fn each_fate_has_its_cause()
+    ensures { EachFateHasItsCause }
+{
+    following_plays_out();
+    runs_are_of_the_journal();
+    steps_are_noted();
+    timed_pages_are_the_pages();
+}
