@@ -7,3 +7,4 @@ pub mod Turns
 pub mod Walks
 pub mod Rooms
 pub mod Followed
+pub mod Shapes

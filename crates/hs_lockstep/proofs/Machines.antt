@@ -17,11 +17,7 @@ module _ (W : PlainWorkload) (P : Machine → Type 0) where
   pub clients_keep : ((m : Machine) (place : ℕ) → P m → P (client_goes W m place)) → (m : Machine) → P m → P (clients_go W m)
   clients_keep goes m h = clients_fold goes (range_with_len 0 (length W.clients)) m h
 
-  module _ (goes : (m : Machine) → P m → P (clients_go W m)) (pass : (m : Machine) → P m → P (passes W m)) where
-    pub rounds_keep : (n : ℕ) (m : Machine) → P m → P (rounds n W m)
-    rounds_keep zero m h = h
-    rounds_keep (suc n) m h = rounds_keep n (round W m) (pass (clients_go W m) (goes m h))
-
+  module _ (pass : (m : Machine) → P m → P (passes W m)) where
     closing_case : (n : ℕ) (m : Machine) (b : Bool) → P m → P (closing n W (passes W m)) → P (elim b as (λ _. Machine) [ true ↦ m | false ↦ closing n W (passes W m) ])
     closing_case n m true h k = h
     closing_case n m false h k = k
@@ -30,5 +26,10 @@ module _ (W : PlainWorkload) (P : Machine → Type 0) where
     closing_keeps zero m h = h
     closing_keeps (suc n) m h = closing_case n m (is_bare (played W m.journal)) h (closing_keeps n (passes W m) (pass m h))
 
+  module _ (goes : (m : Machine) → P m → P (clients_go W m)) (pass : (m : Machine) → P m → P (passes W m)) where
+    pub rounds_keep : (n : ℕ) (m : Machine) → P m → P (rounds n W m)
+    rounds_keep zero m h = h
+    rounds_keep (suc n) m h = rounds_keep n (round W m) (pass (clients_go W m) (goes m h))
+
     pub end_keeps : P (machine_start W) → P (machine_end W)
-    end_keeps begin = closing_keeps (closing_limit W) (rounds (rounds_of W) W (machine_start W)) (rounds_keep (rounds_of W) (machine_start W) begin)
+    end_keeps begin = closing_keeps pass (closing_limit W) (rounds (rounds_of W) W (machine_start W)) (rounds_keep (rounds_of W) (machine_start W) begin)

@@ -1,8 +1,11 @@
 -- Clauses of the lawful journal that the lockstep schedule keeps, whatever the workload.
-use Rattle.std.specs.Prelude.{◌≡◌, true}
+use Rattle.std.specs.Prelude.{◌≡◌, ◌*◌, ◌≤◌, true, false, length}
+use Rattle.std.specs.List.{AllByRecursion}
 use Rattle.hs_records.specs.Plain.{PlainWorkload}
+use Rattle.hs_records.specs.Records.{AreBracketed}
 use Rattle.hs_lawful.specs.Ends.{is_followed, has_rounds}
 use Rattle.hs_lawful.specs.Played.{played}
+use Rattle.hs_lawful.specs.Shape.{has_shape}
 use Rattle.hs_lawful.specs.Unreads.{has_unreads}
 use Rattle.hs_lockstep.specs.Lockstep.{lockstep}
 
@@ -17,3 +20,14 @@ ScheduleHasUnreads = (W : PlainWorkload) → has_unreads (played W (lockstep W))
 -- All agents make equally many passes, at least as many as there are rounds.
 abbrev pub ScheduleHasRounds : Type 0
 ScheduleHasRounds = (W : PlainWorkload) → has_rounds (played W (lockstep W)) ≡ true
+
+-- What the shape of a schedule asks of a workload: each node has its clients, each client ends the traces that it begins, and a
+-- round does something. Every valid workload keeps this.
+pub record IsLaidOut (W : PlainWorkload) : Type 0 where
+  pub clients : length W.clients ≡ W.settings.nodes * W.settings.clients
+  pub ends : AllByRecursion (AreBracketed false) W.clients
+  pub stride : 1 ≤ W.settings.stride
+
+-- The schedule has the shape of its workload: all clients do all of their operations, and draw for each of their pages.
+abbrev pub ScheduleHasShape : Type 0
+ScheduleHasShape = (W : PlainWorkload) → IsLaidOut W → has_shape (played W (lockstep W)) ≡ true

@@ -1,12 +1,13 @@
 //! What holds of the lockstep schedule. These functions do nothing: their contracts say it.
 
 ghost use Rattle.hs_lockstep.specs.Laws.{VersionsHaveOneSchedule};
-ghost use Rattle.hs_lockstep.specs.Clauses.{ScheduleIsFollowed, ScheduleHasUnreads, ScheduleHasRounds};
+ghost use Rattle.hs_lockstep.specs.Clauses.{ScheduleHasShape, ScheduleIsFollowed, ScheduleHasUnreads, ScheduleHasRounds};
 
 use hs_lawful::laws::{
     done_is_at_rest, following_plays_out, journals_go_on, nothing_is_taken_unsent, orders_agree,
     runs_are_of_the_journal, steps_are_noted,
 };
+use hs_sent::laws::timed_pages_are_the_pages;
 
 /// A workload has one schedule, whichever version it is written in.
 pub fn versions_have_one_schedule()
@@ -40,4 +41,13 @@ pub fn schedule_is_followed()
     runs_are_of_the_journal();
     steps_are_noted();
     nothing_is_taken_unsent();
+}
+
+/// The schedule has the shape of its workload.
+pub fn schedule_has_shape()
+    ensures { ScheduleHasShape }
+{
+    following_plays_out();
+    runs_are_of_the_journal();
+    timed_pages_are_the_pages();
 }
