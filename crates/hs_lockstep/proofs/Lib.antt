@@ -8,3 +8,5 @@ pub mod Walks
 pub mod Rooms
 pub mod Followed
 pub mod Shapes
+pub mod Passing
+pub mod Passed

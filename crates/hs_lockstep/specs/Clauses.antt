@@ -4,6 +4,7 @@ use Rattle.std.specs.List.{AllByRecursion}
 use Rattle.hs_records.specs.Plain.{PlainWorkload}
 use Rattle.hs_records.specs.Records.{AreBracketed}
 use Rattle.hs_lawful.specs.Ends.{is_followed, has_rounds}
+use Rattle.hs_lawful.specs.Passes.{has_passes}
 use Rattle.hs_lawful.specs.Played.{played}
 use Rattle.hs_lawful.specs.Shape.{has_shape}
 use Rattle.hs_lawful.specs.Unreads.{has_unreads}
@@ -31,3 +32,7 @@ pub record IsLaidOut (W : PlainWorkload) : Type 0 where
 -- The schedule has the shape of its workload: all clients do all of their operations, and draw for each of their pages.
 abbrev pub ScheduleHasShape : Type 0
 ScheduleHasShape = (W : PlainWorkload) → IsLaidOut W → has_shape (played W (lockstep W)) ≡ true
+
+-- Each log is a list of whole passes.
+abbrev pub ScheduleHasPasses : Type 0
+ScheduleHasPasses = (W : PlainWorkload) → has_passes (played W (lockstep W)) ≡ true

@@ -1,7 +1,7 @@
 //! What holds of the lockstep schedule. These functions do nothing: their contracts say it.
 
 ghost use Rattle.hs_lockstep.specs.Laws.{VersionsHaveOneSchedule};
-ghost use Rattle.hs_lockstep.specs.Clauses.{ScheduleHasShape, ScheduleIsFollowed, ScheduleHasUnreads, ScheduleHasRounds};
+ghost use Rattle.hs_lockstep.specs.Clauses.{ScheduleHasShape, ScheduleHasPasses, ScheduleIsFollowed, ScheduleHasUnreads, ScheduleHasRounds};
 
 use hs_lawful::laws::{
     done_is_at_rest, following_plays_out, journals_go_on, nothing_is_taken_unsent, orders_agree,
@@ -50,4 +50,12 @@ pub fn schedule_has_shape()
     following_plays_out();
     runs_are_of_the_journal();
     timed_pages_are_the_pages();
+}
+
+/// Each log of the schedule is a list of whole passes.
+pub fn schedule_has_passes()
+    ensures { ScheduleHasPasses }
+{
+    following_plays_out();
+    runs_are_of_the_journal();
 }
