@@ -1,5 +1,5 @@
 use Rattle.fixtures.specs.Pages.{HasAdded}
-use Rattle.bench.proofs.collect.run.Given as goal
+use Rattle.bench.proofs.collect.collect_round.Given as goal
 
 abbrev pub invariant-loop-page : goal.invariant-loop-page
 invariant-loop-page g l = HasAdded l.collector l.page l.first
