@@ -228,7 +228,7 @@ few_rules (rule ∷ rules) are =
     let each = are.each (length rules) rule below in
     omega (arith, last, each.id.1)
 
-product_small : (a b k : ℕ) → a ≤ 16 → b ≤ 16 → k ≤ a * b → k ≤ 256
+pub product_small : (a b k : ℕ) → a ≤ 16 → b ≤ 16 → k ≤ a * b → k ≤ 256
 product_small a b k p q r = grind arith
 
 pub headed : (d : Draft) → Keeps d → 0 < d.started → length d.head ≡ 9

@@ -10,3 +10,5 @@ pub mod Runs
 pub mod Reading
 pub mod Clients
 pub mod Faultless
+pub mod Writing
+pub mod Versions

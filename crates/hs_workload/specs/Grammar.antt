@@ -29,6 +29,10 @@ abbrev pub workload_statements : PlainWorkload → List Statement
 workload_statements W =
     head_statements W ++ (map Declare W.settings.triggers ++ (auto_statements 0 W.settings.autos ++ (client_statements W.settings.clients 0 W.clients ++ Finish ∷ [])))
 
+-- the text of what is said, in a text of this version
+abbrev pub statements_text : ℕ → List Statement → List ℕ
+statements_text version statements = text_of (map (statement_line version) statements)
+
 abbrev pub workload_lines : PlainWorkload → List (List ℕ)
 workload_lines W = map (statement_line W.version) (workload_statements W)
 

@@ -5,5 +5,6 @@ pub mod Statements
 pub mod Grammar
 pub mod LookBack
 pub mod Validity
+pub mod Versions
 pub mod Faults
 pub mod Forward

@@ -19,11 +19,9 @@ ghost use Rattle.hs_workload.specs.Forward.{fresh, IsSound, draft_of, past_of, c
 use crate::line::{Numbers, numbers_in};
 use crate::operation::{Op, Workload};
 use crate::refusal::Reason;
+use crate::rules::{is_auto_out, is_out, is_rule_out, rule_of};
 use crate::word::{Keyword, Kind, Setting};
-use hs_base::limits::{
-    MAX_AUTOS, MAX_BURST, MAX_LATERALS, MAX_OPERATIONS, MAX_PAYLOAD, MAX_RATE, MAX_TRIGGER,
-    MAX_WEIGHT, MAX_WINDOW, MIN_WINDOW, WHOLE_SHARE,
-};
+use hs_base::limits::{MAX_AUTOS, MAX_LATERALS, MAX_OPERATIONS, MAX_PAYLOAD};
 use hs_base::{
     AutoRule, Laterals, List, Memory, NodeId, Settings, TraceId, Trigger, TriggerId, TriggerRule,
 };
@@ -55,63 +53,6 @@ pub struct Reader {
     is_done: bool,
     current: List<Op>,
     finished: List<List<Op>>,
-}
-
-/// Whether a trigger id or its rule is beyond its limits.
-fn is_rule_out(numbers: Numbers) -> bool
-    ensures { result ≡ is_rule_out (record { id = record { 0 = numbers.first }; weight = numbers.second; burst = numbers.third; rate = numbers.fourth }) }
-{
-    is_out(1, u32::from(MAX_TRIGGER), numbers.first)
-        || is_out(1, MAX_WEIGHT, numbers.second)
-        || is_out(1, MAX_BURST, numbers.third)
-        || u64::from(MAX_RATE) < numbers.fourth
-}
-
-/// Whether the rule of an autotrigger is beyond its limits.
-fn is_auto_out(kind: Kind, numbers: Numbers) -> bool
-    ensures { result ≡ is_auto_out (auto_rule kind numbers) }
-{
-    if matches!(kind, Kind::Exception) {
-        return false;
-    }
-    is_out(MIN_WINDOW, MAX_WINDOW, numbers.second)
-        || numbers.third < 1
-        || u64::from(WHOLE_SHARE) <= numbers.third
-        || (matches!(kind, Kind::Queue) && is_out(1, MAX_LATERALS as u32, numbers.fourth))
-}
-
-/// Whether a number is below the least or above the most.
-fn is_out(least: u32, most: u32, number: u64) -> bool
-    ensures { result ≡ is_out least most number }
-{
-    number < u64::from(least) || u64::from(most) < number
-}
-
-/// The rule of an autotrigger that fires this trigger.
-fn rule_of(kind: Kind, trigger: TriggerId, numbers: Numbers) -> AutoRule
-    requires same { trigger.0 ≡ numbers.first }
-    requires within { is_auto_out (auto_rule kind numbers) ≡ false }
-    ensures { result ≡ auto_rule kind numbers }
-{
-    match kind {
-        Kind::Exception => AutoRule::Exception { trigger },
-        Kind::Percentile => AutoRule::Percentile {
-            trigger,
-            window: numbers.second as u32,
-            share: numbers.third as u32,
-        },
-        Kind::Category => AutoRule::Category {
-            trigger,
-            window: numbers.second as u32,
-            share: numbers.third as u32,
-        },
-        Kind::Queue => AutoRule::Queue {
-            trigger,
-            window: numbers.second as u32,
-            share: numbers.third as u32,
-            laterals: numbers.fourth as u32,
-        },
-    }
 }
 
 /// The operation that is this trigger.

@@ -2,7 +2,8 @@
 
 ghost use Rattle.std.specs.Prelude.{◌≡◌, ℕ, List, None};
 ghost use Rattle.hs_records.specs.Plain.{PlainWorkload};
-ghost use Rattle.hs_workload.specs.Validity.{IsValid, Reads};
+ghost use Rattle.hs_workload.specs.Validity.{IsValid, Reads, Within};
+ghost use Rattle.hs_workload.specs.Versions.{FitsVersion};
 ghost use Rattle.hs_workload.specs.Grammar.{workload_text};
 ghost use Rattle.hs_workload.specs.Faults.{first_fault};
 
@@ -16,4 +17,11 @@ pub fn faultless_texts_read()
 pub fn one_workload_a_text()
     ensures once { (text : List ℕ) (V W : PlainWorkload) → Reads text V → Reads text W → V ≡ W }
     ensures some { (W : PlainWorkload) → IsValid W → Reads (workload_text W) W }
+{}
+
+/// A valid workload is valid with version 2, and with either version that the traces it names fit.
+pub fn versions_are_exchanged()
+    ensures fits { (version : ℕ) (W : PlainWorkload) → Within 1 2 version → IsValid W → FitsVersion version W
+        → IsValid (record W { version = version }) }
+    ensures widens { (W : PlainWorkload) → IsValid W → IsValid (record W { version = 2 }) }
 {}

@@ -8,9 +8,12 @@ mod line;
 mod operation;
 mod reader;
 mod refusal;
+mod rules;
 mod word;
+mod writer;
 
-pub use laws::{faultless_texts_read, one_workload_a_text};
+pub use laws::{faultless_texts_read, one_workload_a_text, versions_are_exchanged};
 pub use operation::{Op, Workload};
 pub use reader::read_workload;
 pub use refusal::{ReadError, Reason, Refusal};
+pub use writer::write_workload;
