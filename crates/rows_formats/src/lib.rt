@@ -16,3 +16,5 @@ mod text;
 mod words;
 #[cfg(test)]
 mod workload;
+#[cfg(test)]
+mod written;
