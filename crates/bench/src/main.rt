@@ -9,7 +9,9 @@ mod index;
 mod journal;
 mod link;
 mod pages;
+mod pool;
 mod rate;
+mod ring;
 
 use anyhow::{Context, Result, bail};
 use std::env;
@@ -29,6 +31,8 @@ fn main(rt: HostRuntime) -> Result<()> {
         "journal" => journal::run(&rt, count),
         "link" => link::run(&rt, count),
         "pages" => pages::run(&rt, count),
+        "pool" => pool::run(&rt, count),
+        "ring" => ring::run(&rt, count),
         _ => bail!("no bench has this name"),
     }
 }
