@@ -13,7 +13,7 @@ use Rattle.hs_journal.specs.declared.journal.Step.{Step}
 use Rattle.hs_journal.specs.declared.journal.Step.TheVariants as steps
 use Rattle.hs_journal.specs.Views.{PlainJournal}
 use Rattle.hs_records.specs.Plain.{PlainWorkload}
-use Rattle.hs_sent.specs.Sending.{draws_at, node_sends, operations_at}
+use Rattle.hs_sent.specs.Sending.{draws_at, operations_at}
 use Rattle.hs_lawful.specs.Ends.{is_followed}
 use Rattle.hs_lawful.specs.Extending.{HasMore, GoesOn, node_behind, run_behind, JournalsGoOn, IsOfJournal, NodesAreOfJournal, RunsAreOfTheJournal, StepsAreNoted}
 use Rattle.hs_lawful.specs.Following.{Queue, takes, taken, NodeRun, Run, log_at, node_start, run_start, followed, is_done}
@@ -40,7 +40,7 @@ mapped_all : {X Y : Type 0} (P : Y → Type 0) (f : X → Y) (xs : List X) → A
 mapped_all P f [] all = tt
 mapped_all P f (x ∷ xs) all = (all.0, mapped_all P f xs all.1)
 
-within : {X : Type 0} (xs : List X) (i : ℕ) (x : X) → slice_get xs i ≡ Some x → i < length xs
+pub within : {X : Type 0} (xs : List X) (i : ℕ) (x : X) → slice_get xs i ≡ Some x → i < length xs
 within [] i x h = let no : None ≡ Some x = h in absurd cc
 within (y ∷ xs) zero x h = omega arith
 within (y ∷ xs) (suc i) x h = let rest = within xs i x h in omega (arith, rest)
@@ -100,20 +100,27 @@ module _ (plays : FollowingPlaysOut) (agree : OrdersAgree) (rests : DoneIsAtRest
         rests = rests W.settings last (over_done last over);
       })
 
-  advance : (J K : PlainJournal) → GoesOn J K → (last : Run) → Leads W.settings (run_behind W J K (followed W J)) last → IsOver last → IsOver (followed W K)
-  advance J K goes last leads over = subst IsOver (ends_at J K goes last leads over) over
+  -- the longer journal is followed to its end too, from where the shorter one led
+  pub record There (J K : PlainJournal) : Type 0 where
+    pub over : IsOver (followed W K)
+    pub leads : Leads W.settings (run_behind W J K (followed W J)) (followed W K)
 
-  nodes_of_journal : (J : PlainJournal) → NodesAreOfJournal W J (followed W J)
+  advance : (J K : PlainJournal) → GoesOn J K → (last : Run) → Leads W.settings (run_behind W J K (followed W J)) last → IsOver last → There J K
+  advance J K goes last leads over =
+      let e = ends_at J K goes last leads over in
+      record { over = subst IsOver e over; leads = subst (λ (r : Run). Leads W.settings (run_behind W J K (followed W J)) r) e leads }
+
+  pub nodes_of_journal : (J : PlainJournal) → NodesAreOfJournal W J (followed W J)
   nodes_of_journal J = runs W J (followed W J) (plays W J).leads
 
   fits : (J : PlainJournal) → TakesWhatIsThere (followed W J)
   fits J = unsent W J (followed W J) (plays W J).leads
 
-  count_nodes : (J : PlainJournal) → length (followed W J).nodes ≡ W.settings.nodes
+  pub count_nodes : (J : PlainJournal) → length (followed W J).nodes ≡ W.settings.nodes
   count_nodes J = sym (length-map (followed W J).nodes (λ (node : NodeRun). node.node)) ∙ ap length (nodes_of_journal J).numbers ∙ length-range_with_len 0 W.settings.nodes
 
   -- a node stands at the place of its number
-  number_is : (J : PlainJournal) (i : ℕ) (node : NodeRun) → slice_get (followed W J).nodes i ≡ Some node → node.node ≡ i
+  pub number_is : (J : PlainJournal) (i : ℕ) (node : NodeRun) → slice_get (followed W J).nodes i ≡ Some node → node.node ≡ i
   number_is J i node h =
       let found : slice_get (range_with_len 0 W.settings.nodes) i ≡ Some node.node =
       ap (λ numbers. slice_get numbers i) (sym (nodes_of_journal J).numbers) ∙ slice_get-map (λ (node : NodeRun). node.node) (followed W J).nodes i ∙ ap (option_map (λ (node : NodeRun). node.node)) h
@@ -123,7 +130,7 @@ module _ (plays : FollowingPlaysOut) (agree : OrdersAgree) (rests : DoneIsAtRest
   -- ---- a client draws
 
   module _ (m : Machine) (place done : ℕ) (new : List Draw) (h : IsDone W m) where
-    abbrev drawn : PlainJournal
+    abbrev pub drawn : PlainJournal
     drawn = (with_draws m place done new).journal
 
     drawn_goes : GoesOn m.journal drawn
@@ -144,20 +151,19 @@ module _ (plays : FollowingPlaysOut) (agree : OrdersAgree) (rests : DoneIsAtRest
           left = ap (λ (left : List NodeId). left ++ drop (length m.journal.told) m.journal.told) h.over.left ∙ dropped_all m.journal.told;
         }
 
+    pub draws_there : There m.journal drawn
+    draws_there = advance m.journal drawn drawn_goes (run_behind W m.journal drawn (followed W m.journal)) (Stays (run_behind W m.journal drawn (followed W m.journal))) drawn_over
+
     draws_keep : IsDone W (with_draws m place done new)
-    draws_keep =
-        record {
-          logs = h.logs;
-          over = advance m.journal drawn drawn_goes (run_behind W m.journal drawn (followed W m.journal)) (Stays (run_behind W m.journal drawn (followed W m.journal))) drawn_over;
-        }
+    draws_keep = record { logs = h.logs; over = draws_there.over }
 
   -- ---- the agents make steps
 
   module _ (m : Machine) (f : NodeRun → List Step) (h : IsDone W m) where
-    abbrev run : Run
+    abbrev pub run : Run
     run = followed W m.journal
 
-    abbrev longer : PlainJournal
+    abbrev pub longer : PlainJournal
     longer = (with_steps m (map f run.nodes)).journal
 
     longer_goes : GoesOn m.journal longer
@@ -186,30 +192,36 @@ module _ (plays : FollowingPlaysOut) (agree : OrdersAgree) (rests : DoneIsAtRest
         ∙ ap (drop (length (log_at m.journal i))) at
         ∙ dropped (log_at m.journal i) (f node)
 
-    steps_keep : (Q : NodeRun → Type 0) → ((node : NodeRun) → Q node → IsThrough node) → AllByRecursion (Walked W.settings run.heard Q) (map (node_behind W m.journal longer) run.nodes)
-        → IsDone W (with_steps m (map f run.nodes))
-    steps_keep Q through walked =
+    -- the agents make their steps, and stand so then
+    pub record StepsThere (Q : NodeRun → Type 0) : Type 0 where
+      pub there : There m.journal longer
+      pub each : AllByRecursion Q (followed W longer).nodes
+
+    steps_there : (Q : NodeRun → Type 0) → ((node : NodeRun) → Q node → IsThrough node) → AllByRecursion (Walked W.settings run.heard Q) (map (node_behind W m.journal longer) run.nodes) → StepsThere Q
+    steps_there Q through walked =
         let w = walk_all W.settings (run_behind W m.journal longer run) Q [] (map (node_behind W m.journal longer) run.nodes) walked in
+        let last = with_nodes (run_behind W m.journal longer run) w.lasts in
+        let over : IsOver last =
         record {
-          logs = length_extended m.journal.logs (map f run.nodes) ∙ h.logs;
-          over =
-              advance m.journal longer longer_goes (with_nodes (run_behind W m.journal longer run) w.lasts) w.leads
-              (record {
-                nodes = all_each Q IsThrough w.lasts through w.each;
-                left = ap (λ (left : List NodeId). left ++ drop (length m.journal.told) m.journal.told) h.over.left ∙ dropped_all m.journal.told;
-              });
+          nodes = all_each Q IsThrough w.lasts through w.each;
+          left = ap (λ (left : List NodeId). left ++ drop (length m.journal.told) m.journal.told) h.over.left ∙ dropped_all m.journal.told;
+        }
+        in
+        record {
+          there = advance m.journal longer longer_goes last w.leads over;
+          each = subst (λ (r : Run). AllByRecursion Q r.nodes) (ends_at m.journal longer longer_goes last w.leads over) w.each;
         }
 
-  same_sends : (J K : PlainJournal) (node : NodeRun) → IsOfJournal W J node → node_sends W K node.node ≡ node_sends W J node.node → (node_behind W J K node).sends ≡ node.sends
-  same_sends J K node o e = e ∙ sym o.sends
+    logs_there : length longer.logs ≡ W.settings.nodes
+    logs_there = length_extended m.journal.logs (map f run.nodes) ∙ h.logs
 
   -- ---- they take
 
   module _ (m : Machine) (h : IsDone W m) where
-    abbrev before : Run
+    abbrev pub before : Run
     before = followed W m.journal
 
-    abbrev passed : NodeRun → List Step
+    abbrev pub passed : NodeRun → List Step
     passed = pass_steps W m before
 
     enough_of : (i : ℕ) (node : NodeRun) → slice_get before.nodes i ≡ Some node → Enough (node_behind W m.journal (agents_take W m).journal node) before.heard
@@ -225,9 +237,9 @@ module _ (plays : FollowingPlaysOut) (agree : OrdersAgree) (rests : DoneIsAtRest
         counted : (queue : Queue) (a b : List Step) → taken queue (a ++ b) ≡ taken queue a + taken queue b
         counted queue a b = count_append (takes queue) a b
 
-    take_keeps : IsDone W (agents_take W m)
-    take_keeps =
-        steps_keep m passed h IsThrough (λ node e. e)
+    pub take_there : StepsThere m passed h IsThrough
+    take_there =
+        steps_there m passed h IsThrough (λ node e. e)
         (mapped_all (Walked W.settings before.heard IsThrough) (node_behind W m.journal (agents_take W m).journal) before.nodes
         (all_places (λ (node : NodeRun). Walked W.settings before.heard IsThrough (node_behind W m.journal (agents_take W m).journal node)) before.nodes
         (λ i node stands.
@@ -236,20 +248,26 @@ module _ (plays : FollowingPlaysOut) (agree : OrdersAgree) (rests : DoneIsAtRest
         (all_takes (λ (step : Step). is_offer step ≡ false) (λ client. refl) (λ client. refl) (λ client. refl) refl W m before node) (refl, tt))
         (enough_of i node stands))))
 
+    pub take_keeps : IsDone W (agents_take W m)
+    take_keeps = record { logs = logs_there m passed h; over = take_there.there.over }
+
     -- ---- they give
 
-    give_keeps : IsDone W (agents_give W m)
-    give_keeps =
-        steps_keep m give_steps h (IsEmptied noted W.settings before.heard) (λ node e. e.through)
+    pub give_there : StepsThere m give_steps h (IsEmptied noted W.settings before.heard)
+    give_there =
+        steps_there m give_steps h (IsEmptied noted W.settings before.heard) (λ node e. e.through)
         (mapped_all (Walked W.settings before.heard (IsEmptied noted W.settings before.heard)) (node_behind W m.journal (agents_give W m).journal) before.nodes
         (all_places (λ (node : NodeRun). Walked W.settings before.heard (IsEmptied noted W.settings before.heard) (node_behind W m.journal (agents_give W m).journal node)) before.nodes
         (λ i node stands.
         gives_walk noted W.settings before.heard (range_with_len (length (pool_events node)) (length node.state.hand)) (node_behind W m.journal (agents_give W m).journal node)
         (left_is m give_steps h i node stands) (sym (length-range_with_len (length (pool_events node)) (length node.state.hand))))))
 
+    pub give_keeps : IsDone W (agents_give W m)
+    give_keeps = record { logs = logs_there m give_steps h; over = give_there.there.over }
+
     -- ---- the coordinator hears
 
-    abbrev heard_more : PlainJournal
+    abbrev pub heard_more : PlainJournal
     heard_more = (coordinator_hears W m).journal
 
     abbrev told_now : List NodeId
@@ -292,13 +310,22 @@ module _ (plays : FollowingPlaysOut) (agree : OrdersAgree) (rests : DoneIsAtRest
         let there = said_behind node in
         omega (arith, most, left, there)
 
-    hear_keeps : IsDone W (coordinator_hears W m)
-    hear_keeps =
+    -- the coordinator has heard, and the nodes stand as they stood
+    pub record HearsThere : Type 0 where
+      pub there : There m.journal heard_more
+      pub nodes : (followed W heard_more).nodes ≡ map (node_behind W m.journal heard_more) before.nodes
+
+    pub hear_there : HearsThere
+    hear_there =
         let w = hears_all W.settings told_now behind behind_left enough_said in
+        let over : IsOver w.last = record { nodes = subst (AllByRecursion IsThrough) (sym w.nodes) behind_nodes; left = w.left } in
         record {
-          logs = h.logs;
-          over = advance m.journal heard_more heard_goes w.last w.leads (record { nodes = subst (AllByRecursion IsThrough) (sym w.nodes) behind_nodes; left = w.left });
+          there = advance m.journal heard_more heard_goes w.last w.leads over;
+          nodes = ap (λ (r : Run). r.nodes) (sym (ends_at m.journal heard_more heard_goes w.last w.leads over)) ∙ w.nodes;
         }
+
+    pub hear_keeps : IsDone W (coordinator_hears W m)
+    hear_keeps = record { logs = h.logs; over = hear_there.there.over }
 
   -- ---- the whole
 
@@ -316,7 +343,7 @@ module _ (plays : FollowingPlaysOut) (agree : OrdersAgree) (rests : DoneIsAtRest
   nothing_left [] = tt
   nothing_left (node ∷ nodes) = (none_at W.settings.nodes node, nothing_left nodes)
 
-  begins : IsDone W (machine_start W)
+  pub begins : IsDone W (machine_start W)
   begins =
       let J = (machine_start W).journal in
       let over : IsOver (run_start W J) = record { nodes = nothing_left (range_with_len 0 W.settings.nodes); left = refl } in

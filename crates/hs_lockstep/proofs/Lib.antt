@@ -10,3 +10,5 @@ pub mod Followed
 pub mod Shapes
 pub mod Passing
 pub mod Passed
+pub mod Reached
+pub mod Offers

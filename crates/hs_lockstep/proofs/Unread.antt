@@ -15,15 +15,15 @@ use Rattle.hs_lockstep.proofs.Lists.{all_append, all_front, all_replicate, all_e
 use Rattle.hs_lockstep.proofs.Takes.{before_turn, all_takes}
 use Rattle.hs_lockstep.proofs.Machines.{clients_keep, end_keeps, machine_end}
 
-abbrev IsRead : Step → Type 0
+abbrev pub IsRead : Step → Type 0
 IsRead step = is_unread step ≡ false
 
-abbrev AllRead : List Step → Type 0
+abbrev pub AllRead : List Step → Type 0
 AllRead log = AllByRecursion IsRead log
 
 -- no offer of a machine's journal is unread
-record HasNone (m : Machine) : Type 0 where
-  logs : AllByRecursion AllRead m.journal.logs
+pub record HasNone (m : Machine) : Type 0 where
+  pub logs : AllByRecursion AllRead m.journal.logs
 
 module _ (W : PlainWorkload) where
   takes_read : (m : Machine) (run : Run) (node : NodeRun) → AllRead (pass_steps W m run node)
@@ -50,12 +50,12 @@ module _ (W : PlainWorkload) where
   pass_keeps : (m : Machine) → HasNone m → HasNone (passes W m)
   pass_keeps m h = record { logs = (give_keeps (agents_take W m) (take_keeps m h)).logs }
 
-  ends_none : HasNone (machine_end W)
+  pub ends_none : HasNone (machine_end W)
   ends_none =
       end_keeps W HasNone (clients_keep W HasNone (λ m place h. record { logs = h.logs })) pass_keeps
       (record { logs = all_replicate AllRead W.settings.nodes [] tt })
 
-read_at : (logs : List (List Step)) (node : ℕ) → AllByRecursion AllRead logs → AllRead (unwrap_or (slice_get logs node) [])
+pub read_at : (logs : List (List Step)) (node : ℕ) → AllByRecursion AllRead logs → AllRead (unwrap_or (slice_get logs node) [])
 read_at [] node all = tt
 read_at (log ∷ logs) zero all = all.0
 read_at (log ∷ logs) (suc node) all = read_at logs node all.1

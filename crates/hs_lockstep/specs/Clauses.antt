@@ -4,7 +4,7 @@ use Rattle.std.specs.List.{AllByRecursion}
 use Rattle.hs_records.specs.Plain.{PlainWorkload}
 use Rattle.hs_records.specs.Records.{AreBracketed}
 use Rattle.hs_lawful.specs.Ends.{is_followed, has_rounds}
-use Rattle.hs_lawful.specs.Passes.{has_passes}
+use Rattle.hs_lawful.specs.Passes.{has_passes, has_offers}
 use Rattle.hs_lawful.specs.Played.{played}
 use Rattle.hs_lawful.specs.Shape.{has_shape}
 use Rattle.hs_lawful.specs.Unreads.{has_unreads}
@@ -36,3 +36,7 @@ ScheduleHasShape = (W : PlainWorkload) → IsLaidOut W → has_shape (played W (
 -- Each log is a list of whole passes.
 abbrev pub ScheduleHasPasses : Type 0
 ScheduleHasPasses = (W : PlainWorkload) → has_passes (played W (lockstep W)) ≡ true
+
+-- In each pass all offers are made.
+abbrev pub ScheduleHasOffers : Type 0
+ScheduleHasOffers = (W : PlainWorkload) → has_offers (played W (lockstep W)) ≡ true

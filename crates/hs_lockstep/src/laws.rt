@@ -1,11 +1,11 @@
 //! What holds of the lockstep schedule. These functions do nothing: their contracts say it.
 
 ghost use Rattle.hs_lockstep.specs.Laws.{VersionsHaveOneSchedule};
-ghost use Rattle.hs_lockstep.specs.Clauses.{ScheduleHasShape, ScheduleHasPasses, ScheduleIsFollowed, ScheduleHasUnreads, ScheduleHasRounds};
+ghost use Rattle.hs_lockstep.specs.Clauses.{ScheduleHasShape, ScheduleHasPasses, ScheduleHasOffers, ScheduleIsFollowed, ScheduleHasUnreads, ScheduleHasRounds};
 
 use hs_lawful::laws::{
-    done_is_at_rest, following_plays_out, journals_go_on, nothing_is_taken_unsent, orders_agree,
-    runs_are_of_the_journal, steps_are_noted,
+    agents_come_by_events, done_is_at_rest, following_plays_out, journals_go_on,
+    nothing_is_taken_unsent, orders_agree, runs_are_of_the_journal, steps_are_noted,
 };
 use hs_sent::laws::timed_pages_are_the_pages;
 
@@ -58,4 +58,18 @@ pub fn schedule_has_passes()
 {
     following_plays_out();
     runs_are_of_the_journal();
+}
+
+/// In each pass of the schedule all offers are made.
+pub fn schedule_has_offers()
+    ensures { ScheduleHasOffers }
+{
+    following_plays_out();
+    orders_agree();
+    done_is_at_rest();
+    journals_go_on();
+    runs_are_of_the_journal();
+    steps_are_noted();
+    nothing_is_taken_unsent();
+    agents_come_by_events();
 }
