@@ -214,6 +214,15 @@ impl<L: Token> ClientCore<L> {
         self.trace
     }
 
+    /// The size of its pages, in bytes.
+    pub fn size(&self) -> u32
+        ensures value { result ≡ self.now.size }
+        ensures least { MIN_SIZE ≤ self.now.size }
+        ensures most { self.now.size ≤ MAX_SIZE }
+    {
+        self.size
+    }
+
     /// The number of draws so far that found the pool empty.
     pub fn nulls(&self) -> u32
         ensures { result ≡ count_by is_null self.now.draws }
