@@ -1,0 +1,326 @@
+-- A client that has done some operations does one more.
+use Rattle.std.proofs.Common.{◌≡◌, ℕ, zero, suc, ◌+◌, List, [], ◌∷◌, ◌++◌, length, reverse, Option, Some, None, IsSome, refl, sym, ap, ap₂, ◌∙◌, subst, append_assoc}
+use Rattle.std.proofs.lemmas.List.{append-nil}
+use Rattle.std.proofs.lemmas.Option.{same_Some}
+use Rattle.std.specs.Prelude.{slice_get}
+use Rattle.hs_base.specs.declared.ids.TraceId.{TraceId}
+use Rattle.hs_base.specs.declared.ids.NodeId.{NodeId}
+use Rattle.hs_base.specs.declared.told.Crumb.{Crumb}
+use Rattle.hs_base.specs.declared.told.Trigger.{Trigger}
+use Rattle.hs_base.specs.declared.settings.AutoRule.{AutoRule}
+use Rattle.hs_records.specs.Plain.{Operation, Begin, Point, End, Fire, Sample}
+use Rattle.hs_records.specs.Plain as plain
+use Rattle.hs_records.specs.Records.{NumberedOperation, Piece, Segment, numbered_of, open_behind, pieces_until_end, record_pieces, segments_from, segments_of}
+use Rattle.hs_auto.specs.Firing as firing
+use Rattle.hs_auto.specs.Watching.{Watch, HasSampled}
+use Rattle.hs_client.specs.Core.{Core, Began, after_step}
+use Rattle.hs_client.specs.Calls.{May}
+use Rattle.hs_link.specs.Contents.{Outgoing, sent}
+use Rattle.hs_ring.specs.Parts.{Leased}
+use Rattle.hs_sent.specs.Sending.{crumb_in, sample_in, samples_of, trigger_in}
+use Rattle.hs_live.specs.Keys.{Key}
+use Rattle.hs_live.specs.Live.{Live}
+use Rattle.hs_live.specs.Writing.{Made, with_all, IsWriting, WritesPieces, WritesEnd, coming, writing_of}
+use Rattle.hs_live.specs.Done.{HasDone, AreWatching}
+use Rattle.hs_live.proofs.Operations.{open_more, earlier_last, crumbs_last, triggers_last}
+use Rattle.std.specs.List.{AllByRecursion}
+use Rattle.hs_live.specs.declared.called.Called.{Called}
+use Rattle.hs_live.specs.declared.called.Called.TheVariants as called
+use Rattle.hs_live.specs.Done.{Does, DoesNothing}
+use Rattle.hs_live.specs.Calls.{IsNew, made_of, BeginsBy, EndsBy, WritesOnly, begun}
+use Rattle.hs_live.proofs.Steps.{began_trace, writing_kept, made_size}
+
+-- the operation behind these, where this trace is open
+abbrev at : List Operation → Option TraceId → Operation → NumberedOperation
+at ops trace op = record { number = 0 + length ops; trace = trace; operation = op }
+
+abbrev Writes : Made → List Operation → List Operation → Live → Type 0
+Writes made all rest client =
+    IsWriting made (coming made.size client.core.number client.core.trace rest) (segments_from made.size client.core.number rest) (segments_of made.size all) (writing_of client)
+
+pub record DoesNow (made : Made) (ops : List Operation) (op : Operation) (old new : Live) : Type 0 where
+  pub writes : (rest : List Operation) → Writes made (ops ++ op ∷ rest) rest new
+  pub trace : new.core.trace ≡ open_behind old.core.trace op
+  pub crumbs : sent new.crumbs ≡ sent old.crumbs ++ crumb_in old.core.trace op
+  pub triggers : sent new.triggers ≡ sent old.triggers ++ trigger_in made.autos (reverse (numbered_of ops)) old.core.trace op
+  pub autos : AreWatching made.autos (at ops old.core.trace op ∷ reverse (numbered_of ops)) new.autos
+
+pub done_now : (made : Made) (ops : List Operation) (op : Operation) (old new : Live) → HasDone made ops old → DoesNow made ops op old new → HasDone made (ops ++ op ∷ []) new
+done_now made ops op old new h d =
+    record {
+      writes = λ rest. subst (λ (all : List Operation). Writes made all rest new) (sym (append_assoc ops (op ∷ []) rest)) (d.writes rest);
+      trace = d.trace ∙ ap (λ (trace : Option TraceId). open_behind trace op) h.trace ∙ sym (open_more None ops op);
+      crumbs = d.crumbs ∙ ap₂ (λ (l : List Crumb) (trace : Option TraceId). l ++ crumb_in trace op) h.crumbs h.trace ∙ sym (crumbs_last ops op);
+      triggers = d.triggers ∙ ap₂ (λ (l : List Trigger) (trace : Option TraceId). l ++ trigger_in made.autos (reverse (numbered_of ops)) trace op) h.triggers h.trace ∙ sym (triggers_last made.autos ops op);
+      autos =
+          subst (λ (earlier : List NumberedOperation). AreWatching made.autos earlier new.autos) (sym (earlier_last ops op))
+          (subst (λ (trace : Option TraceId). AreWatching made.autos (at ops trace op ∷ reverse (numbered_of ops)) new.autos) h.trace d.autos);
+    }
+
+-- ---- operations that no autotrigger sees
+
+pub record IsUnseen (op : Operation) : Type 0 where
+  pub samples : (auto : ℕ) (trace : Option TraceId) → sample_in auto trace op ≡ []
+
+unseen : (made : Made) (ops : List Operation) (op : Operation) (trace : Option TraceId) (autos : List Watch) → IsUnseen op → AreWatching made.autos (reverse (numbered_of ops)) autos → AreWatching made.autos (at ops trace op ∷ reverse (numbered_of ops)) autos
+unseen made ops op trace autos hidden w =
+    record {
+      rules_are = w.rules_are;
+      each = λ auto watch found.
+          subst (λ (l : List firing.Sample). HasSampled watch (l ++ samples_of auto (reverse (numbered_of ops)))) (sym (hidden.samples auto trace)) (w.each auto watch found);
+    }
+
+-- ---- begin
+
+begin_no_sample : (trace : TraceId) (auto : ℕ) (found : Option TraceId) → sample_in auto found (Begin trace) ≡ []
+begin_no_sample trace auto None = refl
+begin_no_sample trace auto (Some other) = refl
+
+begin_unseen : (trace : TraceId) → IsUnseen (Begin trace)
+begin_unseen trace = record { samples = begin_no_sample trace }
+
+pub begin_done : (made : Made) (ops : List Operation) (trace : TraceId) (old new : Live) → May old.core (Began trace) → new ≡ record old { core = after_step old.core (Began trace) } → HasDone made ops old → HasDone made (ops ++ Begin trace ∷ []) new
+begin_done made ops trace old new may is h =
+    let begun : Live = record old { core = after_step old.core (Began trace) } in
+    let none : old.core.trace ≡ None = may.1 in
+    let now : DoesNow made ops (Begin trace) old begun =
+    record {
+      writes = λ rest.
+          let size = made.size in
+          let number = old.core.number in
+          let segment : Segment = record { trace = trace; pieces = pieces_until_end size number rest } in
+          let first : IsWriting made (coming size number None (Begin trace ∷ rest)) (segment ∷ segments_from size number rest) (segments_of size (ops ++ Begin trace ∷ rest)) (writing_of old) =
+          subst (λ (found : Option TraceId). IsWriting made (coming size number found (Begin trace ∷ rest)) (segments_from size number (Begin trace ∷ rest)) (segments_of size (ops ++ Begin trace ∷ rest)) (writing_of old)) none (h.writes (Begin trace ∷ rest)) in
+          began_trace made (pieces_until_end size number rest) (segments_from size number rest) (segments_of size (ops ++ Begin trace ∷ rest)) (writing_of old) (writing_of begun) trace may refl refl refl first;
+      trace = refl;
+      crumbs = sym (ap (λ (l : List Crumb). sent old.crumbs ++ l) (no_crumb old.core.trace) ∙ append-nil (sent old.crumbs));
+      triggers = sym (ap (λ (l : List Trigger). sent old.triggers ++ l) (no_trigger old.core.trace) ∙ append-nil (sent old.triggers));
+      autos = unseen made ops (Begin trace) old.core.trace old.autos (begin_unseen trace) h.autos;
+    } in
+    subst (λ (client : Live). HasDone made (ops ++ Begin trace ∷ []) client) (sym is) (done_now made ops (Begin trace) old begun h now)
+  where
+    no_crumb : (found : Option TraceId) → crumb_in found (Begin trace) ≡ []
+    no_crumb None = refl
+    no_crumb (Some other) = refl
+
+    no_trigger : (found : Option TraceId) → trigger_in made.autos (reverse (numbered_of ops)) found (Begin trace) ≡ []
+    no_trigger None = refl
+    no_trigger (Some other) = refl
+
+pub begins : (trace : TraceId) (answer : Called) (old new : Live) → BeginsBy old.core answer → new ≡ record old { core = begun trace answer old.core } → Does (Begin trace) answer old new
+begins trace called.Done old new may is = λ made ops h. begin_done made ops trace old new may is h
+begins trace called.Spent old new may is = is
+begins trace called.AlreadyOpen old new may is = is
+begins trace called.NoTrace old new may is = is
+begins trace called.TooWide old new may is = is
+
+-- ---- point
+
+pub some_trace : (trace : Option TraceId) → IsSome trace → (t : TraceId) × (trace ≡ Some t)
+some_trace None some = absurd cc
+some_trace (Some t) some = (t, refl)
+
+no_crumb_of_point : (moment : ℕ) (payload : List ℕ) (found : Option TraceId) → crumb_in found (Point moment payload) ≡ []
+no_crumb_of_point moment payload None = refl
+no_crumb_of_point moment payload (Some trace) = refl
+
+no_trigger_of_point : (autos : List AutoRule) (earlier : List NumberedOperation) (moment : ℕ) (payload : List ℕ) (found : Option TraceId) → trigger_in autos earlier found (Point moment payload) ≡ []
+no_trigger_of_point autos earlier moment payload None = refl
+no_trigger_of_point autos earlier moment payload (Some trace) = refl
+
+point_no_sample : (moment : ℕ) (payload : List ℕ) (auto : ℕ) (found : Option TraceId) → sample_in auto found (Point moment payload) ≡ []
+point_no_sample moment payload auto None = refl
+point_no_sample moment payload auto (Some other) = refl
+
+point_unseen : (moment : ℕ) (payload : List ℕ) → IsUnseen (Point moment payload)
+point_unseen moment payload = record { samples = point_no_sample moment payload }
+
+pub point_done : (moment : ℕ) (payload : List ℕ) (old new : Live) → IsSome old.core.trace → new.core.trace ≡ old.core.trace → new.core.number ≡ old.core.number + 1
+    → WritesPieces (record_pieces old.core.size old.core.number moment payload) (writing_of old) (writing_of new) → WritesOnly old new → Does (Point moment payload) called.Done old new
+point_done moment payload old new some trace number written only = λ made ops h.
+    let size = made.size in
+    let op : Operation = Point moment payload in
+    let t = some_trace old.core.trace some in
+    let same : old.core.size ≡ size = made_size made _ _ _ (writing_of old) (h.writes []) in
+    let pieces : WritesPieces (record_pieces size old.core.number moment payload) (writing_of old) (writing_of new) =
+    subst (λ (n : ℕ). WritesPieces (record_pieces n old.core.number moment payload) (writing_of old) (writing_of new)) same written in
+    done_now made ops op old new h
+    (record {
+      writes = λ rest.
+          let all = segments_of size (ops ++ op ∷ rest) in
+          let later = segments_from size (old.core.number + 1) rest in
+          let first : IsWriting made (record_pieces size old.core.number moment payload ++ pieces_until_end size (old.core.number + 1) rest) later all (writing_of old) =
+          subst (λ (found : Option TraceId). IsWriting made (coming size old.core.number found (op ∷ rest)) later all (writing_of old)) t.1 (h.writes (op ∷ rest)) in
+          let now : IsWriting made (pieces_until_end size (old.core.number + 1) rest) later all (writing_of new) = pieces made (pieces_until_end size (old.core.number + 1) rest) later all first in
+          let numbered : IsWriting made (pieces_until_end size new.core.number rest) (segments_from size new.core.number rest) all (writing_of new) =
+          subst (λ (n : ℕ). IsWriting made (pieces_until_end size n rest) (segments_from size n rest) all (writing_of new)) (sym number) now in
+          subst (λ (found : Option TraceId). IsWriting made (coming size new.core.number found rest) (segments_from size new.core.number rest) all (writing_of new)) (sym (trace ∙ t.1)) numbered;
+      trace = trace;
+      crumbs = ap (λ (s : Outgoing Crumb _). sent s) only.crumbs ∙ sym (ap (λ (l : List Crumb). sent old.crumbs ++ l) (no_crumb_of_point moment payload old.core.trace) ∙ append-nil (sent old.crumbs));
+      triggers = ap (λ (s : Outgoing Trigger _). sent s) only.triggers ∙ sym (ap (λ (l : List Trigger). sent old.triggers ++ l) (no_trigger_of_point made.autos (reverse (numbered_of ops)) moment payload old.core.trace) ∙ append-nil (sent old.triggers));
+      autos =
+          subst (λ (autos : List Watch). AreWatching made.autos (at ops old.core.trace op ∷ reverse (numbered_of ops)) autos) (sym only.autos)
+          (unseen made ops op old.core.trace old.autos (point_unseen moment payload) h.autos);
+    })
+
+-- ---- end
+
+no_crumb_of_end : (found : Option TraceId) → crumb_in found End ≡ []
+no_crumb_of_end None = refl
+no_crumb_of_end (Some trace) = refl
+
+no_trigger_of_end : (autos : List AutoRule) (earlier : List NumberedOperation) (found : Option TraceId) → trigger_in autos earlier found End ≡ []
+no_trigger_of_end autos earlier None = refl
+no_trigger_of_end autos earlier (Some trace) = refl
+
+end_no_sample : (auto : ℕ) (found : Option TraceId) → sample_in auto found (End) ≡ []
+end_no_sample auto None = refl
+end_no_sample auto (Some other) = refl
+
+end_unseen : IsUnseen (End)
+end_unseen = record { samples = end_no_sample }
+
+pub end_done : (old new : Live) → IsSome old.core.trace → new.core.trace ≡ None → new.core.number ≡ old.core.number → WritesEnd (writing_of old) (writing_of new) → WritesOnly old new → Does End called.Done old new
+end_done old new some trace number written only = λ made ops h.
+    let size = made.size in
+    let t = some_trace old.core.trace some in
+    done_now made ops End old new h
+    (record {
+      writes = λ rest.
+          let all = segments_of size (ops ++ End ∷ rest) in
+          let later = segments_from size old.core.number rest in
+          let first : IsWriting made [] later all (writing_of old) =
+          subst (λ (found : Option TraceId). IsWriting made (coming size old.core.number found (End ∷ rest)) later all (writing_of old)) t.1 (h.writes (End ∷ rest)) in
+          let now : IsWriting made [] later all (writing_of new) = written made later all first in
+          let numbered : IsWriting made [] (segments_from size new.core.number rest) all (writing_of new) = subst (λ (n : ℕ). IsWriting made [] (segments_from size n rest) all (writing_of new)) (sym number) now in
+          subst (λ (found : Option TraceId). IsWriting made (coming size new.core.number found rest) (segments_from size new.core.number rest) all (writing_of new)) (sym trace) numbered;
+      trace = trace;
+      crumbs = ap (λ (s : Outgoing Crumb _). sent s) only.crumbs ∙ sym (ap (λ (l : List Crumb). sent old.crumbs ++ l) (no_crumb_of_end old.core.trace) ∙ append-nil (sent old.crumbs));
+      triggers = ap (λ (s : Outgoing Trigger _). sent s) only.triggers ∙ sym (ap (λ (l : List Trigger). sent old.triggers ++ l) (no_trigger_of_end made.autos (reverse (numbered_of ops)) old.core.trace) ∙ append-nil (sent old.triggers));
+      autos =
+          subst (λ (autos : List Watch). AreWatching made.autos (at ops old.core.trace End ∷ reverse (numbered_of ops)) autos) (sym only.autos)
+          (unseen made ops End old.core.trace old.autos end_unseen h.autos);
+    })
+
+pub ends : (answer : Called) (old new : Live) → EndsBy old.core answer → ((answer ≡ called.Done → ⊥) → new ≡ old) → (answer ≡ called.Done → new.core.trace ≡ None) → new.core.number ≡ old.core.number
+    → (answer ≡ called.Done → WritesEnd (writing_of old) (writing_of new)) → WritesOnly old new → Does End answer old new
+ends called.Done old new by refused trace number written only = end_done old new by.1 (trace refl) number (written refl) only
+ends called.Spent old new by refused trace number written only = refused (λ e. cc)
+ends called.AlreadyOpen old new by refused trace number written only = absurd by
+ends called.NoTrace old new by refused trace number written only = refused (λ e. cc)
+ends called.TooWide old new by refused trace number written only = absurd by
+
+-- ---- crumb and trigger
+
+coming_crumb : (size number : ℕ) (node : NodeId) (found : Option TraceId) (rest : List Operation) → coming size number found (plain.Crumb node ∷ rest) ≡ coming size number found rest
+coming_crumb size number node None rest = refl
+coming_crumb size number node (Some trace) rest = refl
+
+no_trigger_of_crumb : (autos : List AutoRule) (earlier : List NumberedOperation) (node : NodeId) (found : Option TraceId) → trigger_in autos earlier found (plain.Crumb node) ≡ []
+no_trigger_of_crumb autos earlier node None = refl
+no_trigger_of_crumb autos earlier node (Some trace) = refl
+
+crumb_no_sample : (node : NodeId) (auto : ℕ) (found : Option TraceId) → sample_in auto found (plain.Crumb node) ≡ []
+crumb_no_sample node auto None = refl
+crumb_no_sample node auto (Some other) = refl
+
+crumb_unseen : (node : NodeId) → IsUnseen (plain.Crumb node)
+crumb_unseen node = record { samples = crumb_no_sample node }
+
+pub crumb_done : (node : NodeId) (trace : TraceId) (old : Live) (crumbs : Outgoing Crumb Key) → old.core.trace ≡ Some trace → sent crumbs ≡ sent old.crumbs ++ record { trace = trace; node = node } ∷ []
+    → Does (plain.Crumb node) called.Done old (record old { crumbs = crumbs })
+crumb_done node trace old crumbs some sends = λ made ops h.
+    let op : Operation = plain.Crumb node in
+    done_now made ops op old (record old { crumbs = crumbs }) h
+    (record {
+      writes = λ rest.
+          subst (λ (pieces : List Piece). IsWriting made pieces (segments_from made.size old.core.number rest) (segments_of made.size (ops ++ op ∷ rest)) (writing_of old))
+          (coming_crumb made.size old.core.number node old.core.trace rest) (h.writes (op ∷ rest));
+      trace = refl;
+      crumbs = sends ∙ ap (λ (found : Option TraceId). sent old.crumbs ++ crumb_in found op) (sym some);
+      triggers = sym (ap (λ (l : List Trigger). sent old.triggers ++ l) (no_trigger_of_crumb made.autos (reverse (numbered_of ops)) node old.core.trace) ∙ append-nil (sent old.triggers));
+      autos = unseen made ops op old.core.trace old.autos (crumb_unseen node) h.autos;
+    })
+
+coming_fire : (size number : ℕ) (trigger : Trigger) (found : Option TraceId) (rest : List Operation) → coming size number found (Fire trigger ∷ rest) ≡ coming size number found rest
+coming_fire size number trigger None rest = refl
+coming_fire size number trigger (Some trace) rest = refl
+
+no_crumb_of_fire : (trigger : Trigger) (found : Option TraceId) → crumb_in found (Fire trigger) ≡ []
+no_crumb_of_fire trigger None = refl
+no_crumb_of_fire trigger (Some trace) = refl
+
+trigger_of_fire : (autos : List AutoRule) (earlier : List NumberedOperation) (trigger : Trigger) (found : Option TraceId) → trigger ∷ [] ≡ trigger_in autos earlier found (Fire trigger)
+trigger_of_fire autos earlier trigger None = refl
+trigger_of_fire autos earlier trigger (Some trace) = refl
+
+fire_no_sample : (trigger : Trigger) (auto : ℕ) (found : Option TraceId) → sample_in auto found (Fire trigger) ≡ []
+fire_no_sample trigger auto None = refl
+fire_no_sample trigger auto (Some other) = refl
+
+fire_unseen : (trigger : Trigger) → IsUnseen (Fire trigger)
+fire_unseen trigger = record { samples = fire_no_sample trigger }
+
+pub trigger_done : (trigger : Trigger) (old : Live) (triggers : Outgoing Trigger Key) → sent triggers ≡ sent old.triggers ++ trigger ∷ [] → Does (Fire trigger) called.Done old (record old { triggers = triggers })
+trigger_done trigger old triggers sends = λ made ops h.
+    let op : Operation = Fire trigger in
+    done_now made ops op old (record old { triggers = triggers }) h
+    (record {
+      writes = λ rest.
+          subst (λ (pieces : List Piece). IsWriting made pieces (segments_from made.size old.core.number rest) (segments_of made.size (ops ++ op ∷ rest)) (writing_of old))
+          (coming_fire made.size old.core.number trigger old.core.trace rest) (h.writes (op ∷ rest));
+      trace = refl;
+      crumbs = sym (ap (λ (l : List Crumb). sent old.crumbs ++ l) (no_crumb_of_fire trigger old.core.trace) ∙ append-nil (sent old.crumbs));
+      triggers = sends ∙ ap (λ (l : List Trigger). sent old.triggers ++ l) (trigger_of_fire made.autos (reverse (numbered_of ops)) trigger old.core.trace);
+      autos = unseen made ops op old.core.trace old.autos (fire_unseen trigger) h.autos;
+    })
+
+-- ---- nothing
+
+pub nothing_done : (old new : Live) → new.core ≡ old.core → new.autos ≡ old.autos → new.drawer.answers ≡ old.drawer.answers → new.drawer.pool ≡ old.drawer.pool → new.drawer.size ≡ old.drawer.size
+    → sent new.chunks ≡ sent old.chunks → sent new.crumbs ≡ sent old.crumbs → sent new.triggers ≡ sent old.triggers → DoesNothing old new
+nothing_done old new core autos answers pool size chunks crumbs triggers = λ made ops h.
+    record {
+      writes = λ rest.
+          let all = segments_of made.size (ops ++ rest) in
+          let kept = writing_kept made _ _ _ (writing_of old) (writing_of new) core answers pool size chunks (h.writes rest) in
+          subst (λ (c : Core Leased). IsWriting made (coming made.size c.number c.trace rest) (segments_from made.size c.number rest) all (writing_of new)) (sym core) kept;
+      trace = ap (λ (c : Core Leased). c.trace) core ∙ h.trace;
+      crumbs = crumbs ∙ h.crumbs;
+      triggers = triggers ∙ h.triggers;
+      autos = subst (λ (autos : List Watch). AreWatching made.autos (reverse (numbered_of ops)) autos) (sym autos) h.autos;
+    }
+
+-- ---- a new client
+
+all_at : {A : Type 0} (P : A → Type 0) (xs : List A) → AllByRecursion P xs → (place : ℕ) (x : A) → slice_get xs place ≡ Some x → P x
+all_at P [] all place x found = absurd cc
+all_at P (y ∷ xs) all zero x found = subst P (same_Some y x found) all.0
+all_at P (y ∷ xs) all (suc place) x found = all_at P xs all.1 place x found
+
+pub new_done : (client : Live) → IsNew client → HasDone (made_of client) [] client
+new_done client is =
+    let size = client.core.size in
+    record {
+      writes = λ rest.
+          record {
+            steps = [];
+            comes =
+                record {
+                  may = tt;
+                  core = is.core;
+                  number = ap (λ (c : Core Leased). c.number) is.core;
+                  chunks = is.chunks.nothing;
+                  answers = [];
+                  since = refl;
+                  draws = refl;
+                  buffers = refl;
+                };
+            gives =
+                subst (λ (c : Core Leased). reverse (with_all (coming size c.number c.trace rest) []) ++ segments_from size c.number rest ≡ segments_of size rest) (sym is.core) refl;
+          };
+      trace = ap (λ (c : Core Leased). c.trace) is.core;
+      crumbs = is.crumbs.nothing;
+      triggers = is.triggers.nothing;
+      autos = record { rules_are = refl; each = λ auto watch found. all_at (λ (w : Watch). HasSampled w []) client.autos is.autos auto watch found };
+    }

@@ -1,0 +1,16 @@
+use Rattle.std.proofs.Common.{refl, ap, subst}
+use Rattle.hs_records.specs.Plain.{End}
+use Rattle.hs_live.specs.declared.writer.Writer.{Writer}
+use Rattle.hs_live.specs.Live.{Live}
+use Rattle.hs_live.specs.Done.{Does}
+use Rattle.hs_live.specs.ClientInside.{live_of}
+use Rattle.hs_live.proofs.Doing.{ends}
+use Rattle.hs_live.proofs.client.Client.end.Goals as goal
+
+pub returns-clause-does : goal.returns-clause-does
+returns-clause-does c =
+    let s = c.self.inside in
+    let e = c.end.ensures in
+    let with : Writer → Live = λ w. live_of (record { writer = w; autos = s.autos; crumbs = s.crumbs; triggers = s.triggers }) in
+    subst (λ (old : Live). Does End c.end.result old (with c.end.new.self)) c.self.view_is
+    (ends c.end.result (live_of s) (with c.end.new.self) e.answer (λ refused. ap with (e.refused refused)) e.trace e.number e.written (record { autos = refl; crumbs = refl; triggers = refl }))

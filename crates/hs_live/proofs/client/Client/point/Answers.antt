@@ -1,0 +1,18 @@
+use Rattle.std.proofs.Common.{IsSome, refl, subst, rules}
+use Rattle.hs_records.specs.Plain.{Point}
+use Rattle.hs_live.specs.declared.called.Called.TheVariants.{Done}
+use Rattle.hs_live.specs.declared.writer.Writer.{Writer}
+use Rattle.hs_live.specs.Live.{Live}
+use Rattle.hs_live.specs.Done.{Does}
+use Rattle.hs_live.specs.ClientInside.{live_of}
+use Rattle.hs_live.proofs.Doing.{point_done}
+use Rattle.hs_live.proofs.client.Client.point.Goals as goal
+
+pub returns-clause-does : goal.returns-clause-does
+returns-clause-does c =
+    let s = c.self.inside in
+    let p = c.point.ensures in
+    let with : Writer → Live = λ w. live_of (record { writer = w; autos = s.autos; crumbs = s.crumbs; triggers = s.triggers }) in
+    let some : IsSome s.writer.core.trace = search rules in
+    subst (λ (old : Live). Does (Point c.args.moment c.args.payload.now) Done old (with c.point.new.self)) c.self.view_is
+    (point_done c.args.moment c.args.payload.now (live_of s) (with c.point.new.self) some p.trace p.number p.written (record { autos = refl; crumbs = refl; triggers = refl }))

@@ -1,0 +1,15 @@
+use Rattle.std.proofs.Common.{subst}
+use Rattle.hs_records.specs.Plain.{Fire}
+use Rattle.hs_live.specs.declared.called.Called.TheVariants.{Done}
+use Rattle.hs_live.specs.Live.{Live}
+use Rattle.hs_live.specs.Done.{Does}
+use Rattle.hs_live.specs.ClientInside.{live_of}
+use Rattle.hs_live.proofs.Doing.{trigger_done}
+use Rattle.hs_live.proofs.client.Client.trigger.Goals as goal
+
+pub returns-clause-does : goal.returns-clause-does
+returns-clause-does c =
+    let s = c.self.inside in
+    let new : Live = live_of (record { writer = s.writer; autos = s.autos; crumbs = s.crumbs; triggers = c.send.new.self }) in
+    subst (λ (old : Live). Does (Fire c.args.trigger) Done old new) c.self.view_is
+    (trigger_done c.args.trigger (live_of s) c.send.new.self c.send.ensures.sent)

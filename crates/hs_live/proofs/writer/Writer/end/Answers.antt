@@ -1,0 +1,12 @@
+use Rattle.std.proofs.Common.{◌++◌, refl, ap, ◌∙◌}
+use Rattle.std.specs.Option.{option_to_list}
+use Rattle.hs_link.specs.Contents.{sent}
+use Rattle.hs_live.specs.Live.{outgoing}
+use Rattle.hs_live.specs.Inside.{writing_in}
+use Rattle.hs_live.proofs.Steps.{ended_trace}
+use Rattle.hs_live.proofs.writer.Writer.end.Goals as goal
+
+pub returns-in-Ended-clause-written : goal.returns-in-Ended-clause-written
+returns-in-Ended-clause-written c = λ _ made later all is.
+    let ended = c.in-Ended.ensures in
+    ended_trace made later all (writing_in c.args.self.now) _ ended.may ended.after refl (c.send_chunk.ensures.sent ∙ ap (λ handed. sent (outgoing c.args.self.now.chunks) ++ option_to_list handed) ended.answer.2) is

@@ -1,0 +1,17 @@
+use Rattle.std.proofs.Common.{◌++◌, sym, ap, ◌∙◌}
+use Rattle.std.specs.Option.{option_to_list}
+use Rattle.hs_words.specs.Buffers.{buffer_in}
+use Rattle.hs_link.specs.Contents.{sent}
+use Rattle.hs_live.specs.Live.{outgoing}
+use Rattle.hs_live.proofs.Senders.{begins_buffers, sends_buffer}
+use Rattle.hs_live.proofs.writer.send_chunk.Goals as goal
+
+pub returns-in-Some-clause-goes : goal.returns-in-Some-clause-goes
+returns-in-Some-clause-goes c =
+    let sends = c.send.ensures in
+    record { same = sends.same; put = begins_buffers c.args.chunks.now.put c.send.new.self.put sends.put }
+
+pub returns-in-Some-clause-sent : goal.returns-in-Some-clause-sent
+returns-in-Some-clause-sent c =
+    sends_buffer c.args.chunks.now c.send.new.self c.in-Some.held c.send.ensures.sent
+    ∙ ap (λ handed. sent (outgoing c.args.chunks.now) ++ option_to_list (buffer_in handed)) (sym c.in-Some.is)

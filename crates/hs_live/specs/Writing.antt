@@ -1,0 +1,158 @@
+-- How a client's pages come about: by steps of its core, whose draws are those that its drawer answered, and whose full
+-- chunks were sent. What its operations are to record follows from the operations alone, and the steps have recorded it.
+use Rattle.std.specs.Prelude.{◌≡◌, ℕ, ◌+◌, ◌≤◌, List, [], ◌∷◌, ◌++◌, length, reverse, Option, Some, None, IsSome, MatchOption, refl}
+use Rattle.hs_base.specs.declared.ids.TraceId.{TraceId}
+use Rattle.hs_base.specs.declared.ids.ClientId.{ClientId}
+use Rattle.hs_base.specs.declared.settings.AutoRule.{AutoRule}
+use Rattle.hs_base.specs.declared.limits.TheConstants.{MIN_SIZE}
+use Rattle.hs_records.specs.Plain.{Operation}
+use Rattle.hs_records.specs.Records.{Piece, Segment, pieces_until_end}
+use Rattle.hs_journal.specs.declared.journal.Draw.{Draw}
+use Rattle.hs_journal.specs.declared.journal.Draw.TheVariants as draws
+use Rattle.hs_words.specs.Pools.{PoolName}
+use Rattle.hs_words.specs.PoolHistory.{Event, Got, Empty, Given, Missed}
+use Rattle.hs_words.specs.Ends.{Answer}
+use Rattle.hs_words.specs.Chunks.{clear_chunk}
+use Rattle.hs_words.specs.Buffers.{Buffer}
+use Rattle.hs_client.specs.Core.{Core, Step, new_core, handed}
+use Rattle.hs_client.specs.Calls.{AreSteps, after, next_number, segments_of_steps, with_last, chunks_supplied, draws_supplied, handed_out}
+use Rattle.hs_link.specs.Contents.{Outgoing, sent}
+use Rattle.hs_ring.specs.Parts.{Leased, Drawing}
+use Rattle.hs_live.specs.Keys.{Key, IsChunkOf}
+use Rattle.hs_live.specs.Live.{Live, GoesOn}
+
+-- what a client was made with; its drawer may have drawn before
+pub record Made : Type 0 where
+  pub client : ClientId
+  pub size : ℕ
+  pub calls : ℕ
+  pub autos : List AutoRule
+  pub answers : List Answer
+
+-- a client without its crumbs and triggers
+pub record Writing : Type 0 where
+  pub core : Core Leased
+  pub drawer : Drawing
+  pub chunks : Outgoing (Buffer Leased) Key
+
+abbrev pub writing_of : Live → Writing
+writing_of client = record { core = client.core; drawer = client.drawer; chunks = client.chunks }
+
+-- the core as it was made
+abbrev pub new_of : Made → Core Leased
+new_of made = new_core made.client made.size made.calls
+
+-- ---- what was drawn
+
+-- what is noted of an answer to a draw
+abbrev pub noted : ℕ → Event → Draw
+noted stamp (Got buffer) = draws.Got buffer stamp
+noted stamp Empty = draws.Empty stamp
+noted stamp (Given buffer) = draws.Empty stamp
+noted stamp Missed = draws.Empty stamp
+
+-- the draws of these answers, the last of which stands first
+abbrev pub draws_by : List Answer → List Draw
+draws_by [] = []
+draws_by (answer ∷ earlier) = draws_by earlier ++ noted answer.stamp answer.event ∷ []
+
+-- the buffer that an answer gave, with a lease of its own
+abbrev pub buffer_got : PoolName → ℕ → ℕ → Event → Option (Buffer Leased)
+buffer_got pool size stamp (Got buffer) = Some (record { chunk = clear_chunk size buffer; lease = record { pool = pool; buffer = buffer; draw = stamp } })
+buffer_got pool size stamp Empty = None
+buffer_got pool size stamp (Given buffer) = None
+buffer_got pool size stamp Missed = None
+
+-- the buffers of these answers, the last of which stands first
+abbrev pub buffers_by : PoolName → ℕ → List Answer → List (Option (Buffer Leased))
+buffers_by pool size [] = []
+buffers_by pool size (answer ∷ earlier) = buffers_by pool size earlier ++ buffer_got pool size answer.stamp answer.event ∷ []
+
+-- ---- the steps of the core
+
+-- The client comes by these steps of its core, the last of which stands first.
+pub record ComesBy (made : Made) (steps : List (Step Leased)) (w : Writing) : Type 0 where
+  pub may : AreSteps (new_of made) steps
+  pub core : w.core ≡ after (new_of made) steps
+  pub number : w.core.number ≡ next_number steps
+  pub chunks : sent w.chunks ≡ handed_out (new_of made) steps
+  -- what its drawer answered since it was made
+  pub answers : List Answer
+  pub since : w.drawer.answers ≡ answers ++ made.answers
+  pub draws : draws_supplied steps ≡ draws_by answers
+  pub buffers : chunks_supplied steps ≡ buffers_by w.drawer.pool w.drawer.size answers
+
+-- ---- what is recorded, and what is still to be recorded
+
+-- the segments, the newest of which stands first, with these pieces more in the newest
+abbrev pub with_all : List Piece → List Segment → List Segment
+with_all [] segments = segments
+with_all (piece ∷ pieces) segments = with_all pieces (with_last piece segments)
+
+-- With these pieces more in the open trace and these segments behind it, the client has recorded all of these segments.
+pub record IsWriting (made : Made) (pieces : List Piece) (later all : List Segment) (w : Writing) : Type 0 where
+  pub steps : List (Step Leased)
+  pub comes : ComesBy made steps w
+  pub gives : reverse (with_all pieces (segments_of_steps steps)) ++ later ≡ all
+
+-- Where these pieces were next in the open trace, the client has them behind it.
+abbrev pub WritesPieces : List Piece → Writing → Writing → Type 0
+WritesPieces here old new = (made : Made) (pieces : List Piece) (later all : List Segment) → IsWriting made (here ++ pieces) later all old → IsWriting made pieces later all new
+
+-- Where no piece was next, the client is behind the trace.
+abbrev pub WritesEnd : Writing → Writing → Type 0
+WritesEnd old new = (made : Made) (later all : List Segment) → IsWriting made [] later all old → IsWriting made [] later all new
+
+-- the pieces that further operations add to the open trace, if one is open
+abbrev pub coming : (size number : ℕ) → Option TraceId → List Operation → List Piece
+coming size number None operations = []
+coming size number (Some trace) operations = pieces_until_end size number operations
+
+-- ---- what a call takes
+
+-- The drawer is the same, and has a floor that did not fall.
+pub record IsSameDrawer (old new : Drawing) : Type 0 where
+  pub pool : new.pool ≡ old.pool
+  pub buffers : new.buffers ≡ old.buffers
+  pub size : new.size ≡ old.size
+  pub number : new.number ≡ old.number
+  pub floor : old.floor ≤ new.floor
+
+-- So many calls of the core were counted. As many draws at most were made, and as many chunks at most were sent.
+pub record Spends (calls : ℕ) (old new : Writing) : Type 0 where
+  pub owner : new.core.client ≡ old.core.client
+  pub size : new.core.size ≡ old.core.size
+  pub calls_are : new.core.calls ≡ old.core.calls
+  pub counted : new.core.counted ≡ old.core.counted + calls
+  pub drawer : IsSameDrawer old.drawer new.drawer
+  pub left : old.drawer.left ≤ new.drawer.left + calls
+  pub chunks : GoesOn old.chunks new.chunks
+  pub items : length (sent new.chunks) ≤ length (sent old.chunks) + calls
+
+-- ---- what is true between calls
+
+-- The key of the chunks names what the client has.
+pub record IsNamed (key : Key) (core : Core Leased) (drawer : Drawing) : Type 0 where
+  pub owner : key.client ≡ core.client
+  pub pool : key.pool ≡ drawer.pool
+  pub size : key.size ≡ core.size
+
+-- The chunks of the pool have the core's size. The core has at most a chunk that may be sent. A trace that has no page has
+-- used no byte of one.
+pub record IsSound (w : Writing) : Type 0 where
+  pub least : MIN_SIZE ≤ w.core.size
+  pub drawn : w.drawer.size ≡ w.core.size
+  pub named : IsNamed w.chunks.key w.core w.drawer
+  pub ready : IsSome w.core.trace → w.core.current ≡ None → w.core.used ≡ 0
+  pub held : MatchOption (handed w.core) (Unit {0}) (IsChunkOf w.chunks.key)
+  pub room : length (sent w.chunks) ≤ w.chunks.room
+
+-- ---- examples
+
+-- a buffer was got and then none, so the pool was empty the second time
+two_draws : draws_by (record { stamp = 4; event = Empty; draw = 0 } ∷ record { stamp = 2; event = Got 7; draw = 0 } ∷ []) ≡ draws.Got 7 2 ∷ draws.Empty 4 ∷ []
+two_draws = refl
+
+one_buffer : buffers_by [] 64 (record { stamp = 4; event = Empty; draw = 0 } ∷ record { stamp = 2; event = Got 7; draw = 0 } ∷ [])
+    ≡ Some (record { chunk = clear_chunk 64 7; lease = record { pool = []; buffer = 7; draw = 2 } }) ∷ None ∷ []
+one_buffer = refl

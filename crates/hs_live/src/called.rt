@@ -1,0 +1,33 @@
+//! What the calls of a client answer.
+
+use crate::key::ClientKey;
+use hs_base::{Crumb, Trigger};
+use hs_journal::ClientBook;
+use hs_link::Sender;
+use hs_ring::{Drawer, Lease};
+use hs_words::Held;
+
+/// What a call of a client answers.
+#[derive(Clone, Copy, Debug, PartialEq, Eq)]
+pub enum Called {
+    /// It was done.
+    Done,
+    /// As many calls of the core were counted as it was made for.
+    Spent,
+    /// A trace is open already.
+    AlreadyOpen,
+    /// No trace is open.
+    NoTrace,
+    /// The payload is longer than a record may have.
+    TooWide,
+}
+
+/// What a client gives back: what it noted, and its ends.
+#[derive(Drop)]
+pub struct Closed {
+    pub book: ClientBook,
+    pub drawer: Drawer,
+    pub chunks: Sender<Held<Lease>, ClientKey>,
+    pub crumbs: Sender<Crumb, ClientKey>,
+    pub triggers: Sender<Trigger, ClientKey>,
+}

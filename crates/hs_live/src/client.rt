@@ -1,0 +1,244 @@
+//! The client.
+
+ghost use Rattle.std.specs.Prelude.{◌≡◌, ◌+◌, ◌<◌, ◌≤◌, [], ◌∷◌, length, map, count_by, IsNone};
+ghost use Rattle.hs_auto.specs.Watching.{Watch};
+ghost use Rattle.hs_records.specs.Plain.{Begin, Point, Crumb as LeaveCrumb, End, Fire, Sample};
+ghost use Rattle.hs_records.specs.Records.{piece_count};
+ghost use Rattle.hs_client.specs.Core.{is_null};
+ghost use Rattle.hs_link.specs.Contents.{sent};
+ghost use Rattle.hs_live.specs.declared.called.Called.TheVariants.{Done};
+ghost use Rattle.hs_live.specs.Keys.{IsTriggerOf};
+ghost use Rattle.hs_live.specs.Live.{outgoing, incoming, GoesOn, Flushes};
+ghost use Rattle.hs_live.specs.Writing.{Spends, writing_of};
+ghost use Rattle.hs_live.specs.Done.{HasDone, Does, DoesNothing};
+ghost use Rattle.hs_live.specs.Calls.{IsNew, made_of, BeginsBy, PointsBy, NotesBy, EndsBy, begun, counts, IsAutoOf, WritesOnly, AreMates, MeetsAt};
+
+use crate::called::{Called, Closed};
+use crate::key::ClientKey;
+use crate::links::meet_at;
+use crate::writer::Writer;
+use hs_auto::{Auto, Sampled};
+use hs_base::limits::MAX_PAYLOAD;
+use hs_base::{Crumb, List, NodeId, TraceId, Trigger, TriggerId};
+use hs_client::ClientCore;
+use hs_link::{Receiver, Sender};
+use hs_ring::{Drawer, Giver, Lease};
+use hs_words::Held;
+use std::marker::Model;
+
+/// A client of a service. No call waits, whatever the agent does, and none takes memory.
+#[derive(Drop)]
+pub struct Client {
+    writer: Writer,
+    autos: List<Auto>,
+    crumbs: Sender<Crumb, ClientKey>,
+    triggers: Sender<Trigger, ClientKey>,
+}
+
+impl Model for Client {
+    ghost use Rattle.hs_live.specs.Live.{Live};
+
+    ghost Value = { Live };
+
+    ghost use Rattle.hs_live.specs.ClientInside.{live_of, IsClient};
+
+    ghost view = { live_of };
+
+    ghost invariant = { IsClient };
+}
+
+impl Client {
+    /// A client with these parts, none of which was used.
+    pub fn make(
+        core: ClientCore<Lease>,
+        autos: List<Auto>,
+        drawer: Drawer,
+        chunks: Sender<Held<Lease>, ClientKey>,
+        crumbs: Sender<Crumb, ClientKey>,
+        triggers: Sender<Trigger, ClientKey>,
+    ) -> Client
+        requires { IsNew (record { core = core; autos = autos.items; drawer = drawer; chunks = outgoing chunks; crumbs = crumbs; triggers = triggers }) }
+        ensures client { result ≡ record { core = core; autos = autos.items; drawer = drawer; chunks = outgoing chunks; crumbs = crumbs; triggers = triggers } }
+        ensures done { HasDone (made_of result) [] result }
+    {
+        Client {
+            writer: Writer::new(core, drawer, chunks),
+            autos,
+            crumbs,
+            triggers,
+        }
+    }
+
+    /// Opens a trace.
+    pub fn begin(&mut self, trace: TraceId) -> Called
+        ensures answer { BeginsBy self.old.core result }
+        ensures after { self.new ≡ record self.old { core = begun trace result self.old.core } }
+        ensures does { Does (Begin trace) result self.old self.new }
+    {
+        self.writer.begin(trace)
+    }
+
+    /// Records a payload at a moment, in microseconds.
+    pub fn point(&mut self, moment: u64, payload: &[u8]) -> Called
+        requires left { self.old.core.counted + piece_count self.old.core.size (length payload.now) ≤ self.old.core.calls }
+        requires draws { piece_count self.old.core.size (length payload.now) ≤ self.old.drawer.left }
+        requires room { length (sent self.old.chunks) + piece_count self.old.core.size (length payload.now) ≤ self.old.chunks.room }
+        ensures answer { PointsBy self.old.core (length payload.now) result }
+        ensures does { Does (Point moment payload.now) result self.old self.new }
+        ensures trace { self.new.core.trace ≡ self.old.core.trace }
+        ensures spends { Spends (counts (piece_count self.old.core.size (length payload.now)) result) (writing_of self.old) (writing_of self.new) }
+        ensures only { WritesOnly self.old self.new }
+    {
+        if self.writer.core.trace().is_none() {
+            return Called::NoTrace;
+        }
+        if payload.len() > MAX_PAYLOAD {
+            return Called::TooWide;
+        }
+        self.writer.point(moment, payload);
+        Called::Done
+    }
+
+    /// Leaves a crumb: the open trace goes on to this node.
+    pub fn crumb(&mut self, node: NodeId) -> Called
+        requires room { length (sent self.old.crumbs) < self.old.crumbs.room }
+        requires node { node.0 < self.old.crumbs.key.nodes }
+        ensures answer { NotesBy self.old.core result }
+        ensures does { Does (LeaveCrumb node) result self.old self.new }
+        ensures only { self.new ≡ record self.old { crumbs = self.new.crumbs } }
+        ensures crumbs { GoesOn self.old.crumbs self.new.crumbs }
+    {
+        let Some(trace) = self.writer.core.trace() else {
+            return Called::NoTrace;
+        };
+        self.crumbs.send(Crumb { trace, node });
+        Called::Done
+    }
+
+    /// Fires a trigger. It needs no open trace.
+    pub fn trigger(&mut self, trigger: Trigger) -> Called
+        requires room { length (sent self.old.triggers) < self.old.triggers.room }
+        requires declared { IsTriggerOf self.old.triggers.key trigger }
+        ensures answer { result ≡ Done }
+        ensures does { Does (Fire trigger) result self.old self.new }
+        ensures only { self.new ≡ record self.old { triggers = self.new.triggers } }
+        ensures triggers { GoesOn self.old.triggers self.new.triggers }
+    {
+        self.triggers.send(trigger);
+        Called::Done
+    }
+
+    /// Gives an autotrigger, by its number, a value of the open trace. Where it fires, a trigger of its id goes to the
+    /// agent.
+    pub fn sample(&mut self, moment: u64, auto: u32, value: u64, trigger: TriggerId) -> Called
+        requires room { length (sent self.old.triggers) < self.old.triggers.room }
+        requires auto { IsAutoOf self.old auto trigger }
+        ensures answer { NotesBy self.old.core result }
+        ensures does { Does (Sample moment auto value) result self.old self.new }
+        ensures only { self.new ≡ record self.old { autos = self.new.autos; triggers = self.new.triggers } }
+        ensures rules { map (λ (watch : Watch). watch.rule) self.new.autos ≡ map (λ (watch : Watch). watch.rule) self.old.autos }
+        ensures triggers { GoesOn self.old.triggers self.new.triggers }
+        ensures most { length (sent self.new.triggers) ≤ length (sent self.old.triggers) + 1 }
+    {
+        let Some(lead) = self.writer.core.trace() else {
+            return Called::NoTrace;
+        };
+        let autos = self.autos.as_mut_slice();
+        match autos[auto as usize].sample(value, lead) {
+            Sampled::Quiet => {}
+            Sampled::Fired { laterals } => {
+                self.triggers.send(Trigger {
+                    moment,
+                    trigger,
+                    lead,
+                    laterals,
+                });
+            }
+        }
+        Called::Done
+    }
+
+    /// Closes the open trace.
+    pub fn end(&mut self) -> Called
+        requires { length (sent self.old.chunks) < self.old.chunks.room }
+        ensures answer { EndsBy self.old.core result }
+        ensures does { Does End result self.old self.new }
+        ensures trace { result ≡ Done → self.new.core.trace ≡ None }
+        ensures spends { Spends (counts 1 result) (writing_of self.old) (writing_of self.new) }
+        ensures only { WritesOnly self.old self.new }
+    {
+        self.writer.end()
+    }
+
+    /// Puts what waits in the outboxes into the rings, as far as there is room, and answers how much still waits.
+    pub fn flush(&mut self) -> u32
+        ensures left { result ≡ length self.new.chunks.outbox + length self.new.crumbs.outbox + length self.new.triggers.outbox }
+        ensures chunks { Flushes self.old.chunks self.new.chunks }
+        ensures crumbs { Flushes self.old.crumbs self.new.crumbs }
+        ensures triggers { Flushes self.old.triggers self.new.triggers }
+        ensures only { self.new ≡ record self.old { chunks = self.new.chunks; crumbs = self.new.crumbs; triggers = self.new.triggers } }
+        ensures does { DoesNothing self.old self.new }
+    {
+        let chunks = self.writer.chunks.flush();
+        let crumbs = self.crumbs.flush();
+        let triggers = self.triggers.flush();
+        chunks + crumbs + triggers
+    }
+
+    /// The number of draws so far that found the pool empty.
+    pub fn nulls(&self) -> u32
+        ensures { result ≡ count_by is_null self.now.core.draws }
+    {
+        self.writer.core.nulls()
+    }
+
+    /// Brings the client's ends together with those of its number, of the same links and the same pool.
+    pub(crate) fn meet(
+        &mut self,
+        giver: &mut Giver,
+        chunks: &mut List<Receiver<Held<Lease>, ClientKey>>,
+        crumbs: &mut List<Receiver<Crumb, ClientKey>>,
+        triggers: &mut List<Receiver<Trigger, ClientKey>>,
+        number: u16,
+    )
+        requires { AreMates number (record { giver = giver.old; chunks = map incoming chunks.old.items; crumbs = crumbs.old.items; triggers = triggers.old.items }) self.old }
+        ensures met { MeetsAt number (record { giver = giver.old; chunks = map incoming chunks.old.items; crumbs = crumbs.old.items; triggers = triggers.old.items }) self.old
+            (record { giver = giver.new; chunks = map incoming chunks.new.items; crumbs = crumbs.new.items; triggers = triggers.new.items }) self.new }
+        ensures does { DoesNothing self.old self.new }
+    {
+        let writer = &mut self.writer;
+        meet_at(&mut writer.chunks, chunks, number);
+        meet_at(&mut self.crumbs, crumbs, number);
+        meet_at(&mut self.triggers, triggers, number);
+        giver.meet(&mut writer.drawer);
+    }
+
+    /// Gives back what the client noted, and its ends.
+    pub fn close(self) -> Closed
+        requires { IsNone self.core.trace }
+        ensures book { (result.book.client ≡ self.core.client) × (result.book.draws.items ≡ self.core.draws) × (result.book.pages.items ≡ self.core.pages) }
+        ensures drawer { result.drawer ≡ self.drawer }
+        ensures chunks { outgoing result.chunks ≡ self.chunks }
+        ensures crumbs { result.crumbs ≡ self.crumbs }
+        ensures triggers { result.triggers ≡ self.triggers }
+    {
+        let Client {
+            writer,
+            autos: _,
+            crumbs,
+            triggers,
+        } = self;
+        let Writer {
+            core,
+            drawer,
+            chunks,
+        } = writer;
+        Closed {
+            book: core.finish(),
+            drawer,
+            chunks,
+            crumbs,
+            triggers,
+        }
+    }
+}
