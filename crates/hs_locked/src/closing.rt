@@ -49,9 +49,9 @@ fn take_tally(words: &Words, mut place: Place) -> Tally
     place.slot_mut(words, 0).tally
 }
 
-/// Closes a pool. The giver and the drawers are all its ends, the drawers in the order in which `make` gave them; the rest
-/// is chunks that the pool has out, each with its lease. Answers how many answers of each kind all ends gave, of which none
-/// is a miss. It neither waits nor takes memory.
+/// Closes a pool, for which all its ends come together, the drawers as they stood in what `make` answered. The rest is what
+/// of its chunks is still out, leases and all. Answers how many answers of each kind the ends had, of which none is a miss.
+/// It neither waits nor takes memory.
 pub fn close(
     giver: LockedGiver,
     drawers: List<LockedDrawer>,

@@ -77,8 +77,8 @@ fn meet_at(words: &Words, giver: &mut Place, drawer: &mut Place)
 }
 
 impl LockedGiver {
-    /// Waits for a turn, and gives a chunk back. The pool always takes it: it is cleared, and its lease is spent. The stamp
-    /// is above that of the draw that made the lease, and not below the floor. It takes no memory.
+    /// Waits for a turn, and gives a chunk back. The pool always takes it: it is cleared, and its lease is spent. The draw
+    /// behind that lease has a lower stamp, and the floor is no higher. It takes no memory.
     pub fn give<R: Wait>(&mut self, rt: &R, held: Held<LockedLease>) -> Given<LockedLease>
         requires pool { held.lease.pool ≡ self.old.pool }
         requires size { held.chunk.size ≡ self.old.size }
@@ -89,8 +89,8 @@ impl LockedGiver {
         give_in_turn(rt, lock, &mut self.place, held)
     }
 
-    /// Brings a drawer of the same pool and the giver together: each later stamp of either is above every stamp that either
-    /// was answered before. It does not wait.
+    /// Brings a drawer of the same pool and the giver together: whatever either has been answered so far, both are answered
+    /// higher stamps from now on. It does not wait.
     pub fn meet(&mut self, drawer: &mut LockedDrawer)
         requires { drawer.old.pool ≡ self.old.pool }
         ensures { Meets self.old drawer.old self.new drawer.new }
