@@ -274,7 +274,7 @@ module _ (settings : PlainSettings) (run : NodeRun) (heard : Messages) (event : 
   item_step f step queue pick client same (Some sends) h =
       let m = mapped_from f (next_of queue run.state (pick sends)) event h in ap (event_step settings) m.is ∙ same m.item
 
-  noted_step : (step : Step) → event_of run heard step ≡ Some event → event_step settings event ≡ step
+  pub noted_step : (step : Step) → event_of run heard step ≡ Some event → event_step settings event ≡ step
   noted_step (steps.Chunk client) h =
       item_step (λ sheet. Took (Chunk client sheet)) (steps.Chunk client) (Chunks client) (λ (s : ClientSends). s.chunks) client (λ a. refl) (slice_get run.sends client) h
   noted_step (steps.Crumb client) h =

@@ -6,3 +6,4 @@ pub mod Orders
 pub mod Logs
 pub mod Extending
 pub mod Supplied
+pub mod Givens

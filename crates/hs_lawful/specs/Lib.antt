@@ -10,6 +10,7 @@ pub mod Lawful
 pub mod Laws
 pub mod Orders
 pub mod Extending
+pub mod Gives
 pub mod Samples
 pub mod Workloads
 pub mod Journals

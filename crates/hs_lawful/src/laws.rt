@@ -3,6 +3,7 @@
 ghost use Rattle.hs_lawful.specs.Laws.{HistoriesAreDecided, LawfulIsDecided, AgentsComeByEvents};
 ghost use Rattle.hs_lawful.specs.Orders.{FollowingPlaysOut, OrdersAgree, DoneIsAtRest};
 ghost use Rattle.hs_lawful.specs.Extending.{JournalsGoOn, RunsAreOfTheJournal, StepsAreNoted};
+ghost use Rattle.hs_lawful.specs.Gives.{GivesAreNoted};
 ghost use Rattle.hs_lawful.specs.Supply.{NothingIsTakenUnsent};
 
 use hs_model::laws::{events_go_on, steps_say_what_they_tell};
@@ -68,3 +69,8 @@ pub fn nothing_is_taken_unsent()
 {
     steps_say_what_they_tell();
 }
+
+/// The buffers that an agent gave back bear the stamps of the gives in its log.
+pub fn gives_are_noted()
+    ensures { GivesAreNoted }
+{}

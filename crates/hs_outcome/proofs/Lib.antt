@@ -7,3 +7,4 @@ pub mod Kept
 pub mod Buffers
 pub mod Sheets
 pub mod Origins
+pub mod Stamps

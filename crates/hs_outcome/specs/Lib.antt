@@ -4,6 +4,7 @@ pub mod OutcomeText
 pub mod Records
 pub mod Causes
 pub mod Origins
+pub mod Nulls
 pub mod Versions
 pub mod Examples
 pub mod TextExamples

@@ -1,14 +1,20 @@
 -- The whole outputs of small workloads under their lockstep journals, and the JSON of a report.
-use Rattle.std.specs.Prelude.{◌≡◌, [], ◌∷◌, ◌++◌, codes, refl}
+use Rattle.std.specs.Prelude.{◌≡◌, ℕ, [], ◌∷◌, ◌++◌, map, codes, refl}
 use Rattle.std.specs.Fmt.{digits}
 use Rattle.hex.specs.Hex.{encode_with}
+use Rattle.hs_base.specs.declared.told.Fate.{Fate}
+use Rattle.hs_base.specs.declared.told.Fate.TheVariants.{Null, Live, Reported, Evicted, Abandoned}
+use Rattle.hs_ledger.specs.declared.ledger.Entry.{Entry}
+use Rattle.hs_ledger.specs.Totals.{totals_of}
 use Rattle.hs_records.specs.Plain.{Point, End, PlainWorkload}
 use Rattle.hs_sent.specs.Samples.{settings, workload, begin, fire, segment}
 use Rattle.hs_text.specs.Text.{text_of}
-use Rattle.hs_outcome.specs.declared.form.Form.TheVariants.{Text}
-use Rattle.hs_outcome.specs.OutcomeText.{json_list, outcome_text}
+use Rattle.hs_outcome.specs.declared.form.Form.TheVariants.{Text, Json}
+use Rattle.hs_outcome.specs.OutcomeText.{entry_line, total_line, report_lines, json_list, reports_text, outcome_text}
+use Rattle.hs_outcome.specs.Outcomes.{outcome_of}
+use Rattle.hs_outcome.specs.Reports.{reports_of}
 use Rattle.hs_lawful.specs.Journals
-use Rattle.hs_lawful.specs.Workloads.{nothing, three_points, one_rule}
+use Rattle.hs_lawful.specs.Workloads.{nothing, three_points, one_rule, short_of_pins, four_nodes}
 
 no_operations : outcome_text nothing Journals.of_nothing Text
     ≡ text_of (
@@ -44,3 +50,42 @@ report_with_a_gap : outcome_text again Journals.of_evicted_then_claimed Text
     )
 unfolding digits encode_with
 report_with_a_gap = refl
+
+-- the same report as JSON
+report_as_json : reports_text 1 Json (reports_of again Journals.of_evicted_then_claimed)
+    ≡ text_of (codes "reports 1" ∷ codes "[{\"gaps\":[[0,0,0,\"evicted 1 1\"]],\"records\":[[0,0,1,3,\"bb\"]],\"trace\":\"0000000000000001\"}]" ∷ [])
+unfolding digits encode_with
+report_as_json = refl
+
+-- three nodes that crumbs led to, and one that they did not
+unreached_node : map (report_lines 1) (reports_of four_nodes Journals.of_four_nodes)
+    ≡ (codes "report 0000000000000001" ∷ codes "0 0 0 1 aa" ∷ codes "1 0 0 2 aa" ∷ codes "2 0 0 3 aa" ∷ codes "gap 3 0 0 live" ∷ []) ∷ []
+unfolding digits encode_with
+unreached_node = refl
+
+-- the trace whose rank is least is abandoned on both nodes
+abandoned_on_both : (map (entry_line 1) (outcome_of short_of_pins Journals.of_short_of_pins).entries
+    ≡ codes "0 0 0 0000000000000000 reported 1 0000000000000000" ∷ codes "0 0 1 9e3779b97f4a7c15 reported 1 9e3779b97f4a7c15"
+    ∷ codes "0 0 2 3c6ef372fe94f82a abandoned 1 3c6ef372fe94f82a 06c45d188009454f" ∷ codes "1 0 0 0000000000000000 reported 1 0000000000000000"
+    ∷ codes "1 0 1 9e3779b97f4a7c15 reported 1 9e3779b97f4a7c15" ∷ codes "1 0 2 3c6ef372fe94f82a abandoned 1 3c6ef372fe94f82a 06c45d188009454f" ∷ [])
+    × (total_line (totals_of (outcome_of short_of_pins Journals.of_short_of_pins).entries) ≡ codes "total 6 live 0 reported 4 null 0 evicted 0 abandoned 2")
+unfolding digits
+abandoned_on_both = (refl, refl)
+
+-- ---- lines
+
+abbrev record_in : (node client number trace : ℕ) → Fate → Entry
+record_in node client number trace fate = record { id = record { client = record { node = node; number = client }; number = number }; trace = record { 0 = trace }; fate = fate }
+
+line_of_each_version : (entry_line 1 (record_in 0 0 2 175 (Null 1)) ≡ codes "0 0 2 00000000000000af null 1")
+    × (entry_line 2 (record_in 0 0 2 175 (Null 1)) ≡ codes "0 0 2 000000000000000000000000000000af null 1")
+unfolding digits
+line_of_each_version = (refl, refl)
+
+line_of_each_fate : (entry_line 1 (record_in 3 15 10 1 Live) ≡ codes "3 15 10 0000000000000001 live")
+    × (entry_line 1 (record_in 0 0 0 1 (Reported (record { 0 = 64 }) (record { 0 = 2 }))) ≡ codes "0 0 0 0000000000000001 reported 64 0000000000000002")
+    × (entry_line 1 (record_in 0 0 0 1 (Evicted 3 4)) ≡ codes "0 0 0 0000000000000001 evicted 3 4")
+    × (entry_line 2 (record_in 0 0 0 1 (Abandoned (record { 0 = 7 }) (record { 0 = 2 }) (record { word = 255; trace = 2 })))
+    ≡ codes "0 0 0 00000000000000000000000000000001 abandoned 7 00000000000000000000000000000002 00000000000000ff")
+unfolding digits
+line_of_each_fate = (refl, refl, refl, refl)

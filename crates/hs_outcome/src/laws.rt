@@ -3,10 +3,12 @@
 ghost use Rattle.hs_outcome.specs.Records.{EachRecordHasOneEntry, TotalsCountTheRecords, ReportsShowTheirTraces};
 ghost use Rattle.hs_outcome.specs.Causes.{AgentsKeepTheirModel, EvictedOnlyWhereOver, NoBufferIsOutTwice, EmptyOnlyWhereEmpty};
 ghost use Rattle.hs_outcome.specs.Origins.{EachFateHasItsCause};
+ghost use Rattle.hs_outcome.specs.Nulls.{EmptyDrawsFoundNothing};
 ghost use Rattle.hs_outcome.specs.Versions.{VersionsHaveOneOutcome};
 
 use hs_lawful::laws::{
-    agents_come_by_events, following_plays_out, runs_are_of_the_journal, steps_are_noted,
+    agents_come_by_events, following_plays_out, gives_are_noted, runs_are_of_the_journal,
+    steps_are_noted,
 };
 use hs_model::laws::{
     chunks_stand_by_their_claim, limits_hold, lists_have_their_chunks, traces_are_claimed_once,
@@ -77,4 +79,16 @@ pub fn each_fate_has_its_cause()
     runs_are_of_the_journal();
     steps_are_noted();
     timed_pages_are_the_pages();
+}
+
+/// Of a lawful journal each draw that found nothing stands in its node's history at its stamp, and no buffer
+/// waited there.
+pub fn empty_draws_found_nothing()
+    ensures { EmptyDrawsFoundNothing }
+{
+    following_plays_out();
+    runs_are_of_the_journal();
+    gives_are_noted();
+    timed_pages_are_the_pages();
+    empty_only_where_empty();
 }
