@@ -8,3 +8,5 @@ pub mod Buffers
 pub mod Sheets
 pub mod Origins
 pub mod Stamps
+pub mod Claimed
+pub mod LetGo

@@ -56,9 +56,9 @@ one_more : (taken : List Taken) (sheet : Sheet) (standing : ChunkStanding) → s
 one_more taken sheet standing = map-append (λ (chunk : Taken). chunk.sheet) taken (record { sheet = sheet; standing = standing } ∷ [])
 
 -- a front of the pages is what they were
-record HasFront (before after : List Sheet) : Type 0 where
-  more : List Sheet
-  is : after ≡ before ++ more
+pub record HasFront (before after : List Sheet) : Type 0 where
+  pub more : List Sheet
+  pub is : after ≡ before ++ more
 
 same_front : (before after : List Sheet) → after ≡ before → HasFront before after
 same_front before after e = record { more = []; is = e ∙ sym (append-nil before) }
@@ -70,7 +70,7 @@ module _ (settings : PlainSettings) (node : ℕ) (state : AgentState) where
       chunk_keeps settings (Are settings all) (pins settings all) (leaves settings all) (reports settings all) (evicts settings all) sheet state (one_more state.taken sheet Indexed)
       (λ group. one_more state.taken sheet (Pinned group)) (λ group. one_more state.taken sheet (Abandoned group))
 
-  event_front : (event : Event) → HasFront (sheets state.taken) (sheets (after_event settings node state event).taken)
+  pub event_front : (event : Event) → HasFront (sheets state.taken) (sheets (after_event settings node state event).taken)
   event_front (Took (Chunk client sheet)) = record { more = sheet ∷ []; is = chunk_added client sheet }
   event_front (Took (Crumbed client crumb)) =
       let all = sheets state.taken in
@@ -95,7 +95,7 @@ pub record IsTaken (taken : List Taken) (sheet : Sheet) : Type 0 where
   pub place : ℕ
   pub there : slice_get (sheets taken) place ≡ Some sheet
 
-get_front : {X : Type 0} (xs ys : List X) (i : ℕ) (x : X) → slice_get xs i ≡ Some x → slice_get (xs ++ ys) i ≡ Some x
+pub get_front : {X : Type 0} (xs ys : List X) (i : ℕ) (x : X) → slice_get xs i ≡ Some x → slice_get (xs ++ ys) i ≡ Some x
 get_front [] ys i x h = let no : None ≡ Some x = h in absurd cc
 get_front (y ∷ xs) ys zero x h = h
 get_front (y ∷ xs) ys (suc i) x h = get_front xs ys i x h

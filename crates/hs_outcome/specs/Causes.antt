@@ -2,15 +2,17 @@
 -- its lists have their chunks, its limits hold, and all chunks of a claimed trace stand for the group that claimed it. A chunk is
 -- evicted only where more was indexed than may stay. A buffer is got only by one writer at a time, and a draw is empty only where
 -- the queue is.
-use Rattle.std.specs.Prelude.{◌≡◌, ◌⊎◌, ℕ, ◌<◌, List, [], ◌∷◌, ◌++◌, reverse, count_by}
+use Rattle.std.specs.Prelude.{◌≡◌, ◌⊎◌, ℕ, ◌<◌, ◌≤◌, List, [], ◌∷◌, ◌++◌, reverse, count_by, true}
 use Rattle.std.specs.List.{AllByRecursion}
 use Rattle.hs_base.specs.declared.ids.TraceId.{TraceId}
 use Rattle.hs_journal.specs.Views.{PlainJournal}
-use Rattle.hs_model.specs.Laws.{PlacesMatch, IsWithin, IsClaimedOrTouched, AllStandByClaim}
-use Rattle.hs_model.specs.Standings.{ChunkStanding, Indexed, Pinned, Reported, Evicted, Abandoned, Taken}
+use Rattle.hs_model.specs.Laws.{count_of, given_places, PlacesMatch, IsWithin, IsClaimedOrTouched, AllStandByClaim}
+use Rattle.hs_model.specs.Standings.{ChunkStanding, Indexed, Pinned, Reported, Evicted, Abandoned, Taken, is_evicted, is_let_go, stands, is_of_trace}
+use Rattle.hs_model.specs.State.{AgentState, GivenPlace, is_claimed}
 use Rattle.hs_records.specs.Plain.{PlainSettings, PlainWorkload}
 use Rattle.hs_words.specs.PoolHistory.{Event, Got, Empty, is_got, is_given, queue_after, IsPoolHistory}
 use Rattle.hs_lawful.specs.Following.{NodeRun, followed}
+use Rattle.hs_lawful.specs.Played.{state_behind}
 
 -- ---- agents
 
@@ -42,6 +44,24 @@ AllWereOver settings taken = AllByRecursion (λ (chunk : Taken). WasOver setting
 -- No agent evicts at or below both limits, and the counts that a fate names show it.
 abbrev pub EvictedOnlyWhereOver : Type 0
 EvictedOnlyWhereOver = (W : PlainWorkload) (J : PlainJournal) → AllByRecursion (λ (run : NodeRun). AllWereOver W.settings run.state.taken) (followed W J).nodes
+
+-- Each buffer that was given back is that of a chunk that was evicted, abandoned or reported, and no chunk's is given back twice. So
+-- none is given while it is indexed or pinned.
+pub record GaveWhatWasLetGo (state : AgentState) : Type 0 where
+  pub let_go : AllByRecursion (λ (given : GivenPlace). stands is_let_go state.taken given.place ≡ true) state.given
+  pub once : (place : ℕ) → count_of (given_places state) place ≤ 1
+
+abbrev pub GivenWereLetGo : Type 0
+GivenWereLetGo = (W : PlainWorkload) (J : PlainJournal) → AllByRecursion (λ (run : NodeRun). GaveWhatWasLetGo run.state) (followed W J).nodes
+
+-- What was claimed behind some events is not evicted by any that came later.
+abbrev pub KeepsItsClaims : PlainSettings → NodeRun → Type 0
+KeepsItsClaims settings run =
+    (n : ℕ) (trace : TraceId) (place : ℕ) → is_of_trace (state_behind settings run n).taken trace place ≡ true → is_claimed (state_behind settings run n).claims trace ≡ true
+    → stands is_evicted run.state.taken place ≡ stands is_evicted (state_behind settings run n).taken place
+
+abbrev pub NothingClaimedWasEvicted : Type 0
+NothingClaimedWasEvicted = (W : PlainWorkload) (J : PlainJournal) → AllByRecursion (KeepsItsClaims W.settings) (followed W J).nodes
 
 -- ---- pools
 

@@ -1,7 +1,7 @@
 //! What holds of the outcomes of lawful journals. These functions do nothing: their contracts say it.
 
 ghost use Rattle.hs_outcome.specs.Records.{EachRecordHasOneEntry, TotalsCountTheRecords, ReportsShowTheirTraces};
-ghost use Rattle.hs_outcome.specs.Causes.{AgentsKeepTheirModel, EvictedOnlyWhereOver, NoBufferIsOutTwice, EmptyOnlyWhereEmpty};
+ghost use Rattle.hs_outcome.specs.Causes.{AgentsKeepTheirModel, EvictedOnlyWhereOver, GivenWereLetGo, NothingClaimedWasEvicted, NoBufferIsOutTwice, EmptyOnlyWhereEmpty};
 ghost use Rattle.hs_outcome.specs.Origins.{EachFateHasItsCause};
 ghost use Rattle.hs_outcome.specs.Nulls.{EmptyDrawsFoundNothing};
 ghost use Rattle.hs_outcome.specs.Versions.{VersionsHaveOneOutcome};
@@ -11,7 +11,8 @@ use hs_lawful::laws::{
     steps_are_noted,
 };
 use hs_model::laws::{
-    chunks_stand_by_their_claim, limits_hold, lists_have_their_chunks, traces_are_claimed_once,
+    chunks_stand_by_their_claim, claims_hold_for_good, events_go_on, limits_hold,
+    lists_have_their_chunks, nothing_claimed_is_evicted, traces_are_claimed_once,
 };
 use hs_records::pages_carry_the_records;
 use hs_sent::laws::timed_pages_are_the_pages;
@@ -91,4 +92,21 @@ pub fn empty_draws_found_nothing()
     gives_are_noted();
     timed_pages_are_the_pages();
     empty_only_where_empty();
+}
+
+/// What was given back was evicted, abandoned or reported, and is given back once.
+pub fn given_were_let_go()
+    ensures { GivenWereLetGo }
+{
+    agents_keep_their_model();
+}
+
+/// What is claimed is not evicted later.
+pub fn nothing_claimed_was_evicted()
+    ensures { NothingClaimedWasEvicted }
+{
+    events_go_on();
+    claims_hold_for_good();
+    nothing_claimed_is_evicted();
+    agents_come_by_events();
 }
