@@ -5,6 +5,7 @@
 mod auto;
 mod collect;
 mod coord;
+mod four;
 mod index;
 mod journal;
 mod link;
@@ -27,6 +28,7 @@ fn main(rt: HostRuntime) -> Result<()> {
         "auto" => auto::run(&rt, count),
         "collect" => collect::run(&rt, count),
         "coord" => coord::run(&rt, count),
+        "four" => four::run(&rt, count),
         "index" => index::run(&rt, count),
         "journal" => journal::run(&rt, count),
         "link" => link::run(&rt, count),

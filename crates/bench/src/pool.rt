@@ -34,7 +34,7 @@ fn plain_of(alloc: Global, chunks: u32) -> Result<PlainPool, Memory>
 }
 
 /// A locked pool of so many chunks of 64 bytes.
-fn locked_of(
+pub(crate) fn locked_of(
     alloc: Global,
     chunks: u32,
     allowances: &[u32],
