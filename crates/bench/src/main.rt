@@ -5,10 +5,10 @@
 mod auto;
 mod collect;
 mod coord;
-mod four;
 mod index;
 mod journal;
 mod link;
+mod locked;
 mod pages;
 mod pool;
 mod rate;
@@ -28,10 +28,10 @@ fn main(rt: HostRuntime) -> Result<()> {
         "auto" => auto::run(&rt, count),
         "collect" => collect::run(&rt, count),
         "coord" => coord::run(&rt, count),
-        "four" => four::run(&rt, count),
         "index" => index::run(&rt, count),
         "journal" => journal::run(&rt, count),
         "link" => link::run(&rt, count),
+        "locked" => locked::run(&rt, count),
         "pages" => pages::run(&rt, count),
         "pool" => pool::run(&rt, count),
         "ring" => ring::run(&rt, count),

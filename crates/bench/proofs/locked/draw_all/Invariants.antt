@@ -1,6 +1,6 @@
 use Rattle.std.proofs.Common.{◌≡◌, ◌+◌, ◌≤◌, length}
 use Rattle.hs_link.specs.Contents.{sent}
-use Rattle.bench.proofs.four.draw_all.Given as goal
+use Rattle.bench.proofs.locked.draw_all.Given as goal
 
 -- what is left of the allowance goes over the link
 abbrev pub invariant-draws : goal.invariant-draws
