@@ -10,3 +10,4 @@ pub mod Origins
 pub mod Stamps
 pub mod Claimed
 pub mod LetGo
+pub mod DrawnChunks

@@ -55,13 +55,15 @@ module _ (settings : PlainSettings) (all : List Sheet) where
 one_more : (taken : List Taken) (sheet : Sheet) (standing : ChunkStanding) → sheets (taken ++ record { sheet = sheet; standing = standing } ∷ []) ≡ sheets taken ++ sheet ∷ []
 one_more taken sheet standing = map-append (λ (chunk : Taken). chunk.sheet) taken (record { sheet = sheet; standing = standing } ∷ [])
 
+-- the pages that an event adds
+abbrev pub added : Event → List Sheet
+added (Took (Chunk client sheet)) = sheet ∷ []
+added _ = []
+
 -- a front of the pages is what they were
 pub record HasFront (before after : List Sheet) : Type 0 where
   pub more : List Sheet
   pub is : after ≡ before ++ more
-
-same_front : (before after : List Sheet) → after ≡ before → HasFront before after
-same_front before after e = record { more = []; is = e ∙ sym (append-nil before) }
 
 module _ (settings : PlainSettings) (node : ℕ) (state : AgentState) where
   chunk_added : (client : ℕ) (sheet : Sheet) → sheets (take_input settings node state (Chunk client sheet)).taken ≡ sheets state.taken ++ sheet ∷ []
@@ -70,23 +72,26 @@ module _ (settings : PlainSettings) (node : ℕ) (state : AgentState) where
       chunk_keeps settings (Are settings all) (pins settings all) (leaves settings all) (reports settings all) (evicts settings all) sheet state (one_more state.taken sheet Indexed)
       (λ group. one_more state.taken sheet (Pinned group)) (λ group. one_more state.taken sheet (Abandoned group))
 
+  -- an event adds the page of the chunk that it takes, and no other
+  pub event_adds : (event : Event) → sheets (after_event settings node state event).taken ≡ sheets state.taken ++ added event
+  event_adds (Took (Chunk client sheet)) = chunk_added client sheet
+  event_adds (Took (Crumbed client crumb)) =
+      let all = sheets state.taken in
+      crumb_keeps settings (Are settings all) (pins settings all) (leaves settings all) (reports settings all) (evicts settings all) crumb state refl ∙ sym (append-nil all)
+  event_adds (Took (Triggered client trigger)) =
+      let all = sheets state.taken in
+      trigger_keeps settings (Are settings all) (pins settings all) (leaves settings all) (reports settings all) (evicts settings all) node trigger state refl ∙ sym (append-nil all)
+  event_adds (Took (Asked ask)) =
+      let all = sheets state.taken in
+      ask_keeps settings (Are settings all) (pins settings all) (leaves settings all) (reports settings all) (evicts settings all) ask state refl ∙ sym (append-nil all)
+  event_adds (Took Turn) =
+      let all = sheets state.taken in turn_keeps settings (Are settings all) (pins settings all) (leaves settings all) (reports settings all) (evicts settings all) state refl ∙ sym (append-nil all)
+  event_adds (Gave answer) =
+      let all = sheets state.taken in
+      answer_keeps settings (Are settings all) (pins settings all) (leaves settings all) (reports settings all) (evicts settings all) state answer refl ∙ sym (append-nil all)
+
   pub event_front : (event : Event) → HasFront (sheets state.taken) (sheets (after_event settings node state event).taken)
-  event_front (Took (Chunk client sheet)) = record { more = sheet ∷ []; is = chunk_added client sheet }
-  event_front (Took (Crumbed client crumb)) =
-      let all = sheets state.taken in
-      same_front all _ (crumb_keeps settings (Are settings all) (pins settings all) (leaves settings all) (reports settings all) (evicts settings all) crumb state refl)
-  event_front (Took (Triggered client trigger)) =
-      let all = sheets state.taken in
-      same_front all _ (trigger_keeps settings (Are settings all) (pins settings all) (leaves settings all) (reports settings all) (evicts settings all) node trigger state refl)
-  event_front (Took (Asked ask)) =
-      let all = sheets state.taken in
-      same_front all _ (ask_keeps settings (Are settings all) (pins settings all) (leaves settings all) (reports settings all) (evicts settings all) ask state refl)
-  event_front (Took Turn) =
-      let all = sheets state.taken in
-      same_front all _ (turn_keeps settings (Are settings all) (pins settings all) (leaves settings all) (reports settings all) (evicts settings all) state refl)
-  event_front (Gave answer) =
-      let all = sheets state.taken in
-      same_front all _ (answer_keeps settings (Are settings all) (pins settings all) (leaves settings all) (reports settings all) (evicts settings all) state answer refl)
+  event_front event = record { more = added event; is = event_adds event }
 
 -- ---- what was taken is there
 
@@ -123,13 +128,13 @@ take_next [] n item P h all p = let no : None ≡ Some item = h in absurd cc
 take_next (i ∷ items) zero item P h all p = (subst P (sym (some_same i item h)) p, tt)
 take_next (i ∷ items) (suc n) item P h all p = (all.0, take_next items n item P h all.1 p)
 
-record IsStep (settings : PlainSettings) (heard : Messages) (run stepped : NodeRun) : Type 0 where
-  step : Step
-  rest : List Step
-  event : Event
-  left : run.left ≡ step ∷ rest
-  met : event_of run heard step ≡ Some event
-  is : stepped ≡ perform settings rest run event
+pub record IsStep (settings : PlainSettings) (heard : Messages) (run stepped : NodeRun) : Type 0 where
+  pub step : Step
+  pub rest : List Step
+  pub event : Event
+  pub left : run.left ≡ step ∷ rest
+  pub met : event_of run heard step ≡ Some event
+  pub is : stepped ≡ perform settings rest run event
 
 step_event : (settings : PlainSettings) (heard : Messages) (run stepped : NodeRun) (step : Step) (rest : List Step) → run.left ≡ step ∷ rest → (o : Option Event) → event_of run heard step ≡ o
     → option_map (perform settings rest run) o ≡ Some stepped → IsStep settings heard run stepped
@@ -144,7 +149,7 @@ step_event settings heard run stepped step rest e (Some event) m h =
       is = sym (some_same (perform settings rest run event) stepped h);
     }
 
-step_left : (settings : PlainSettings) (heard : Messages) (run stepped : NodeRun) (left : List Step) → run.left ≡ left → step_of settings heard run left ≡ Some stepped → IsStep settings heard run stepped
+pub step_left : (settings : PlainSettings) (heard : Messages) (run stepped : NodeRun) (left : List Step) → run.left ≡ left → step_of settings heard run left ≡ Some stepped → IsStep settings heard run stepped
 step_left settings heard run stepped [] e h = let no : None ≡ Some stepped = h in absurd cc
 step_left settings heard run stepped (step ∷ rest) e h = step_event settings heard run stepped step rest e (event_of run heard step) refl h
 
@@ -227,17 +232,17 @@ module _ (noted : StepsAreNoted) (settings : PlainSettings) (heard : Messages) (
 
 -- ---- all steps
 
-all_set : {X : Type 0} (P : X → Type 0) (xs : List X) (i : ℕ) (x : X) → AllByRecursion P xs → P x → AllByRecursion P (set xs i x)
+pub all_set : {X : Type 0} (P : X → Type 0) (xs : List X) (i : ℕ) (x : X) → AllByRecursion P xs → P x → AllByRecursion P (set xs i x)
 all_set P [] i x all h = tt
 all_set P (y ∷ xs) zero x all h = (h, all.1)
 all_set P (y ∷ xs) (suc i) x all h = (all.0, all_set P xs i x all.1 h)
 
-all_get : {X : Type 0} (P : X → Type 0) (xs : List X) (i : ℕ) (x : X) → AllByRecursion P xs → slice_get xs i ≡ Some x → P x
+pub all_get : {X : Type 0} (P : X → Type 0) (xs : List X) (i : ℕ) (x : X) → AllByRecursion P xs → slice_get xs i ≡ Some x → P x
 all_get P [] i x all h = let no : None ≡ Some x = h in absurd cc
 all_get P (y ∷ xs) zero x all h = subst P (some_same y x h) all.0
 all_get P (y ∷ xs) (suc i) x all h = all_get P xs i x all.1 h
 
-hear_nodes : (run next : Run) (left : List NodeId) → hear run left ≡ Some next → next.nodes ≡ run.nodes
+pub hear_nodes : (run next : Run) (left : List NodeId) → hear run left ≡ Some next → next.nodes ≡ run.nodes
 hear_nodes run next [] h = let no : None ≡ Some next = h in absurd cc
 hear_nodes run next (node ∷ rest) h = either (message_of run.nodes run.heard node) h
   where

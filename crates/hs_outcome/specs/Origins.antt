@@ -1,7 +1,7 @@
 -- Where a fate comes from. Each record of a lawful journal has its fate from one of the pages with its pieces: null with the stamp
 -- of that page's draw, where the draw found nothing, and else as the chunk of that page stands with the node's agent. So the cause
 -- that a ledger names is in the journal: a stamp, two counts, or a group's trigger, lead and rank.
-use Rattle.std.specs.Prelude.{◌≡◌, ℕ, ◌+◌, ◌*◌, ◌<◌, ◌≤◌, length, Some, slice_get}
+use Rattle.std.specs.Prelude.{◌≡◌, ℕ, ◌+◌, ◌*◌, ◌<◌, ◌≤◌, length, Some, slice_get, true}
 use Rattle.std.specs.List.{AllByRecursion}
 use Rattle.hs_base.specs.declared.ids.ClientId.{ClientId}
 use Rattle.hs_base.specs.declared.told.Fate.{Fate}
@@ -14,9 +14,12 @@ use Rattle.hs_model.specs.Books.{fate_of}
 use Rattle.hs_model.specs.Standings.{Taken}
 use Rattle.hs_records.specs.Pages.{PlainPage, first_record, pages_of}
 use Rattle.hs_records.specs.Plain.{PlainWorkload}
-use Rattle.hs_sent.specs.Sending.{operations_at, draws_at, place_of}
+use Rattle.hs_sent.specs.Drawn.{DrawnPage, has_buffer}
+use Rattle.hs_sent.specs.Sending.{operations_at, draws_at, place_of, sheet_of}
+use Rattle.hs_words.specs.Pages.{Sheet}
 use Rattle.hs_lawful.specs.Following.{NodeRun, Run, followed}
 use Rattle.hs_lawful.specs.Lawful.{IsLawful}
+use Rattle.hs_lawful.specs.Pooled.{page_of}
 use Rattle.hs_outcome.specs.Outcomes.{outcome_of}
 use Rattle.hs_outcome.specs.Records.{EndsItsTraces}
 
@@ -53,3 +56,17 @@ pub record HasItsCause (W : PlainWorkload) (J : PlainJournal) (entry : Entry) : 
 
 abbrev pub EachFateHasItsCause : Type 0
 EachFateHasItsCause = (W : PlainWorkload) (J : PlainJournal) → EndsItsTraces W → HasItsClients W → IsLawful W J → AllByRecursion (HasItsCause W J) (outcome_of W J).entries
+
+-- ---- what agents have
+
+-- A sheet is that of a page of the node's clients, which stands at the place that the sheet names, and has a buffer.
+pub record IsOfDrawnPage (run : NodeRun) (sheet : Sheet) : Type 0 where
+  pub page : DrawnPage
+  pub there : page_of run sheet ≡ Some page
+  pub got : has_buffer page.draw ≡ true
+  pub is : sheet_of page ≡ sheet
+
+-- An agent has no chunk but those of pages that its clients drew.
+abbrev pub TakenPagesWereDrawn : Type 0
+TakenPagesWereDrawn =
+    (W : PlainWorkload) (J : PlainJournal) → AllByRecursion (λ (run : NodeRun). AllByRecursion (λ (chunk : Taken). IsOfDrawnPage run chunk.sheet) run.state.taken) (followed W J).nodes

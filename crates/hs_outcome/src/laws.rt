@@ -2,7 +2,7 @@
 
 ghost use Rattle.hs_outcome.specs.Records.{EachRecordHasOneEntry, TotalsCountTheRecords, ReportsShowTheirTraces};
 ghost use Rattle.hs_outcome.specs.Causes.{AgentsKeepTheirModel, EvictedOnlyWhereOver, GivenWereLetGo, NothingClaimedWasEvicted, NoBufferIsOutTwice, EmptyOnlyWhereEmpty};
-ghost use Rattle.hs_outcome.specs.Origins.{EachFateHasItsCause};
+ghost use Rattle.hs_outcome.specs.Origins.{EachFateHasItsCause, TakenPagesWereDrawn};
 ghost use Rattle.hs_outcome.specs.Nulls.{EmptyDrawsFoundNothing};
 ghost use Rattle.hs_outcome.specs.Versions.{VersionsHaveOneOutcome};
 
@@ -109,4 +109,11 @@ pub fn nothing_claimed_was_evicted()
     claims_hold_for_good();
     nothing_claimed_is_evicted();
     agents_come_by_events();
+}
+
+/// An agent has no chunk but those of pages that its clients drew.
+pub fn taken_pages_were_drawn()
+    ensures { TakenPagesWereDrawn }
+{
+    following_plays_out();
 }
