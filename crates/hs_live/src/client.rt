@@ -8,7 +8,7 @@ ghost use Rattle.hs_client.specs.Core.{is_null};
 ghost use Rattle.hs_link.specs.Contents.{sent};
 ghost use Rattle.hs_live.specs.declared.called.Called.TheVariants.{Done};
 ghost use Rattle.hs_live.specs.Keys.{IsTriggerOf};
-ghost use Rattle.hs_live.specs.Live.{outgoing, incoming, GoesOn, Flushes};
+ghost use Rattle.hs_live.specs.Live.{outgoing, incoming, GoesOn, Sends, Flushes};
 ghost use Rattle.hs_live.specs.Writing.{Spends, writing_of};
 ghost use Rattle.hs_live.specs.Done.{HasDone, Does, DoesNothing};
 ghost use Rattle.hs_live.specs.Calls.{IsNew, made_of, BeginsBy, PointsBy, NotesBy, EndsBy, begun, counts, IsAutoOf, WritesOnly, AreMates, MeetsAt};
@@ -107,6 +107,7 @@ impl Client {
         ensures does { Does (LeaveCrumb node) result self.old self.new }
         ensures only { self.new ≡ record self.old { crumbs = self.new.crumbs } }
         ensures crumbs { GoesOn self.old.crumbs self.new.crumbs }
+        ensures most { length (sent self.new.crumbs) ≤ length (sent self.old.crumbs) + 1 }
     {
         let Some(trace) = self.writer.core.trace() else {
             return Called::NoTrace;
@@ -122,7 +123,7 @@ impl Client {
         ensures answer { result ≡ Done }
         ensures does { Does (Fire trigger) result self.old self.new }
         ensures only { self.new ≡ record self.old { triggers = self.new.triggers } }
-        ensures triggers { GoesOn self.old.triggers self.new.triggers }
+        ensures triggers { Sends trigger self.old.triggers self.new.triggers }
     {
         self.triggers.send(trigger);
         Called::Done
