@@ -3,7 +3,7 @@
 
 use hs_base::TraceId;
 use hs_make::{MAX_REQUESTS, make_workload};
-use hs_workload::{Op, Workload};
+use hs_workload::{Op, Workload, read_workload, write_workload};
 use std::test::Fail;
 
 /// Seeds, with the first word that each draws, and the client that serves its first request.
@@ -69,5 +69,15 @@ fn three_requests(rt: HostRuntime) -> Result<(), Fail> {
 fn most_requests(rt: HostRuntime) -> Result<(), Fail> {
     let workload = make_workload(rt.alloc(), 7, MAX_REQUESTS)?;
     assert_eq!(rt; count_operations(&workload), MOST_REQUESTS);
+    Ok(())
+}
+
+#[test]
+fn what_is_made_is_read_back(rt: HostRuntime) -> Result<(), Fail> {
+    let workload = make_workload(rt.alloc(), 7, 3)?;
+    let text = write_workload(rt.alloc(), &workload)?;
+    let back = read_workload(rt.alloc(), text.as_slice())?;
+    assert_eq!(rt; back.clients.len(), 12);
+    assert_eq!(rt; count_operations(&back), count_operations(&workload));
     Ok(())
 }
