@@ -236,6 +236,40 @@ const OPERATIONS: [(&[u8], u32, Reason); 26] = [
     (b"client 0 0\nsample 1 4294967296 0\n", 14, Reason::Unknown),
 ];
 
+/// One client and a trigger id in version 2, ten lines.
+const WIDE: &[u8] =
+    b"hindsight 2\nnodes 1\nclients 1\nbuffers 1\nsize 64\nthreshold 0\ntraces 1\npins 0\nstride 1\ntriggerid 3 1 2 0\n";
+
+/// Lines behind them, with the first bad line and its reason. Traces have 32 digits there, and no fewer.
+const WIDE_OPERATIONS: [(&[u8], u32, Reason); 6] = [
+    (b"client 0 0\nbegin 0000000000000001\n", 12, Reason::Hex),
+    (
+        b"client 0 0\nbegin 0000000000000000000000000000000A\n",
+        12,
+        Reason::Hex,
+    ),
+    (
+        b"client 0 0\nbegin 00000000000000000000000000000001\nbegin 0000000000000001\n",
+        13,
+        Reason::Hex,
+    ),
+    (
+        b"client 0 0\ntrigger 1 3 0000000000000001\n",
+        12,
+        Reason::Hex,
+    ),
+    (
+        b"client 0 0\ntrigger 1 65 00000000000000000000000000000001 0000000000000001\n",
+        12,
+        Reason::Hex,
+    ),
+    (
+        b"client 0 0\ntrigger 1 65 00000000000000000000000000000001\n",
+        12,
+        Reason::Unknown,
+    ),
+];
+
 fn expect_refusal(rt: &impl Abort, alloc: Global, text: &[u8], line: u32, reason: Reason) {
     match read_workload(alloc, text) {
         Ok(_) => assert!(rt; false, "line {line} was not refused"),
@@ -390,6 +424,7 @@ fn no_operation_is_read(rt: HostRuntime) -> Result<(), Fail> {
 #[test]
 fn operations_are_refused(rt: HostRuntime) -> Result<(), Fail> {
     expect_behind(&rt, rt.alloc(), DECLARED, &OPERATIONS)?;
+    expect_behind(&rt, rt.alloc(), WIDE, &WIDE_OPERATIONS)?;
     Ok(())
 }
 
