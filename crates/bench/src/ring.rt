@@ -298,7 +298,7 @@ fn four_drawers(
     Ok((giver, one, two, three, four))
 }
 
-/// Whether the stamps, once in order, are 0, 1, 2 and so on without a gap.
+/// Whether the stamps, sorted, count up from 0 and leave none out.
 fn are_all(stamps: &mut Vec<u64>) -> bool {
     stamps.sort_unstable();
     stamps

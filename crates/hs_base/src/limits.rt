@@ -61,6 +61,9 @@ pub const MAX_PAYLOAD: usize = 65_535;
 /// The most operations of a workload, where a record counts once for each of its pieces.
 pub const MAX_OPERATIONS: u32 = 262_144;
 
+/// The most requests of a made workload. There is at least one.
+pub const MAX_REQUESTS: u32 = 10_000;
+
 /// The longest input, in bytes.
 pub const MAX_INPUT: usize = 16_777_216;
 

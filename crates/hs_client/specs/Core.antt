@@ -158,7 +158,7 @@ pub record MaySupply {L : Type 0} (core : Core L) (len : ℕ) : Type 0 where
   pub opened : IsSome core.trace
   pub none : core.current ≡ None
   pub narrow : FRAME_COST + len ≤ core.size
-  -- where the trace has a page already, the piece does not fit the last one
+  -- a page that is in use already has too little room for the piece
   pub full : 0 < core.used → core.size < core.used + (PIECE_COST + len)
 
 -- ---- what the calls answer

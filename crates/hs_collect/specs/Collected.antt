@@ -1,6 +1,6 @@
 -- What a list of added pages collects. Each page has pieces of records of one client, in the order of their numbers. A
--- record of a trace is joined of its pieces on the added pages of that trace, in the order in which these were added,
--- and has its first piece's moment. A trace's records stand in the order of client and number, and the traces in the
+-- record's pieces are joined as the pages that brought them were added, among the pages of its trace alone, and its moment
+-- is that of its first piece. A trace's records stand in the order of client and number, and the traces in the
 -- order of their first pages.
 use Rattle.std.specs.Prelude.{◌≡◌, ◌≢◌, ◌⊎◌, ℕ, ◌+◌, ◌<◌, ◌≤◌, ◌^◌, ◌==◌, ◌&&◌, not, Bool, List, [], ◌∷◌, length, map, filter, All, Option, Some, None, MatchOption, option_map, slice_get, refl}
 use Rattle.std.specs.List.{flat_map, find, last_or, Any, AllPairs}

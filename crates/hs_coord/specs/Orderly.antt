@@ -20,7 +20,8 @@ abbrev pub IsOrderly : GroupId → Messages → Type 0
 IsOrderly group messages =
     (before later : Messages) (m : Message) → messages ≡ before ++ m ∷ later → is_of group m ≡ true → is_known_sender group before m ≡ true
 
--- A set has the admitting node and, with each node, the crumb nodes of the group's messages from it.
+-- A set that no crumb leads out of: the node that admitted the group is in it, and wherever a message of the group came from
+-- a node of the set, so are the nodes of its crumbs.
 pub record IsClosed (group : GroupId) (messages : Messages) (set : ℕ → Bool) : Type 0 where
   pub admitting : set group.node ≡ true
   pub crumbs : All (λ (m : Message). is_of group m ≡ true → set m.node.0 ≡ true → (node : ℕ) → has_node m.told.crumbs node ≡ true → set node ≡ true) messages

@@ -50,7 +50,7 @@ impl<L: Token> Recent<L> {
         })
     }
 
-    /// Adds a chunk to a trace and touches the trace, or hands the chunk back for want of memory.
+    /// Puts a chunk behind the others of its trace, which becomes the latest one. Without memory the chunk comes back.
     pub fn add(&mut self, trace: TraceId, held: Held<L>) -> Result<(), Held<L>>
         requires { length self.old.traces < self.old.room }
         ensures ok { OnOk result (self.new.traces

@@ -21,7 +21,7 @@ TextsHaveOneJournal = (text : List ℕ) (J K : PlainJournal) → Reads text J �
 abbrev pub JournalsHaveOneText : Type 0
 JournalsHaveOneText = (J : PlainJournal) (text other : List ℕ) → Reads text J → Reads other J → text ≡ other
 
--- no journal's text is a prefix of another's
+-- the text of one journal never goes on as that of a second one
 abbrev pub NoTextBeginsAnother : Type 0
 NoTextBeginsAnother = (J K : PlainJournal) (more : List ℕ) → IsJournal J → IsJournal K → journal_text K ≡ journal_text J ++ more → (K ≡ J) × (more ≡ [])
 

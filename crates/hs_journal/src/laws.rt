@@ -18,7 +18,7 @@ pub fn journals_have_one_text()
     ensures { JournalsHaveOneText }
 {}
 
-/// No journal's text is a prefix of another's.
+/// The text of one journal never goes on as that of a second one.
 pub fn no_text_begins_another()
     ensures { NoTextBeginsAnother }
 {}

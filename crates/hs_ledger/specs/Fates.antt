@@ -1,5 +1,5 @@
--- The entries of a run, from the books of its clients and agents. A piece on a page whose draw found the pool empty is
--- null with the draw's stamp, and any other piece has its page's standing. A record has the fate of its first piece
+-- The entries of a run, from the books of its clients and agents. Where a draw got no buffer, the
+-- pieces of that page are null with its stamp, and any other piece has its page's standing. A record has the fate of its first piece
 -- that was discarded (null, evicted or abandoned), and else that of its first piece.
 use Rattle.std.specs.Prelude.{◌≡◌, ℕ, ◌+◌, ◌&&◌, nat_lt, nat_le, Bool, true, false, List, [], ◌∷◌, filter, map, option_map, unwrap_or, refl}
 use Rattle.std.specs.List.{flat_map, find, range_with_len}

@@ -23,7 +23,7 @@ pub struct Totals {
     pub abandoned: u32,
 }
 
-/// The records in the order of node, client and number, each with its fate.
+/// A line for each record, sorted by node, then client, then number, and what the lines add up to.
 #[derive(Drop)]
 pub struct Ledger {
     pub entries: List<Entry>,

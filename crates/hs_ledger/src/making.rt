@@ -13,7 +13,7 @@ use hs_base::{List, Memory};
 use hs_journal::{AgentBook, ClientBook};
 use std::alloc::Global;
 
-/// The ledger of a run whose books fit: one entry for each record, in the order of node, client and
+/// The ledger of a run whose books fit: one entry for each record, sorted by node, then client, then
 /// number, with the fate of its first discarded piece, or else of its first piece, and totals that
 /// count the entries (`docs/RULES.md`, "The ledger"). The one error is want of memory; no books take none.
 pub fn make_ledger(

@@ -72,7 +72,8 @@ module _ {T F : Type 0} where
   abbrev pub IsSameReceiver : Incoming T F → Incoming T F → Type 0
   IsSameReceiver r q = (q.link ≡ r.link) × (q.key ≡ r.key) × (q.told ≡ r.told)
 
-  -- at some moment the ring had no free entry, as far as the sender was told: it was given at least `capacity` items more than the sender heard were taken
+  -- as far as the sender knows, every entry was in use at some moment: what it put exceeds what it heard was taken by `capacity`
+  -- or more
   abbrev pub SeemsFull : Outgoing T F → Type 0
   SeemsFull s = s.taken + s.capacity ≤ length s.put
 

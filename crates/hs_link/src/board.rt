@@ -11,7 +11,7 @@ use std::collections::LinkedList;
 /// How far the words of two entries lie apart.
 pub const STRIDE: usize = 16;
 
-/// What all items of a link have in common.
+/// A property of every item that one link carries.
 pub trait Fact<T> {
     /// The condition, on the link's key and an item.
     ghost holds: { Self → T → Type 0 };

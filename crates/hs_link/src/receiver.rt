@@ -73,8 +73,8 @@ impl<T, F: Fact<T>> Receiver<T, F> {
         }
     }
 
-    /// Receives the next item, of which the link's condition is true. `None` comes only where the next entry was not
-    /// put, and so only where every item that the receiver was told of was received. It takes no memory.
+    /// Receives the next item, of which the link's condition is true, or `None` where nothing stands in the next entry.
+    /// Whatever the receiver has been told of comes before the first `None`. It takes no memory.
     pub fn receive(&mut self) -> Option<T>
         ensures same { IsSameReceiver self.old self.new }
         ensures some { IfSome result (λ item. (self.new.received ≡ self.old.received ++ item ∷ []) × OneBegins self.new.received self.new.told) }

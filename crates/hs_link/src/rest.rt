@@ -40,7 +40,7 @@ pub fn close_both<T, F: Fact<T>>(
 }
 
 impl<T, F: Fact<T>> Rest<T, F> {
-    /// The number of items that were sent and neither received nor given by `next`.
+    /// How many items `next` still has to give: what was sent, less what the receiver and `next` handed out.
     pub fn left(&self) -> u32
         ensures { result ≡ length self.now.items }
     {

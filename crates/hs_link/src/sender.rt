@@ -58,7 +58,7 @@ impl<T, F: Fact<T>> Model for Sender<T, F> {
         × AllHold (F.holds (arc_value s.board).shared.key) s.outbox.items };
 }
 
-/// Puts items of the outbox into the ring, in order, until none is left or the next entry was not taken.
+/// Empties the outbox into the ring from the front, as far as entries are free.
 fn put_outbox<T, F: Fact<T>>(
     entries: &Entries<T, F>,
     place: &mut Place<T, F>,
@@ -142,11 +142,11 @@ impl<T, F: Fact<T>> Sender<T, F> {
         }
     }
 
-    /// Sends an item. What waits in the outbox is put into the ring first, in order, and then the item. Each put looks
-    /// at the ring's next entry, and the first one that finds it not yet taken ends the attempt.
+    /// Sends an item behind all that waits in the outbox, as far as the ring has free entries: the first entry that the
+    /// receiver has not emptied yet ends the attempt.
     ///
-    /// `Kept` comes only where the ring was given at least its capacity of items more than the sender was told were
-    /// taken. The item is then last in the outbox. Every other send answers `Through`. It takes no memory.
+    /// `Kept` means that the item is last in the outbox. A sender sees it only while, by what it was told, the receiver
+    /// is a whole ring behind. Every other send answers `Through`. It takes no memory.
     pub fn send(&mut self, item: T) -> Sent
         requires room { length (sent self.old) < self.old.room }
         requires fact { F.holds self.old.key item }
@@ -167,9 +167,8 @@ impl<T, F: Fact<T>> Sender<T, F> {
         )
     }
 
-    /// Puts what waits in the outbox into the ring, in order, until nothing is left or the next entry was not taken
-    /// yet. Answers how many items still wait: more than 0 only where the ring was given at least its capacity of items
-    /// more than the sender was told were taken. It takes no memory.
+    /// Moves waiting items from the outbox into free entries of the ring, the first one first, and answers how many still
+    /// wait. Some wait only while, by what the sender was told, the receiver is a whole ring behind. It takes no memory.
     pub fn flush(&mut self) -> u32
         ensures same { IsSameSender self.old self.new }
         ensures sent { sent self.new ≡ sent self.old }
@@ -183,7 +182,7 @@ impl<T, F: Fact<T>> Sender<T, F> {
         self.outbox.len() as u32
     }
 
-    /// Tells the receiver of every item that went into the ring so far. Both are ends of one link, in one thread.
+    /// Tells the receiver of all that this sender has put so far. Both are ends of one link, in one thread.
     #[tactic(auto, using(crate::proofs::Lists::contents_of))]
     pub fn tell(&mut self, receiver: &mut Receiver<T, F>)
         requires { AreEnds self.old receiver.old }

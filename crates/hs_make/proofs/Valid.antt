@@ -7,6 +7,7 @@ use Rattle.std.specs.List.{AllByRecursion}
 use Rattle.hs_base.specs.declared.settings.TriggerRule.{TriggerRule}
 use Rattle.hs_base.specs.declared.settings.AutoRule.{AutoRule}
 use Rattle.hs_base.specs.declared.settings.AutoRule.TheVariants.{Exception, Percentile}
+use Rattle.hs_base.specs.declared.limits.TheConstants.{MAX_REQUESTS}
 use Rattle.hs_base.specs.Rules.{IsRule, AreRules, IsAutoRule, AreAutoRules, is_declared, fired_by}
 use Rattle.hs_records.specs.Plain.{Operation, PlainSettings}
 use Rattle.hs_workload.specs.declared.word.Setting.{Setting}
@@ -16,7 +17,6 @@ use Rattle.hs_workload.specs.Validity.{Within, IsClient, IsValid}
 use Rattle.rand_xoshiro.specs.Xoshiro256.{plus_plus}
 use Rattle.hs_make.specs.Words.{Words, words_from, seeded_words, each_below}
 use Rattle.hs_make.specs.Made.{made_settings, made_workload, client_at, clients_at}
-use Rattle.hs_make.specs.declared.made.TheConstants.{MAX_REQUESTS}
 use Rattle.hs_make.proofs.Sequences.{each_below-suc, length-each_below}
 use Rattle.hs_make.proofs.Kept.{AreWords, all_appended, client_is_valid}
 use Rattle.hs_make.proofs.Counted.{few_operations}

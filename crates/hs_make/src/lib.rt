@@ -9,4 +9,4 @@ mod request;
 mod visit;
 
 pub use laws::made_workloads_are_valid;
-pub use made::{MAX_REQUESTS, make_workload};
+pub use made::make_workload;

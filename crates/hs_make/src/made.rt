@@ -1,6 +1,7 @@
 //! The made workload.
 
 ghost use Rattle.std.specs.Prelude.{◌≡◌, ◌≤◌, [], map, vec_len, IfOk};
+ghost use Rattle.hs_base.specs.declared.limits.TheConstants.{MAX_REQUESTS};
 ghost use Rattle.hs_records.specs.Plain.{settings_of};
 ghost use Rattle.hs_workload.specs.Views.{operations_of, workload_of};
 ghost use Rattle.hs_workload.specs.Validity.{IsValid};
@@ -13,9 +14,6 @@ use hs_workload::{Op, Workload};
 use rand_core::SeedableRng;
 use rand_xoshiro::Xoshiro256PlusPlus;
 use std::alloc::Global;
-
-/// The most requests of a made workload. There is at least one.
-pub const MAX_REQUESTS: u32 = 10_000;
 
 /// The clients of all nodes.
 const ALL_CLIENTS: usize = MADE_NODES as usize * MADE_CLIENTS as usize;

@@ -28,7 +28,7 @@ count_of_id groups id = length (filter (λ group. group.trigger.0 == id) groups)
 abbrev pub id_cmp : List Group → ℕ → ℕ → Ordering
 id_cmp groups id other = ordering_then (nat_cmp (count_of_id groups other) (count_of_id groups id)) (nat_cmp id other)
 
--- the id with most pinned chunks, the smallest among equals
+-- the id that has the largest share of the pinned chunks; of several such ids the smallest
 abbrev pub fullest_id : List Group → Option ℕ
 fullest_id groups = least (id_cmp groups) (map (λ group. group.trigger.0) groups)
 
@@ -48,7 +48,7 @@ least_of_id groups id = least group_cmp (filter (λ group. group.trigger.0 == id
 abbrev pub next_to_go : List Group → Option Group
 next_to_go groups = option_and_then (least_of_id groups) (fullest_id groups)
 
--- a group goes, with all its pinned chunks, in the order in which they became pinned
+-- a group goes, and all its pinned chunks with it, the one pinned first in front
 abbrev pub abandon_group : Group → AgentState → AgentState
 abandon_group group state =
     let places = filter (is_pinned_for state.taken group) state.pinned in

@@ -1,5 +1,5 @@
--- The book of an agent: its steps, the fates of the chunks in the order of arrival, its claims in the order in which they
--- were made, and the bytes of the reported pages in the order in which they were reported.
+-- The book of an agent: its steps, a fate for each chunk as they arrived, its claims as it made them, and the bytes of the
+-- pages as it reported them.
 use Rattle.std.specs.Prelude.{ℕ, List, map, filter_map, slice_get, Option, option_map}
 use Rattle.hs_base.specs.declared.told.Fate.{Fate}
 use Rattle.hs_base.specs.declared.told.Fate.TheVariants as fates

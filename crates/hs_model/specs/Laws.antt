@@ -121,8 +121,8 @@ abbrev pub GoesBefore : List Group → Group → Group → Type 0
 GoesBefore groups group other =
     (count_of_id groups other.trigger.0 < count_of_id groups group.trigger.0) ⊎ ((count_of_id groups other.trigger.0 ≡ count_of_id groups group.trigger.0) × (group.trigger.0 ≤ other.trigger.0))
 
--- A group with a pinned chunk, of the trigger id with most pinned chunks, the smallest among equals; and no group of that
--- id with a pinned chunk has less priority.
+-- The group that the limit on pins takes next: some chunk is pinned for it, no id has more pinned chunks than its id (an
+-- equal one stands behind), and of its id's groups with pinned chunks none comes before it from below.
 pub record IsNextToGo (groups : List Group) (group : Group) : Type 0 where
   pub among : list_any (same_group group) groups ≡ true
   pub fullest : AllByRecursion (λ (other : Group). GoesBefore groups group other) groups
@@ -156,7 +156,7 @@ AreRising (place ∷ places) = AllByRecursion (λ (later : ℕ). place < later) 
 abbrev pub reported_of : AgentState → TraceId → List ℕ
 reported_of state trace = filter (is_of_trace state.taken trace) state.reported
 
--- The pages of one trace are reported in the order of arrival.
+-- Of one trace, an earlier chunk is never reported behind a later one.
 abbrev pub ReportedInOrder : Type 0
 ReportedInOrder = (settings : PlainSettings) (node : ℕ) (events : List Event) (trace : TraceId) → AreRising (reported_of (after settings node events) trace)
 

@@ -38,7 +38,7 @@ pub record AgentState : Type 0 where
   pub crumbs : List Crumb
   -- the claims, in the order in which they were made
   pub claims : List ClaimedTrace
-  -- the places of the pinned chunks, in the order in which they became pinned
+  -- the places of the pinned chunks, the one that was pinned first in front
   pub pinned : List ℕ
   -- the abandoned groups
   pub abandoned : List Group
@@ -53,7 +53,7 @@ pub record AgentState : Type 0 where
   pub given : List GivenPlace
   -- the messages to the coordinator
   pub said : List Told
-  -- the places of the reported chunks, in the order in which they were reported
+  -- the places of the reported chunks, the one that went out first in front
   pub reported : List ℕ
   -- the steps
   pub log : List Step

@@ -1,4 +1,4 @@
--- The records of a client are its points, numbered from 0, each with the trace then open. A payload that fits a page of
+-- Each point of a client is a record of the trace that it has open; the first one has the number 0. A payload that fits a page of
 -- its own is one piece; a longer one gives its front as a piece, and what is left of it is cut again. A segment is the
 -- pieces between a begin and its end.
 use Rattle.std.specs.Prelude.{◌≡◌, ℕ, zero, suc, ◌+◌, ◌-◌, nat_le, Bool, true, false, List, [], ◌∷◌, ◌++◌, length, take, drop, map, replicate, Option, Some, None, refl}

@@ -72,7 +72,7 @@ after_turn old turn floor =
       turns = turn ∷ old.turns;
     }
 
--- The chunk was given, with a stamp above that of the draw that made its lease; or it comes back with that lease.
+-- The chunk was given, later by its stamp than the draw to which its lease is owed; or it comes back with that lease.
 abbrev pub Gives : {g h : _} → Giving → Held Leased g → Answered Leased h → Giving → Type 0
 Gives old held (given.Given stamp) new =
     (new ≡ after_turn old (answered (record { stamp = stamp; event = Given held.chunk.number; draw = held.lease.draw })) (suc stamp)) × (old.floor ≤ stamp) × (held.lease.draw < stamp)

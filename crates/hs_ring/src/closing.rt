@@ -70,8 +70,7 @@ fn count(entries: &Entries, place: &mut Place, buffers: u32, misses: u64) -> Tal
     tally_of(counts, buffers, misses)
 }
 
-/// Closes a pool. The giver and the drawers are all its ends, the drawers in the order in which `make` gave them; the rest
-/// is chunks that the pool has out, each with its lease. Answers how many answers of each kind all ends gave. It neither
+/// Closes a pool. It wants the giver, all drawers as `make` numbered them, and whatever leased chunks the caller still has. Answers how many answers of each kind all ends gave. It neither
 /// waits nor takes memory.
 pub fn close(giver: Giver, drawers: List<Drawer>, rest: List<Held<Lease>>) -> Tally
     requires ends { AreAllEnds giver drawers.items }

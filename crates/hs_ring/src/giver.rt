@@ -151,8 +151,8 @@ impl Giver {
         given
     }
 
-    /// Brings a drawer of the same pool and the giver together: each later stamp of either is above every stamp that either
-    /// was answered before, and the giver is told of the draws that this drawer made.
+    /// Brings a drawer of the same pool and the giver together: from here on both answer higher stamps than any that either
+    /// has had, and the giver knows of the draws that this drawer made.
     pub fn meet(&mut self, drawer: &mut Drawer)
         requires { drawer.old.pool ≡ self.old.pool }
         ensures { Meets self.old drawer.old self.new drawer.new }

@@ -113,7 +113,7 @@ fn drawers_of(
 
 impl RingPool {
     /// A pool of these chunks, which wait in their order, with its giver and a drawer for each allowance. The chunks are
-    /// clear, of one size and numbered from 0. The ring has twice as many entries as chunks. `Memory` comes where memory is
+    /// clear, of one size and numbered from 0. Its ring is twice as long as the list of chunks. `Memory` comes where memory is
     /// wanting, and no other call of a ring takes any.
     pub fn make(
         alloc: Global,

@@ -25,7 +25,8 @@ abbrev pub first_that_holds : {R : Type 0} → List (Bool × R) → Option R
 first_that_holds [] = None
 first_that_holds ((holds, reason) ∷ others) = if holds then Some reason else first_that_holds others
 
--- What a function returned, seen by view, is what reading gives, unless memory ran out.
+-- A step of a reader answers, by its view, the item that the definition reads or the reason that it refuses with. Where it
+-- stops for want of memory, nothing is said.
 abbrev pub Stops : {R Y : Type 0} → Stop R → Result Y R → Type 0
 Stops stops.Memory read = ⊤
 Stops (stops.Fault reason) read = read ≡ Err reason

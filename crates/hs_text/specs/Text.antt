@@ -22,7 +22,7 @@ text_of lines = flat_map (λ line. line ++ 10 ∷ []) lines
 abbrev pub has_bad_byte : List ℕ → Bool
 has_bad_byte line = list_any (λ b. nat_lt b 32 || nat_lt 126 b) line
 
--- Whether a line is empty, begins or ends with a space, or has two spaces together: one of its words is empty.
+-- Whether a word of a line is empty: so it is where a space is first, last or behind another one, and in an empty line.
 abbrev pub has_bad_spaces : List ℕ → Bool
 has_bad_spaces line = list_any (λ word. length word == 0) (words_of line)
 

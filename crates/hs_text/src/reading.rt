@@ -7,6 +7,7 @@ ghost use Rattle.hs_text.specs.LineFaults.{line_fault_of};
 
 use hex::FromHexError;
 use hs_base::{Bytes, List, Memory};
+use memchr::memchr;
 use std::alloc::Global;
 
 /// What is wrong with a line, whatever its words are.
@@ -14,7 +15,7 @@ use std::alloc::Global;
 pub enum LineFault {
     /// It has a byte that does not print.
     Byte,
-    /// It is empty, begins or ends with a space, or has two spaces together.
+    /// A word of it is empty: there is a space too many, or no word at all.
     Spaces,
 }
 
@@ -24,31 +25,28 @@ pub fn split_line(text: &[u8]) -> Option<(&[u8], &[u8])>
     ensures line { IfSome result (λ parts. All (λ b. b ≢ 10) parts.0.now) }
     ensures none { IfNone result (All (λ b. b ≢ 10) text.now) }
 {
-    let end = text.iter().position(|byte| *byte == b'\n')?;
+    let end = memchr(b'\n', text)?;
     Some((&text[..end], &text[end + 1..]))
 }
 
-/// Whether a line has a byte that does not print.
-fn has_bad_byte(line: &[u8]) -> bool
-    ensures { result ≡ has_bad_byte line.now }
-{
-    line.iter().any(|byte| *byte < b' ' || b'~' < *byte)
-}
-
-/// Whether a line has an empty word.
-fn has_bad_spaces(line: &[u8]) -> bool
-    ensures { result ≡ has_bad_spaces line.now }
-{
-    line.split(|byte| *byte == b' ').any(|word| word.is_empty())
-}
-
 /// What is wrong with a line, a byte before spaces.
+#[tactic(auto, using(crate::proofs::Lines::ended))]
 pub fn line_fault(line: &[u8]) -> Option<LineFault>
     ensures { result ≡ line_fault_of line.now }
 {
-    if has_bad_byte(line) {
-        Some(LineFault::Byte)
-    } else if has_bad_spaces(line) {
+    let mut is_behind_space = true;
+    let mut has_gap = false;
+    for byte in line {
+        if *byte < b' ' || b'~' < *byte {
+            return Some(LineFault::Byte);
+        }
+        let is_space = *byte == b' ';
+        if is_space && is_behind_space {
+            has_gap = true;
+        }
+        is_behind_space = is_space;
+    }
+    if has_gap || is_behind_space {
         Some(LineFault::Spaces)
     } else {
         None

@@ -7,8 +7,8 @@ use Rattle.std.proofs.Common.{lit<, lit≤, arith, ap, ◌∙◌, inl, inr}
 use Rattle.hs_words.specs.PoolHistory.{Event, Got, Empty, Given, Missed, is_empty, is_missed, IsHistoryBack}
 use Rattle.hs_words.specs.declared.token.Tally.{Tally}
 
--- An event and the end that made it: 0 is the giver, and the drawer with the number d is d + 1. For a give there is also
--- the stamp of the draw that made its lease.
+-- An event and the end that made it: 0 is the giver, and the drawer with the number d is d + 1. A give also names, by
+-- its stamp, the draw to which the lease is owed.
 pub record Deed : Type 0 where
   pub by : ℕ
   pub event : Event

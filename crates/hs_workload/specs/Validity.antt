@@ -34,7 +34,7 @@ pub record IsClient (version : ℕ) (settings : PlainSettings) (operations : Lis
   pub words : AllByRecursion (IsOperation version settings) operations
   pub bracketed : AreBracketed false operations
 
--- the operations, a point counted once for each of its pieces
+-- how many operations there are, where a point counts as often as it has pieces
 abbrev pub client_pieces : ℕ → List Operation → ℕ
 client_pieces size [] = 0
 client_pieces size (operation ∷ operations) = operation_pieces size operation + client_pieces size operations

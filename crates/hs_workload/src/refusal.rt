@@ -14,7 +14,7 @@ pub enum Reason {
     Truncated,
     /// A byte does not print.
     Byte,
-    /// The line is empty, begins or ends with a space, or has two spaces together.
+    /// A word of the line is empty: there is a space too many, or no word at all.
     Spaces,
     /// The first word may not stand here.
     Word,

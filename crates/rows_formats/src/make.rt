@@ -2,7 +2,8 @@
 //! program of its own.
 
 use hs_base::TraceId;
-use hs_make::{MAX_REQUESTS, make_workload};
+use hs_base::limits::MAX_REQUESTS;
+use hs_make::make_workload;
 use hs_workload::{Op, Workload, read_workload, write_workload};
 use std::test::Fail;
 
