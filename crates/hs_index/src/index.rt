@@ -91,9 +91,11 @@ impl<L: Token> TraceIndex<L> {
     }
 
     /// All chunks that are left, trace by trace from the one touched longest ago, each trace's in the order of
-    /// arrival. `Memory` comes where there is none for the list; the chunks are then gone.
+    /// arrival. `Memory` comes where there is none for the list, which no list without chunks needs; the chunks are
+    /// then gone.
     pub fn finish(self) -> Result<List<Held<L>>, Memory>
-        ensures { IfOk result (λ left. map buffer_of left.items ≡ chunks_left self.touched) }
+        ensures left { IfOk result (λ left. map buffer_of left.items ≡ chunks_left self.touched) }
+        ensures some { OnErr result (0 < count_chunks self.touched) }
     {
         let TraceIndex {
             threshold: _,

@@ -187,7 +187,8 @@ impl<L: Token> Recent<L> {
 
     /// All chunks, trace by trace in the order of their last touch, or `Memory` where there is no memory for the list.
     pub fn into_chunks(mut self) -> Result<List<Held<L>>, Memory>
-        ensures { IfOk result (λ left. map buffer_of left.items ≡ chunks_left self.traces) }
+        ensures left { IfOk result (λ left. map buffer_of left.items ≡ chunks_left self.traces) }
+        ensures some { OnErr result (0 < count_chunks self.traces) }
     {
         let mut left = List::with_room(*self.cache.allocator(), self.chunks() as usize)?;
         while let Some((_, entry)) = self.take_oldest() {
