@@ -7,6 +7,7 @@ use Rattle.std.specs.Option.{option_map_or, option_and_then}
 use Rattle.hs_base.specs.declared.ids.TraceId.{TraceId}
 use Rattle.hs_base.specs.declared.told.Group.{Group}
 use Rattle.hs_words.specs.Pages.{Sheet}
+pub use Rattle.hs_pins.specs.Priorities.{same_group}
 
 pub data ChunkStanding : Type 0 where
   Indexed : ChunkStanding
@@ -24,9 +25,6 @@ pub record Taken : Type 0 where
 
 abbrev pub same_trace : TraceId → TraceId → Bool
 same_trace a b = a.0 == b.0
-
-abbrev pub same_group : Group → Group → Bool
-same_group a b = a.id.node == b.id.node && (a.id.number == b.id.number && (a.trigger.0 == b.trigger.0 && a.lead.0 == b.lead.0))
 
 abbrev pub trace_of : Taken → TraceId
 trace_of chunk = chunk.sheet.header.trace

@@ -4,6 +4,7 @@
 use Rattle.std.specs.Prelude.{ℕ, Bool, false, not, ◌==◌, List, [], ◌∷◌, ◌++◌, map, filter, take, fold, if◌then◌else◌, slice_get}
 use Rattle.std.specs.Option.{option_map_or}
 use Rattle.hs_words.specs.Chunks.{used_of}
+use Rattle.hs_pins.specs.Choosing.{put_by, ordered_by}
 use Rattle.hs_records.specs.Plain.{PlainSettings}
 use Rattle.hs_sched.specs.declared.share.Share.{Share}
 use Rattle.hs_sched.specs.Visits.{count_sent, visited}
@@ -26,13 +27,11 @@ place_is_no_greater taken place other =
 
 -- a place stands before the first that is of no greater priority
 abbrev pub put_before : List Taken → ℕ → List ℕ → List ℕ
-put_before taken place [] = place ∷ []
-put_before taken place (other ∷ others) = if place_is_no_greater taken other place then place ∷ other ∷ others else other ∷ put_before taken place others
+put_before taken place places = put_by (place_is_no_greater taken) place places
 
 -- by falling priority, and equal ones in the order in which they stand here
 abbrev pub by_priority : List Taken → List ℕ → List ℕ
-by_priority taken [] = []
-by_priority taken (place ∷ places) = put_before taken place (by_priority taken places)
+by_priority taken places = ordered_by (place_is_no_greater taken) places
 
 -- what waits for a trigger id
 abbrev pub order_of : AgentState → ℕ → List ℕ

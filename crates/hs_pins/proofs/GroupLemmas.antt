@@ -1,7 +1,7 @@
 -- The groups of a trigger id with the chunks of one of them changed: how many chunks there are, and that each group has one.
 use Rattle.std.proofs.Common.{◌≡◌, ℕ, ◌+◌, ◌-◌, ◌<◌, ◌≤◌, Bool, true, false, cond, List, [], ◌∷◌, ◌++◌, length, drop, Option, Some, None, IsSome, unwrap_or, refl, sym, ap, ◌∙◌, arith, length-append, nat_eq, true≢false}
 use Rattle.std.specs.Prelude.{slice_get, is_some, OnErr, Result, Ok, Err}
-use Rattle.std.specs.Option.{option_map, option_and_then}
+use Rattle.std.specs.Option.{option_map}
 use Rattle.std.proofs.lemmas.Map.Steps.{set_value_same}
 use Rattle.std.proofs.lemmas.Bool.{eqb-true}
 use Rattle.std.specs.Map.{lookup, set_value, remove_entry, values_of}
@@ -14,7 +14,7 @@ use Rattle.std.specs.Ordering.{is_eq, match_ordering}
 use Rattle.hs_pins.specs.declared.priority.Priority.{Priority}
 use Rattle.hs_pins.specs.Priorities.{priority_cmp, same_priority}
 use Rattle.hs_words.specs.Buffers.{Buffer}
-use Rattle.hs_pins.specs.Groups.{Groups, count_of, chunks_of, pinned, next_of, without_first, used_bytes}
+use Rattle.hs_pins.specs.Groups.{Groups, count_of, chunks_of, pinned, without_first}
 use Rattle.hs_pins.specs.Counting.{HaveChunks, IsCounted}
 
 -- an entry that was written as it was
@@ -168,17 +168,6 @@ module _ {L : Type 0} where
       let k : IsCounted ((p, pile) ∷ new) count = rw e at h in
       let n : count ≡ length pile + count_of new = k.counted ∙ count-cons p pile new in
       record { counted = omega (arith, n); some = k.some.1 }
-
-  pub next-used : (es : Groups L) (p : Priority) (pile : List (Buffer L)) → slice_get es (length es - 1) ≡ Some (p, pile) → lookup (same_priority p) es ≡ Some pile
-      → option_map used_bytes (slice_get pile 0) ≡ option_map (λ (next : Priority × Buffer L). used_bytes next.1) (next_of es)
-  next-used es p pile last found =
-      same pile
-      ∙ ap (λ bs. option_map (λ (next : Priority × Buffer L). used_bytes next.1) (option_map (λ b. (p, b)) (slice_get bs 0))) (sym (chunks_of-some p es pile found))
-      ∙ ap (λ o. option_map (λ (next : Priority × Buffer L). used_bytes next.1) (option_and_then (λ q. option_map (λ b. (q, b)) (slice_get (chunks_of es q) 0)) (option_map (λ e. e.0) o))) (sym last)
-    where
-      same : (bs : List (Buffer L)) → option_map used_bytes (slice_get bs 0) ≡ option_map (λ (next : Priority × Buffer L). used_bytes next.1) (option_map (λ b. (p, b)) (slice_get bs 0))
-      same [] = refl
-      same (b ∷ bs) = refl
 
   pub first-there : (test : Priority → Bool) (es : Groups L) (old : List (Buffer L)) → HaveChunks es → lookup test es ≡ Some old → slice_get old 0 ≡ None → ⊥
   first-there test es [] all found none = let some = some-found test es [] all found in absurd (omega arith)

@@ -1,6 +1,6 @@
 -- The queues of a node with the groups of one trigger id changed: how many chunks there are.
-use Rattle.std.proofs.Common.{◌≡◌, ℕ, ◌+◌, ◌≤◌, Bool, Option, Some, None, unwrap_or, sym, ap, ◌∙◌, arith}
-use Rattle.std.specs.Prelude.{OnOk, OnSome, IfNone, Result, Ok, Err}
+use Rattle.std.proofs.Common.{◌≡◌, ℕ, ◌+◌, ◌≤◌, Bool, true, false, cond, [], ◌∷◌, Option, Some, None, unwrap_or, refl, sym, ap, ◌∙◌, arith}
+use Rattle.std.specs.Prelude.{OnOk, OnSome, IfSome, IfNone, Result, Ok, Err}
 use Rattle.std.specs.Map.{lookup, set_value, remove_entry}
 use Rattle.std.proofs.lemmas.Map.Entries.{sum_by-set_value, sum_by-remove_entry}
 use Rattle.std.specs.Option.{option_map}
@@ -10,7 +10,7 @@ use Rattle.hs_pins.specs.Groups.{Groups, count_of}
 use Rattle.hs_pins.specs.Queues.{Queues, total_of}
 
 module _ {L : Type 0} where
-  total-set : (test : TriggerId → Bool) (es : Queues L) (old w : Groups L) → lookup test es ≡ Some old
+  pub total-set : (test : TriggerId → Bool) (es : Queues L) (old w : Groups L) → lookup test es ≡ Some old
       → total_of (set_value test es w) + count_of old ≡ total_of es + count_of w
   total-set test es old w e = sum_by-set_value (λ (groups : Groups L). count_of groups) test es old w e
 
@@ -42,3 +42,20 @@ module _ {L : Type 0} where
       → written ≡ set_value test es new → IfNone r (new ≡ old) → IfNone r (written ≡ es)
   nothing-taken (Some a) test es written old new found e same = tt
   nothing-taken None test es written old new found e same = e ∙ ap (set_value test es) same ∙ set_value_same test es old found
+
+  -- an id that is not there is not written
+  pub set_value-none : (test : TriggerId → Bool) (es : Queues L) (w : Groups L) → lookup test es ≡ None → set_value test es w ≡ es
+  set_value-none test [] w none = refl
+  set_value-none test (x ∷ es) w none = at (test x.0) none (set_value-none test es w)
+    where
+      at : (b : Bool) → cond b (Some x.1) (lookup test es) ≡ None → (lookup test es ≡ None → set_value test es w ≡ es) → cond b ((x.0, w) ∷ es) (x ∷ set_value test es w) ≡ x ∷ es
+      at true none rest = absurd cc
+      at false none rest = ap (λ (gs : Queues L). x ∷ gs) (rest none)
+
+  pub total-least : {A : Type 0} (r : Option A) (size : A → ℕ) (test : TriggerId → Bool) (es written : Queues L) (old new : Groups L) → lookup test es ≡ Some old
+      → written ≡ set_value test es new → IfSome r (λ a. count_of new + size a ≡ count_of old) → IfSome r (λ a. total_of written + size a ≡ total_of es)
+  total-least (Some a) size test es written old new found e counted =
+      let t = total-set test es old new found in
+      let w = ap total_of e in
+      let c : count_of new + size a ≡ count_of old = counted in omega arith
+  total-least None size test es written old new found e counted = tt

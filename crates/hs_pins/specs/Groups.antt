@@ -1,20 +1,15 @@
--- The pinned chunks of one trigger id: its groups that have one, in rising priority, each with its chunks in the order in
--- which they became pinned.
+-- The pinned chunks of one trigger id: its groups that have one, in rising priority, each with its chunks as
+-- they were pinned, first to last.
 use Rattle.std.specs.Prelude.{ℕ, ◌-◌, List, [], ◌∷◌, ◌++◌, length, drop, sum_by, slice_get, Option, Some, None, unwrap_or, is_some, if◌then◌else◌}
 use Rattle.std.specs.Option.{option_map, option_and_then}
 use Rattle.std.specs.Map.{lookup, set_value, remove_entry, values_of}
 use Rattle.std.specs.BTreeMap.{insert_entry}
 use Rattle.hs_pins.specs.declared.priority.Priority.{Priority}
 use Rattle.hs_pins.specs.Priorities.{priority_cmp, same_priority}
-use Rattle.hs_words.specs.Chunks.{used_in}
 use Rattle.hs_words.specs.Buffers.{Buffer}
 
 abbrev pub Groups : Type 0 → Type 0
 Groups L = List (Priority × List (Buffer L))
-
--- how much of a chunk's size its page takes, in bytes
-abbrev pub used_bytes : {L : Type 0} → Buffer L → ℕ
-used_bytes buffer = used_in buffer.chunk
 
 -- how many chunks there are
 abbrev pub count_of : {L : Type 0} → Groups L → ℕ

@@ -1,8 +1,16 @@
 pub mod Buckets
 pub mod BucketExamples
 pub mod Priorities
+pub mod Choosing
+pub mod Remembered
+pub mod Abandoning
+pub mod Waiting
 pub mod Groups
 pub mod Counting
 pub mod Queues
-pub mod Pinning
+pub mod ClaimsLayout
+pub mod ClaimsView
+pub mod PinsLayout
+pub mod Calls
 pub mod PinningExamples
+pub mod PinsExamples

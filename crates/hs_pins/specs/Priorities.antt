@@ -3,7 +3,7 @@
 use Rattle.std.specs.Prelude.{◌≡◌, ℕ, Bool, true, ◌&&◌, ◌==◌, refl}
 use Rattle.std.specs.declared.cmp.Ordering.{Ordering}
 use Rattle.std.specs.declared.cmp.Ordering.TheVariants.{Less, Greater}
-use Rattle.std.specs.Ordering.{nat_cmp, ordering_then, is_eq}
+use Rattle.std.specs.Ordering.{nat_cmp, ordering_then, is_eq, is_le}
 use Rattle.hs_base.specs.declared.told.Group.{Group}
 use Rattle.hs_base.specs.declared.ids.TriggerId.{TriggerId}
 use Rattle.hs_base.specs.Ranks.{trace_rank}
@@ -19,6 +19,18 @@ same_priority a b = is_eq (priority_cmp a b)
 
 abbrev pub priority_of : Group → Priority
 priority_of group = record { word = (trace_rank group.lead).word; lead = group.lead.0; node = group.id.node; number = group.id.number }
+
+-- the order of groups by priority
+abbrev pub group_cmp : Group → Group → Ordering
+group_cmp group other = priority_cmp (priority_of group) (priority_of other)
+
+-- whether a group's priority is no greater than the other's
+abbrev pub is_no_greater : Group → Group → Bool
+is_no_greater group other = is_le (group_cmp group other)
+
+-- whether two groups are one: all that they name is the same
+abbrev pub same_group : Group → Group → Bool
+same_group a b = a.id.node == b.id.node && (a.id.number == b.id.number && (a.trigger.0 == b.trigger.0 && a.lead.0 == b.lead.0))
 
 -- the group of a trigger id with this priority
 abbrev pub group_at : TriggerId → Priority → Group

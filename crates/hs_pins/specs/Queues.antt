@@ -1,5 +1,5 @@
 -- The pinned chunks of a node: for each declared trigger id, rising, its groups.
-use Rattle.std.specs.Prelude.{ℕ, Bool, List, [], map, sum_by, unwrap_or, IsSome}
+use Rattle.std.specs.Prelude.{◌≡◌, ◌⊎◌, ℕ, ◌<◌, ◌≤◌, Bool, List, [], map, sum_by, unwrap_or, IsSome}
 use Rattle.std.specs.Ordering.{nat_cmp, is_eq}
 use Rattle.std.specs.Map.{lookup, set_value, values_of}
 use Rattle.hs_base.specs.declared.ids.TriggerId.{TriggerId}
@@ -38,3 +38,12 @@ pinned_in queues id priority chunks = with_groups queues id (pinned (groups_of q
 -- the declared ids, for which nothing is pinned
 abbrev pub fresh_queues : {L : Type 0} → List TriggerRule → Queues L
 fresh_queues rules = map (λ rule. (rule.id, [])) rules
+
+-- how many chunks are pinned for a trigger id
+abbrev pub count_in : {L : Type 0} → Queues L → TriggerId → ℕ
+count_in queues id = count_of (groups_of queues id)
+
+-- Something is pinned for the id, and less for each other id, or as much and that id is no smaller.
+pub record IsFullest {L : Type 0} (queues : Queues L) (id : TriggerId) : Type 0 where
+  pub some : 0 < count_in queues id
+  pub most : (other : TriggerId) → (count_in queues other < count_in queues id) ⊎ ((count_in queues other ≡ count_in queues id) × (id.0 ≤ other.0))

@@ -1,6 +1,6 @@
-//! What the pins answer, and what they keep of a claimed trace.
+//! What the pins are given, and what they answer.
 
-use hs_base::{Group, Laterals, List, NodeSet};
+use hs_base::{Group, List, NodeSet};
 use hs_words::{Held, Token};
 
 /// Whether a trigger is admitted.
@@ -10,15 +10,6 @@ pub enum Admitted {
     Admitted { number: u32 },
     /// It is not: there is less than a token. The level is in millionths of a token.
     Limited { level: u64 },
-}
-
-/// A claimed trace: the group that claimed it, the laterals with which it did, and the nodes to which
-/// the trace's crumbs lead.
-#[derive(Clone, Copy)]
-pub struct ClaimedTrace {
-    pub group: Group,
-    pub laterals: Laterals,
-    pub crumbs: NodeSet,
 }
 
 /// What was indexed of a trace that is claimed: its chunks in the order of arrival, and the nodes to

@@ -2,8 +2,11 @@
 //! chunks that are pinned for them (`docs/RULES.md`, "The bucket" and "Pins").
 #![tactic(auto)]
 
+mod abandon;
 mod bucket;
 mod claim;
+mod claims;
+mod laws;
 mod pile;
 mod pinned;
 mod pins;
@@ -11,6 +14,6 @@ mod priority;
 mod queues;
 
 pub use bucket::{Attempt, Bucket};
-pub use claim::{Admitted, ClaimedTrace, Dropped, Taken2};
+pub use claim::{Admitted, Dropped, Taken2};
+pub use laws::{any_calls_look_back, claims_stay};
 pub use pins::Pins;
-pub use priority::Priority;

@@ -1,15 +1,15 @@
 //! The pinned chunks of one group.
 
 ghost use Rattle.std.specs.Prelude.{◌≡◌, ◌+◌, [], ◌∷◌, ◌++◌, length, map, drop, slice_get, OnOk, OnErr, IfErr, option_map, nat_eq};
-ghost use Rattle.hs_pins.specs.Groups.{used_bytes};
 ghost use Rattle.hs_words.specs.Buffers.{buffer_of};
+ghost use Rattle.hs_pins.specs.Waiting.{used_bytes};
 
 use hs_base::List;
 use hs_words::{Held, Token};
 use std::collections::VecDeque;
 use std::marker::Model;
 
-/// The pinned chunks of one group, in the order in which they became pinned.
+/// The pinned chunks of one group, first to last as they were pinned.
 #[derive(Drop)]
 pub struct Pile<L: Token> {
     chunks: VecDeque<Held<L>>,

@@ -4,8 +4,12 @@ ghost use Rattle.std.specs.Prelude.{◌≡◌, ◌≢◌, ◌+◌, ◌<◌, ◌^
 ghost use Rattle.std.specs.Map.{lookup};
 ghost use Rattle.std.specs.BTreeMap.{insert_entry};
 ghost use Rattle.hs_words.specs.Buffers.{buffer_of};
-ghost use Rattle.hs_pins.specs.Priorities.{priority_cmp, same_priority};
-ghost use Rattle.hs_pins.specs.Groups.{count_of, chunks_of, pinned, greatest_of, next_of, without_first, without_next, used_bytes};
+ghost use Rattle.hs_pins.specs.Waiting.{used_bytes};
+ghost use Rattle.hs_base.specs.declared.ids.TriggerId.{TriggerId};
+ghost use Rattle.hs_pins.specs.PinsLayout.{in_order};
+ghost use Rattle.hs_pins.specs.Priorities.{priority_cmp, same_priority, group_at};
+ghost use Rattle.hs_pins.specs.Remembered.{pin_for};
+ghost use Rattle.hs_pins.specs.Groups.{count_of, chunks_of, pinned, greatest_of, next_of, without_first, without_next};
 ghost use Rattle.hs_pins.specs.Counting.{HaveChunks};
 
 use crate::pile::Pile;
@@ -26,13 +30,13 @@ pub struct Pinned<L: Token> {
 
 impl<L: Token> Model for Pinned<L> {
     ghost use Rattle.hs_pins.specs.Groups.{Groups};
-    ghost use Rattle.hs_pins.specs.Counting.{IsCounted};
+    ghost use Rattle.hs_pins.specs.Counting.{IsKept};
 
     ghost Value = { Groups L };
 
     ghost view = { λ a. a.groups.entries };
 
-    ghost invariant = { λ a. IsCounted a.groups.entries a.chunks };
+    ghost invariant = { λ a. IsKept a.groups.entries a.chunks };
 }
 
 impl<L: Token> Pinned<L> {
@@ -93,7 +97,8 @@ impl<L: Token> Pinned<L> {
 
     /// The used bytes of the next chunk, or `None` where none is pinned.
     pub fn next_used(&self) -> Option<u32>
-        ensures { result ≡ option_map (λ next. used_bytes next.1) (next_of self.now) }
+        ensures { (id : TriggerId) → result
+            ≡ option_map (λ pin. used_bytes pin.chunk) (slice_get (in_order id self.now) 0) }
     {
         match self.groups.last_key_value() {
             Some((_, pile)) => pile.first_used(),
@@ -106,6 +111,9 @@ impl<L: Token> Pinned<L> {
     pub fn take_next(&mut self) -> Option<(Priority, Held<L>)>
         ensures next { option_map (λ next. (next.0, buffer_of next.1)) result ≡ next_of self.old }
         ensures rest { self.new ≡ without_next self.old (greatest_of self.old) }
+        ensures first { (id : TriggerId) → option_map (λ next. pin_for (group_at id next.0) (buffer_of next.1)) result
+            ≡ slice_get (in_order id self.old) 0 }
+        ensures left { (id : TriggerId) → in_order id self.new ≡ drop 1 (in_order id self.old) }
         ensures count { OnSome result (count_of self.new + 1 ≡ count_of self.old) }
         ensures none { IfNone result (self.new ≡ self.old) }
     {
@@ -123,6 +131,7 @@ impl<L: Token> Pinned<L> {
         ensures count { IfSome result (λ least.
             count_of self.new + length least.1.items ≡ count_of self.old) }
         ensures some { IfSome result (λ least. 0 < length least.1.items) }
+        ensures none { IfNone result (self.new ≡ self.old) }
     {
         let (priority, pile) = self.groups.pop_first()?;
         self.chunks -= pile.len() as u32;

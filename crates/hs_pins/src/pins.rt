@@ -1,42 +1,46 @@
 //! What triggers claim at a node (`docs/RULES.md`, "Pins").
 
-ghost use Rattle.std.specs.Prelude.{◌≡◌, ◌+◌, ◌<◌, ◌≤◌, ◌^◌, ℕ, [], ◌∷◌, ◌++◌, length, map, OnOk, OnErr, IfOk, IfErr, IfSome, OnSome, IfNone, IsSome, IsNone, None, option_map};
-ghost use Rattle.indexmap.specs.IndexMap.{spare};
+ghost use Rattle.std.specs.Prelude.{◌≡◌, ◌≢◌, ◌+◌, ◌<◌, ◌≤◌, ◌^◌, ℕ, true, false, not, [], length, map, drop, slice_get, OnOk, OnErr, IfOk, IfErr, OnSome, IfNone, IsSome, None, Some, option_map};
+ghost use Rattle.hs_base.specs.Rules.{AreRules, is_declared};
 ghost use Rattle.hs_words.specs.Buffers.{buffer_of};
-ghost use Rattle.hs_pins.specs.Groups.{next_of, used_bytes};
-ghost use Rattle.hs_pins.specs.Queues.{has_queue, groups_of, total_of};
-ghost use Rattle.hs_base.specs.Rules.{AreRules};
-ghost use Rattle.hs_pins.specs.Pinning.{claim_in, claim_for, bucket_in, claimed, admission, admitted_after, Attempts, Arrives, AddsCrumb, dropped_of, next_in, without_next_in, fresh_pins, fresh_buckets_of};
+ghost use Rattle.hs_pins.specs.Remembered.{Remembered, fresh, claim_of, claim_for, has_crumb, answered, tried_at, claimed, comes_back, handed_back, arrived, crumbed, pin_of};
+ghost use Rattle.hs_pins.specs.Abandoning.{drops, relieved};
+ghost use Rattle.hs_pins.specs.Waiting.{used_bytes, taken};
+ghost use Rattle.hs_pins.specs.PinsLayout.{Remembers, KnowsThat, waiting, bucket_in, fresh_buckets_of, Attempts};
 
+use crate::abandon::abandon_over;
 use crate::bucket::{Attempt, Bucket};
-use crate::claim::{Admitted, ClaimedTrace, Dropped, Taken2};
+use crate::claim::{Admitted, Dropped, Taken2};
+use crate::claims::{Claims, Party};
 use crate::priority::{Mark, Priority};
 use crate::queues::TriggerQueues;
 use hs_base::limits::MAX_NODES;
 use hs_base::{
-    Crumb, Group, Laterals, Memory, NodeId, NodeSet, Settings, TraceId, TriggerId, TriggerRule,
+    Crumb, Group, Laterals, List, Memory, NodeId, NodeSet, Settings, TraceId, TriggerId,
+    TriggerRule,
 };
 use hs_words::{Held, Token};
-use indexmap::{IndexMap, IndexSet};
+use indexmap::IndexSet;
 use std::alloc::Global;
 use std::collections::BTreeMap;
 use std::marker::Model;
 
-/// The claims of a node and what is pinned for them.
+/// The claims of a node and what is pinned for them. Contracts speak of what the node remembers: where
+/// pins were made and called, `Remembers` says of which `Remembered` they are the pins.
 #[derive(Drop)]
 pub struct Pins<L: Token> {
     alloc: Global,
     node: NodeId,
     most: u32,
     admitted: u32,
-    claims: IndexMap<TraceId, ClaimedTrace>,
+    claims: Claims,
     buckets: BTreeMap<TriggerId, Bucket>,
     queues: TriggerQueues<L>,
     abandoned: IndexSet<Mark>,
 }
 
 impl<L: Token> Model for Pins<L> {
-    ghost use Rattle.hs_pins.specs.Pinning.{Pinning, AreDeclared};
+    ghost use Rattle.hs_pins.specs.PinsLayout.{Pinning};
 
     ghost Value = { Pinning L };
 
@@ -44,22 +48,20 @@ impl<L: Token> Model for Pins<L> {
       node = a.node.0;
       most = a.most;
       admitted = a.admitted;
-      claims = a.claims.entries;
+      claims = a.claims.claims;
       buckets = a.buckets.entries;
       queues = a.queues;
       abandoned = a.abandoned.keys;
     } };
-
-    ghost invariant = { λ a. AreDeclared a.claims.entries a.queues };
 }
 
 impl<L: Token> Pins<L> {
-    /// Pins of a node that have claimed nothing, with a full bucket for each declared trigger id. They take
-    /// memory for these ids alone.
+    /// Pins of a node that remembers nothing yet, with a full bucket for each declared trigger id. They
+    /// take memory for these ids alone.
     pub fn make(alloc: Global, node: NodeId, settings: &Settings) -> Result<Pins<L>, Memory>
         requires { AreRules settings.now.triggers.items }
-        ensures fresh { IfOk result (λ pins. pins
-            ≡ fresh_pins node.0 settings.now.pins settings.now.triggers.items) }
+        ensures fresh { IfOk result (λ pins. Remembers pins
+            (fresh node.0 settings.now.pins settings.now.triggers.items)) }
         ensures some { OnErr result (0 < length settings.now.triggers.items) }
     {
         let rules = settings.triggers.as_slice();
@@ -70,7 +72,7 @@ impl<L: Token> Pins<L> {
             node,
             most: settings.pins,
             admitted: 0,
-            claims: IndexMap::new(alloc),
+            claims: Claims::new(alloc),
             buckets,
             queues,
             abandoned: IndexSet::new(alloc),
@@ -79,11 +81,12 @@ impl<L: Token> Pins<L> {
 
     /// Takes a trigger of a declared id at a moment in microseconds, and answers whether it is admitted.
     pub fn admit(&mut self, trigger: TriggerId, moment: u64) -> Admitted
-        requires declared { IsSome (bucket_in self.old.buckets trigger) }
-        requires few { self.old.admitted < 4294967295 }
-        ensures attempt { Attempts self.old.buckets self.new.buckets trigger moment self.old.admitted result }
-        ensures admitted { self.new.admitted ≡ admitted_after self.old.admitted result }
-        ensures kept { self.new ≡ record self.old { buckets = self.new.buckets; admitted = self.new.admitted } }
+        requires declared { KnowsThat self.old (λ memory. is_declared memory.rules trigger ≡ true) }
+        requires few { KnowsThat self.old (λ memory. memory.admitted + 1 < 2 ^ 32) }
+        ensures answer { (memory : Remembered L) → Remembers self.old memory
+            → answered memory trigger moment ≡ Some result }
+        ensures after { (memory : Remembered L) → Remembers self.old memory
+            → Remembers self.new (tried_at memory trigger moment) }
     {
         match attempt(&mut self.buckets, trigger, moment) {
             Attempt::Admitted => {
@@ -97,12 +100,10 @@ impl<L: Token> Pins<L> {
 
     /// The group that claimed a trace, or `None` where the trace is not claimed here.
     pub fn owner(&self, trace: TraceId) -> Option<Group>
-        ensures { result ≡ option_map (λ claim. claim.group) (claim_in self.now.claims trace) }
+        ensures { (memory : Remembered L) → Remembers self.now memory
+            → result ≡ option_map (λ claim. claim.group) (claim_of memory.claims trace) }
     {
-        match self.claims.get(&trace) {
-            Some(claim) => Some(claim.group),
-            None => None,
-        }
+        self.claims.group_of(trace)
     }
 
     /// Claims a trace for a group, with what was indexed of it. For want of memory all comes back, and
@@ -114,31 +115,28 @@ impl<L: Token> Pins<L> {
         trace: TraceId,
         taken: Taken2<L>,
     ) -> Result<(), Taken2<L>>
-        requires unclaimed { claim_in self.old.claims trace ≡ None }
-        requires declared { has_queue self.old.queues group.trigger }
-        requires few { total_of self.old.queues + length taken.held.items < 2 ^ 32 }
-        ensures ok { OnOk result (self.new
-            ≡ claimed self.old group laterals trace (map buffer_of taken.held.items) taken.crumbs) }
-        ensures count { OnOk result (total_of self.new.queues
-            ≡ total_of self.old.queues + length taken.held.items) }
-        ensures err { OnErr result (self.new ≡ self.old) }
-        ensures back { IfErr result (λ back. map buffer_of back.held.items ≡ map buffer_of taken.held.items) }
+        requires unclaimed { KnowsThat self.old (λ memory. claim_of memory.claims trace ≡ None) }
+        requires declared { KnowsThat self.old (λ memory.
+            is_declared memory.rules group.trigger ≡ true) }
+        requires few { KnowsThat self.old (λ memory.
+            length memory.pinned + length taken.held.items < 2 ^ 32) }
+        ensures after { (memory : Remembered L) → Remembers self.old memory
+            → OnOk result (Remembers self.new
+            (claimed memory group laterals trace (map buffer_of taken.held.items) taken.crumbs)) }
+        ensures same { OnErr result (self.new ≡ self.old) }
+        ensures back { IfErr result (λ back.
+            map buffer_of back.held.items ≡ map buffer_of taken.held.items) }
         ensures crumbs { IfErr result (λ back. back.crumbs ≡ taken.crumbs) }
     {
         let Taken2 { held, crumbs } = taken;
-        if self.claims.reserve(1).is_err() {
+        if self.claims.reserve().is_err() {
             return Err(Taken2 { held, crumbs });
         }
         let priority = Priority::of(&group);
         if let Err(held) = self.queues.pin(group.trigger, priority, held) {
             return Err(Taken2 { held, crumbs });
         }
-        let claim = ClaimedTrace {
-            group,
-            laterals,
-            crumbs,
-        };
-        note_claim(&mut self.claims, trace, claim);
+        self.claims.add(trace, Party { group, laterals }, crumbs);
         Ok(())
     }
 
@@ -146,10 +144,17 @@ impl<L: Token> Pins<L> {
     /// and else is pinned for the group. For want of memory it comes back as the error, and nothing
     /// changes.
     pub fn arrive(&mut self, held: Held<L>) -> Result<Option<Held<L>>, Held<L>>
-        requires claimed { IsSome (claim_for self.old.claims (buffer_of held)) }
-        requires few { total_of self.old.queues + 1 < 2 ^ 32 }
-        ensures { IfSome (claim_for self.old.claims (buffer_of held))
-            (λ claim. Arrives self.old claim (buffer_of held) result self.new) }
+        requires claimed { KnowsThat self.old (λ memory.
+            IsSome (claim_for memory.claims (buffer_of held))) }
+        requires few { KnowsThat self.old (λ memory. length memory.pinned + 1 < 2 ^ 32) }
+        ensures back { (memory : Remembered L) → Remembers self.old memory
+            → IfOk result (λ back. option_map buffer_of back ≡ handed_back memory (buffer_of held)) }
+        ensures after { (memory : Remembered L) → Remembers self.old memory
+            → OnOk result (Remembers self.new (arrived memory (buffer_of held))) }
+        ensures pinned { (memory : Remembered L) → Remembers self.old memory
+            → OnErr result (comes_back memory (buffer_of held) ≡ false) }
+        ensures same { OnErr result (self.new ≡ self.old) }
+        ensures unpinned { IfErr result (λ back. buffer_of back ≡ buffer_of held) }
     {
         let group = claiming_group(&self.claims, &held);
         if self.abandoned.contains(&Mark::of(&group)) {
@@ -167,49 +172,85 @@ impl<L: Token> Pins<L> {
 
     /// Adds a crumb to the set of its claimed trace, and answers whether the node is new there.
     pub fn crumb(&mut self, crumb: Crumb) -> bool
-        requires claimed { IsSome (claim_in self.old.claims crumb.trace) }
+        requires claimed { KnowsThat self.old (λ memory. IsSome (claim_of memory.claims crumb.trace)) }
         requires node { crumb.node.0 < MAX_NODES }
-        ensures adds { AddsCrumb self.old.claims self.new.claims crumb.trace crumb.node result }
-        ensures kept { self.new ≡ record self.old { claims = self.new.claims } }
+        ensures fresh { (memory : Remembered L) → Remembers self.old memory
+            → result ≡ not (has_crumb memory.claims crumb.trace crumb.node.0) }
+        ensures after { (memory : Remembered L) → Remembers self.old memory
+            → Remembers self.new (crumbed memory crumb.trace crumb.node) }
     {
-        add_crumb(&mut self.claims, crumb)
+        self.claims.add_crumb(crumb)
     }
 
     /// The nodes to which the crumbs of a claimed trace lead.
     pub fn crumbs(&self, trace: TraceId) -> NodeSet
-        requires { IsSome (claim_in self.now.claims trace) }
-        ensures { IfSome (claim_in self.now.claims trace) (λ claim. result ≡ claim.crumbs) }
+        requires { KnowsThat self.now (λ memory. IsSome (claim_of memory.claims trace)) }
+        ensures { (memory : Remembered L) → Remembers self.now memory
+            → option_map (λ claim. claim.crumbs) (claim_of memory.claims trace) ≡ Some result }
     {
-        match self.claims.get(&trace) {
-            Some(claim) => claim.crumbs,
+        match self.claims.crumbs_of(trace) {
+            Some(crumbs) => crumbs,
             None => unreachable!(),
         }
     }
 
     /// The laterals with which a claimed trace was claimed.
     pub fn laterals(&self, trace: TraceId) -> Laterals
-        requires { IsSome (claim_in self.now.claims trace) }
-        ensures { IfSome (claim_in self.now.claims trace) (λ claim. result ≡ claim.laterals) }
+        requires { KnowsThat self.now (λ memory. IsSome (claim_of memory.claims trace)) }
+        ensures { (memory : Remembered L) → Remembers self.now memory
+            → option_map (λ claim. claim.laterals) (claim_of memory.claims trace) ≡ Some result }
     {
-        match self.claims.get(&trace) {
-            Some(claim) => claim.laterals,
+        match self.claims.laterals_of(trace) {
+            Some(laterals) => laterals,
             None => unreachable!(),
         }
     }
 
+    /// Abandons groups while more chunks are pinned than may be, and answers what was pinned for them:
+    /// group after group, each group's chunks in their order. For want of memory nothing changes.
+    pub fn abandon(&mut self) -> Result<List<Dropped<L>>, Memory>
+        ensures dropped { (memory : Remembered L) → Remembers self.old memory
+            → IfOk result (λ dropped. map pin_of dropped.items ≡ drops memory) }
+        ensures after { (memory : Remembered L) → Remembers self.old memory
+            → OnOk result (Remembers self.new (relieved memory)) }
+        ensures within { (memory : Remembered L) → Remembers self.old memory
+            → length (relieved memory).pinned ≤ memory.most }
+        ensures same { OnErr result (self.new ≡ self.old) }
+        ensures over { (memory : Remembered L) → Remembers self.old memory
+            → OnErr result (memory.most < length memory.pinned) }
+    {
+        let pinned = self.queues.chunks();
+        if pinned <= self.most {
+            return Ok(List::new(self.alloc));
+        }
+        let mut dropped = List::with_room(self.alloc, pinned as usize)?;
+        self.abandoned.reserve((pinned - self.most) as usize)?;
+        abandon_over(
+            &mut self.queues,
+            &mut self.abandoned,
+            self.most,
+            &mut dropped,
+        );
+        Ok(dropped)
+    }
+
     /// The used bytes of the next chunk of a trigger id, or `None` where none is pinned for it.
     pub fn next_cost(&self, trigger: TriggerId) -> Option<u32>
-        ensures { result ≡ option_map (λ next. used_bytes next.1) (next_of (groups_of self.now.queues trigger)) }
+        ensures { result ≡ option_map (λ pin. used_bytes pin.chunk) (slice_get (waiting self.now trigger) 0) }
     {
         self.queues.next_used(trigger)
     }
 
-    /// Takes the next chunk of a declared trigger id out: the first of the group of greatest priority.
-    /// `None` where none is pinned for the id.
+    /// Takes the next chunk of a trigger id out: the first of the group of greatest priority. `None` where
+    /// none is pinned for the id.
     pub fn take_next(&mut self, trigger: TriggerId) -> Option<Dropped<L>>
-        requires declared { has_queue self.old.queues trigger }
-        ensures next { option_map dropped_of result ≡ next_in self.old.queues trigger }
-        ensures rest { self.new ≡ record self.old { queues = without_next_in self.old.queues trigger } }
+        ensures next { option_map pin_of result ≡ slice_get (waiting self.old trigger) 0 }
+        ensures left { waiting self.new trigger ≡ drop 1 (waiting self.old trigger) }
+        ensures others { (id : TriggerId) → id.0 ≢ trigger.0 → waiting self.new id ≡ waiting self.old id }
+        ensures after { (memory : Remembered L) → Remembers self.old memory
+            → Remembers self.new (taken memory trigger) }
+        ensures fewer { (memory : Remembered L) → Remembers self.old memory
+            → OnSome result (length (taken memory trigger).pinned + 1 ≡ length memory.pinned) }
     {
         let (priority, held) = self.queues.take_next(trigger)?;
         let group = priority.group(trigger);
@@ -218,7 +259,8 @@ impl<L: Token> Pins<L> {
 
     /// How many chunks are pinned.
     pub fn chunks(&self) -> u32
-        ensures { result ≡ total_of self.now.queues }
+        ensures { (memory : Remembered L) → Remembers self.now memory
+            → result ≡ length memory.pinned }
     {
         self.queues.chunks()
     }
@@ -239,7 +281,7 @@ fn full_buckets(alloc: Global, rules: &[TriggerRule]) -> Result<BTreeMap<Trigger
 /// Takes an attempt at the bucket of a trigger id.
 fn attempt(buckets: &mut BTreeMap<TriggerId, Bucket>, trigger: TriggerId, moment: u64) -> Attempt
     requires { IsSome (bucket_in buckets.old.entries trigger) }
-    ensures { (number : ℕ) → Attempts buckets.old.entries buckets.new.entries trigger moment number (admission number result) }
+    ensures { Attempts buckets.old.entries buckets.new.entries trigger moment result }
 {
     let Some(bucket) = buckets.get_mut(&trigger) else {
         unreachable!()
@@ -247,41 +289,16 @@ fn attempt(buckets: &mut BTreeMap<TriggerId, Bucket>, trigger: TriggerId, moment
     bucket.attempt(moment)
 }
 
-/// Notes the claim of a trace that has none.
-fn note_claim(claims: &mut IndexMap<TraceId, ClaimedTrace>, trace: TraceId, claim: ClaimedTrace)
-    requires unclaimed { claim_in claims.old.entries trace ≡ None }
-    requires room { 1 ≤ spare claims.old }
-    ensures { claims.new.entries ≡ claims.old.entries ++ (trace, claim) ∷ [] }
-{
-    match claims.insert(trace, claim) {
-        Ok(_) => {}
-        Err(_) => unreachable!(),
-    }
-}
-
 /// The group that claimed a chunk's trace.
-fn claiming_group<L: Token>(claims: &IndexMap<TraceId, ClaimedTrace>, held: &Held<L>) -> Group
-    requires { IsSome (claim_for claims.now.entries (buffer_of held.now)) }
-    ensures { IfSome (claim_for claims.now.entries (buffer_of held.now)) (λ claim. result ≡ claim.group) }
+fn claiming_group<L: Token>(claims: &Claims, held: &Held<L>) -> Group
+    requires { IsSome (claim_for claims.now.claims (buffer_of held.now)) }
+    ensures { option_map (λ claim. claim.group) (claim_for claims.now.claims (buffer_of held.now)) ≡ Some result }
 {
     let Some(header) = held.chunk.header() else {
         unreachable!()
     };
-    match claims.get(&header.trace) {
-        Some(claim) => claim.group,
+    match claims.group_of(header.trace) {
+        Some(group) => group,
         None => unreachable!(),
     }
-}
-
-fn add_crumb(claims: &mut IndexMap<TraceId, ClaimedTrace>, crumb: Crumb) -> bool
-    requires claimed { IsSome (claim_in claims.old.entries crumb.trace) }
-    requires node { crumb.node.0 < MAX_NODES }
-    ensures { AddsCrumb claims.old.entries claims.new.entries crumb.trace crumb.node result }
-{
-    let Some(claim) = claims.get_mut(&crumb.trace) else {
-        unreachable!()
-    };
-    let fresh = !claim.crumbs.contains(crumb.node);
-    claim.crumbs = claim.crumbs.with(crumb.node);
-    fresh
 }

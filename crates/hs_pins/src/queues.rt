@@ -2,8 +2,12 @@
 
 ghost use Rattle.std.specs.Prelude.{◌≡◌, ◌+◌, ◌<◌, ◌^◌, [], ◌∷◌, length, map, drop, slice_get, OnOk, OnErr, IfOk, IfErr, IfSome, OnSome, IfNone, IsSome, option_map};
 ghost use Rattle.hs_words.specs.Buffers.{buffer_of};
-ghost use Rattle.hs_pins.specs.Groups.{count_of, greatest_of, next_of, without_next, used_bytes};
-ghost use Rattle.hs_pins.specs.Queues.{has_queue, groups_of, total_of, with_groups, pinned_in, fresh_queues};
+ghost use Rattle.hs_pins.specs.Waiting.{used_bytes};
+ghost use Rattle.hs_pins.specs.PinsLayout.{in_order};
+ghost use Rattle.hs_pins.specs.Priorities.{group_at};
+ghost use Rattle.hs_pins.specs.Remembered.{pin_for};
+ghost use Rattle.hs_pins.specs.Groups.{count_of, greatest_of, next_of, without_next};
+ghost use Rattle.hs_pins.specs.Queues.{has_queue, groups_of, total_of, with_groups, pinned_in, fresh_queues, IsFullest};
 ghost use Rattle.hs_base.specs.Rules.{AreRules};
 
 use crate::pinned::Pinned;
@@ -96,7 +100,8 @@ impl<L: Token> TriggerQueues<L> {
 
     /// The used bytes of the next chunk of a trigger id, or `None` where none is pinned for it.
     pub fn next_used(&self, trigger: TriggerId) -> Option<u32>
-        ensures { result ≡ option_map (λ next. used_bytes next.1) (next_of (groups_of self.now trigger)) }
+        ensures { result ≡ option_map (λ pin. used_bytes pin.chunk)
+            (slice_get (in_order trigger (groups_of self.now trigger)) 0) }
     {
         match self.queues.get(&trigger) {
             Some(pinned) => pinned.next_used(),
@@ -104,35 +109,90 @@ impl<L: Token> TriggerQueues<L> {
         }
     }
 
-    /// Takes the next chunk of a declared trigger id out. `None` where none is pinned for it.
+    /// Takes the next chunk of a trigger id out. `None` where none is pinned for it.
     pub fn take_next(&mut self, trigger: TriggerId) -> Option<(Priority, Held<L>)>
-        requires declared { has_queue self.old trigger }
         ensures next { option_map (λ next. (next.0, buffer_of next.1)) result ≡ next_of (groups_of self.old trigger) }
         ensures rest { self.new ≡ with_groups self.old trigger
             (without_next (groups_of self.old trigger) (greatest_of (groups_of self.old trigger))) }
+        ensures first { option_map (λ next. pin_for (group_at trigger next.0) (buffer_of next.1)) result
+            ≡ slice_get (in_order trigger (groups_of self.old trigger)) 0 }
+        ensures left { in_order trigger (groups_of self.new trigger)
+            ≡ drop 1 (in_order trigger (groups_of self.old trigger)) }
         ensures count { OnSome result (total_of self.new + 1 ≡ total_of self.old) }
     {
         let taken = take_from(&mut self.queues, trigger)?;
         self.chunks -= 1;
         Some(taken)
     }
+
+    /// Takes all chunks of the group of least priority of a declared trigger id out, in their order. `None`
+    /// where none is pinned for the id.
+    pub fn take_least(&mut self, trigger: TriggerId) -> Option<(Priority, List<Held<L>>)>
+        requires declared { has_queue self.old trigger }
+        ensures least { option_map (λ least. (least.0, map buffer_of least.1.items)) result ≡ slice_get (groups_of self.old trigger) 0 }
+        ensures rest { self.new ≡ with_groups self.old trigger (drop 1 (groups_of self.old trigger)) }
+        ensures count { IfSome result (λ least. total_of self.new + length least.1.items ≡ total_of self.old) }
+        ensures some { IfSome result (λ least. 0 < length least.1.items) }
+    {
+        let (priority, chunks) = take_least_from(&mut self.queues, trigger)?;
+        self.chunks -= chunks.len() as u32;
+        Some((priority, chunks))
+    }
+
+    /// The trigger id for which most chunks are pinned, and of equal ones the smallest. `None` where
+    /// nothing is pinned.
+    pub fn fullest(&self) -> Option<TriggerId>
+        ensures found { IfSome result (λ id. IsFullest self.now id) }
+        ensures none { IfNone result (total_of self.now ≡ 0) }
+    {
+        let mut most = 0;
+        let mut fullest = None;
+        for (id, pinned) in self.queues.iter() {
+            let count = pinned.chunks();
+            if count > most {
+                most = count;
+                fullest = Some(*id);
+            }
+        }
+        fullest
+    }
+}
+
+fn take_least_from<L: Token>(
+    queues: &mut BTreeMap<TriggerId, Pinned<L>>,
+    trigger: TriggerId,
+) -> Option<(Priority, List<Held<L>>)>
+    requires { has_queue queues.old.entries trigger }
+    ensures least { option_map (λ least. (least.0, map buffer_of least.1.items)) result ≡ slice_get (groups_of queues.old.entries trigger) 0 }
+    ensures rest { queues.new.entries ≡ with_groups queues.old.entries trigger (drop 1 (groups_of queues.old.entries trigger)) }
+    ensures count { IfSome result (λ least. total_of queues.new.entries + length least.1.items ≡ total_of queues.old.entries) }
+    ensures some { IfSome result (λ least. 0 < length least.1.items) }
+    ensures none { IfNone result (queues.new.entries ≡ queues.old.entries) }
+{
+    let Some(pinned) = queues.get_mut(&trigger) else {
+        unreachable!()
+    };
+    pinned.take_least()
 }
 
 fn take_from<L: Token>(
     queues: &mut BTreeMap<TriggerId, Pinned<L>>,
     trigger: TriggerId,
 ) -> Option<(Priority, Held<L>)>
-    requires { has_queue queues.old.entries trigger }
     ensures next { option_map (λ next. (next.0, buffer_of next.1)) result ≡ next_of (groups_of queues.old.entries trigger) }
     ensures rest { queues.new.entries ≡ with_groups queues.old.entries trigger
         (without_next (groups_of queues.old.entries trigger) (greatest_of (groups_of queues.old.entries trigger))) }
+    ensures first { option_map (λ next. pin_for (group_at trigger next.0) (buffer_of next.1)) result
+        ≡ slice_get (in_order trigger (groups_of queues.old.entries trigger)) 0 }
+    ensures left { in_order trigger (groups_of queues.new.entries trigger)
+        ≡ drop 1 (in_order trigger (groups_of queues.old.entries trigger)) }
     ensures count { OnSome result (total_of queues.new.entries + 1 ≡ total_of queues.old.entries) }
     ensures none { IfNone result (queues.new.entries ≡ queues.old.entries) }
 {
-    let Some(pinned) = queues.get_mut(&trigger) else {
-        unreachable!()
-    };
-    pinned.take_next()
+    match queues.get_mut(&trigger) {
+        Some(pinned) => pinned.take_next(),
+        None => None,
+    }
 }
 
 fn empty_queues<L: Token>(

@@ -1,6 +1,6 @@
-use Rattle.hs_pins.proofs.PinLemmas.{declared-adds}
+use Rattle.hs_pins.proofs.Remembering.{has_crumbed}
 use Rattle.hs_pins.proofs.pins.Pins.crumb.Goals as goal
 
-pub invariant_of-self : goal.invariant_of-self
-invariant_of-self g c =
-    declared-adds c.self.inside.claims.entries c.add_crumb.new.claims.entries c.self.inside.queues c.args.crumb.trace c.args.crumb.node c.add_crumb.result c.add_crumb.ensures c.self.invariant
+pub returns-clause-after : goal.returns-clause-after
+returns-clause-after g c = λ memory h.
+    has_crumbed _ c.args.self.now memory c.args.crumb.trace c.args.crumb.node c.add_crumb.new.self.claims c.self.view_is h c.add_crumb.ensures.adds

@@ -1,0 +1,31 @@
+-- The parts of a claim: a party is a group with its laterals, and stands once for the traces that it claims one after
+-- another; of each trace the place of its party is noted, and the nodes to which its crumbs lead.
+use Rattle.std.specs.Prelude.{ℕ, ◌<◌, List, [], length, slice_get, unwrap_or}
+use Rattle.std.specs.List.{AllByRecursion}
+use Rattle.hs_base.specs.declared.ids.TraceId.{TraceId}
+use Rattle.hs_base.specs.declared.node_set.NodeSet.{NodeSet}
+use Rattle.hs_pins.specs.declared.claims.Party.{Party}
+use Rattle.hs_pins.specs.declared.claims.Note.{Note}
+use Rattle.hs_pins.specs.Remembered.{Claim}
+
+-- the claims, and for how many more there is room
+pub record ClaimList : Type 0 where
+  pub claims : List Claim
+  pub room : ℕ
+
+abbrev pub nobody : Party
+nobody = record { group = record { id = record { node = 0; number = 0 }; trigger = record { 0 = 0 }; lead = record { 0 = 0 } }; laterals = [] }
+
+abbrev pub party_at : List Party → ℕ → Party
+party_at parties place = unwrap_or (slice_get parties place) nobody
+
+abbrev pub claim_by : Party → TraceId → NodeSet → Claim
+claim_by party trace crumbs = record { trace = trace; group = party.group; laterals = party.laterals; crumbs = crumbs }
+
+-- the claim that is noted so
+abbrev pub claim_from : List Party → TraceId × Note → Claim
+claim_from parties noted = claim_by (party_at parties noted.1.party) noted.0 noted.1.crumbs
+
+-- each noted party is there
+abbrev pub AreNoted : List Party → List (TraceId × Note) → Type 0
+AreNoted parties notes = AllByRecursion (λ (noted : TraceId × Note). noted.1.party < length parties) notes

@@ -1,0 +1,155 @@
+//! The claims of a node.
+
+ghost use Rattle.std.specs.Prelude.{◌≡◌, ◌<◌, ◌≤◌, ℕ, [], ◌∷◌, ◌++◌, length, slice_get, not, IsSome, Some, None, OnOk, option_map};
+ghost use Rattle.std.specs.Bool.{OnTrue};
+ghost use Rattle.hs_pins.specs.Remembered.{claim_of, has_crumb, with_crumb};
+ghost use Rattle.hs_pins.specs.ClaimsLayout.{party_at, claim_by};
+
+use hs_base::limits::MAX_NODES;
+use hs_base::{Crumb, Group, Laterals, List, Memory, NodeSet, TraceId};
+use indexmap::IndexMap;
+use std::alloc::Global;
+use std::marker::Model;
+
+/// A group that claimed traces, with the laterals of its trigger.
+#[derive(Clone, Copy)]
+pub struct Party {
+    pub group: Group,
+    pub laterals: Laterals,
+}
+
+/// What is noted of a claimed trace: the place of the party that claimed it, and the nodes to which its
+/// crumbs lead.
+#[derive(Clone, Copy)]
+pub struct Note {
+    pub party: usize,
+    pub crumbs: NodeSet,
+}
+
+/// The claims of a node, in their order. The traces that a party claims one after another share its
+/// laterals. Contracts see the claims, and for how many more there is room.
+#[derive(Drop)]
+pub struct Claims {
+    notes: IndexMap<TraceId, Note>,
+    parties: List<Party>,
+}
+
+impl Model for Claims {
+    ghost use Rattle.hs_pins.specs.ClaimsLayout.{ClaimList};
+
+    ghost Value = { ClaimList };
+
+    ghost use Rattle.hs_pins.specs.ClaimsView.{claims_in, IsClaims};
+
+    ghost view = { claims_in };
+
+    ghost invariant = { IsClaims };
+}
+
+impl Claims {
+    /// No claims. It takes no memory.
+    pub fn new(alloc: Global) -> Claims
+        ensures { result.claims ≡ [] }
+    {
+        Claims {
+            notes: IndexMap::new(alloc),
+            parties: List::new(alloc),
+        }
+    }
+
+    /// The group that claimed a trace, or `None` where the trace is not claimed.
+    pub fn group_of(&self, trace: TraceId) -> Option<Group>
+        ensures { result ≡ option_map (λ claim. claim.group) (claim_of self.now.claims trace) }
+    {
+        let note = self.notes.get(&trace)?;
+        match self.parties.get(note.party) {
+            Some(party) => Some(party.group),
+            None => unreachable!(),
+        }
+    }
+
+    /// The laterals with which a trace was claimed, or `None` where it is not claimed.
+    pub fn laterals_of(&self, trace: TraceId) -> Option<Laterals>
+        ensures { result ≡ option_map (λ claim. claim.laterals) (claim_of self.now.claims trace) }
+    {
+        let note = self.notes.get(&trace)?;
+        match self.parties.get(note.party) {
+            Some(party) => Some(party.laterals),
+            None => unreachable!(),
+        }
+    }
+
+    /// The nodes to which the crumbs of a trace lead, or `None` where it is not claimed.
+    pub fn crumbs_of(&self, trace: TraceId) -> Option<NodeSet>
+        ensures { result ≡ option_map (λ claim. claim.crumbs) (claim_of self.now.claims trace) }
+    {
+        match self.notes.get(&trace) {
+            Some(note) => Some(note.crumbs),
+            None => None,
+        }
+    }
+
+    /// Makes room for one claim more.
+    pub fn reserve(&mut self) -> Result<(), Memory>
+        ensures ok { OnOk result (1 ≤ self.new.room) }
+        ensures claims { self.new.claims ≡ self.old.claims }
+    {
+        self.notes.reserve(1)?;
+        self.parties.reserve(1)
+    }
+
+    /// Adds the claim of a trace that is not claimed. There is room.
+    pub fn add(&mut self, trace: TraceId, party: Party, crumbs: NodeSet)
+        requires unclaimed { claim_of self.old.claims trace ≡ None }
+        requires room { 1 ≤ self.old.room }
+        ensures { self.new.claims ≡ self.old.claims ++ claim_by party trace crumbs ∷ [] }
+    {
+        let party = place_of(&mut self.parties, party);
+        match self.notes.insert(trace, Note { party, crumbs }) {
+            Ok(_) => {}
+            Err(_) => unreachable!(),
+        }
+    }
+
+    /// Adds a crumb to the set of its claimed trace, and answers whether the node is new there.
+    pub fn add_crumb(&mut self, crumb: Crumb) -> bool
+        requires claimed { IsSome (claim_of self.old.claims crumb.trace) }
+        requires node { crumb.node.0 < MAX_NODES }
+        ensures fresh { result ≡ not (has_crumb self.old.claims crumb.trace crumb.node.0) }
+        ensures adds { self.new.claims ≡ with_crumb self.old.claims crumb.trace crumb.node }
+    {
+        let Some(note) = self.notes.get_mut(&crumb.trace) else {
+            unreachable!()
+        };
+        let fresh = !note.crumbs.contains(crumb.node);
+        note.crumbs = note.crumbs.with(crumb.node);
+        fresh
+    }
+}
+
+/// The place of a party among the parties. It joins them where it is not the last of them.
+fn place_of(parties: &mut List<Party>, party: Party) -> usize
+    requires { length parties.old.items < parties.old.room }
+    ensures place { slice_get parties.new.items result ≡ Some party }
+    ensures kept { (k : ℕ) → k < length parties.old.items
+        → party_at parties.new.items k ≡ party_at parties.old.items k }
+    ensures longer { length parties.old.items ≤ length parties.new.items }
+{
+    let count = parties.len();
+    if count > 0 {
+        if let Some(last) = parties.get(count - 1) {
+            if is_party(last, &party) {
+                return count - 1;
+            }
+        }
+    }
+    parties.push(party);
+    count
+}
+
+/// Whether two parties are one.
+fn is_party(party: &Party, other: &Party) -> bool
+    ensures { OnTrue result (party.now ≡ other.now) }
+{
+    party.group == other.group && party.laterals == other.laterals
+}
