@@ -161,7 +161,8 @@ fn a_crumb_alone_goes_first(rt: HostRuntime) -> Result<(), Fail> {
 }
 
 /// 1,024 traces with a chunk each and 64,512 with a crumb alone are the most that may stay. A further chunk lets the
-/// trace go that came first.
+/// trace go that came first. At the end the chunks of the traces 3 to 1,024 are left, and behind them that of the trace that
+/// came last.
 #[test]
 fn most_traces_stay(rt: HostRuntime) -> Result<(), Fail> {
     let mut chunks = chunks_of(rt.alloc())?;
@@ -187,6 +188,13 @@ fn most_traces_stay(rt: HostRuntime) -> Result<(), Fail> {
     assert!(rt; are_gone(arrive(&mut index, more.pop(), 2000), 1, 1021, 1025, 65_536));
     assert!(rt; holds(&index, 1024, 65_535));
     assert!(rt; claims(&mut index, 2000, 1, Some(1021), NodeSet(1 << 15)));
+    let mut left = index.finish().ok().ok_or("memory")?;
+    assert_eq!(rt; left.len(), 1023);
+    assert!(rt; pops(&mut left, 1022) && pops(&mut left, 1023));
+    for number in 0..1021u32 {
+        assert!(rt; pops(&mut left, number), "{number}");
+    }
+    assert!(rt; left.is_empty());
     Ok(())
 }
 
@@ -220,5 +228,7 @@ fn nothing_stays(rt: HostRuntime) -> Result<(), Fail> {
     assert!(rt; are_gone(arrive(&mut index, chunks.pop(), 1), 1, 1023, 1, 1));
     assert!(rt; claims(&mut index, 1, 0, None, NodeSet(0)));
     assert!(rt; holds(&index, 0, 0));
+    let left = index.finish().ok().ok_or("memory")?;
+    assert!(rt; left.is_empty());
     Ok(())
 }

@@ -1,8 +1,8 @@
 //! The pins: which triggers are admitted, what is claimed and pinned, and who gives way.
 
 use fixtures::{
-    CLAIMED, admits, arrives, claimed_pins, claims, claims_pages, fresh_pins, greatest_rules, group_of,
-    is_new_crumb, lets_go, page_of, pages_of, takes, went,
+    CLAIMED, admits, arrives, claimed_pins, claims, claims_pages, fresh_pins, greatest_rules,
+    group_of, is_new_crumb, lets_go, page_of, pages_of, takes, went,
 };
 use hs_base::limits::{
     MAX_BUFFERS, MAX_PINS, MAX_SIZE, MAX_STRIDE, MAX_THRESHOLD, MAX_TRACES, MAX_TRIGGER,
@@ -29,9 +29,18 @@ fn the_longest_time_fills_the_bucket(rt: HostRuntime) -> Result<(), Fail> {
 fn one_token_a_second(rt: HostRuntime) -> Result<(), Fail> {
     let mut pins = fresh_pins(rt.alloc(), 4)?;
     assert_eq!(rt; admits(&mut pins, 0, 0), Admitted::Admitted { number: 0 });
-    assert_eq!(rt; admits(&mut pins, 999_999, 1), Admitted::Limited { level: 999_999 });
-    assert_eq!(rt; admits(&mut pins, 1_000_000, 2), Admitted::Admitted { number: 1 });
-    assert_eq!(rt; admits(&mut pins, 500_000, 3), Admitted::Limited { level: 0 });
+    assert_eq!(rt;
+        admits(&mut pins, 999_999, 1),
+        Admitted::Limited { level: 999_999 }
+    );
+    assert_eq!(rt;
+        admits(&mut pins, 1_000_000, 2),
+        Admitted::Admitted { number: 1 }
+    );
+    assert_eq!(rt;
+        admits(&mut pins, 500_000, 3),
+        Admitted::Limited { level: 0 }
+    );
     Ok(())
 }
 
@@ -61,12 +70,20 @@ fn the_least_rank_is_abandoned(rt: HostRuntime) -> Result<(), Fail> {
     let mut pins = fresh_pins(rt.alloc(), 2)?;
     assert!(rt; claims_pages(rt.alloc(), &mut pins, group_of(0, 0, 1, 0), 0, 1)?);
     assert!(rt; claims_pages(rt.alloc(), &mut pins, group_of(0, 1, 1, G), G, 1)?);
-    assert!(rt; claims_pages(rt.alloc(), &mut pins, group_of(0, 2, 1, TWICE_G), TWICE_G, 1)?);
+    assert!(rt;
+        claims_pages(
+            rt.alloc(),
+            &mut pins,
+            group_of(0, 2, 1, TWICE_G),
+            TWICE_G,
+            1
+        )?
+    );
     let dropped = lets_go(&mut pins)?;
     assert_eq!(rt; dropped.len(), 1);
     assert!(rt; went(&dropped, 0, group_of(0, 2, 1, TWICE_G)));
     assert_eq!(rt; pins.chunks(), 2);
-    assert!(rt; !arrives(&mut pins, TraceId(TWICE_G), page_of(rt.alloc(), TraceId(TWICE_G), 1)?));
+    assert!(rt; !arrives(&mut pins, page_of(rt.alloc(), TraceId(TWICE_G), 1)?));
     assert_eq!(rt; pins.chunks(), 2);
     Ok(())
 }
@@ -115,14 +132,21 @@ fn the_greatest_rank_is_taken_first(rt: HostRuntime) -> Result<(), Fail> {
 #[test]
 fn most_traces_and_chunks_are_claimed(rt: HostRuntime) -> Result<(), Fail> {
     let mut pins = fresh_pins(rt.alloc(), MAX_PINS)?;
-    for number in 0..MAX_CLAIMEDS {
+    for number in 0..MAX_TRACES {
         let trace = TraceId(8 + u128::from(number));
-        assert!(rt; claims(&mut pins, group_of(0, number, 1, 8), trace, List::new(rt.alloc())));
+        assert!(rt;
+            claims(
+                &mut pins,
+                group_of(0, number, 1, 8),
+                trace,
+                List::new(rt.alloc())
+            )
+        );
     }
     let held = pages_of(rt.alloc(), CLAIMED, MAX_PINS)?;
-    assert!(rt; claims(&mut pins, group_of(0, MAX_CLAIMEDS, 1, 7), CLAIMED, held));
+    assert!(rt; claims(&mut pins, group_of(0, MAX_TRACES, 1, 7), CLAIMED, held));
     for number in 0..MAX_PINS {
-        assert!(rt; arrives(&mut pins, CLAIMED, page_of(rt.alloc(), CLAIMED, number)?));
+        assert!(rt; arrives(&mut pins, page_of(rt.alloc(), CLAIMED, number)?));
     }
     assert_eq!(rt; pins.chunks(), 2 * MAX_PINS);
     let dropped = lets_go(&mut pins)?;
@@ -141,7 +165,7 @@ fn most_rules_and_none(rt: HostRuntime) -> Result<(), Fail> {
             buffers: MAX_BUFFERS,
             size: MAX_SIZE,
             threshold: MAX_THRESHOLD,
-            traces: MAX_CLAIMEDS,
+            traces: MAX_TRACES,
             pins: MAX_PINS,
             stride: MAX_STRIDE,
             triggers: greatest_rules(rt.alloc(), count)?,
