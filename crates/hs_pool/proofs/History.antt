@@ -7,39 +7,9 @@ use Rattle.std.proofs.lemmas.List.Sums.{sum_by-cons, sum_by-append}
 use borrow.Author.Tests.{eqb-true, eq-eqb, ne_eqb}
 use Rattle.std.proofs.lemmas.Bool.{cases_lt}
 use Rattle.hs_words.specs.PoolHistory.{Event, Got, Empty, Given, Missed, is_got, is_given, queue_after, MayFollow, IsHistoryBack}
+pub use Rattle.hs_words.proofs.Waiting.{is}
+use Rattle.hs_words.proofs.Waiting.{counted, balance}
 use Rattle.hs_pool.specs.Pool.{Pool, IsAfter, IsOut, waiting}
-
--- whether a number is this one
-abbrev pub is : ℕ → ℕ → Bool
-is number other = other == number
-
--- one more element
-counted : {X : Type 0} (p : X → Bool) (x : X) (xs : List X) → count_by p (x ∷ xs) ≡ cond (p x) 1 0 + count_by p xs
-counted p x xs = sum_by-cons (λ y. cond (p y) 1 0) x xs
-
-counted_last : (number : ℕ) (xs : List ℕ) (x : ℕ) → count_by (is number) (xs ++ x ∷ []) ≡ count_by (is number) xs + cond (x == number) 1 0
-counted_last number xs x = omega (arith, sum_by-append (λ (y : ℕ). cond (is number y) 1 0) xs (x ∷ []), counted (is number) x [])
-
--- a queue's front, counted
-front_counted : (number buffer : ℕ) (queue : List ℕ) → slice_get queue 0 ≡ Some buffer
-    → count_by (is number) queue ≡ cond (buffer == number) 1 0 + count_by (is number) (drop 1 queue)
-front_counted number buffer [] front = absurd cc
-front_counted number buffer (x ∷ xs) front =
-    let same : x ≡ buffer = cc in
-    subst (λ (b : ℕ). count_by (is number) (x ∷ xs) ≡ cond (b == number) 1 0 + count_by (is number) xs) same (counted (is number) x xs)
-
--- What waits and what was got are together what was given and what was there at first.
-pub balance : (n number : ℕ) (earlier : List Event) → IsHistoryBack n earlier
-    → count_by (is number) (queue_after n earlier) + count_by (is_got number) earlier ≡ count_by (is_given number) earlier + count_by (is number) (range_with_len 0 n)
-balance n number [] history = omega arith
-balance n number (Got buffer ∷ earlier) history =
-    omega (arith, counted (is_got number) (Got buffer) earlier, counted (is_given number) (Got buffer) earlier, balance n number earlier history.0, front_counted number buffer (queue_after n earlier) history.1)
-balance n number (Empty ∷ earlier) history =
-    omega (arith, counted (is_got number) Empty earlier, counted (is_given number) Empty earlier, balance n number earlier history.0)
-balance n number (Given buffer ∷ earlier) history =
-    omega (arith, counted (is_got number) (Given buffer) earlier, counted (is_given number) (Given buffer) earlier, balance n number earlier history.0, counted_last number (queue_after n earlier) buffer)
-balance n number (Missed ∷ earlier) history =
-    omega (arith, counted (is_got number) Missed earlier, counted (is_given number) Missed earlier, balance n number earlier history.0)
 
 -- how often a number is among these
 apart : (a number : ℕ) (b : Bool) → b ≡ false → ◌≡◌ {A = ℕ} (cond b 1 0) 0
