@@ -1,5 +1,6 @@
 -- Which workloads the replay without an agent can run: one client that only records, with a threshold and a limit of
--- traces that no buffers of its node exceed. Of these alone the fates hang on no agent, since nothing is evicted or asked for.
+-- traces that no buffers of its node exceed. There nothing is evicted or asked for, so the fates hang on no agent. It is not
+-- asked how many of its buffers a workload really fills.
 use Rattle.std.specs.Prelude.{◌≡◌, Bool, true, false, ◌&&◌, ◌==◌, nat_le, [], ◌∷◌, length, refl}
 use Rattle.std.specs.List.{list_all}
 use Rattle.hs_records.specs.Plain.{Operation, Begin, Point, Crumb, End, PlainWorkload}

@@ -381,7 +381,7 @@ fn a_long_payload_is_out_of_range(rt: HostRuntime) -> Result<(), Fail> {
 }
 
 /// The head, a client's trace and a point of 65,520 bytes, which are 2,184 pieces, and then so many points.
-fn points(alloc: Global, count: u32) -> Result<Vec<u8>, AllocError> {
+pub(crate) fn points(alloc: Global, count: u32) -> Result<Vec<u8>, AllocError> {
     let mut text = HEAD.to_vec(alloc)?;
     text.extend_from_slice(b"client 0 0\nbegin 0000000000000001\npoint 1 ")?;
     for _ in 0..65_520 {

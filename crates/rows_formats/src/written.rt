@@ -1,5 +1,6 @@
 //! What is written of workloads.
 
+use crate::workload::points;
 use hs_base::Bytes;
 use hs_workload::{ReadError, read_workload, versions_are_exchanged, write_workload};
 use std::alloc::Global;
@@ -52,5 +53,15 @@ fn each_line_is_written_as_it_was_read(rt: HostRuntime) -> Result<(), Fail> {
 fn version_2_has_wider_traces(rt: HostRuntime) -> Result<(), Fail> {
     let wide = widened(rt.alloc(), NARROW)?;
     assert_eq!(rt; wide.as_slice(), WIDE);
+    Ok(())
+}
+
+/// The greatest count of operations, a text of some three million bytes.
+#[test]
+fn most_operations_are_written(rt: HostRuntime) -> Result<(), Fail> {
+    let mut text = points(rt.alloc(), 259_958)?;
+    text.extend_from_slice(b"end\ndone\n")?;
+    let back = written(rt.alloc(), &text)?;
+    assert!(rt; back.as_slice() == text.as_slice());
     Ok(())
 }
