@@ -1,13 +1,15 @@
--- A command over a workload that the replay can run ends well, where neither the source nor the sink failed.
-use Rattle.std.proofs.Common.{◌≡◌, ℕ, ◌≤◌, true, false, List, ◌++◌, length, Option, Some, None, ◌⊎◌, inl, inr, refl, sym, ap, subst, ◌∙◌, arith, append-nil, length-append}
+-- A command over a workload that it can run ends well, where neither the source nor the sink failed.
+use Rattle.std.proofs.Common.{◌≡◌, ℕ, ◌≤◌, List, ◌++◌, length, Option, Some, None, ◌⊎◌, inl, inr, refl, sym, ap, subst, ◌∙◌, arith, append-nil, length-append, true≢false}
+use Rattle.std.specs.Prelude.{IsSome}
 use Rattle.hs_base.specs.Outside.{Rose}
 use Rattle.hs_base.specs.declared.limits.TheConstants.{MAX_INPUT}
 use Rattle.hs_records.specs.Plain.{PlainWorkload}
 use Rattle.hs_workload.specs.Validity.{Reads}
-use Rattle.hs_replay.specs.Replayable.{can_replay}
+use Rattle.hs_cli.specs.Commands.{command_in}
 use Rattle.hs_cli.specs.Input.{ReadWhole, ReadBeyond}
-use Rattle.hs_cli.specs.Messages.{IsCommand}
-use Rattle.hs_cli.specs.Endings.{IsRefused, IsBeyond, Ends}
+use Rattle.hs_cli.specs.Endings.{IsAbout, WillBeAbout, IsRefused, Owes, Ends, due_text}
+use Rattle.hs_cli.specs.declared.command.Command.{Command}
+use Rattle.hs_cli.specs.declared.command.Command.TheVariants.{Replay, Convert, Make}
 use Rattle.hs_cli.specs.declared.status.Status.{Status}
 use Rattle.hs_cli.specs.declared.status.Status.TheVariants.{Done, Usage, Refused, ReadFault, WriteFault, Memory, TooLong}
 
@@ -32,25 +34,61 @@ taken_beyond (Some known) (Some rest) input bytes is beyond =
 abbrev pub IsOne : Type 0
 IsOne = (text : List ℕ) (V W : PlainWorkload) → Reads text V → Reads text W → V ≡ W
 
--- what can be replayed is not refused
-not_refused : IsOne → (input text : List ℕ) (W : PlainWorkload) → Reads input W → can_replay W ≡ true → IsRefused input text ⊎ IsBeyond input text → ⊥
-not_refused one input text W reads can (inl refused) = refused.no_workload W reads
-not_refused one input text W reads can (inr (V, other, cannot, told)) =
-    let same : V ≡ W = one input V W other reads in
-    let both = sym (subst (λ (X : PlainWorkload). can_replay X ≡ false) same cannot) ∙ can in
-    cc
+-- what a command that reads was about
+one_read : IsOne → (left left' : Option (List ℕ)) (V W : PlainWorkload) → ((bytes : List ℕ) × ReadWhole left left' bytes × Reads bytes V)
+    → ((input : List ℕ) × (left ≡ Some input) × Reads input W × (length input ≤ MAX_INPUT)) → V ≡ W
+one_read one left left' V W (bytes, whole, reads) (input, is, known, short) =
+    one input V W (subst (λ (text : List ℕ). Reads text V) (taken_whole left left' input bytes is whole) reads) known
 
-pub completed : (words : List (List ℕ)) (left left' written written' : Option (List ℕ)) (source source' sink sink' : ℕ) (result : Status) → IsOne → Ends words left left' written written' source source' sink sink' result
-    → (W : PlainWorkload) (input : List ℕ) → IsCommand words → left ≡ Some input → Reads input W → can_replay W ≡ true → length input ≤ MAX_INPUT → ¬ Rose source source' → ¬ Rose sink sink' → (result ≡ Done) ⊎ (result ≡ Memory)
-completed words left left' written written' source source' sink sink' Done one ends W input command is reads can short steady still = inl refl
-completed words left left' written written' source source' sink sink' Memory one ends W input command is reads can short steady still = inr refl
-completed words left left' written written' source source' sink sink' Usage one ends W input command is reads can short steady still = absurd (ends.1.1.0 command)
-completed words left left' written written' source source' sink sink' Refused one (none, (text, (named, (bytes, whole, either)), gains)) W input command is reads can short steady still =
-    let same : bytes ≡ input = taken_whole left left' input bytes is whole in
-    absurd (not_refused one bytes text W (subst (λ (t : List ℕ). Reads t W) (sym same) reads) can either)
-completed words left left' written written' source source' sink sink' TooLong one (none, (text, (named, (bytes, beyond, told)), gains)) W input command is reads can short steady still =
+-- a command is about one workload
+one_about : IsOne → (command : Command) (left left' : Option (List ℕ)) (V W : PlainWorkload) → IsAbout command left left' V → WillBeAbout command left W → V ≡ W
+one_about one (Make seed size) left left' V W (none, made) will = made ∙ sym will
+one_about one Replay left left' V W about will = one_read one left left' V W about will
+one_about one Convert left left' V W about will = one_read one left left' V W about will
+
+-- a workload's text is not refused
+text_reads : (left left' : Option (List ℕ)) (W : PlainWorkload) (bytes text : List ℕ) → ReadWhole left left' bytes → IsRefused bytes text
+    → ((input : List ℕ) × (left ≡ Some input) × Reads input W × (length input ≤ MAX_INPUT)) → ⊥
+text_reads left left' W bytes text whole refused (input, is, known, short) =
+    refused.no_workload W (subst (λ (t : List ℕ). Reads t W) (sym (taken_whole left left' input bytes is whole)) known)
+
+not_refused : IsOne → (command : Command) (left left' : Option (List ℕ)) (text : List ℕ) (W : PlainWorkload) → WillBeAbout command left W → IsSome (due_text command W) → Owes command left left' Refused text → ⊥
+not_refused one (Make seed size) left left' text W will due (inl (reader, rest)) = reader
+not_refused one Replay left left' text W will due (inl (reader, (bytes, whole, refused))) = text_reads left left' W bytes text whole refused will
+not_refused one Convert left left' text W will due (inl (reader, (bytes, whole, refused))) = text_reads left left' W bytes text whole refused will
+not_refused one command left left' text W will due (inr (V, about, none, told)) =
+    let bad : IsSome {T = List ℕ} None = subst IsSome (ap (due_text command) (sym (one_about one command left left' V W about will)) ∙ none) due in
+    absurd (true≢false (sym bad))
+
+-- no more was read of it than an input may have
+fits : (left left' : Option (List ℕ)) (W : PlainWorkload) (bytes : List ℕ) → ReadBeyond left left' bytes → ((input : List ℕ) × (left ≡ Some input) × Reads input W × (length input ≤ MAX_INPUT)) → ⊥
+fits left left' W bytes beyond (input, is, known, short) =
     let most = taken_beyond left left' input bytes is beyond in
     let long = beyond.long in
     absurd (omega (arith, most, long, short))
-completed words left left' written written' source source' sink sink' ReadFault one ends W input command is reads can short steady still = absurd (steady ends.1)
-completed words left left' written written' source source' sink sink' WriteFault one ends W input command is reads can short steady still = absurd (still ends.1)
+
+not_too_long : (command : Command) (left left' : Option (List ℕ)) (text : List ℕ) (W : PlainWorkload) → WillBeAbout command left W → Owes command left left' TooLong text → ⊥
+not_too_long (Make seed size) left left' text W will (reader, rest) = reader
+not_too_long Replay left left' text W will (reader, (bytes, beyond, told)) = fits left left' W bytes beyond will
+not_too_long Convert left left' text W will (reader, (bytes, beyond, told)) = fits left left' W bytes beyond will
+
+-- words are one command
+same_command : (words : List (List ℕ)) (command other : Command) → command_in words ≡ Some command → command_in words ≡ Some other → other ≡ command
+same_command words command other is also =
+    let both : Some other ≡ Some command = sym also ∙ is in
+    cc
+
+module _ (words : List (List ℕ)) (left left' written written' : Option (List ℕ)) (source source' sink sink' : ℕ) (one : IsOne) (command : Command) (W : PlainWorkload)
+    (is : command_in words ≡ Some command) (will : WillBeAbout command left W) (due : IsSome (due_text command W)) (steady : ¬ Rose source source') (still : ¬ Rose sink sink') where
+  pub completed : (result : Status) → Ends words left left' written written' source source' sink sink' result → (result ≡ Done) ⊎ (result ≡ Memory)
+  completed Done ends = inl refl
+  completed Memory ends = inr refl
+  completed Usage (none, (text, (isnt, read, told), gains)) =
+      let both : Some command ≡ None = sym is ∙ isnt in
+      cc
+  completed Refused (none, (text, (other, also, owes), gains)) =
+      absurd (not_refused one command left left' text W will due (subst (λ (c : Command). Owes c left left' Refused text) (same_command words command other is also) owes))
+  completed TooLong (none, (text, (other, also, owes), gains)) =
+      absurd (not_too_long command left left' text W will (subst (λ (c : Command). Owes c left left' TooLong text) (same_command words command other is also) owes))
+  completed ReadFault ends = absurd (steady ends.1)
+  completed WriteFault ends = absurd (still ends.1)

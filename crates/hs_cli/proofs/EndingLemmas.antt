@@ -1,23 +1,59 @@
--- A text that was due and written, whole or in front, ends the call with its status.
-use Rattle.std.proofs.Common.{◌≡◌, ℕ, List, Option, ◌⊎◌, inl, inr, sym, subst}
+-- A text that a command owes, written whole or in front, ends the call with its status.
+use Rattle.std.proofs.Common.{◌≡◌, ℕ, List, Option, Some, ◌⊎◌, inl, inr, refl, sym, subst}
 use Rattle.hs_base.specs.Outside.{Rose, Gains}
 use Rattle.hs_cli.specs.Written.{GainsFront}
-use Rattle.hs_cli.specs.Endings.{IsDue, NoneFailed, Ends}
+use Rattle.hs_cli.specs.Commands.{command_in}
+use Rattle.hs_cli.specs.Endings.{Owes, IsDue, NoneFailed, EndsWith, Ends}
+use Rattle.hs_cli.specs.declared.command.Command.{Command}
 use Rattle.hs_cli.specs.declared.status.Status.{Status}
 use Rattle.hs_cli.specs.declared.status.Status.TheVariants.{Done, Usage, Refused, ReadFault, WriteFault, Memory, TooLong}
 
-module _ (words : List (List ℕ)) (left left' written written' : Option (List ℕ)) (source source' sink sink' : ℕ) where
-  ended : (due : Status) (text : List ℕ) → IsDue words left left' due text → Gains written written' text → NoneFailed source source' sink sink' → Ends words left left' written written' source source' sink sink' due
-  ended Done text due gains none = (none, (text, due, gains))
-  ended Usage text due gains none = (none, (text, due, gains))
-  ended Refused text due gains none = (none, (text, due, gains))
-  ended TooLong text due gains none = (none, (text, due, gains))
-  ended ReadFault text due gains none = absurd due
-  ended WriteFault text due gains none = absurd due
-  ended Memory text due gains none = absurd due
+-- what `finish` answers
+abbrev pub Finishes : Status → List ℕ → Option (List ℕ) → Option (List ℕ) → ℕ → ℕ → Status → Type 0
+Finishes due text written written' sink sink' result =
+    (result ≡ due × (sink' ≡ sink) × Gains written written' text) ⊎ (result ≡ WriteFault × Rose sink sink' × GainsFront written written' text)
 
-  pub finished : (due result : Status) (text : List ℕ) → IsDue words left left' due text → source' ≡ source
-      → (result ≡ due × (sink' ≡ sink) × Gains written written' text) ⊎ (result ≡ WriteFault × Rose sink sink' × GainsFront written written' text)
-      → Ends words left left' written written' source source' sink sink' result
-  finished due result text is read (inl (e, wrote, gains)) = subst (λ (s : Status). Ends words left left' written written' source source' sink sink' s) (sym e) (ended due text is gains (read, wrote))
-  finished due result text is read (inr (e, rose, front)) = subst (λ (s : Status). Ends words left left' written written' source source' sink sink' s) (sym e) (read, rose, (due, text, is, front))
+module _ (command : Command) (left left' written written' : Option (List ℕ)) (source source' sink sink' : ℕ) where
+  ended : (due : Status) (text : List ℕ) → Owes command left left' due text → Gains written written' text → NoneFailed source source' sink sink' → EndsWith command left left' written written' source source' sink sink' due
+  ended Done text owes gains none = (none, (text, owes, gains))
+  ended Refused text owes gains none = (none, (text, owes, gains))
+  ended TooLong text owes gains none = (none, (text, owes, gains))
+  ended Usage text owes gains none = absurd owes
+  ended ReadFault text owes gains none = absurd owes
+  ended WriteFault text owes gains none = absurd owes
+  ended Memory text owes gains none = absurd owes
+
+  pub finished : (due result : Status) (text : List ℕ) → Owes command left left' due text → source' ≡ source
+      → Finishes due text written written' sink sink' result → EndsWith command left left' written written' source source' sink sink' result
+  finished due result text owes read (inl (e, wrote, gains)) =
+      subst (λ (s : Status). EndsWith command left left' written written' source source' sink sink' s) (sym e) (ended due text owes gains (read, wrote))
+  finished due result text owes read (inr (e, rose, front)) =
+      subst (λ (s : Status). EndsWith command left left' written written' source source' sink sink' s) (sym e) (read, rose, (due, text, owes, front))
+
+  -- words that are the command
+  module _ (words : List (List ℕ)) (is : command_in words ≡ Some command) where
+    due_of : (status : Status) (text : List ℕ) → Owes command left left' status text → IsDue words left left' status text
+    due_of Done text owes = (command, is, owes)
+    due_of Refused text owes = (command, is, owes)
+    due_of TooLong text owes = (command, is, owes)
+    due_of Usage text owes = absurd owes
+    due_of ReadFault text owes = absurd owes
+    due_of WriteFault text owes = absurd owes
+    due_of Memory text owes = absurd owes
+
+    pub worded : (result : Status) → EndsWith command left left' written written' source source' sink sink' result → Ends words left left' written written' source source' sink sink' result
+    worded Done (none, (text, owes, gains)) = (none, (text, (command, is, owes), gains))
+    worded Refused (none, (text, owes, gains)) = (none, (text, (command, is, owes), gains))
+    worded TooLong (none, (text, owes, gains)) = (none, (text, (command, is, owes), gains))
+    worded Usage (none, (text, owes, gains)) = absurd owes
+    worded ReadFault (reader, rose, still, same) = ((command, is, reader), rose, still, same)
+    worded WriteFault (read, rose, (status, text, owes, front)) = (read, rose, (status, text, due_of status text owes, front))
+    worded Memory ends = ends
+
+-- words that are none
+pub finished_usage : (words : List (List ℕ)) (left written written' : Option (List ℕ)) (source sink sink' : ℕ) (result : Status) (text : List ℕ) → IsDue words left left Usage text
+    → Finishes Usage text written written' sink sink' result → Ends words left left written written' source source sink sink' result
+finished_usage words left written written' source sink sink' result text due (inl (e, wrote, gains)) =
+    subst (λ (s : Status). Ends words left left written written' source source sink sink' s) (sym e) ((refl, wrote), (text, due, gains))
+finished_usage words left written written' source sink sink' result text due (inr (e, rose, front)) =
+    subst (λ (s : Status). Ends words left left written written' source source sink sink' s) (sym e) (refl, rose, (Usage, text, due, front))

@@ -1,3 +1,4 @@
 pub mod Streams
 pub mod EndingLemmas
 pub mod Completion
+pub mod Told

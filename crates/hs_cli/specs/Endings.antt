@@ -1,26 +1,48 @@
 -- What each status says of a call: of its words, of what it took from its source and of what its sink gained.
 -- `left` and `written` are before and after the call.
-use Rattle.std.specs.Prelude.{◌≡◌, ◌⊎◌, ℕ, true, false, List, Option, Some}
+use Rattle.std.specs.Prelude.{◌≡◌, ◌⊎◌, ⊤, ℕ, ◌≤◌, List, length, Option, Some, None, if◌then◌else◌}
 use Rattle.hs_base.specs.Outside.{Rose, Gains}
+use Rattle.hs_base.specs.declared.limits.TheConstants.{MAX_INPUT}
 use Rattle.hs_records.specs.Plain.{PlainWorkload}
 use Rattle.hs_workload.specs.declared.refusal.Refusal.{Refusal}
 use Rattle.hs_workload.specs.Validity.{Reads}
 use Rattle.hs_workload.specs.Faults.{first_fault}
+use Rattle.hs_workload.specs.Grammar.{workload_text}
+use Rattle.hs_make.specs.Made.{made_workload}
 use Rattle.hs_replay.specs.OutcomeText.{outcome_text}
 use Rattle.hs_replay.specs.Replayable.{can_replay}
 use Rattle.hs_cli.specs.Input.{ReadWhole, ReadBeyond}
 use Rattle.hs_cli.specs.Written.{GainsFront}
-use Rattle.hs_cli.specs.Messages.{IsCommand, usage_text, too_long_text, beyond_text, refusal_text}
+use Rattle.hs_cli.specs.Commands.{command_in}
+use Rattle.hs_cli.specs.Messages.{usage_text, too_long_text, beyond_text, refusal_text}
+use Rattle.hs_cli.specs.declared.command.Command.{Command}
+use Rattle.hs_cli.specs.declared.command.Command.TheVariants.{Replay, Convert, Make}
 use Rattle.hs_cli.specs.declared.status.Status.{Status}
 use Rattle.hs_cli.specs.declared.status.Status.TheVariants.{Done, Usage, Refused, ReadFault, WriteFault, Memory, TooLong}
 
--- The input is this workload, which the replay can run, and its outcome is this text.
-abbrev pub IsReplayed : List ℕ → List ℕ → Type 0
-IsReplayed input text = (W : PlainWorkload) × Reads input W × (can_replay W ≡ true) × (text ≡ outcome_text W)
+-- ---- what a command owes
 
--- The input is this workload, which the replay cannot run yet, and this text says so.
-abbrev pub IsBeyond : List ℕ → List ℕ → Type 0
-IsBeyond input text = (W : PlainWorkload) × Reads input W × (can_replay W ≡ false) × (text ≡ beyond_text)
+-- the text that a command owes for a workload, or `None` where it cannot run it yet
+abbrev pub due_text : Command → PlainWorkload → Option (List ℕ)
+due_text Replay W = if can_replay W then Some (outcome_text W) else None
+due_text Convert W = Some (workload_text (record W { version = 2 }))
+due_text (Make seed size) W = Some (workload_text W)
+
+-- whether a command reads its workload; else it makes it
+abbrev pub IsReader : Command → Type 0
+IsReader Replay = ⊤
+IsReader Convert = ⊤
+IsReader (Make seed size) = ⊥
+
+-- The command was about this workload: it made it and read nothing, or read the whole input, which is its text.
+abbrev pub IsAbout : Command → Option (List ℕ) → Option (List ℕ) → PlainWorkload → Type 0
+IsAbout (Make seed size) left left' W = (left' ≡ left) × (W ≡ made_workload seed size)
+IsAbout command left left' W = (input : List ℕ) × ReadWhole left left' input × Reads input W
+
+-- The command will be about this workload: it makes it, or a source that has a whole, short enough input gives it.
+abbrev pub WillBeAbout : Command → Option (List ℕ) → PlainWorkload → Type 0
+WillBeAbout (Make seed size) left W = W ≡ made_workload seed size
+WillBeAbout command left W = (input : List ℕ) × (left ≡ Some input) × Reads input W × (length input ≤ MAX_INPUT)
 
 -- The input is no workload, and this text names its first bad line with the line's first reason.
 pub record IsRefused (input text : List ℕ) : Type 0 where
@@ -29,15 +51,23 @@ pub record IsRefused (input text : List ℕ) : Type 0 where
   pub no_workload : (W : PlainWorkload) → Reads input W → ⊥
   pub told : text ≡ refusal_text refusal.line refusal.reason
 
+-- ---- statuses
+
+-- Of a command, before anything is written, this status is due, with this text.
+abbrev pub Owes : Command → Option (List ℕ) → Option (List ℕ) → Status → List ℕ → Type 0
+Owes command left left' Done text = (W : PlainWorkload) × IsAbout command left left' W × (due_text command W ≡ Some text)
+Owes command left left' Refused text = (IsReader command × ((input : List ℕ) × ReadWhole left left' input × IsRefused input text))
+    ⊎ ((W : PlainWorkload) × IsAbout command left left' W × (due_text command W ≡ None) × (text ≡ beyond_text))
+Owes command left left' TooLong text = IsReader command × ((input : List ℕ) × ReadBeyond left left' input × (text ≡ too_long_text))
+Owes command left left' Usage text = ⊥
+Owes command left left' ReadFault text = ⊥
+Owes command left left' WriteFault text = ⊥
+Owes command left left' Memory text = ⊥
+
 -- Before anything is written, this status is due, with this text.
 abbrev pub IsDue : List (List ℕ) → Option (List ℕ) → Option (List ℕ) → Status → List ℕ → Type 0
-IsDue words left left' Usage text = ¬ IsCommand words × (left' ≡ left) × (text ≡ usage_text)
-IsDue words left left' Done text = IsCommand words × ((input : List ℕ) × ReadWhole left left' input × IsReplayed input text)
-IsDue words left left' Refused text = IsCommand words × ((input : List ℕ) × ReadWhole left left' input × (IsRefused input text ⊎ IsBeyond input text))
-IsDue words left left' TooLong text = IsCommand words × ((input : List ℕ) × ReadBeyond left left' input × (text ≡ too_long_text))
-IsDue words left left' ReadFault text = ⊥
-IsDue words left left' WriteFault text = ⊥
-IsDue words left left' Memory text = ⊥
+IsDue words left left' Usage text = (command_in words ≡ None) × (left' ≡ left) × (text ≡ usage_text)
+IsDue words left left' status text = (command : Command) × (command_in words ≡ Some command) × Owes command left left' status text
 
 -- This status was due, and its text was written whole.
 abbrev pub Wrote : List (List ℕ) → Option (List ℕ) → Option (List ℕ) → Option (List ℕ) → Option (List ℕ) → Status → Type 0
@@ -51,12 +81,23 @@ WroteFront words left left' written written' = (status : Status) × (text : List
 abbrev pub NoneFailed : (source source' sink sink' : ℕ) → Type 0
 NoneFailed source source' sink sink' = (source' ≡ source) × (sink' ≡ sink)
 
--- what a status says
+-- The words are a command that reads.
+abbrev pub Reading : List (List ℕ) → Type 0
+Reading words = (command : Command) × (command_in words ≡ Some command) × IsReader command
+
+-- what a status says of a command
+abbrev pub EndsWith : Command → Option (List ℕ) → Option (List ℕ) → Option (List ℕ) → Option (List ℕ) → (source source' sink sink' : ℕ) → Status → Type 0
+EndsWith command left left' written written' source source' sink sink' ReadFault = IsReader command × Rose source source' × (sink' ≡ sink) × (written' ≡ written)
+EndsWith command left left' written written' source source' sink sink' WriteFault = (source' ≡ source) × Rose sink sink' × ((status : Status) × (text : List ℕ) × Owes command left left' status text × GainsFront written written' text)
+EndsWith command left left' written written' source source' sink sink' Memory = NoneFailed source source' sink sink' × (written' ≡ written)
+EndsWith command left left' written written' source source' sink sink' status = NoneFailed source source' sink sink' × ((text : List ℕ) × Owes command left left' status text × Gains written written' text)
+
+-- what a status says of any words
 abbrev pub Ends : List (List ℕ) → Option (List ℕ) → Option (List ℕ) → Option (List ℕ) → Option (List ℕ) → (source source' sink sink' : ℕ) → Status → Type 0
 Ends words left left' written written' source source' sink sink' Done = NoneFailed source source' sink sink' × Wrote words left left' written written' Done
 Ends words left left' written written' source source' sink sink' Usage = NoneFailed source source' sink sink' × Wrote words left left' written written' Usage
 Ends words left left' written written' source source' sink sink' Refused = NoneFailed source source' sink sink' × Wrote words left left' written written' Refused
 Ends words left left' written written' source source' sink sink' TooLong = NoneFailed source source' sink sink' × Wrote words left left' written written' TooLong
-Ends words left left' written written' source source' sink sink' ReadFault = IsCommand words × Rose source source' × (sink' ≡ sink) × (written' ≡ written)
+Ends words left left' written written' source source' sink sink' ReadFault = Reading words × Rose source source' × (sink' ≡ sink) × (written' ≡ written)
 Ends words left left' written written' source source' sink sink' WriteFault = (source' ≡ source) × Rose sink sink' × WroteFront words left left' written written'
-Ends words left left' written written' source source' sink sink' Memory = NoneFailed source source' sink sink' × IsCommand words × (written' ≡ written)
+Ends words left left' written written' source source' sink sink' Memory = NoneFailed source source' sink sink' × (written' ≡ written)

@@ -1,4 +1,4 @@
--- The words that are a command, and the texts that are written in place of an output.
+-- The texts that are written in place of an output.
 use Rattle.std.specs.Prelude.{◌≡◌, ℕ, List, [], ◌∷◌, ◌++◌, codes, decimal, refl}
 use Rattle.std.specs.Fmt.{digits}
 use Rattle.hs_text.specs.Text.{line_of, text_of}
@@ -6,17 +6,13 @@ use Rattle.hs_workload.specs.declared.refusal.Reason.{Reason}
 use Rattle.hs_workload.specs.declared.refusal.Reason.TheVariants.{NoTrace}
 use Rattle.hs_workload.specs.Reasons.{reason_text}
 
--- The one word that is a command.
-abbrev pub IsCommand : List (List ℕ) → Type 0
-IsCommand words = words ≡ codes "replay" ∷ []
-
 abbrev pub usage_text : List ℕ
 usage_text = text_of (codes "usage: hindsight replay [--json] | run [--json] | run --watch | make SEED SIZE | drill SEED SIZE | convert | check | compare H B" ∷ [])
 
 abbrev pub too_long_text : List ℕ
 too_long_text = text_of (codes "refused input longer than 16777216 bytes" ∷ [])
 
--- what is written of a workload that the replay cannot run yet
+-- what is written of a workload that the command cannot run yet
 abbrev pub beyond_text : List ℕ
 beyond_text = text_of (codes "refused workload beyond replay" ∷ [])
 

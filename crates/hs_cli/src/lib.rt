@@ -2,10 +2,12 @@
 #![tactic(auto)]
 
 mod answer;
+mod command;
 mod reading;
 mod status;
 mod top;
 mod writing;
 
+pub use command::Command;
 pub use status::Status;
 pub use top::hindsight;

@@ -1,17 +1,14 @@
 //! The top call.
 
-ghost use Rattle.std.specs.Prelude.{◌≡◌, ◌<◌, ◌≤◌, ◌⊎◌, ℕ, List, map, length, string_bytes, true, Some, ◌↔◌, IsTrue};
+ghost use Rattle.std.specs.Prelude.{◌≡◌, ◌<◌, ◌⊎◌, map, string_bytes, Some, None, IsSome};
 ghost use Rattle.hs_base.specs.Outside.{Rose, Gains};
-ghost use Rattle.hs_base.specs.declared.limits.TheConstants.{MAX_INPUT};
 ghost use Rattle.hs_records.specs.Plain.{PlainWorkload};
-ghost use Rattle.hs_workload.specs.Validity.{Reads};
-ghost use Rattle.hs_replay.specs.Replayable.{can_replay};
-ghost use Rattle.hs_cli.specs.Messages.{IsCommand, usage_text, too_long_text};
+ghost use Rattle.hs_cli.specs.Commands.{command_in, IsSized};
 ghost use Rattle.hs_cli.specs.Written.{GainsFront};
-ghost use Rattle.hs_cli.specs.Endings.{Ends, Wrote, WroteFront};
+ghost use Rattle.hs_cli.specs.Endings.{Ends, EndsWith, Wrote, WroteFront, Reading, WillBeAbout, due_text};
 
-use crate::answer::{Answer, answer_to};
-use crate::reading::{Input, read_all};
+use crate::answer::{Subject, subject_of, text_for};
+use crate::command::{Command, command_in};
 use crate::status::Status;
 use crate::writing::write_all;
 use hs_base::{Gate, Sink, Source};
@@ -27,18 +24,8 @@ const USAGE: &[u8] =
 /// What is written of an input that is too long.
 const TOO_LONG: &[u8] = b"refused input longer than 16777216 bytes\n";
 
-/// What is written of a workload that the replay cannot run yet.
+/// What is written of a workload that the command cannot run yet.
 const BEYOND: &[u8] = b"refused workload beyond replay\n";
-
-/// Whether the words are a command: the one word `replay`.
-fn is_command(words: &[String]) -> bool
-    ensures { IsTrue result ↔ IsCommand (map (λ word. string_bytes word) words.now) }
-{
-    match words {
-        [word] => word.as_str() == "replay",
-        _ => false,
-    }
-}
 
 /// Writes a text, and answers the status that goes with it, or `WriteFault`.
 fn finish<K: Sink>(sink: &mut K, text: &[u8], status: Status) -> Status
@@ -51,24 +38,34 @@ fn finish<K: Sink>(sink: &mut K, text: &[u8], status: Status) -> Status
     }
 }
 
+/// Runs a command.
+fn run<S: Source, K: Sink>(alloc: Global, command: Command, source: &mut S, sink: &mut K) -> Status
+    requires { IsSized command }
+    ensures { EndsWith command (S.left source.old) (S.left source.new) (K.written sink.old) (K.written sink.new)
+        (S.faults source.old) (S.faults source.new) (K.faults sink.old) (K.faults sink.new) result }
+{
+    match subject_of(alloc, command, source) {
+        Subject::Found(workload) => match text_for(alloc, command, workload) {
+            Ok(Some(text)) => finish(sink, text.as_slice(), Status::Done),
+            Ok(None) => finish(sink, BEYOND, Status::Refused),
+            Err(_) => Status::Memory,
+        },
+        Subject::Refused(text) => finish(sink, &text, Status::Refused),
+        Subject::TooLong => finish(sink, TOO_LONG, Status::TooLong),
+        Subject::Fault => Status::ReadFault,
+        Subject::NoMemory => Status::Memory,
+    }
+}
+
 /// What the call does, with its answer as one fact.
 fn call<S: Source, K: Sink>(alloc: Global, words: &[String], source: &mut S, sink: &mut K) -> Status
     ensures { Ends (map (λ word. string_bytes word) words.now) (S.left source.old) (S.left source.new) (K.written sink.old) (K.written sink.new)
         (S.faults source.old) (S.faults source.new) (K.faults sink.old) (K.faults sink.new) result }
 {
-    if !is_command(words) {
-        return finish(sink, USAGE, Status::Usage);
-    }
-    match read_all(alloc, source) {
-        Input::Fault => Status::ReadFault,
-        Input::NoMemory => Status::Memory,
-        Input::TooLong => finish(sink, TOO_LONG, Status::TooLong),
-        Input::Whole(input) => match answer_to(alloc, &input) {
-            Ok(Answer::Outcome(text)) => finish(sink, &text, Status::Done),
-            Ok(Answer::Refusal(text)) => finish(sink, &text, Status::Refused),
-            Ok(Answer::Beyond) => finish(sink, BEYOND, Status::Refused),
-            Err(_) => Status::Memory,
-        },
+    match command_in(alloc, words) {
+        Ok(Some(command)) => run(alloc, command, source, sink),
+        Ok(None) => finish(sink, USAGE, Status::Usage),
+        Err(_) => Status::Memory,
     }
 }
 
@@ -82,7 +79,8 @@ pub fn hindsight<R: Threads + Sync, S: Source, K: Sink, G: Gate>(
     sink: &mut K,
     _gate: &G,
 ) -> Status
-    // The input was read whole and is a workload that the replay can run, and the sink gained that workload's outcome.
+    // The words are a command, and the sink gained the text that it owes: `replay` for a workload that it can run,
+    // `convert` for any, both of the input read whole; `make` for the workload that it makes, and nothing was read.
     ensures done { result ≡ Status.Done
         → Wrote (map (λ word. string_bytes word) words.now) (S.left source.old) (S.left source.new)
         (K.written sink.old) (K.written sink.new) Status.Done }
@@ -92,11 +90,11 @@ pub fn hindsight<R: Threads + Sync, S: Source, K: Sink, G: Gate>(
         → Wrote (map (λ word. string_bytes word) words.now) (S.left source.old) (S.left source.new)
         (K.written sink.old) (K.written sink.new) Status.Usage }
 
-    ensures no_command { ¬ IsCommand (map (λ word. string_bytes word) words.now)
-        → (result ≡ Status.Usage) ⊎ (result ≡ Status.WriteFault) }
+    ensures no_command { command_in (map (λ word. string_bytes word) words.now) ≡ None
+        → (result ≡ Status.Usage) ⊎ ((result ≡ Status.WriteFault) ⊎ (result ≡ Status.Memory)) }
 
     // The input was read whole and is no workload, and the sink gained its first bad line and reason; or it is a
-    // workload that the replay cannot run yet, and the sink gained the text that says so.
+    // workload that the command cannot run yet, and the sink gained the text that says so.
     ensures refused { result ≡ Status.Refused
         → Wrote (map (λ word. string_bytes word) words.now) (S.left source.old) (S.left source.new)
         (K.written sink.old) (K.written sink.new) Status.Refused }
@@ -110,8 +108,9 @@ pub fn hindsight<R: Threads + Sync, S: Source, K: Sink, G: Gate>(
     // Where the source failed in this call, it ends so.
     ensures source_failed { S.faults source.old < S.faults source.new → result ≡ Status.ReadFault }
 
-    // The source failed in this call, and nothing was written.
-    ensures read_fault { result ≡ Status.ReadFault → Rose (S.faults source.old) (S.faults source.new) }
+    // The words are a command that reads, the source failed in this call, and nothing was written.
+    ensures read_fault { result ≡ Status.ReadFault
+        → Reading (map (λ word. string_bytes word) words.now) × Rose (S.faults source.old) (S.faults source.new) }
     ensures read_fault_writes { result ≡ Status.ReadFault → K.written sink.new ≡ K.written sink.old }
 
     // Where the sink failed in this call, it ends so, whatever status was due.
@@ -123,16 +122,14 @@ pub fn hindsight<R: Threads + Sync, S: Source, K: Sink, G: Gate>(
         → WroteFront (map (λ word. string_bytes word) words.now) (S.left source.old) (S.left source.new)
         (K.written sink.old) (K.written sink.new) }
 
-    // Want of memory comes with any command, and then nothing was written.
-    ensures memory { result ≡ Status.Memory
-        → IsCommand (map (λ word. string_bytes word) words.now) }
+    // Want of memory comes with any words, and then nothing was written.
     ensures memory_writes { result ≡ Status.Memory → K.written sink.new ≡ K.written sink.old }
 
-    // A command over a workload that the replay can run and that is short enough is done where nothing fails,
-    // unless memory runs out.
-    ensures complete { (W : PlainWorkload) (input : List ℕ)
-        → IsCommand (map (λ word. string_bytes word) words.now)
-        → S.left source.old ≡ Some input → Reads input W → can_replay W ≡ true → length input ≤ MAX_INPUT
+    // A command over a workload that it can run, which it makes or reads whole from a short enough input, is done
+    // where nothing fails, unless memory runs out.
+    ensures complete { (command : Command) (W : PlainWorkload)
+        → command_in (map (λ word. string_bytes word) words.now) ≡ Some command
+        → WillBeAbout command (S.left source.old) W → IsSome (due_text command W)
         → ¬ Rose (S.faults source.old) (S.faults source.new)
         → ¬ Rose (K.faults sink.old) (K.faults sink.new)
         → (result ≡ Status.Done) ⊎ (result ≡ Status.Memory) }

@@ -1,28 +1,9 @@
-//! Words that are no command, inputs that are too long, and streams that fail.
+//! Inputs that are too long, and streams that fail.
 
 use crate::calls::{EXAMPLE, EXAMPLE_OUTPUT, Streams, called, replayed};
 use std::test::Fail;
 
-const USAGE: &str =
-    "usage: hindsight replay [--json] | run [--json] | run --watch | make SEED SIZE | drill SEED SIZE | convert | check | compare H B\n";
-
 const TOO_LONG: &str = "refused input longer than 16777216 bytes\n";
-
-#[test]
-fn words_that_are_no_command(rt: HostRuntime) -> Result<(), Fail> {
-    let streams = Streams {
-        most: 1 << 20,
-        read_fails: &[0],
-        write_fails: &[],
-    };
-    let table: [&[&str]; 4] = [&["replay", "now"], &[], &["Replay"], &["replay "]];
-    for words in table {
-        let (status, written) = called(&rt, words, EXAMPLE.as_bytes(), &streams)?;
-        assert_eq!(rt; status, 2);
-        assert_eq!(rt; written.as_slice(), USAGE.as_bytes());
-    }
-    Ok(())
-}
 
 #[test]
 fn input_that_is_too_long(rt: HostRuntime) -> Result<(), Fail> {

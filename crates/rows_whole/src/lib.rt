@@ -14,3 +14,5 @@ mod outputs;
 mod refusals;
 #[cfg(test)]
 mod size;
+#[cfg(test)]
+mod words;

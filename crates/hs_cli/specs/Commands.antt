@@ -1,0 +1,117 @@
+-- The table of commands, and which lists of words are one of its rows. The words are told apart as those of one simple
+-- command line: a command, a seed and a size behind it, and two flags anywhere.
+use Rattle.std.specs.Prelude.{◌≡◌, ◌≤◌, ⊤, ℕ, ◌&&◌, ◌||◌, Bool, true, false, nat_le, List, [], ◌∷◌, Option, Some, None, is_some, option_map, option_and_then, if◌then◌else◌, codes, refl}
+use Rattle.std.specs.Str.{bytes_eq}
+use Rattle.std.specs.Option.{option_map_or}
+use Rattle.hs_base.specs.declared.limits.TheConstants.{MAX_REQUESTS}
+use Rattle.hs_text.specs.Text.{number_of}
+use Rattle.clap.specs.Words.{App, Row, Rule, Text, new_app, new_rule, with_rule, Kinds, fault_of, first_of, matches_of}
+use Rattle.clap.specs.Walk.{is_empty}
+use Rattle.clap.specs.Simple.{on_top}
+use Rattle.clap.specs.declared.builder.action.ArgAction.TheVariants.{SetTrue}
+use Rattle.clap.proofs.OnLiterals.{clap_on_literals}
+use Rattle.hs_cli.specs.declared.command.Command.{Command}
+use Rattle.hs_cli.specs.declared.command.Command.TheVariants.{Replay, Convert, Make}
+use Rattle.hs_cli.specs.declared.command.Line as told
+
+-- the words of a call, told apart
+pub record Line : Type 0 where
+  pub command : Text
+  pub seed : Option Text
+  pub size : Option Text
+  -- whether a flag is there, which no command takes yet
+  pub flagged : Bool
+
+abbrev pub line_in : told.Line → Line
+line_in line = record { command = line.command.now; seed = option_map (λ word. word.now) line.seed; size = option_map (λ word. word.now) line.size; flagged = line.flagged }
+
+-- ---- the table, a row a command
+
+-- a seed is a number of 64 bits
+abbrev pub seed_of : Text → Option ℕ
+seed_of word = number_of word
+
+-- a size is a number of requests that a made workload may have
+abbrev pub size_of : Text → Option ℕ
+size_of word = option_and_then (λ size. if nat_le 1 size && nat_le size MAX_REQUESTS then Some size else None) (number_of word)
+
+-- the command, if the line has nothing else
+abbrev pub alone : Command → Line → Option Command
+alone command line = if is_some line.seed || (is_some line.size || line.flagged) then None else Some command
+
+-- the command with a seed and a size, if the line has these and no flag
+abbrev pub sized : (ℕ → ℕ → Command) → Line → Option Command
+sized command line =
+    if line.flagged then None else
+    option_and_then (λ seed. option_map (command seed) (option_and_then size_of line.size)) (option_and_then seed_of line.seed)
+
+abbrev pub command_of : Line → Option Command
+command_of line =
+    if bytes_eq line.command (codes "replay") then alone Replay line
+    else (if bytes_eq line.command (codes "convert") then alone Convert line
+    else (if bytes_eq line.command (codes "make") then sized Make line
+    else None))
+
+-- a size that a made workload may have
+abbrev pub IsSized : Command → Type 0
+IsSized (Make seed size) = (1 ≤ size) × (size ≤ MAX_REQUESTS)
+IsSized command = ⊤
+
+-- ---- words
+
+abbrev pub needed : Text → Rule
+needed name = record (new_rule name) { required = true }
+
+abbrev pub flag : Text → Rule
+flag name = record (new_rule name) { long = Some name; action = Some SetTrue }
+
+-- how words are told apart
+abbrev pub parser : App
+parser =
+    with_rule (with_rule (with_rule (with_rule (with_rule
+    (on_top (λ top. record top { disable_help_flag = true }) (new_app (codes "hindsight")))
+    (needed (codes "COMMAND")))
+    (new_rule (codes "SEED"))) (new_rule (codes "SIZE"))) (flag (codes "json"))) (flag (codes "watch"))
+
+abbrev pub is_set : Text → List Row → Bool
+is_set name rows = option_map_or (λ value. bytes_eq value (codes "true")) (first_of name rows) false
+
+-- the line that the rows give, where they name a command
+abbrev pub line_of : List Row → Option Line
+line_of rows = option_map (λ command. record { command = command; seed = first_of (codes "SEED") rows; size = first_of (codes "SIZE") rows; flagged = is_set (codes "json") rows || is_set (codes "watch") rows }) (first_of (codes "COMMAND") rows)
+
+-- the command of these rows, unless the words were refused
+abbrev pub command_by : Kinds → List Row → Option Command
+command_by faults rows = if is_empty faults then option_and_then command_of (line_of rows) else None
+
+-- the words behind the program's name
+abbrev pub named : List Text → List Text
+named words = codes "hindsight" ∷ words
+
+-- the command that the words are, where they are one
+abbrev pub command_in : List Text → Option Command
+command_in words = command_by (fault_of parser (named words)) (matches_of parser (named words))
+
+the_word_replay : command_in (codes "replay" ∷ []) ≡ Some Replay
+unfolding clap_on_literals
+the_word_replay = refl
+
+made_of_two_numbers : command_in (codes "make" ∷ codes "7" ∷ codes "3" ∷ []) ≡ Some (Make 7 3)
+unfolding clap_on_literals
+made_of_two_numbers = refl
+
+the_numbers_behind_two_dashes : command_in (codes "make" ∷ codes "--" ∷ codes "7" ∷ codes "3" ∷ []) ≡ Some (Make 7 3)
+unfolding clap_on_literals
+the_numbers_behind_two_dashes = refl
+
+no_size_above_the_greatest : command_in (codes "make" ∷ codes "7" ∷ codes "10001" ∷ []) ≡ None
+unfolding clap_on_literals
+no_size_above_the_greatest = refl
+
+a_word_too_many : command_in (codes "convert" ∷ codes "now" ∷ []) ≡ None
+unfolding clap_on_literals
+a_word_too_many = refl
+
+no_words : command_in [] ≡ None
+unfolding clap_on_literals
+no_words = refl

@@ -1,0 +1,173 @@
+//! The words of a call, and the table of commands.
+
+ghost use Rattle.std.specs.Prelude.{◌≡◌, ◌≤◌, false, Option, IfOk, IfSome, map, string_bytes, option_map};
+ghost use Rattle.hs_base.specs.declared.limits.TheConstants.{MAX_REQUESTS};
+ghost use Rattle.hs_cli.specs.Commands.{Line, command_of, command_in, line_in, line_of, is_set, named, parser, needed, flag, seed_of, size_of, alone, IsSized};
+ghost use Rattle.clap.specs.Words.{app_of, rule_of, first_of, found_of, rows_of};
+
+use clap::error::ErrorKind;
+use clap::{Arg, ArgAction, ArgMatches, Command as Parser};
+use hs_base::Memory;
+use hs_base::limits::MAX_REQUESTS;
+use hs_text::number;
+use std::alloc::Global;
+
+/// What a call is to do.
+#[derive(Clone, Copy, Debug, PartialEq, Eq)]
+pub enum Command {
+    /// Replays the workload that it reads.
+    Replay,
+    /// Writes the workload that it reads with version 2.
+    Convert,
+    /// Writes the workload of so many requests that the seed makes. Reads nothing.
+    Make { seed: u64, size: u32 },
+}
+
+/// The words of a call, told apart.
+#[derive(Clone, Copy)]
+struct Line<'a> {
+    command: &'a str,
+    seed: Option<&'a str>,
+    size: Option<&'a str>,
+    /// Whether `--json` or `--watch` is there, which no command takes yet.
+    flagged: bool,
+}
+
+impl Line<'_> {
+    /// The command, if the line has nothing else.
+    fn alone(self, command: Command) -> Option<Command>
+        ensures is { result ≡ alone command (line_in self.entry) }
+        ensures same { IfSome result (λ same. same ≡ command) }
+    {
+        if self.seed.is_some() || self.size.is_some() || self.flagged {
+            return None;
+        }
+        Some(command)
+    }
+
+    /// The command of the table that the line is, or `None` where it is none.
+    fn command(self) -> Option<Command>
+        ensures is { result ≡ command_of (line_in self.entry) }
+        ensures sized { IfSome result IsSized }
+    {
+        if self.command == "replay" {
+            self.alone(Command::Replay)
+        } else if self.command == "convert" {
+            self.alone(Command::Convert)
+        } else if self.command == "make" && !self.flagged {
+            let seed = seed_in(self.seed?)?;
+            let size = size_in(self.size?)?;
+            Some(Command::Make { seed, size })
+        } else {
+            None
+        }
+    }
+}
+
+/// The seed that a word is, or `None` where it is none.
+fn seed_in(word: &str) -> Option<u64>
+    ensures { result ≡ seed_of word.now }
+{
+    number(word.as_bytes())
+}
+
+/// The count of requests that a word is, or `None` where it is none.
+fn size_in(word: &str) -> Option<u32>
+    ensures is { result ≡ size_of word.now }
+    ensures within { IfSome result (λ size. (1 ≤ size) × (size ≤ MAX_REQUESTS)) }
+{
+    let size = u32::try_from(number(word.as_bytes())?).ok()?;
+    if 1 <= size && size <= MAX_REQUESTS {
+        Some(size)
+    } else {
+        None
+    }
+}
+
+/// A word that has to be there.
+fn needed<'a>(alloc: Global, name: &'a str) -> Arg<'a>
+    ensures rule { rule_of result ≡ needed name.entry.now }
+    ensures local { result.global ≡ false }
+{
+    Arg::new(alloc, name).required(true)
+}
+
+/// A word that is there or not.
+fn flag<'a>(alloc: Global, name: &'a str) -> Arg<'a>
+    ensures rule { rule_of result ≡ flag name.entry.now }
+    ensures local { result.global ≡ false }
+{
+    Arg::new(alloc, name).long(name).action(ArgAction::SetTrue)
+}
+
+/// How the words of a call are told apart: a command, a seed and a size behind it, and two flags anywhere.
+fn parser<'a>(alloc: Global) -> Result<Parser<'a>, Memory>
+    ensures { IfOk result (λ p. app_of p ≡ parser) }
+{
+    Ok(
+        Parser::new(alloc, "hindsight")
+            .disable_help_flag(true)
+            .arg(needed(alloc, "COMMAND"))?
+            .arg(Arg::new(alloc, "SEED"))?
+            .arg(Arg::new(alloc, "SIZE"))?
+            .arg(flag(alloc, "json"))?
+            .arg(flag(alloc, "watch"))?,
+    )
+}
+
+/// The word of this name, if it is there.
+fn word<'a>(matches: &ArgMatches<'a>, name: &str) -> Option<&'a str>
+    ensures { option_map (λ word. word.now) result ≡ first_of name.now (rows_of (found_of matches.now)) }
+{
+    matches.get_str(name)
+}
+
+/// Whether a flag is there.
+fn is_set(matches: &ArgMatches<'_>, name: &str) -> bool
+    ensures { result ≡ is_set name.now (rows_of (found_of matches.now)) }
+{
+    match word(matches, name) {
+        Some(value) => value == "true",
+        None => false,
+    }
+}
+
+/// The words that a parse told apart, where a command is among them.
+fn line_in<'a>(matches: &ArgMatches<'a>) -> Option<Line<'a>>
+    ensures { option_map line_in result ≡ line_of (rows_of (found_of matches.now)) }
+{
+    Some(Line {
+        command: word(matches, "COMMAND")?,
+        seed: word(matches, "SEED"),
+        size: word(matches, "SIZE"),
+        flagged: is_set(matches, "json") || is_set(matches, "watch"),
+    })
+}
+
+/// The words, behind a program's name.
+fn named<'a>(alloc: Global, words: &'a [String]) -> Result<Vec<&'a str>, Memory>
+    ensures { IfOk result (λ all. map (λ word. word.now) all.items ≡ named (map (λ word. string_bytes word) words.now)) }
+{
+    let mut all = Vec::with_capacity(alloc, words.len())?;
+    all.push("hindsight")?;
+    for word in words {
+        all.push(word.as_str())?;
+    }
+    Ok(all)
+}
+
+/// The command that the words are, or `None` where they are none.
+pub(crate) fn command_in(alloc: Global, words: &[String]) -> Result<Option<Command>, Memory>
+    ensures is { IfOk result (λ command. command ≡ command_in (map (λ word. string_bytes word) words.now)) }
+    ensures sized { IfOk result (λ command. IfSome command IsSized) }
+{
+    let named = named(alloc, words)?;
+    match parser(alloc)?.try_get_matches_from(named.as_slice()) {
+        Ok(matches) => match line_in(&matches) {
+            Some(line) => Ok(line.command()),
+            None => Ok(None),
+        },
+        Err(error) if error.kind() == ErrorKind::OutOfMemory => Err(Memory),
+        Err(_) => Ok(None),
+    }
+}
