@@ -32,11 +32,11 @@ use Rattle.hs_lockstep.proofs.Walks.{leads_on, with_nodes, Walked, walk_all, Eno
 
 -- ---- lists
 
-all_places : {X : Type 0} (P : X → Type 0) (xs : List X) → ((i : ℕ) (x : X) → slice_get xs i ≡ Some x → P x) → AllByRecursion P xs
+pub all_places : {X : Type 0} (P : X → Type 0) (xs : List X) → ((i : ℕ) (x : X) → slice_get xs i ≡ Some x → P x) → AllByRecursion P xs
 all_places P [] each = tt
 all_places P (x ∷ xs) each = (each 0 x refl, all_places P xs (λ i y h. each (suc i) y h))
 
-mapped_all : {X Y : Type 0} (P : Y → Type 0) (f : X → Y) (xs : List X) → AllByRecursion (λ x. P (f x)) xs → AllByRecursion P (map f xs)
+pub mapped_all : {X Y : Type 0} (P : Y → Type 0) (f : X → Y) (xs : List X) → AllByRecursion (λ x. P (f x)) xs → AllByRecursion P (map f xs)
 mapped_all P f [] all = tt
 mapped_all P f (x ∷ xs) all = (all.0, mapped_all P f xs all.1)
 
@@ -92,7 +92,7 @@ pub record IsDone (W : PlainWorkload) (m : Machine) : Type 0 where
 
 module _ (plays : FollowingPlaysOut) (agree : OrdersAgree) (rests : DoneIsAtRest) (goes_on : JournalsGoOn) (runs : RunsAreOfTheJournal) (noted : StepsAreNoted) (unsent : NothingIsTakenUnsent) (W : PlainWorkload) where
   -- the longer journal is followed to where these steps lead
-  ends_at : (J K : PlainJournal) → GoesOn J K → (last : Run) → Leads W.settings (run_behind W J K (followed W J)) last → IsOver last → last ≡ followed W K
+  pub ends_at : (J K : PlainJournal) → GoesOn J K → (last : Run) → Leads W.settings (run_behind W J K (followed W J)) last → IsOver last → last ≡ followed W K
   ends_at J K goes last leads over =
       agree W K last
       (record {
@@ -127,6 +127,13 @@ module _ (plays : FollowingPlaysOut) (agree : OrdersAgree) (rests : DoneIsAtRest
       in
       let is = in_range 0 W.settings.nodes i node.node found in omega (arith, is)
 
+  -- the log of a node that is through is its whole log
+  pub log_of : (m : Machine) → IsDone W m → (i : ℕ) (node : NodeRun) → slice_get (followed W m.journal).nodes i ≡ Some node → node.state.log ≡ log_at m.journal i
+  log_of m h i node stands =
+      let o = all_get (IsOfJournal W m.journal) (followed W m.journal).nodes i node (nodes_of_journal m.journal).each stands in
+      let through = all_get IsThrough (followed W m.journal).nodes i node h.over.nodes stands in
+      sym (append-nil node.state.log) ∙ ap (λ (left : List Step). node.state.log ++ left) (sym through) ∙ o.log ∙ ap (log_at m.journal) (number_is m.journal i node stands)
+
   -- ---- a client draws
 
   module _ (m : Machine) (place done : ℕ) (new : List Draw) (h : IsDone W m) where
@@ -141,7 +148,7 @@ module _ (plays : FollowingPlaysOut) (agree : OrdersAgree) (rests : DoneIsAtRest
           told = record { more = []; is = sym (append-nil m.journal.told) };
         }
 
-    drawn_over : IsOver (run_behind W m.journal drawn (followed W m.journal))
+    pub drawn_over : IsOver (run_behind W m.journal drawn (followed W m.journal))
     drawn_over =
         record {
           nodes =
@@ -150,6 +157,11 @@ module _ (plays : FollowingPlaysOut) (agree : OrdersAgree) (rests : DoneIsAtRest
               (λ node e. ap (λ (left : List Step). left ++ drop (length (log_at m.journal node.node)) (log_at m.journal node.node)) e ∙ dropped_all (log_at m.journal node.node)) h.over.nodes);
           left = ap (λ (left : List NodeId). left ++ drop (length m.journal.told) m.journal.told) h.over.left ∙ dropped_all m.journal.told;
         }
+
+    -- the nodes stand as they stood, with what their clients send more
+    pub draws_are : run_behind W m.journal drawn (followed W m.journal) ≡ followed W drawn
+    draws_are =
+        ends_at m.journal drawn drawn_goes (run_behind W m.journal drawn (followed W m.journal)) (Stays (run_behind W m.journal drawn (followed W m.journal))) drawn_over
 
     pub draws_there : There m.journal drawn
     draws_there = advance m.journal drawn drawn_goes (run_behind W m.journal drawn (followed W m.journal)) (Stays (run_behind W m.journal drawn (followed W m.journal))) drawn_over
@@ -175,7 +187,7 @@ module _ (plays : FollowingPlaysOut) (agree : OrdersAgree) (rests : DoneIsAtRest
         }
 
     -- what a node has left are its new steps
-    left_is : (i : ℕ) (node : NodeRun) → slice_get run.nodes i ≡ Some node → (node_behind W m.journal longer node).left ≡ f node
+    pub left_is : (i : ℕ) (node : NodeRun) → slice_get run.nodes i ≡ Some node → (node_behind W m.journal longer node).left ≡ f node
     left_is i node stands =
         let number = number_is m.journal i node stands in
         let through = all_get IsThrough run.nodes i node h.over.nodes stands in
@@ -197,7 +209,7 @@ module _ (plays : FollowingPlaysOut) (agree : OrdersAgree) (rests : DoneIsAtRest
       pub there : There m.journal longer
       pub each : AllByRecursion Q (followed W longer).nodes
 
-    steps_there : (Q : NodeRun → Type 0) → ((node : NodeRun) → Q node → IsThrough node) → AllByRecursion (Walked W.settings run.heard Q) (map (node_behind W m.journal longer) run.nodes) → StepsThere Q
+    pub steps_there : (Q : NodeRun → Type 0) → ((node : NodeRun) → Q node → IsThrough node) → AllByRecursion (Walked W.settings run.heard Q) (map (node_behind W m.journal longer) run.nodes) → StepsThere Q
     steps_there Q through walked =
         let w = walk_all W.settings (run_behind W m.journal longer run) Q [] (map (node_behind W m.journal longer) run.nodes) walked in
         let last = with_nodes (run_behind W m.journal longer run) w.lasts in
@@ -224,7 +236,7 @@ module _ (plays : FollowingPlaysOut) (agree : OrdersAgree) (rests : DoneIsAtRest
     abbrev pub passed : NodeRun → List Step
     passed = pass_steps W m before
 
-    enough_of : (i : ℕ) (node : NodeRun) → slice_get before.nodes i ≡ Some node → Enough (node_behind W m.journal (agents_take W m).journal node) before.heard
+    pub enough_of : (i : ℕ) (node : NodeRun) → slice_get before.nodes i ≡ Some node → Enough (node_behind W m.journal (agents_take W m).journal node) before.heard
     enough_of i node stands queue =
         let few = all_get (λ (n : NodeRun). (queue : Queue) → taken queue n.state.log ≤ supply n before.heard queue) before.nodes i node (fits m.journal).items stands queue in
         let most = pass_fits W m before node queue few in
@@ -343,14 +355,17 @@ module _ (plays : FollowingPlaysOut) (agree : OrdersAgree) (rests : DoneIsAtRest
   nothing_left [] = tt
   nothing_left (node ∷ nodes) = (none_at W.settings.nodes node, nothing_left nodes)
 
-  pub begins : IsDone W (machine_start W)
-  begins =
+  starts_over : IsOver (run_start W (machine_start W).journal)
+  starts_over = record { nodes = nothing_left (range_with_len 0 W.settings.nodes); left = refl }
+
+  -- so following it stays at its start
+  pub starts_at : run_start W (machine_start W).journal ≡ followed W (machine_start W).journal
+  starts_at =
       let J = (machine_start W).journal in
-      let over : IsOver (run_start W J) = record { nodes = nothing_left (range_with_len 0 W.settings.nodes); left = refl } in
-      record {
-        logs = length-replicate W.settings.nodes [];
-        over = subst IsOver (agree W J (run_start W J) (record { leads = Stays (run_start W J); rests = rests W.settings (run_start W J) (over_done (run_start W J) over) })) over;
-      }
+      agree W J (run_start W J) (record { leads = Stays (run_start W J); rests = rests W.settings (run_start W J) (over_done (run_start W J) starts_over) })
+
+  pub begins : IsDone W (machine_start W)
+  begins = record { logs = length-replicate W.settings.nodes []; over = subst IsOver starts_at starts_over }
 
   pub ends_done : IsDone W (machine_end W)
   ends_done = end_keeps W (IsDone W) (clients_keep W (IsDone W) client_keeps) pass_keeps begins

@@ -12,3 +12,9 @@ pub mod Passing
 pub mod Passed
 pub mod Reached
 pub mod Offers
+pub mod Growing
+pub mod Holding
+pub mod Drawing
+pub mod Held
+pub mod Keeping
+pub mod Pools

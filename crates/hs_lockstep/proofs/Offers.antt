@@ -22,8 +22,7 @@ use Rattle.hs_lawful.specs.Pooled.{pool_events}
 use Rattle.hs_lawful.specs.Supply.{NothingIsTakenUnsent}
 use Rattle.hs_lockstep.specs.Clauses.{ScheduleHasOffers}
 use Rattle.hs_lockstep.specs.Lockstep.{Machine, machine_start, done_at, draws_in, pages_started, client_goes, pass_steps, give_steps, agents_take, agents_give, coordinator_hears, passes, lockstep}
-use Rattle.hs_lockstep.proofs.Walks.{IsThrough}
-use Rattle.hs_lockstep.proofs.Followed.{IsDone, draws_there, take_there, take_keeps, give_there, give_keeps, hear_there, hear_keeps, client_keeps, begins, number_is, count_nodes, within}
+use Rattle.hs_lockstep.proofs.Followed.{IsDone, draws_there, take_there, take_keeps, give_there, give_keeps, hear_there, hear_keeps, client_keeps, begins, count_nodes, log_of, within}
 use Rattle.hs_lockstep.proofs.Lists.{some_same, all_get, get_there, extended_at, length_extended, passes_all}
 use Rattle.hs_lockstep.proofs.Machines.{clients_keep, end_keeps, machine_end}
 use Rattle.hs_lockstep.proofs.Passing.{ends_pass, IsOnePass, one_more, ends_more, gives, is_one}
@@ -157,14 +156,6 @@ module _ (plays : FollowingPlaysOut) (agree : OrdersAgree) (rests : DoneIsAtRest
       let later = leads_later W.settings (run_behind W J K (followed W J)) (followed W K) leads i (node_behind W J K node) behind in
       (later.0, later.1, record { number = later.2.number; more = later.2.more; events = later.2.events })
 
-  -- the log of a node that is through
-  log_is : (m : Machine) → Done m → (i : ℕ) (node : NodeRun) → slice_get (followed W m.journal).nodes i ≡ Some node → node.state.log ≡ log_at m.journal i
-  log_is m h i node stands =
-      let o = all_get (IsOfJournal W m.journal) (followed W m.journal).nodes i node (runs W m.journal (followed W m.journal) (plays W m.journal).leads).each stands in
-      let through = all_get IsThrough (followed W m.journal).nodes i node h.over.nodes stands in
-      sym (append-nil node.state.log) ∙ ap (λ (left : List Step). node.state.log ++ left) (sym through) ∙ o.log
-      ∙ ap (log_at m.journal) (number_is plays agree rests goes_on runs noted unsent W m.journal i node stands)
-
   -- the node at a place, earlier
   earlier : (J K : PlainJournal) → AllLater (followed W J) (followed W K) → (i : ℕ) (later : NodeRun) → slice_get (followed W K).nodes i ≡ Some later
       → (node : NodeRun) × (slice_get (followed W J).nodes i ≡ Some node) × IsLater node later
@@ -192,7 +183,7 @@ module _ (plays : FollowingPlaysOut) (agree : OrdersAgree) (rests : DoneIsAtRest
         hands = λ i later stands.
             let e = earlier m.journal K.journal (comes_on m.journal K.journal there.leads) i later stands in
             let even = all_get IsEven (followed W m.journal).nodes i e.0 (evens m.journal) e.1 in
-            same_hands W e.0 later e.2 even (log_is K done i later stands ∙ sym (log_is m h.done i e.0 e.1)) (h.hands i e.0 e.1);
+            same_hands W e.0 later e.2 even (log_of plays agree rests goes_on runs noted unsent W K done i later stands ∙ sym (log_of plays agree rests goes_on runs noted unsent W m h.done i e.0 e.1)) (h.hands i e.0 e.1);
       }
 
   -- ---- a pass
@@ -279,8 +270,8 @@ module _ (plays : FollowingPlaysOut) (agree : OrdersAgree) (rests : DoneIsAtRest
               let o = all_get (IsOfJournal W m.journal) (followed W m.journal).nodes i e.0 (runs W m.journal (followed W m.journal) (plays W m.journal).leads).each e.1 in
               let clients = ap length o.sends ∙ length-map (range_with_len 0 W.settings.clients) (client_sends W m.journal e.0.node) ∙ length-range_with_len 0 W.settings.clients in
               let stamps = range_with_len (length (pool_events middle.0)) (length middle.0.state.hand) in
-              let log = log_is heard done_heard i later stands ∙ log_more i e.0 middle.0 e.1 middle.1
-              ∙ ap (λ (front : List Step). front ++ (pass_steps W m (followed W m.journal) e.0 ++ give_steps middle.0)) (sym (log_is m h.done i e.0 e.1)) in
+              let log = log_of plays agree rests goes_on runs noted unsent W heard done_heard i later stands ∙ log_more i e.0 middle.0 e.1 middle.1
+              ∙ ap (λ (front : List Step). front ++ (pass_steps W m (followed W m.journal) e.0 ++ give_steps middle.0)) (sym (log_of plays agree rests goes_on runs noted unsent W m h.done i e.0 e.1)) in
               pass_hands W e.0 later e.2 (all_get IsEven (followed W m.journal).nodes i e.0 (evens m.journal) e.1) (all_get IsEven (followed W heard.journal).nodes i later (evens heard.journal) stands)
               (all_get (ComesByEvents W.settings) (followed W heard.journal).nodes i later (comes W heard.journal) stands) (empty_hand i later stands)
               (pass_steps W m (followed W m.journal) e.0 ++ gives stamps) log (is_one W m (followed W m.journal) e.0 stamps clients) (h.hands i e.0 e.1);
@@ -291,7 +282,7 @@ module _ (plays : FollowingPlaysOut) (agree : OrdersAgree) (rests : DoneIsAtRest
       record {
         done = begins plays agree rests goes_on runs noted unsent W;
         hands = λ i node stands.
-            let none : node.state.log ≡ [] = log_is (machine_start W) (begins plays agree rests goes_on runs noted unsent W) i node stands ∙ none_at W.settings.nodes i in
+            let none : node.state.log ≡ [] = log_of plays agree rests goes_on runs noted unsent W (machine_start W) (begins plays agree rests goes_on runs noted unsent W) i node stands ∙ none_at W.settings.nodes i in
             record {
               ends = ap ends_pass none;
               hands = λ k low. let count : length (passes_of node.state.log) ≡ 0 = ap (λ (log : List Step). length (passes_of log)) none in absurd (omega (arith, low, count));
@@ -345,7 +336,7 @@ module _ (plays : FollowingPlaysOut) (agree : OrdersAgree) (rests : DoneIsAtRest
       passes_all (offers_end W.settings) (followed W (lockstep W)).nodes
       (places_all (followed W (lockstep W)).nodes
       (λ i node stands.
-      let log = log_is (machine_end W) ends_offers.done i node stands in
+      let log = log_of plays agree rests goes_on runs noted unsent W (machine_end W) ends_offers.done i node stands in
       let read : AllRead (joined (passes_of node.state.log)) = subst AllRead (sym (passes_joined node.state.log ∙ log)) (read_at (lockstep W).logs i (ends_none W).logs) in
       passes_end node (ends_offers.hands i node stands) 0 (passes_of node.state.log) read (omega arith)))
     where

@@ -410,6 +410,11 @@ module _ (plays : FollowingPlaysOut) (runs : RunsAreOfTheJournal) (timed_are : T
       ∙ sym (length-map (timed_pages W.settings.size ops) (λ (p : TimedPage). p.page))
       ∙ ap length (timed_are W.settings.size ops (ends_at W.clients place laid.ends))
 
+  pub all_timed : (place : ℕ) → place < count → length (timed_pages W.settings.size (operations_at W place)) ≡ length (draws_at (lockstep W) place)
+  all_timed place below =
+      let ops = operations_at W place in
+      sym (length-map (timed_pages W.settings.size ops) (λ (p : TimedPage). p.page)) ∙ ap length (timed_are W.settings.size ops (ends_at W.clients place laid.ends)) ∙ sym (all_drawn place below)
+
   counts_same : (draws : List (List Draw)) (clients : List (List Operation)) → length draws ≡ length clients
       → ((place : ℕ) → place < length clients → length (unwrap_or (slice_get draws place) []) ≡ length (pages_of W.settings.size (unwrap_or (slice_get clients place) [])))
       → same_counts (map length draws) (map (λ ops. length (pages_of W.settings.size ops)) clients) ≡ true

@@ -1,7 +1,7 @@
 -- A node performs its steps, one after another, while all else stands still; nodes can do so one after another. What a node is to
 -- take is ready as long as there is enough of it, and an offer as long as the hand has a buffer.
-use Rattle.std.proofs.Common.{◌≡◌, ℕ, suc, ◌+◌, ◌<◌, ◌≤◌, Bool, true, false, List, [], ◌∷◌, ◌++◌, length, refl, sym, ap, subst, ◌∙◌, Option, Some, None, arith, map, option_map, slice_get, count_by, append_assoc, eq-eqb, nat_eq, inl, inr}
-use Rattle.std.specs.List.{AllByRecursion}
+use Rattle.std.proofs.Common.{◌≡◌, ℕ, zero, suc, ◌+◌, ◌<◌, ◌≤◌, Bool, true, false, List, [], ◌∷◌, ◌++◌, length, refl, sym, ap, subst, ◌∙◌, Option, Some, None, arith, map, option_map, slice_get, count_by, append_assoc, eq-eqb, nat_eq, inl, inr}
+use Rattle.std.specs.List.{AllByRecursion, range_with_len}
 use Rattle.std.specs.Option.{option_and_then, option_map_or}
 use Rattle.hs_base.specs.declared.ids.NodeId.{NodeId}
 use Rattle.hs_coord.specs.Following.{Message, Messages, message}
@@ -156,6 +156,25 @@ module _ (noted : StepsAreNoted) (settings : PlainSettings) (heard : Messages) w
       omega (arith, all, log, there)) in
       record { last = w.last; walks = Steps run next w.last stepped w.walks; ends = w.ends }
 
+  -- what each step keeps is kept
+  pub takes_keep : (P : NodeRun → Type 0)
+      → ((run : NodeRun) (step : Step) (rest : List Step) (event : Event) → is_offer step ≡ false → event_of run heard step ≡ Some event → P run → P (perform settings rest run event))
+      → (left : List Step) (run : NodeRun) → run.left ≡ left → AllByRecursion (λ (step : Step). is_offer step ≡ false) left → Enough run heard → P run → Walked settings heard (λ (r : NodeRun). IsThrough r × P r) run
+  takes_keep P keeps [] run e all enough p = record { last = run; walks = Stands run; ends = (e, p) }
+  takes_keep P keeps (step ∷ rest) run e all enough p =
+      let h = take_ready run heard step rest e enough all.0 in
+      let next = perform settings rest run h.event in
+      let stepped = step_is settings heard run step rest h.event e h.met in
+      let n = noted settings heard run next stepped in
+      let w = takes_keep P keeps rest next refl all.1
+      (λ queue.
+      let all = enough queue in
+      let log : taken queue (next.state.log ++ next.left) ≡ taken queue (run.state.log ++ run.left) = ap (taken queue) n.log in
+      let there = same_supply next run heard queue refl refl in
+      omega (arith, all, log, there))
+      (keeps run step rest h.event all.0 h.met p) in
+      record { last = w.last; walks = Steps run next w.last stepped w.walks; ends = w.ends }
+
   -- ---- what is given
 
   -- no step is left, and no buffer to give
@@ -182,6 +201,40 @@ module _ (noted : StepsAreNoted) (settings : PlainSettings) (heard : Messages) w
       let gone = gone_one stamp run.state.hand run.state some in
       let w = gives_walk stamps next refl (omega (arith, same, gone)) in
       record { last = w.last; walks = Steps run next w.last stepped w.walks; ends = w.ends }
+
+  -- What each give keeps is kept, where the stamps count on from a number that each give raises.
+  module _ (P : ℕ → NodeRun → Type 0)
+      (keeps : (stamp place : ℕ) (hand : List ℕ) (run : NodeRun) (rest : List Step) → run.state.hand ≡ place ∷ hand → P stamp run → P (stamp + 1) (perform settings rest run (Gave (Given stamp))))
+    where
+      abbrev given_from : ℕ → ℕ → List Step
+      given_from stamp count = map (λ (stamp : ℕ). steps.Given stamp) (range_with_len stamp count)
+
+      abbrev Emptied : ℕ → NodeRun → Type 0
+      Emptied stamp r = IsEmptied r × P stamp r
+
+      abbrev Empties : ℕ → ℕ → Type 0
+      Empties count stamp = (run : NodeRun) → run.left ≡ given_from stamp count → length run.state.hand ≡ count → P stamp run → Walked settings heard (Emptied (stamp + count)) run
+
+      one_more : (count stamp : ℕ) → Empties count (stamp + 1) → (run : NodeRun) → run.left ≡ given_from stamp (suc count) → length run.state.hand ≡ suc count → P stamp run → (hand : List ℕ) → run.state.hand ≡ hand
+          → Walked settings heard (Emptied (stamp + suc count)) run
+      one_more count stamp on run e same p [] h = let none = ap length h in absurd (omega (arith, same, none))
+      one_more count stamp on run e same p (place ∷ hand) h =
+          let event = Gave (Given stamp) in
+          let rest = given_from (stamp + 1) count in
+          let next = perform settings rest run event in
+          let stepped = step_is settings heard run (steps.Given stamp) rest event e (ap (λ (hand : List ℕ). option_map (λ _. event) (slice_get hand 0)) h) in
+          let gone : next.state.hand ≡ hand = ap (λ (hand : List ℕ). (give_back stamp hand run.state).hand) h in
+          let few = ap length gone in
+          let all = ap length h in
+          let w = on next refl (omega (arith, few, all, same)) (keeps stamp place hand run rest h p) in
+          let there : stamp + 1 + count ≡ stamp + suc count = omega arith in
+          record { last = w.last; walks = Steps run next w.last stepped w.walks; ends = (w.ends.0, subst (λ (n : ℕ). P n w.last) there w.ends.1) }
+
+      pub gives_keep : (count stamp : ℕ) → Empties count stamp
+      gives_keep zero stamp run e same p =
+          let here : stamp ≡ stamp + 0 = omega arith in
+          record { last = run; walks = Stands run; ends = (record { through = e; hand = empty_of run.state.hand same }, subst (λ (n : ℕ). P n run) here p) }
+      gives_keep (suc count) stamp run e same p = one_more count stamp (gives_keep count (stamp + 1)) run e same p run.state.hand refl
 
 -- ---- what is heard
 

@@ -3,10 +3,13 @@ use Rattle.std.specs.Prelude.{◌≡◌, ◌*◌, ◌≤◌, true, false, length
 use Rattle.std.specs.List.{AllByRecursion}
 use Rattle.hs_records.specs.Plain.{PlainWorkload}
 use Rattle.hs_records.specs.Records.{AreBracketed}
+use Rattle.hs_words.specs.PoolHistory.{IsPoolHistory}
 use Rattle.hs_lawful.specs.Ends.{is_followed, has_rounds}
+use Rattle.hs_lawful.specs.Following.{NodeRun, followed}
 use Rattle.hs_lawful.specs.Passes.{has_passes, has_offers}
 use Rattle.hs_lawful.specs.Played.{played}
-use Rattle.hs_lawful.specs.Shape.{has_shape}
+use Rattle.hs_lawful.specs.Pooled.{has_answers, pool_history}
+use Rattle.hs_lawful.specs.Shape.{has_shape, has_stamps}
 use Rattle.hs_lawful.specs.Unreads.{has_unreads}
 use Rattle.hs_lockstep.specs.Lockstep.{lockstep}
 
@@ -32,6 +35,18 @@ pub record IsLaidOut (W : PlainWorkload) : Type 0 where
 -- The schedule has the shape of its workload: all clients do all of their operations, and draw for each of their pages.
 abbrev pub ScheduleHasShape : Type 0
 ScheduleHasShape = (W : PlainWorkload) → IsLaidOut W → has_shape (played W (lockstep W)) ≡ true
+
+-- The stamps of each node number the events of its pool: a draw and a give take the next one.
+abbrev pub ScheduleHasStamps : Type 0
+ScheduleHasStamps = (W : PlainWorkload) → IsLaidOut W → has_stamps (played W (lockstep W)) ≡ true
+
+-- In the order of stamps, these events are a history of the pool.
+abbrev pub ScheduleHasHistory : Type 0
+ScheduleHasHistory = (W : PlainWorkload) → AllByRecursion (λ (run : NodeRun). IsPoolHistory W.settings.buffers (pool_history run)) (followed W (lockstep W)).nodes
+
+-- Each give answers the draw of its chunk.
+abbrev pub ScheduleHasAnswers : Type 0
+ScheduleHasAnswers = (W : PlainWorkload) → has_answers (played W (lockstep W)) ≡ true
 
 -- Each log is a list of whole passes.
 abbrev pub ScheduleHasPasses : Type 0

@@ -1,12 +1,13 @@
 //! What holds of the lockstep schedule. These functions do nothing: their contracts say it.
 
 ghost use Rattle.hs_lockstep.specs.Laws.{VersionsHaveOneSchedule};
-ghost use Rattle.hs_lockstep.specs.Clauses.{ScheduleHasShape, ScheduleHasPasses, ScheduleHasOffers, ScheduleIsFollowed, ScheduleHasUnreads, ScheduleHasRounds};
+ghost use Rattle.hs_lockstep.specs.Clauses.{ScheduleHasShape, ScheduleHasStamps, ScheduleHasHistory, ScheduleHasAnswers, ScheduleHasPasses, ScheduleHasOffers, ScheduleIsFollowed, ScheduleHasUnreads, ScheduleHasRounds};
 
 use hs_lawful::laws::{
     agents_come_by_events, done_is_at_rest, following_plays_out, journals_go_on,
     nothing_is_taken_unsent, orders_agree, runs_are_of_the_journal, steps_are_noted,
 };
+use hs_model::laws::{events_add_this, events_go_on, lists_have_their_chunks};
 use hs_sent::laws::timed_pages_are_the_pages;
 
 /// A workload has one schedule, whichever version it is written in.
@@ -72,4 +73,53 @@ pub fn schedule_has_offers()
     steps_are_noted();
     nothing_is_taken_unsent();
     agents_come_by_events();
+}
+
+/// The stamps of each node number the events of its pool.
+pub fn schedule_has_stamps()
+    ensures { ScheduleHasStamps }
+{
+    following_plays_out();
+    orders_agree();
+    done_is_at_rest();
+    journals_go_on();
+    runs_are_of_the_journal();
+    steps_are_noted();
+    nothing_is_taken_unsent();
+    events_add_this();
+    events_go_on();
+    lists_have_their_chunks();
+    timed_pages_are_the_pages();
+}
+
+/// The events of each node's pool are a history of it.
+pub fn schedule_has_history()
+    ensures { ScheduleHasHistory }
+{
+    following_plays_out();
+    orders_agree();
+    done_is_at_rest();
+    journals_go_on();
+    runs_are_of_the_journal();
+    steps_are_noted();
+    nothing_is_taken_unsent();
+    events_add_this();
+    events_go_on();
+    lists_have_their_chunks();
+}
+
+/// Each give of the schedule answers the draw of its chunk.
+pub fn schedule_has_answers()
+    ensures { ScheduleHasAnswers }
+{
+    following_plays_out();
+    orders_agree();
+    done_is_at_rest();
+    journals_go_on();
+    runs_are_of_the_journal();
+    steps_are_noted();
+    nothing_is_taken_unsent();
+    events_add_this();
+    events_go_on();
+    lists_have_their_chunks();
 }

@@ -13,3 +13,4 @@ pub mod Whiles
 pub mod PageOrder
 pub mod Apart
 pub mod Saying
+pub mod Adding

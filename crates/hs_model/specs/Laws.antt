@@ -6,6 +6,7 @@ use Rattle.std.specs.List.{AllByRecursion, list_any}
 use Rattle.std.specs.Option.{option_map, option_to_list}
 use Rattle.hs_base.specs.declared.ids.TraceId.{TraceId}
 use Rattle.hs_base.specs.declared.told.Group.{Group}
+use Rattle.hs_journal.specs.declared.journal.Step.{Step}
 use Rattle.hs_records.specs.Plain.{PlainSettings}
 use Rattle.hs_sched.specs.declared.share.Share.{Share}
 use Rattle.hs_words.specs.Pages.{Sheet}
@@ -14,7 +15,7 @@ use Rattle.hs_model.specs.State.{AgentState, ClaimedTrace, GivenPlace, claim_of,
 use Rattle.hs_model.specs.Evicting.{is_over, evict_trace, evict}
 use Rattle.hs_model.specs.Abandoning.{pinned_groups, count_of_id, is_no_greater, next_to_go, abandon_group, abandon}
 use Rattle.hs_model.specs.Turning.{order_of, costs_of, visit}
-use Rattle.hs_model.specs.Stepping.{Input, Answered, Event, told_by, after_step, after_gave, after_event, after_from, after}
+use Rattle.hs_model.specs.Stepping.{Input, Chunk, Crumbed, Triggered, Asked, Turn, Answered, Event, Took, Gave, step_of, step_of_answer, told_by, after_step, after_gave, after_event, after_from, after}
 
 -- ---- places
 
@@ -233,3 +234,29 @@ pub record SaysWhatItTells (settings : PlainSettings) (node : ℕ) (state : Agen
 
 abbrev pub StepsSayWhatTheyTell : Type 0
 StepsSayWhatTheyTell = (settings : PlainSettings) (node : ℕ) (state : AgentState) → SaysWhatItTells settings node state
+
+-- ---- one event
+
+-- the page of the chunk that an event takes
+abbrev pub brought_by : Event → List Sheet
+brought_by (Took (Chunk client sheet)) = sheet ∷ []
+brought_by (Took (Crumbed client crumb)) = []
+brought_by (Took (Triggered client trigger)) = []
+brought_by (Took (Asked ask)) = []
+brought_by (Took Turn) = []
+brought_by (Gave answer) = []
+
+-- the step as which an event is noted
+abbrev pub noted_as : Event → Step
+noted_as (Took input) = step_of input
+noted_as (Gave answer) = step_of_answer answer
+
+-- An event adds its step to the log, and behind the pages of the chunks that were taken the page that it brings. No input gives a
+-- buffer back.
+pub record AddsThis (settings : PlainSettings) (node : ℕ) (state : AgentState) : Type 0 where
+  pub chunks : (event : Event) → sheets_of (after_event settings node state event).taken ≡ sheets_of state.taken ++ brought_by event
+  pub given : (input : Input) → (after_step settings node state input).given ≡ state.given
+  pub log : (event : Event) → (after_event settings node state event).log ≡ state.log ++ noted_as event ∷ []
+
+abbrev pub EventsAddThis : Type 0
+EventsAddThis = (settings : PlainSettings) (node : ℕ) (state : AgentState) → AddsThis settings node state

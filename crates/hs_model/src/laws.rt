@@ -1,6 +1,6 @@
 //! What holds of an agent after any events. These functions do nothing: their contracts say it.
 
-ghost use Rattle.hs_model.specs.Laws.{ListsHaveTheirChunks, StandingsPartition, HeldChunksAreInNoHand, TracesAreClaimedOnce, ClaimsHoldForGood, ChunksStandByTheirClaim, NothingClaimedIsEvicted, TheLeastGoes, LimitsHold, ReportedInOrder, EvictsWhileOver, IndexedStayTouched, AbandonsWhileOver, EventsGoOn, ClientsPagesRise, VisitsAreApart, StepsSayWhatTheyTell};
+ghost use Rattle.hs_model.specs.Laws.{ListsHaveTheirChunks, StandingsPartition, HeldChunksAreInNoHand, TracesAreClaimedOnce, ClaimsHoldForGood, ChunksStandByTheirClaim, NothingClaimedIsEvicted, TheLeastGoes, LimitsHold, ReportedInOrder, EvictsWhileOver, IndexedStayTouched, AbandonsWhileOver, EventsGoOn, ClientsPagesRise, VisitsAreApart, StepsSayWhatTheyTell, EventsAddThis};
 
 /// The pinned and the reported chunks stand in their lists, each once, and the evicted, abandoned and
 /// reported ones in the hand, each once, until they are given back.
@@ -90,4 +90,9 @@ pub fn visits_are_apart()
 /// An input adds its one message to those that were said, or none, and an offer's answer adds none.
 pub fn steps_say_what_they_tell()
     ensures { StepsSayWhatTheyTell }
+{}
+
+/// An event adds its step to the log and the page of the chunk that it takes to the pages. Only a give gives a buffer back.
+pub fn events_add_this()
+    ensures { EventsAddThis }
 {}
