@@ -48,7 +48,7 @@ get_low (y ∷ xs) (suc i) x h = let rest = get_low xs i x h in omega (arith, re
 abbrev item_of : DrawnPage → Sent Sheet
 item_of d = record { number = d.sent; item = sheet_of d }
 
-chunks_more : (drawn more : List DrawnPage) → sent_chunks (drawn ++ more) ≡ sent_chunks drawn ++ sent_chunks more
+pub chunks_more : (drawn more : List DrawnPage) → sent_chunks (drawn ++ more) ≡ sent_chunks drawn ++ sent_chunks more
 chunks_more drawn more =
     ap (map item_of) (filter-append (λ (d : DrawnPage). has_buffer d.draw) drawn more)
     ∙ map-append item_of (filter (λ (d : DrawnPage). has_buffer d.draw) drawn) (filter (λ (d : DrawnPage). has_buffer d.draw) more)

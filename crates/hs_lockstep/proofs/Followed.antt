@@ -8,6 +8,7 @@ use Rattle.std.proofs.lemmas.List.{length-map, length-replicate}
 use Rattle.std.proofs.lemmas.List.FromFn.{length-range_with_len}
 use Rattle.std.proofs.lemmas.Option.{slice_get-map}
 use Rattle.hs_base.specs.declared.ids.NodeId.{NodeId}
+use Rattle.hs_coord.specs.Following.{Messages}
 use Rattle.hs_journal.specs.declared.journal.Draw.{Draw}
 use Rattle.hs_journal.specs.declared.journal.Step.{Step}
 use Rattle.hs_journal.specs.declared.journal.Step.TheVariants as steps
@@ -16,7 +17,7 @@ use Rattle.hs_records.specs.Plain.{PlainWorkload}
 use Rattle.hs_sent.specs.Sending.{draws_at, operations_at}
 use Rattle.hs_lawful.specs.Ends.{is_followed}
 use Rattle.hs_lawful.specs.Extending.{HasMore, GoesOn, node_behind, run_behind, JournalsGoOn, IsOfJournal, NodesAreOfJournal, RunsAreOfTheJournal, StepsAreNoted}
-use Rattle.hs_lawful.specs.Following.{Queue, takes, taken, NodeRun, Run, log_at, node_start, run_start, followed, is_done}
+use Rattle.hs_lawful.specs.Following.{Queue, takes, taken, is_from, NodeRun, Run, log_at, node_start, run_start, followed, is_done}
 use Rattle.hs_lawful.specs.Orders.{Leads, Stays, FollowingPlaysOut, OrdersAgree, DoneIsAtRest}
 use Rattle.hs_lawful.specs.Passes.{is_offer}
 use Rattle.hs_lawful.specs.Played.{played}
@@ -113,7 +114,7 @@ module _ (plays : FollowingPlaysOut) (agree : OrdersAgree) (rests : DoneIsAtRest
   pub nodes_of_journal : (J : PlainJournal) → NodesAreOfJournal W J (followed W J)
   nodes_of_journal J = runs W J (followed W J) (plays W J).leads
 
-  fits : (J : PlainJournal) → TakesWhatIsThere (followed W J)
+  pub fits : (J : PlainJournal) → TakesWhatIsThere (followed W J)
   fits J = unsent W J (followed W J) (plays W J).leads
 
   pub count_nodes : (J : PlainJournal) → length (followed W J).nodes ≡ W.settings.nodes
@@ -208,6 +209,7 @@ module _ (plays : FollowingPlaysOut) (agree : OrdersAgree) (rests : DoneIsAtRest
     pub record StepsThere (Q : NodeRun → Type 0) : Type 0 where
       pub there : There m.journal longer
       pub each : AllByRecursion Q (followed W longer).nodes
+      pub heard : (followed W longer).heard ≡ run.heard
 
     pub steps_there : (Q : NodeRun → Type 0) → ((node : NodeRun) → Q node → IsThrough node) → AllByRecursion (Walked W.settings run.heard Q) (map (node_behind W m.journal longer) run.nodes) → StepsThere Q
     steps_there Q through walked =
@@ -222,6 +224,7 @@ module _ (plays : FollowingPlaysOut) (agree : OrdersAgree) (rests : DoneIsAtRest
         record {
           there = advance m.journal longer longer_goes last w.leads over;
           each = subst (λ (r : Run). AllByRecursion Q r.nodes) (ends_at m.journal longer longer_goes last w.leads over) w.each;
+          heard = ap (λ (r : Run). r.heard) (sym (ends_at m.journal longer longer_goes last w.leads over));
         }
 
     logs_there : length longer.logs ≡ W.settings.nodes
@@ -282,7 +285,7 @@ module _ (plays : FollowingPlaysOut) (agree : OrdersAgree) (rests : DoneIsAtRest
     abbrev pub heard_more : PlainJournal
     heard_more = (coordinator_hears W m).journal
 
-    abbrev told_now : List NodeId
+    abbrev pub told_now : List NodeId
     told_now = flat_map (told_of before) before.nodes
 
     heard_goes : GoesOn m.journal heard_more
@@ -326,6 +329,9 @@ module _ (plays : FollowingPlaysOut) (agree : OrdersAgree) (rests : DoneIsAtRest
     pub record HearsThere : Type 0 where
       pub there : There m.journal heard_more
       pub nodes : (followed W heard_more).nodes ≡ map (node_behind W m.journal heard_more) before.nodes
+      pub more : Messages
+      pub heard : (followed W heard_more).heard ≡ before.heard ++ more
+      pub senders : (node : NodeId) → count_by (is_from node) more ≡ count_by (is_node node) told_now
 
     pub hear_there : HearsThere
     hear_there =
@@ -334,6 +340,9 @@ module _ (plays : FollowingPlaysOut) (agree : OrdersAgree) (rests : DoneIsAtRest
         record {
           there = advance m.journal heard_more heard_goes w.last w.leads over;
           nodes = ap (λ (r : Run). r.nodes) (sym (ends_at m.journal heard_more heard_goes w.last w.leads over)) ∙ w.nodes;
+          more = w.more;
+          heard = ap (λ (r : Run). r.heard) (sym (ends_at m.journal heard_more heard_goes w.last w.leads over)) ∙ w.heard;
+          senders = λ node. w.senders node ∙ ap (count_by (is_node node)) behind_left;
         }
 
     pub hear_keeps : IsDone W (coordinator_hears W m)

@@ -341,7 +341,7 @@ module _ (n : ℕ) (sends : List ClientSends) (sheets : List Sheet) (given : Lis
 
 -- ---- the agent gives
 
-below_given : (n : ℕ) (sends : List ClientSends) (sheets : List Sheet) (given givens : List GivenPlace) → AllByRecursion (GiveAnswers sends sheets given) givens
+pub below_given : (n : ℕ) (sends : List ClientSends) (sheets : List Sheet) (given givens : List GivenPlace) → AllByRecursion (GiveAnswers sends sheets given) givens
     → AllByRecursion (λ s. s < length (events_in sends sheets given)) (map (λ (g : GivenPlace). g.stamp) givens)
 below_given n sends sheets given [] all = tt
 below_given n sends sheets given (g ∷ givens) all = let a = all.0 in (a.answers.past, below_given n sends sheets given givens all.1)

@@ -57,12 +57,12 @@ map_range {X = X} f g start (suc count) same =
     ∙ ap (λ (rest : List X). g start ∷ rest) (map_range f g (start + 1) count (λ n low high. same n (omega (arith, low)) (omega (arith, high))))
 
 module _ {X : Type 0} where
-  set_here : (xs : List X) (i : ℕ) (x d : X) → i < length xs → unwrap_or (slice_get (set xs i x) i) d ≡ x
+  pub set_here : (xs : List X) (i : ℕ) (x d : X) → i < length xs → unwrap_or (slice_get (set xs i x) i) d ≡ x
   set_here [] i x d h = absurd (omega (arith, h))
   set_here (y ∷ xs) zero x d h = refl
   set_here (y ∷ xs) (suc i) x d h = set_here xs i x d (omega (arith, h))
 
-  set_other : (xs : List X) (i j : ℕ) (x d : X) → i ≢ j → unwrap_or (slice_get (set xs i x) j) d ≡ unwrap_or (slice_get xs j) d
+  pub set_other : (xs : List X) (i j : ℕ) (x d : X) → i ≢ j → unwrap_or (slice_get (set xs i x) j) d ≡ unwrap_or (slice_get xs j) d
   set_other [] i j x d ne = refl
   set_other (y ∷ xs) zero zero x d ne = absurd (ne refl)
   set_other (y ∷ xs) zero (suc j) x d ne = refl
@@ -76,19 +76,21 @@ module _ {X : Type 0} where
 
 -- ---- more draws are more pages
 
-record MorePages (client : ClientId) (k : ℕ) (pages : List TimedPage) (draws new : List Draw) : Type 0 where
-  rest : List TimedPage
-  is : drawn_from client k pages (draws ++ new) ≡ drawn_from client k pages draws ++ drawn_from client (k + length (drawn_from client k pages draws)) rest new
+pub record MorePages (client : ClientId) (k : ℕ) (pages : List TimedPage) (draws new : List Draw) : Type 0 where
+  pub rest : List TimedPage
+  pub there : (j : ℕ) (page : TimedPage) → slice_get rest j ≡ Some page → slice_get pages (length draws + j) ≡ Some page
+  pub is : drawn_from client k pages (draws ++ new) ≡ drawn_from client k pages draws ++ drawn_from client (k + length (drawn_from client k pages draws)) rest new
 
-more_pages : (client : ClientId) (k : ℕ) (pages : List TimedPage) (draws new : List Draw) → MorePages client k pages draws new
-more_pages client k [] draws new = record { rest = []; is = refl }
-more_pages client k (page ∷ pages) [] new = let same : k ≡ k + 0 = omega arith in record { rest = page ∷ pages; is = ap (λ (n : ℕ). drawn_from client n (page ∷ pages) new) same }
+pub more_pages : (client : ClientId) (k : ℕ) (pages : List TimedPage) (draws new : List Draw) → MorePages client k pages draws new
+more_pages client k [] draws new = record { rest = []; there = λ j page h. let no : None ≡ Some page = h in absurd cc; is = refl }
+more_pages client k (page ∷ pages) [] new = let same : k ≡ k + 0 = omega arith in record { rest = page ∷ pages; there = λ j p h. let here : 0 + j ≡ j = omega arith in ap (slice_get (page ∷ pages)) here ∙ h; is = ap (λ (n : ℕ). drawn_from client n (page ∷ pages) new) same }
 more_pages client k (page ∷ pages) (draw ∷ draws) new =
     let m = more_pages client (k + 1) pages draws new in
     let same : k + 1 + length (drawn_from client (k + 1) pages draws) ≡ k + suc (length (drawn_from client (k + 1) pages draws)) = omega arith in
     let first : DrawnPage = record { client = client; number = k; page = page.page; started = page.started; sent = page.sent; draw = draw } in
     record {
       rest = m.rest;
+      there = λ j p h. let here : suc (length draws) + j ≡ suc (length draws + j) = omega arith in ap (slice_get (page ∷ pages)) here ∙ m.there j p h;
       is =
           ap (λ (pages : List DrawnPage). first ∷ pages) m.is
           ∙ ap (λ (n : ℕ). first ∷ (drawn_from client (k + 1) pages draws ++ drawn_from client n m.rest new)) same;
@@ -194,7 +196,7 @@ module _ (W : PlainWorkload) (J K : PlainJournal) where
       }
 
 -- the draws that a node's pool gives next
-next_of_node : (W : PlainWorkload) (count : ℕ) (node : NodeRun) → HoldsAt W.settings node → draws_by W count node ≡ next_draws count (length (node_events node)) (queue_after W.settings.buffers (events_back (node_events node)))
+pub next_of_node : (W : PlainWorkload) (count : ℕ) (node : NodeRun) → HoldsAt W.settings node → draws_by W count node ≡ next_draws count (length (node_events node)) (queue_after W.settings.buffers (events_back (node_events node)))
 next_of_node W count node h =
     let is = pool_is node h.missed in
     let long : length (pool_history node) ≡ length (node_events node) = sym (length-reverse (pool_history node)) ∙ ap (λ es. length (events_back es)) is ∙ h.pooled.count in
@@ -305,7 +307,7 @@ module _ (plays : FollowingPlaysOut) (agree : OrdersAgree) (rests : DoneIsAtRest
         client_node : Held (node_behind W old new node)
         client_node = client_case (leb base place) (ltb place (base + W.settings.clients)) (ltb place (length m.journal.draws)) refl refl refl
 
-      client_keeps_held : Keeps (client_goes W m place)
+      pub client_keeps_held : Keeps (client_goes W m place)
       client_keeps_held =
           record {
             done = client_keeps plays agree rests goes_on runs noted unsent W m place h.done;
@@ -337,7 +339,7 @@ module _ (plays : FollowingPlaysOut) (agree : OrdersAgree) (rests : DoneIsAtRest
           (enough_of plays agree rests goes_on runs noted unsent W m h.done i node stands)
           (behind_held m.journal (agents_take W m).journal i node stands refl (all_get Held run_of.nodes i node h.held stands)))))
 
-      take_keeps_held : Keeps (agents_take W m)
+      pub take_keeps_held : Keeps (agents_take W m)
       take_keeps_held =
           record {
             done = take_keeps plays agree rests goes_on runs noted unsent W m h.done;
@@ -385,7 +387,7 @@ module _ (plays : FollowingPlaysOut) (agree : OrdersAgree) (rests : DoneIsAtRest
                 (λ i node stands. behind_held m.journal (coordinator_hears W m).journal i node stands refl (all_get Held run_of.nodes i node h.held stands))));
           }
 
-    pass_keeps_held : (m : Machine) → Keeps m → Keeps (passes W m)
+    pub pass_keeps_held : (m : Machine) → Keeps m → Keeps (passes W m)
     pass_keeps_held m h = hear_keeps_held (agents_give W (agents_take W m)) (give_keeps_held (agents_take W m) (take_keeps_held m h))
 
     -- ---- the start
@@ -402,7 +404,7 @@ module _ (plays : FollowingPlaysOut) (agree : OrdersAgree) (rests : DoneIsAtRest
     no_pages client [] = refl
     no_pages client (page ∷ pages) = refl
 
-    starts_keep : Keeps (machine_start W)
+    pub starts_keep : Keeps (machine_start W)
     starts_keep =
         record {
           done = begins plays agree rests goes_on runs noted unsent W;

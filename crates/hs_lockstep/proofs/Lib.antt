@@ -18,3 +18,8 @@ pub mod Drawing
 pub mod Held
 pub mod Keeping
 pub mod Pools
+pub mod Rounds
+pub mod Items
+pub mod Asks
+pub mod Beside
+pub mod Pace

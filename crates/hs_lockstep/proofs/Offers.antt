@@ -31,7 +31,7 @@ use Rattle.hs_lockstep.proofs.Unread.{AllRead, ends_none, read_at}
 
 -- ---- steps of passes
 
-abbrev joined : List (List Step) → List Step
+abbrev pub joined : List (List Step) → List Step
 joined passes = flat_map (λ pass. pass) passes
 
 put_case : (b : Bool) (step next : Step) (pass : List Step) (passes : List (List Step)) → joined (cond b ((step ∷ []) ∷ (next ∷ pass) ∷ passes) ((step ∷ next ∷ pass) ∷ passes)) ≡ step ∷ joined ((next ∷ pass) ∷ passes)
@@ -43,45 +43,45 @@ put_joined step [] = refl
 put_joined step ([] ∷ passes) = refl
 put_joined step ((next ∷ pass) ∷ passes) = put_case (ends_between step next) step next pass passes
 
-passes_joined : (log : List Step) → joined (passes_of log) ≡ log
+pub passes_joined : (log : List Step) → joined (passes_of log) ≡ log
 passes_joined [] = refl
 passes_joined (step ∷ log) = put_joined step (passes_of log) ∙ ap (λ (rest : List Step). step ∷ rest) (passes_joined log)
 
-joined_both : (a b : List (List Step)) → joined (a ++ b) ≡ joined a ++ joined b
+pub joined_both : (a b : List (List Step)) → joined (a ++ b) ≡ joined a ++ joined b
 joined_both [] b = refl
 joined_both (pass ∷ a) b = ap (λ (rest : List Step). pass ++ rest) (joined_both a b) ∙ sym (append_assoc pass (joined a) (joined b))
 
-take_front : {X : Type 0} (n : ℕ) (xs ys : List X) → n ≤ length xs → take n (xs ++ ys) ≡ take n xs
+pub take_front : {X : Type 0} (n : ℕ) (xs ys : List X) → n ≤ length xs → take n (xs ++ ys) ≡ take n xs
 take_front zero xs ys h = refl
 take_front (suc n) [] ys h = absurd (omega (arith, h))
 take_front (suc n) (x ∷ xs) ys h = ap (λ (rest : List _). x ∷ rest) (take_front n xs ys (omega (arith, h)))
 
-take_all : {X : Type 0} (n : ℕ) (xs : List X) → length xs ≤ n → take n xs ≡ xs
+pub take_all : {X : Type 0} (n : ℕ) (xs : List X) → length xs ≤ n → take n xs ≡ xs
 take_all zero [] h = refl
 take_all (suc n) [] h = refl
 take_all zero (x ∷ xs) h = absurd (omega (arith, h))
 take_all (suc n) (x ∷ xs) h = ap (λ (rest : List _). x ∷ rest) (take_all n xs (omega (arith, h)))
 
 -- the first so many passes are no longer than the log
-steps_within : (log : List Step) (k : ℕ) → steps_in (passes_of log) k ≤ length log
+pub steps_within : (log : List Step) (k : ℕ) → steps_in (passes_of log) k ≤ length log
 steps_within log k =
     let both = ap length (sym (joined_both (take k (passes_of log)) (drop k (passes_of log))) ∙ ap joined (take-append-drop k (passes_of log)) ∙ passes_joined log) in
     let sum = length-append (joined (take k (passes_of log))) (joined (drop k (passes_of log))) in
     omega (arith, both, sum)
 
-steps_of_all : (log : List Step) (k : ℕ) → length (passes_of log) ≤ k → steps_in (passes_of log) k ≡ length log
+pub steps_of_all : (log : List Step) (k : ℕ) → length (passes_of log) ≤ k → steps_in (passes_of log) k ≡ length log
 steps_of_all log k h = ap (λ (ps : List (List Step)). length (joined ps)) (take_all k (passes_of log) h) ∙ ap length (passes_joined log)
 
 -- ---- hands
 
 module _ (W : PlainWorkload) where
   -- behind each of its passes the hand of a node is empty
-  record HandsOf (node : NodeRun) : Type 0 where
-    ends : ends_pass node.state.log ≡ true
-    hands : (k : ℕ) → k < length (passes_of node.state.log) → (state_behind W.settings node (steps_in (passes_of node.state.log) (k + 1))).hand ≡ []
+  pub record HandsOf (node : NodeRun) : Type 0 where
+    pub ends : ends_pass node.state.log ≡ true
+    pub hands : (k : ℕ) → k < length (passes_of node.state.log) → (state_behind W.settings node (steps_in (passes_of node.state.log) (k + 1))).hand ≡ []
 
   -- behind earlier passes it stands as it stood
-  old_hands : (node later : NodeRun) → IsLater node later → IsEven node → (extra : List (List Step)) → passes_of later.state.log ≡ passes_of node.state.log ++ extra → HandsOf node
+  pub old_hands : (node later : NodeRun) → IsLater node later → IsEven node → (extra : List (List Step)) → passes_of later.state.log ≡ passes_of node.state.log ++ extra → HandsOf node
       → (k : ℕ) → k < length (passes_of node.state.log) → (state_behind W.settings later (steps_in (passes_of later.state.log) (k + 1))).hand ≡ []
   old_hands node later l even extra is h k low =
       let few : k + 1 ≤ length (passes_of node.state.log) = omega (arith, low) in
@@ -139,25 +139,25 @@ module _ (W : PlainWorkload) where
       }
 
 module _ (plays : FollowingPlaysOut) (agree : OrdersAgree) (rests : DoneIsAtRest) (goes_on : JournalsGoOn) (runs : RunsAreOfTheJournal) (noted : StepsAreNoted) (unsent : NothingIsTakenUnsent) (comes : AgentsComeByEvents) (W : PlainWorkload) where
-  abbrev Done : Machine → Type 0
+  abbrev pub Done : Machine → Type 0
   Done m = IsDone W m
 
-  record HasOffers (m : Machine) : Type 0 where
-    done : Done m
-    hands : (i : ℕ) (node : NodeRun) → slice_get (followed W m.journal).nodes i ≡ Some node → HandsOf W node
+  pub record HasOffers (m : Machine) : Type 0 where
+    pub done : Done m
+    pub hands : (i : ℕ) (node : NodeRun) → slice_get (followed W m.journal).nodes i ≡ Some node → HandsOf W node
 
-  evens : (J : PlainJournal) → AllByRecursion IsEven (followed W J).nodes
+  pub evens : (J : PlainJournal) → AllByRecursion IsEven (followed W J).nodes
   evens J = leads_even noted W.settings (run_start W J) (followed W J) (starts_even W J (range_with_len 0 W.settings.nodes)) (plays W J).leads
 
   -- from one journal to the next each node comes on
-  comes_on : (J K : PlainJournal) → Leads W.settings (run_behind W J K (followed W J)) (followed W K) → AllLater (followed W J) (followed W K)
+  pub comes_on : (J K : PlainJournal) → Leads W.settings (run_behind W J K (followed W J)) (followed W K) → AllLater (followed W J) (followed W K)
   comes_on J K leads i node h =
       let behind : slice_get (run_behind W J K (followed W J)).nodes i ≡ Some (node_behind W J K node) = slice_get-map (node_behind W J K) (followed W J).nodes i ∙ ap (option_map (node_behind W J K)) h in
       let later = leads_later W.settings (run_behind W J K (followed W J)) (followed W K) leads i (node_behind W J K node) behind in
       (later.0, later.1, record { number = later.2.number; more = later.2.more; events = later.2.events })
 
   -- the node at a place, earlier
-  earlier : (J K : PlainJournal) → AllLater (followed W J) (followed W K) → (i : ℕ) (later : NodeRun) → slice_get (followed W K).nodes i ≡ Some later
+  pub earlier : (J K : PlainJournal) → AllLater (followed W J) (followed W K) → (i : ℕ) (later : NodeRun) → slice_get (followed W K).nodes i ≡ Some later
       → (node : NodeRun) × (slice_get (followed W J).nodes i ≡ Some node) × IsLater node later
   earlier J K all i later h =
       let below = within (followed W K).nodes i later h in
@@ -169,7 +169,7 @@ module _ (plays : FollowingPlaysOut) (agree : OrdersAgree) (rests : DoneIsAtRest
 
   -- ---- a client draws
 
-  client_offers : (m : Machine) (place : ℕ) → HasOffers m → HasOffers (client_goes W m place)
+  pub client_offers : (m : Machine) (place : ℕ) → HasOffers m → HasOffers (client_goes W m place)
   client_offers m place h =
       let K = client_goes W m place in
       let done = client_keeps plays agree rests goes_on runs noted unsent W m place h.done in
@@ -189,40 +189,40 @@ module _ (plays : FollowingPlaysOut) (agree : OrdersAgree) (rests : DoneIsAtRest
   -- ---- a pass
 
   module _ (m : Machine) (h : HasOffers m) where
-    abbrev taken : Machine
+    abbrev pub taken : Machine
     taken = agents_take W m
 
-    abbrev given : Machine
+    abbrev pub given : Machine
     given = agents_give W taken
 
-    abbrev heard : Machine
+    abbrev pub heard : Machine
     heard = coordinator_hears W given
 
-    done_taken : Done taken
+    pub done_taken : Done taken
     done_taken = take_keeps plays agree rests goes_on runs noted unsent W m h.done
 
-    done_given : Done given
+    pub done_given : Done given
     done_given = give_keeps plays agree rests goes_on runs noted unsent W taken done_taken
 
     done_heard : Done heard
     done_heard = hear_keeps plays agree rests goes_on runs noted unsent W given done_given
 
-    on_take : AllLater (followed W m.journal) (followed W taken.journal)
+    pub on_take : AllLater (followed W m.journal) (followed W taken.journal)
     on_take = comes_on m.journal taken.journal (take_there plays agree rests goes_on runs noted unsent W m h.done).there.leads
 
-    on_give : AllLater (followed W taken.journal) (followed W given.journal)
+    pub on_give : AllLater (followed W taken.journal) (followed W given.journal)
     on_give = comes_on taken.journal given.journal (give_there plays agree rests goes_on runs noted unsent W taken done_taken).there.leads
 
-    on_hear : AllLater (followed W given.journal) (followed W heard.journal)
+    pub on_hear : AllLater (followed W given.journal) (followed W heard.journal)
     on_hear = comes_on given.journal heard.journal (hear_there plays agree rests goes_on runs noted unsent W given done_given).there.leads
 
-    on_all : AllLater (followed W m.journal) (followed W heard.journal)
+    pub on_all : AllLater (followed W m.journal) (followed W heard.journal)
     on_all =
         all_on (followed W m.journal) (followed W taken.journal) (followed W heard.journal) on_take
         (all_on (followed W taken.journal) (followed W given.journal) (followed W heard.journal) on_give on_hear)
 
     -- what the log of a node has more
-    log_more : (i : ℕ) (node middle : NodeRun) → slice_get (followed W m.journal).nodes i ≡ Some node → slice_get (followed W taken.journal).nodes i ≡ Some middle
+    pub log_more : (i : ℕ) (node middle : NodeRun) → slice_get (followed W m.journal).nodes i ≡ Some node → slice_get (followed W taken.journal).nodes i ≡ Some middle
         → log_at heard.journal i ≡ log_at m.journal i ++ (pass_steps W m (followed W m.journal) node ++ give_steps middle)
     log_more i node middle stands there =
         let first = map (pass_steps W m (followed W m.journal)) (followed W m.journal).nodes in
@@ -260,7 +260,7 @@ module _ (plays : FollowingPlaysOut) (agree : OrdersAgree) (rests : DoneIsAtRest
         in
         ap (λ (n : NodeRun). n.state.hand) (sym same) ∙ emptied.hand
 
-    pass_offers : HasOffers heard
+    pub pass_offers : HasOffers heard
     pass_offers =
         record {
           done = done_heard;
@@ -277,7 +277,7 @@ module _ (plays : FollowingPlaysOut) (agree : OrdersAgree) (rests : DoneIsAtRest
               (pass_steps W m (followed W m.journal) e.0 ++ gives stamps) log (is_one W m (followed W m.journal) e.0 stamps clients) (h.hands i e.0 e.1);
         }
 
-  starts : HasOffers (machine_start W)
+  pub starts : HasOffers (machine_start W)
   starts =
       record {
         done = begins plays agree rests goes_on runs noted unsent W;

@@ -80,7 +80,7 @@ tested : {X Y : Type 0} (p : Y → Bool) (f : X → Y) (xs : List X) → list_al
 tested p f [] = refl
 tested p f (x ∷ xs) = ap (λ b. p (f x) && b) (tested p f xs)
 
-range_at : (start count i : ℕ) → i < count → slice_get (range_with_len start count) i ≡ Some (start + i)
+pub range_at : (start count i : ℕ) → i < count → slice_get (range_with_len start count) i ≡ Some (start + i)
 range_at start zero i h = absurd (omega (arith, h))
 range_at start (suc count) zero h = let here : start ≡ start + 0 = omega arith in ap Some here
 range_at start (suc count) (suc i) h = let there : start + 1 + i ≡ start + suc i = omega arith in range_at (start + 1) count i (omega (arith, h)) ∙ ap Some there

@@ -138,24 +138,24 @@ drawn_count (suc count) stamp [] = ap suc (drawn_count count (stamp + 1) [])
 drawn_count (suc count) stamp (buffer ∷ queue) = ap suc (drawn_count count (stamp + 1) queue)
 
 module _ (plays : FollowingPlaysOut) (runs : RunsAreOfTheJournal) (timed_are : TimedPagesAreThePages) (W : PlainWorkload) (laid : IsLaidOut W) where
-  abbrev count : ℕ
+  abbrev pub count : ℕ
   count = length W.clients
 
   -- each client has drawn for the pages that it has started
-  record HasDrawn (m : Machine) : Type 0 where
-    nodes : m.journal.nodes ≡ W.settings.nodes
-    clients : m.journal.clients ≡ W.settings.clients
-    logs : length m.journal.logs ≡ W.settings.nodes
-    done : length m.done ≡ count
-    draws : length m.journal.draws ≡ count
-    drawn : (place : ℕ) → place < count → length (draws_at m.journal place) ≡ pages_started W place (done_at m place)
+  pub record HasDrawn (m : Machine) : Type 0 where
+    pub nodes : m.journal.nodes ≡ W.settings.nodes
+    pub clients : m.journal.clients ≡ W.settings.clients
+    pub logs : length m.journal.logs ≡ W.settings.nodes
+    pub done : length m.done ≡ count
+    pub draws : length m.journal.draws ≡ count
+    pub drawn : (place : ℕ) → place < count → length (draws_at m.journal place) ≡ pages_started W place (done_at m place)
 
   started_more : (place a b : ℕ) → a ≤ b → pages_started W place a ≤ pages_started W place b
   started_more place a b low =
       filter_more (λ (page : TimedPage). ltb page.started a) (λ (page : TimedPage). ltb page.started b) (timed_pages W.settings.size (operations_at W place))
       (λ page h. let below = ltb-true page.started a h in lt-ltb page.started b (omega (arith, below, low)))
 
-  node_there : (place : ℕ) → place < count → place / W.settings.clients < W.settings.nodes
+  pub node_there : (place : ℕ) → place < count → place / W.settings.clients < W.settings.nodes
   node_there place below = either (eq-zero-or-pos W.settings.clients)
     where
       either : (W.settings.clients ≡ 0) ⊎ (0 < W.settings.clients) → place / W.settings.clients < W.settings.nodes
@@ -165,7 +165,7 @@ module _ (plays : FollowingPlaysOut) (runs : RunsAreOfTheJournal) (timed_are : T
           let all = laid.clients in absurd (omega (arith, below, all, zeroed, nothing))
       either (inr some) = let all = laid.clients in (div-lt_iff_lt-mul {k = W.settings.clients} {x = place} {y = W.settings.nodes} some).1 (omega (arith, below, all))
 
-  draws_counted : (m : Machine) (place n : ℕ) → place < count → length (draws_in W m (place / W.settings.clients) n) ≡ n
+  pub draws_counted : (m : Machine) (place n : ℕ) → place < count → length (draws_in W m (place / W.settings.clients) n) ≡ n
   draws_counted m place n below =
       let low = node_there place below in
       let all = nodes_counted plays runs W m.journal in
@@ -174,20 +174,20 @@ module _ (plays : FollowingPlaysOut) (runs : RunsAreOfTheJournal) (timed_are : T
 
   -- ---- one client
 
-  abbrev next_done : Machine → ℕ → ℕ
+  abbrev pub next_done : Machine → ℕ → ℕ
   next_done m place = min (done_at m place + W.settings.stride) (length (operations_at W place))
 
-  abbrev next_count : Machine → ℕ → ℕ
+  abbrev pub next_count : Machine → ℕ → ℕ
   next_count m place = pages_started W place (next_done m place) - pages_started W place (done_at m place)
 
   -- no client is past its operations
-  abbrev IsWithin : Machine → Type 0
+  abbrev pub IsWithin : Machine → Type 0
   IsWithin m = (place : ℕ) → done_at m place ≤ length (operations_at W place)
 
-  done_here : (m : Machine) (place : ℕ) → HasDrawn m → place < count → done_at (client_goes W m place) place ≡ next_done m place
+  pub done_here : (m : Machine) (place : ℕ) → HasDrawn m → place < count → done_at (client_goes W m place) place ≡ next_done m place
   done_here m place h below = let all = h.done in set_here m.done place (next_done m place) 0 (omega (arith, all, below))
 
-  done_other : (m : Machine) (place other : ℕ) → place ≢ other → done_at (client_goes W m place) other ≡ done_at m other
+  pub done_other : (m : Machine) (place other : ℕ) → place ≢ other → done_at (client_goes W m place) other ≡ done_at m other
   done_other m place other ne = set_other m.done place other (next_done m place) 0 ne
 
   drawn_case : (m : Machine) (place : ℕ) → HasDrawn m → IsWithin m → place < count → (other : ℕ) → other < count → (place ≡ other) ⊎ (place ≢ other)
@@ -217,7 +217,7 @@ module _ (plays : FollowingPlaysOut) (runs : RunsAreOfTheJournal) (timed_are : T
   same_or (suc i) zero = inr (λ e. let no : suc i ≡ zero = e in absurd (omega (arith, no)))
   same_or (suc i) (suc j) = elim (same_or i j) as (λ _. (suc i ≡ suc j) ⊎ (suc i ≢ suc j)) [ inl e ↦ inl (ap suc e) | inr ne ↦ inr (λ e. ne (omega (arith, e))) ]
 
-  client_draws : (m : Machine) (place : ℕ) → HasDrawn m → IsWithin m → place < count → HasDrawn (client_goes W m place)
+  pub client_draws : (m : Machine) (place : ℕ) → HasDrawn m → IsWithin m → place < count → HasDrawn (client_goes W m place)
   client_draws m place h within below =
       record {
         nodes = h.nodes;
@@ -237,7 +237,7 @@ module _ (plays : FollowingPlaysOut) (runs : RunsAreOfTheJournal) (timed_are : T
     before : (place : ℕ) → place < start → done_at later place ≡ done_at m place
     past : (place : ℕ) → start + places ≤ place → done_at later place ≡ done_at m place
 
-  at_most_all : (m : Machine) (place : ℕ) → HasDrawn m → IsWithin m → place < count → IsWithin (client_goes W m place)
+  pub at_most_all : (m : Machine) (place : ℕ) → HasDrawn m → IsWithin m → place < count → IsWithin (client_goes W m place)
   at_most_all m place h within below other = either (same_or place other)
     where
       either : (place ≡ other) ⊎ (place ≢ other) → done_at (client_goes W m place) other ≤ length (operations_at W other)
@@ -282,10 +282,10 @@ module _ (plays : FollowingPlaysOut) (runs : RunsAreOfTheJournal) (timed_are : T
   -- ---- rounds
 
   -- after so many rounds
-  record HasRounds (n : ℕ) (m : Machine) : Type 0 where
-    drawn : HasDrawn m
-    done : (place : ℕ) → place < count → done_at m place ≡ min (n * W.settings.stride) (length (operations_at W place))
-    past : (place : ℕ) → count ≤ place → done_at m place ≡ 0
+  pub record HasRounds (n : ℕ) (m : Machine) : Type 0 where
+    pub drawn : HasDrawn m
+    pub done : (place : ℕ) → place < count → done_at m place ≡ min (n * W.settings.stride) (length (operations_at W place))
+    pub past : (place : ℕ) → count ≤ place → done_at m place ≡ 0
 
   within_of : (n : ℕ) (m : Machine) → HasRounds n m → IsWithin m
   within_of n m h place = either (below_or place count)
@@ -299,24 +299,22 @@ module _ (plays : FollowingPlaysOut) (runs : RunsAreOfTheJournal) (timed_are : T
       either (inl below) = let is = h.done place below in omega (arith, is)
       either (inr past) = let is = h.past place past in omega (arith, is)
 
-  pass_same : (n : ℕ) (m : Machine) → HasRounds n m → HasRounds n (passes W m)
-  pass_same n m h =
+  pub pass_drawn : (m : Machine) → HasDrawn m → HasDrawn (passes W m)
+  pass_drawn m h =
       record {
-        drawn =
-            record {
-              nodes = h.drawn.nodes;
-              clients = h.drawn.clients;
-              logs =
-                  length_extended (agents_take W m).journal.logs (map give_steps (followed W (agents_take W m).journal).nodes)
-                  ∙ length_extended m.journal.logs (map (pass_steps W m (followed W m.journal)) (followed W m.journal).nodes)
-                  ∙ h.drawn.logs;
-              done = h.drawn.done;
-              draws = h.drawn.draws;
-              drawn = h.drawn.drawn;
-            };
+        nodes = h.nodes;
+        clients = h.clients;
+        logs =
+            length_extended (agents_take W m).journal.logs (map give_steps (followed W (agents_take W m).journal).nodes)
+            ∙ length_extended m.journal.logs (map (pass_steps W m (followed W m.journal)) (followed W m.journal).nodes)
+            ∙ h.logs;
         done = h.done;
-        past = h.past;
+        draws = h.draws;
+        drawn = h.drawn;
       }
+
+  pass_same : (n : ℕ) (m : Machine) → HasRounds n m → HasRounds n (passes W m)
+  pass_same n m h = record { drawn = pass_drawn m h.drawn; done = h.done; past = h.past }
 
   clients_same : (n : ℕ) (m : Machine) → HasRounds n m → HasRounds (n + 1) (clients_go W m)
   clients_same n m h =
@@ -353,7 +351,7 @@ module _ (plays : FollowingPlaysOut) (runs : RunsAreOfTheJournal) (timed_are : T
   nones (ops ∷ clients) zero = refl
   nones (ops ∷ clients) (suc place) = nones clients place
 
-  begins : HasRounds 0 (machine_start W)
+  pub begins : HasRounds 0 (machine_start W)
   begins =
       record {
         drawn =
@@ -384,19 +382,25 @@ module _ (plays : FollowingPlaysOut) (runs : RunsAreOfTheJournal) (timed_are : T
       closing_keeps W (HasRounds (0 + rounds_of W)) (pass_same (0 + rounds_of W)) (closing_limit W) (rounds (rounds_of W) W (machine_start W))
       (rounds_go (rounds_of W) 0 (machine_start W) begins)
 
-  all_done : (place : ℕ) → place < count → done_at (machine_end W) place ≡ length (operations_at W place)
-  all_done place below =
-      let is = ends.done place below in
+  -- the rounds are enough for all operations
+  pub all_covered : (place : ℕ) → place < count → length (operations_at W place) ≤ rounds_of W * W.settings.stride
+  all_covered place below =
       let most = max_at (λ ops. rounds_for W.settings.stride (length ops)) W.clients 0 place below in
       let cover = rounds_cover W.settings.stride (length (operations_at W place)) laid.stride in
       let product = mul-le-mul_right W.settings.stride most in
+      omega (arith, cover, product)
+
+  all_done : (place : ℕ) → place < count → done_at (machine_end W) place ≡ length (operations_at W place)
+  all_done place below =
+      let is = ends.done place below in
+      let cover = all_covered place below in
       let same : (0 + rounds_of W) * W.settings.stride ≡ rounds_of W * W.settings.stride = ap (λ (n : ℕ). n * W.settings.stride) zeroth in
-      omega (arith, is, cover, product, same)
+      omega (arith, is, cover, same)
     where
       zeroth : 0 + rounds_of W ≡ rounds_of W
       zeroth = omega arith
 
-  ends_at : (clients : List (List Operation)) (place : ℕ) → AllByRecursion (AreBracketed false) clients → AreBracketed false (unwrap_or (slice_get clients place) [])
+  pub ends_at : (clients : List (List Operation)) (place : ℕ) → AllByRecursion (AreBracketed false) clients → AreBracketed false (unwrap_or (slice_get clients place) [])
   ends_at [] place all = refl
   ends_at (ops ∷ clients) zero all = all.0
   ends_at (ops ∷ clients) (suc place) all = ends_at clients place all.1

@@ -1,6 +1,6 @@
 -- A node performs its steps, one after another, while all else stands still; nodes can do so one after another. What a node is to
 -- take is ready as long as there is enough of it, and an offer as long as the hand has a buffer.
-use Rattle.std.proofs.Common.{◌≡◌, ℕ, zero, suc, ◌+◌, ◌<◌, ◌≤◌, Bool, true, false, List, [], ◌∷◌, ◌++◌, length, refl, sym, ap, subst, ◌∙◌, Option, Some, None, arith, map, option_map, slice_get, count_by, append_assoc, eq-eqb, nat_eq, inl, inr}
+use Rattle.std.proofs.Common.{◌≡◌, ℕ, zero, suc, ◌+◌, ◌<◌, ◌≤◌, Bool, true, false, List, [], ◌∷◌, ◌++◌, length, refl, sym, ap, subst, ◌∙◌, Option, Some, None, arith, map, option_map, slice_get, count_by, append_assoc, append-nil, eq-eqb, nat_eq, inl, inr}
 use Rattle.std.specs.List.{AllByRecursion, range_with_len}
 use Rattle.std.specs.Option.{option_and_then, option_map_or}
 use Rattle.hs_base.specs.declared.ids.NodeId.{NodeId}
@@ -256,9 +256,22 @@ pub record AllHeard (settings : PlainSettings) (run : Run) : Type 0 where
   pub leads : Leads settings run last
   pub nodes : last.nodes ≡ run.nodes
   pub left : last.left ≡ []
+  -- a message of each node in turn
+  pub more : List Message
+  pub heard : last.heard ≡ run.heard ++ more
+  pub senders : (node : NodeId) → count_by (is_from node) more ≡ count_by (is_node node) run.left
 
 pub hears_all : (settings : PlainSettings) (left : List NodeId) (run : Run) → run.left ≡ left → EnoughSaid run → AllHeard settings run
-hears_all settings [] run e enough = record { last = run; leads = Stays run; nodes = refl; left = e }
+hears_all settings [] run e enough =
+    record {
+      last = run;
+      leads = Stays run;
+      nodes = refl;
+      left = e;
+      more = [];
+      heard = sym (append-nil run.heard);
+      senders = λ v. sym (ap (count_by (is_node v)) e);
+    }
 hears_all settings (node ∷ rest) run e enough =
     let all = enough node in
     let left : count_by (is_node node) run.left ≡ count_by (is_node node) (node ∷ rest) = ap (count_by (is_node node)) e in
@@ -281,4 +294,13 @@ hears_all settings (node ∷ rest) run e enough =
       leads = Goes run next w.last (inr heard) w.leads;
       nodes = w.nodes;
       left = w.left;
+      more = m.0 ∷ w.more;
+      heard = w.heard ∙ append_assoc run.heard (m.0 ∷ []) w.more;
+      senders = λ v.
+          let all = ap (count_by (is_node v)) e in
+          let left = count_cons (is_node v) node rest in
+          let here = count_cons (is_from v) m.0 w.more in
+          let later = w.senders v in
+          let from : one (is_from v m.0) ≡ one (is_node v node) = ap (λ (n : NodeId). one (is_node v n)) m.2 in
+          omega (arith, all, left, here, later, from);
     }

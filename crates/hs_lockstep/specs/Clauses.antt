@@ -1,11 +1,13 @@
 -- Clauses of the lawful journal that the lockstep schedule keeps, whatever the workload.
 use Rattle.std.specs.Prelude.{◌≡◌, ◌*◌, ◌≤◌, true, false, length}
 use Rattle.std.specs.List.{AllByRecursion}
+use Rattle.hs_base.specs.declared.limits.TheConstants.{MIN_SIZE}
 use Rattle.hs_records.specs.Plain.{PlainWorkload}
 use Rattle.hs_records.specs.Records.{AreBracketed}
 use Rattle.hs_words.specs.PoolHistory.{IsPoolHistory}
 use Rattle.hs_lawful.specs.Ends.{is_followed, has_rounds}
 use Rattle.hs_lawful.specs.Following.{NodeRun, followed}
+use Rattle.hs_lawful.specs.Pace.{has_pace}
 use Rattle.hs_lawful.specs.Passes.{has_passes, has_offers}
 use Rattle.hs_lawful.specs.Played.{played}
 use Rattle.hs_lawful.specs.Pooled.{has_answers, pool_history}
@@ -55,3 +57,7 @@ ScheduleHasPasses = (W : PlainWorkload) → has_passes (played W (lockstep W)) �
 -- In each pass all offers are made.
 abbrev pub ScheduleHasOffers : Type 0
 ScheduleHasOffers = (W : PlainWorkload) → has_offers (played W (lockstep W)) ≡ true
+
+-- Agents and coordinator keep pace with the clients, where pages have their least size at least.
+abbrev pub ScheduleHasPace : Type 0
+ScheduleHasPace = (W : PlainWorkload) → IsLaidOut W → MIN_SIZE ≤ W.settings.size → has_pace (played W (lockstep W)) ≡ true

@@ -1,14 +1,14 @@
 //! What holds of the lockstep schedule. These functions do nothing: their contracts say it.
 
 ghost use Rattle.hs_lockstep.specs.Laws.{VersionsHaveOneSchedule};
-ghost use Rattle.hs_lockstep.specs.Clauses.{ScheduleHasShape, ScheduleHasStamps, ScheduleHasHistory, ScheduleHasAnswers, ScheduleHasPasses, ScheduleHasOffers, ScheduleIsFollowed, ScheduleHasUnreads, ScheduleHasRounds};
+ghost use Rattle.hs_lockstep.specs.Clauses.{ScheduleHasShape, ScheduleHasStamps, ScheduleHasHistory, ScheduleHasAnswers, ScheduleHasPasses, ScheduleHasOffers, ScheduleIsFollowed, ScheduleHasUnreads, ScheduleHasRounds, ScheduleHasPace};
 
 use hs_lawful::laws::{
     agents_come_by_events, done_is_at_rest, following_plays_out, journals_go_on,
     nothing_is_taken_unsent, orders_agree, runs_are_of_the_journal, steps_are_noted,
 };
 use hs_model::laws::{events_add_this, events_go_on, lists_have_their_chunks};
-use hs_sent::laws::timed_pages_are_the_pages;
+use hs_sent::laws::{timed_pages_are_the_pages, timed_pages_are_timely};
 
 /// A workload has one schedule, whichever version it is written in.
 pub fn versions_have_one_schedule()
@@ -122,4 +122,23 @@ pub fn schedule_has_answers()
     events_add_this();
     events_go_on();
     lists_have_their_chunks();
+}
+
+/// Agents and coordinator of the schedule keep pace with the clients.
+pub fn schedule_has_pace()
+    ensures { ScheduleHasPace }
+{
+    following_plays_out();
+    orders_agree();
+    done_is_at_rest();
+    journals_go_on();
+    runs_are_of_the_journal();
+    steps_are_noted();
+    nothing_is_taken_unsent();
+    agents_come_by_events();
+    events_add_this();
+    events_go_on();
+    lists_have_their_chunks();
+    timed_pages_are_the_pages();
+    timed_pages_are_timely();
 }
