@@ -10,6 +10,7 @@ mod journal;
 mod link;
 mod locked;
 mod pages;
+mod pins;
 mod pool;
 mod rate;
 mod ring;
@@ -33,6 +34,7 @@ fn main(rt: HostRuntime) -> Result<()> {
         "link" => link::run(&rt, count),
         "locked" => locked::run(&rt, count),
         "pages" => pages::run(&rt, count),
+        "pins" => pins::run(&rt, count),
         "pool" => pool::run(&rt, count),
         "ring" => ring::run(&rt, count),
         _ => bail!("no bench has this name"),

@@ -1,0 +1,5 @@
+use Rattle.fixtures.specs.Claims.{IsReady}
+use Rattle.bench.proofs.pins.arrive_all.Given as goal
+
+abbrev pub invariant-loop-held : goal.invariant-loop-held
+invariant-loop-held g l = IsReady 0 l.pins

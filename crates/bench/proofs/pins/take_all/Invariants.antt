@@ -1,0 +1,5 @@
+use Rattle.fixtures.specs.Claims.{IsReady}
+use Rattle.bench.proofs.pins.take_all.Given as goal
+
+abbrev pub invariant-loop-taken : goal.invariant-loop-taken
+invariant-loop-taken g l = IsReady 0 l.pins
