@@ -1,0 +1,300 @@
+-- What is kept after a chunk came is what the model says then, before anything has to give way.
+use Rattle.std.proofs.Common.{◌≡◌, ℕ, ◌+◌, ◌≤◌, ◌<◌, ◌^◌, Bool, true, false, List, [], ◌∷◌, ◌++◌, length, map, Option, Some, None, slice_get, refl, sym, ap, subst, ◌∙◌, arith}
+use Rattle.std.specs.Prelude.{filter_map}
+use Rattle.std.specs.List.{AllByRecursion}
+use Rattle.std.specs.Option.{option_map, option_map_or, option_and_then, option_to_list}
+use Rattle.std.proofs.lemmas.List.{append_assoc, map-append, length-map, length-append}
+use Rattle.hs_base.specs.declared.ids.TraceId.{TraceId}
+use Rattle.hs_base.specs.declared.told.Group.{Group}
+use Rattle.hs_base.specs.declared.told.Fate.TheVariants as fates
+use Rattle.hs_journal.specs.declared.books.Standing.{Standing}
+use Rattle.hs_words.specs.declared.page.Header.{Header}
+use Rattle.hs_words.specs.Pages.{Sheet}
+use Rattle.hs_words.specs.Chunks.{used_of, header_of}
+use Rattle.hs_words.specs.Buffers.{Buffer}
+use Rattle.hs_pins.specs.Remembered.{Claim, Pin, Remembered, claim_of, with_pin, pin_for}
+use Rattle.hs_pins.specs.PinsLayout.{Pinning, Remembers}
+use Rattle.hs_index.specs.Index.{Index, Indexed, Noted, noted_of, others, touch, with_chunk, with_touched, chunks_left, count_chunks, trace_of}
+use Rattle.hs_index.specs.Index as index
+use Rattle.hs_model.specs.State.{AgentState}
+use Rattle.hs_model.specs.Standings.{Taken, ChunkStanding, is_indexed, Indexed as IsIn, Pinned, Abandoned, pinning_group, pinned_for}
+use Rattle.hs_model.specs.Books.{page_standing, bytes_at}
+use Rattle.hs_model.specs.Stepping.{with_taken, with_indexed, with_pinned, with_abandoned}
+use Rattle.hs_agent.specs.declared.placed.Place.{Place}
+use Rattle.hs_agent.specs.Placing.{Placed, Pledged, place_of, placed_at}
+use Rattle.hs_agent.specs.Keeping.{Kept, Holds, HasPage, IsKept, IsIndexed, RemembersAs, Point, with_state, pinned_place, waiting_chunks, all_held}
+use Rattle.hs_agent.specs.LettingGo.{let_go, with_fate, abandoned_fate}
+use Rattle.hs_agent.specs.Arriving.{noted}
+use Rattle.hs_agent.proofs.Alls.{all-append, all-left, all-right, all-weaker}
+use Rattle.hs_agent.proofs.Claimed.{all-others, all-noted, all-pins}
+use Rattle.hs_agent.proofs.Growing.{slice_get-front, slice_get-last, is_kept-front, has_page-front, pages-front, pinned_for-front, with_fate-last}
+use Rattle.hs_agent.proofs.Indexing.{indexed-more, indexed-arrived, count-touched}
+
+-- ---- the chunks of an index where a trace was touched
+
+module _ (P : Placed → Type 0) (trace : TraceId) (noted : Noted Place) where
+  all-pushed : (ts : List (Indexed Place)) → AllByRecursion P (chunks_left ts) → AllByRecursion P noted.chunks → AllByRecursion P (chunks_left (ts ++ record { trace = trace; noted = noted } ∷ []))
+  all-pushed [] h k = all-append P noted.chunks [] k tt
+  all-pushed (t ∷ ts) h k = all-append P t.noted.chunks (chunks_left (ts ++ record { trace = trace; noted = noted } ∷ [])) (all-left P t.noted.chunks (chunks_left ts) h) (all-pushed ts (all-right P t.noted.chunks (chunks_left ts) h) k)
+
+  pub all-touched : (ts : List (Indexed Place)) → AllByRecursion P (chunks_left ts) → AllByRecursion P noted.chunks → AllByRecursion P (chunks_left (touch trace noted ts))
+  all-touched ts h k = all-pushed (others trace ts) (all-others P trace ts h) k
+
+module _ {L : Type 0} (old : Kept L) (point : Point L) (h : Holds old point) (buffer : Buffer L) (sheet : Sheet)
+    (page : buffer.chunk.page ≡ Some sheet) (size : used_of sheet ≤ point.settings.size) (room : length point.state.taken + 1 < 2 ^ 32) where
+  abbrev taken : List Taken
+  taken = point.state.taken
+
+  abbrev trace : TraceId
+  trace = sheet.header.trace
+
+  abbrev placed : Placed
+  placed = placed_at (length taken) buffer
+
+  -- with the chunk's standing and its lease
+  abbrev came : Kept L
+  came = noted sheet.header buffer old
+
+  abbrev at : AgentState → Point L
+  at state = record point { state = state; buffers = point.buffers ++ buffer ∷ [] }
+
+  module _ (standing : ChunkStanding) where
+    abbrev new : Taken
+    new = record { sheet = sheet; standing = standing }
+
+    abbrev all : List Taken
+    all = taken ++ new ∷ []
+
+    more : length all ≡ length taken + 1
+    more = length-append taken (new ∷ [])
+
+    kept_before : (placed' : Placed) → IsKept old.leases point.buffers placed' → IsKept came.leases (point.buffers ++ buffer ∷ []) placed'
+    kept_before placed' k = is_kept-front old.leases _ point.buffers (buffer ∷ []) placed' k
+
+    kept_new : IsKept came.leases (point.buffers ++ buffer ∷ []) placed
+    kept_new = record {
+      lease = buffer.lease;
+      kept = ap (slice_get came.leases) (sym h.leases) ∙ slice_get-last old.leases (Some (record { lease = buffer.lease; number = buffer.chunk.number }));
+      came = ap (slice_get (point.buffers ++ buffer ∷ [])) (sym h.buffers) ∙ slice_get-last point.buffers buffer;
+    }
+
+    paged_before : (placed' : Placed) → HasPage point.settings taken placed' → HasPage point.settings all placed'
+    paged_before placed' k = has_page-front point.settings taken (new ∷ []) placed' k
+
+    paged_new : HasPage point.settings all placed
+    paged_new = record { chunk = new; at = slice_get-last taken new; page = page; size = size }
+
+    standings_live : old.standings ++ record { client = sheet.header.client; page = sheet.header.page; fate = fates.Live } ∷ [] ≡ map page_standing taken ++ record { client = sheet.header.client; page = sheet.header.page; fate = fates.Live } ∷ []
+    standings_live = ap (λ l. l ++ record { client = sheet.header.client; page = sheet.header.page; fate = fates.Live } ∷ []) h.standings
+
+    standings_new : map page_standing all ≡ map page_standing taken ++ page_standing new ∷ []
+    standings_new = map-append page_standing taken (new ∷ [])
+
+    pages_same : old.pages ≡ filter_map (bytes_at all) point.state.reported
+    pages_same = h.pages ∙ sym (pages-front taken (new ∷ []) point.state.reported h.reported)
+
+    reported_within : AllByRecursion (λ (place : ℕ). place < length all) point.state.reported
+    reported_within = all-weaker (λ (place : ℕ). place < length taken) (λ (place : ℕ). place < length all) (λ place within. omega (arith, more, within)) point.state.reported h.reported
+
+    leases_same : length came.leases ≡ length all
+    leases_same =
+        let a = length-append old.leases (Some (record { lease = buffer.lease; number = buffer.chunk.number }) ∷ []) in
+        let b = h.leases in
+        omega (arith, a, b, more)
+
+    buffers_same : length (point.buffers ++ buffer ∷ []) ≡ length all
+    buffers_same =
+        let a = length-append point.buffers (buffer ∷ []) in
+        let b = h.buffers in
+        omega (arith, a, b, more)
+
+    groups_same : AllByRecursion (λ (pin : Pin Place). pinned_for all (pinned_place pin) ≡ Some pin.group) h.memory.pinned
+    groups_same =
+        all-weaker (λ (pin : Pin Place). pinned_for taken (pinned_place pin) ≡ Some pin.group) (λ (pin : Pin Place). pinned_for all (pinned_place pin) ≡ Some pin.group)
+        (λ pin e. pinned_for-front taken (new ∷ []) (pinned_place pin) pin.group e) h.memory.pinned h.pins.groups
+
+  abbrev pins_chunks : List Placed
+  pins_chunks = map (λ (pin : Pin Place). pin.chunk) h.memory.pinned
+
+  -- ---- a chunk of a trace that nobody claimed
+
+  module _ (free : claim_of h.memory.claims trace ≡ None) where
+    abbrev noted_now : Noted Place
+    noted_now = with_chunk (noted_of trace old.index.touched) placed
+
+    abbrev left_indexed : TraceId → Kept L
+    left_indexed t = record came { index = index.touched_with old.index t (with_chunk (noted_of t old.index.touched) placed) }
+
+    waits_indexed : (P : Placed → Type 0) → AllByRecursion P (waiting_chunks old h.memory.pinned) → P placed → AllByRecursion P (waiting_chunks (left_indexed trace) h.memory.pinned)
+    waits_indexed P waits new =
+        let indexed = all-left P (chunks_left old.index.touched) pins_chunks waits in
+        all-append P (chunks_left (touch trace noted_now old.index.touched)) pins_chunks
+        (all-touched P trace noted_now old.index.touched indexed (all-append P (noted_of trace old.index.touched).chunks (placed ∷ []) (all-noted P trace old.index.touched indexed) (new, tt)))
+        (all-right P (chunks_left old.index.touched) pins_chunks waits)
+
+    holds_touched : Holds (left_indexed trace) (at (with_indexed sheet point.state))
+    holds_touched = record {
+      node_is = h.node_is;
+      memory = h.memory;
+      remembers = h.remembers;
+      pins = record {
+        node_is = h.pins.node_is;
+        rules = h.pins.rules;
+        most = h.pins.most;
+        claims = h.pins.claims;
+        pinned = h.pins.pinned;
+        groups = groups_same IsIn;
+        abandoned = h.pins.abandoned;
+        tried = h.pins.tried;
+        admitted = h.pins.admitted;
+      };
+      index = record { threshold = h.index.threshold; most = h.index.most; touched = indexed-arrived h.memory.claims sheet placed old.index.touched point.state free refl h.index.touched };
+      sent = h.sent;
+      offered = h.offered;
+      hand = h.hand;
+      standings = standings_live IsIn ∙ sym (standings_new IsIn);
+      claims = h.claims;
+      pages = pages_same IsIn;
+      reported = reported_within IsIn;
+      leases = leases_same IsIn;
+      buffers = buffers_same IsIn;
+      each =
+          let Q = IsKept old.leases point.buffers in
+          let P = IsKept came.leases (point.buffers ++ buffer ∷ []) in
+          let weaker = all-weaker Q P (kept_before IsIn) in
+          all-append P (waiting_chunks (left_indexed trace) h.memory.pinned) old.hand
+          (waits_indexed P (weaker (waiting_chunks old h.memory.pinned) (all-left Q (waiting_chunks old h.memory.pinned) old.hand h.each)) (kept_new IsIn))
+          (weaker old.hand (all-right Q (waiting_chunks old h.memory.pinned) old.hand h.each));
+      paged =
+          let P = HasPage point.settings (all IsIn) in
+          waits_indexed P (all-weaker (HasPage point.settings taken) P (paged_before IsIn) (waiting_chunks old h.memory.pinned) h.paged) (paged_new IsIn);
+      few =
+          let few = h.few in
+          let count = count-touched trace noted_now old.index.touched h.index.touched.apart in
+          let one = length-append (noted_of trace old.index.touched).chunks (placed ∷ []) in
+          let long = more IsIn in
+          omega (arith, few, count, one, long);
+      fits = let long = more IsIn in omega (arith, long, room);
+    }
+
+    -- what is kept is what the model says, where a chunk was indexed
+    pub holds-arrived : Holds (record came { index = index.arrived old.index placed }) (at (with_indexed sheet point.state))
+    holds-arrived =
+        let is : trace_of placed ≡ trace = ap (λ p. option_map_or (λ (header : Header). header.trace) (option_map header_of p) (record { 0 = 0 })) page in
+        subst (λ t. Holds (left_indexed t) (at (with_indexed sheet point.state))) (sym is) holds_touched
+
+  -- ---- a chunk of a claimed trace
+
+  module _ (group : Group) (pins : Pinning Place) where
+    still_indexed : (standing : ChunkStanding) (after : AgentState) → is_indexed standing ≡ false → after.taken ≡ all standing → after.touched ≡ point.state.touched → after.crumbs ≡ point.state.crumbs
+        → IsIndexed h.memory.claims after old.index.touched
+    still_indexed standing after out t u cs = indexed-more h.memory.claims point.state old.index.touched (new standing) after out t u cs h.index.touched
+
+    abbrev left_pinned : Kept L
+    left_pinned = record came { pins = pins }
+
+    waits_pinned : (P : Placed → Type 0) → AllByRecursion P (waiting_chunks old h.memory.pinned) → P placed → AllByRecursion P (waiting_chunks left_pinned (with_pin h.memory group placed).pinned)
+    waits_pinned P waits new =
+        all-append P (chunks_left old.index.touched) (map (λ (pin : Pin Place). pin.chunk) (with_pin h.memory group placed).pinned)
+        (all-left P (chunks_left old.index.touched) pins_chunks waits)
+        (all-pins P trace group h.memory.pinned (placed ∷ []) (all-right P (chunks_left old.index.touched) pins_chunks waits) (new, tt))
+
+    pinned_now : Remembers pins (with_pin h.memory group placed) → Holds left_pinned (at (with_pinned sheet group point.state))
+    pinned_now remembers = record {
+      node_is = h.node_is;
+      memory = with_pin h.memory group placed;
+      remembers = remembers;
+      pins = record {
+        node_is = h.pins.node_is;
+        rules = h.pins.rules;
+        most = h.pins.most;
+        claims = h.pins.claims;
+        pinned = map-append pinned_place h.memory.pinned (pin_for group placed ∷ []) ∙ ap (λ l. l ++ length taken ∷ []) h.pins.pinned;
+        groups =
+            all-append (λ (pin : Pin Place). pinned_for (all (Pinned group)) (pinned_place pin) ≡ Some pin.group) h.memory.pinned (pin_for group placed ∷ []) (groups_same (Pinned group))
+            (ap (option_and_then (λ (t : Taken). pinning_group t.standing)) (slice_get-last taken (new (Pinned group))), tt);
+        abandoned = h.pins.abandoned;
+        tried = h.pins.tried;
+        admitted = h.pins.admitted;
+      };
+      index = record { threshold = h.index.threshold; most = h.index.most; touched = still_indexed (Pinned group) (with_pinned sheet group point.state) refl refl refl refl };
+      sent = h.sent;
+      offered = h.offered;
+      hand = h.hand;
+      standings = standings_live (Pinned group) ∙ sym (standings_new (Pinned group));
+      claims = h.claims;
+      pages = pages_same (Pinned group);
+      reported = reported_within (Pinned group);
+      leases = leases_same (Pinned group);
+      buffers = buffers_same (Pinned group);
+      each =
+          let Q = IsKept old.leases point.buffers in
+          let P = IsKept came.leases (point.buffers ++ buffer ∷ []) in
+          let weaker = all-weaker Q P (kept_before (Pinned group)) in
+          all-append P (waiting_chunks left_pinned (with_pin h.memory group placed).pinned) old.hand
+          (waits_pinned P (weaker (waiting_chunks old h.memory.pinned) (all-left Q (waiting_chunks old h.memory.pinned) old.hand h.each)) (kept_new (Pinned group)))
+          (weaker old.hand (all-right Q (waiting_chunks old h.memory.pinned) old.hand h.each));
+      paged =
+          let P = HasPage point.settings (all (Pinned group)) in
+          waits_pinned P (all-weaker (HasPage point.settings taken) P (paged_before (Pinned group)) (waiting_chunks old h.memory.pinned) h.paged) (paged_new (Pinned group));
+      few =
+          let few = h.few in
+          let one = length-append h.memory.pinned (pin_for group placed ∷ []) in
+          let long = more (Pinned group) in
+          omega (arith, few, one, long);
+      fits = let long = more (Pinned group) in omega (arith, long, room);
+    }
+
+    -- what is kept is what the model says, where a chunk was pinned, with one pin more
+    pub holds-pinned : Remembers pins (with_pin h.memory group placed) → (now : Holds left_pinned (at (with_pinned sheet group point.state))) × (now.memory ≡ with_pin h.memory group placed)
+    unfolding pinned_now
+    holds-pinned remembers = (pinned_now remembers, refl)
+
+    -- what is kept is what the model says, where the chunk's group was abandoned
+    pub holds-dropped : Remembers pins h.memory → Holds (let_go left_pinned (record { buffer = placed; fate = abandoned_fate group })) (at (with_abandoned sheet group point.state))
+    holds-dropped remembers = record {
+      node_is = h.node_is;
+      memory = h.memory;
+      remembers = remembers;
+      pins = record {
+        node_is = h.pins.node_is;
+        rules = h.pins.rules;
+        most = h.pins.most;
+        claims = h.pins.claims;
+        pinned = h.pins.pinned;
+        groups = groups_same (Abandoned group);
+        abandoned = h.pins.abandoned;
+        tried = h.pins.tried;
+        admitted = h.pins.admitted;
+      };
+      index = record { threshold = h.index.threshold; most = h.index.most; touched = still_indexed (Abandoned group) (with_abandoned sheet group point.state) refl refl refl refl };
+      sent = h.sent;
+      offered = h.offered;
+      hand =
+          ap (λ l. option_to_list point.offered ++ l) (map-append place_of old.hand (placed ∷ []))
+          ∙ sym (append_assoc (option_to_list point.offered) (map place_of old.hand) (length taken ∷ []))
+          ∙ ap (λ l. l ++ length taken ∷ []) h.hand;
+      standings =
+          ap (with_fate (length taken) (abandoned_fate group)) (standings_live (Abandoned group))
+          ∙ ap (λ n. with_fate n (abandoned_fate group) (map page_standing taken ++ record { client = sheet.header.client; page = sheet.header.page; fate = fates.Live } ∷ [])) (sym (length-map taken page_standing))
+          ∙ with_fate-last (abandoned_fate group) (map page_standing taken) (record { client = sheet.header.client; page = sheet.header.page; fate = fates.Live })
+          ∙ sym (standings_new (Abandoned group));
+      claims = h.claims;
+      pages = pages_same (Abandoned group);
+      reported = reported_within (Abandoned group);
+      leases = leases_same (Abandoned group);
+      buffers = buffers_same (Abandoned group);
+      each =
+          let Q = IsKept old.leases point.buffers in
+          let P = IsKept came.leases (point.buffers ++ buffer ∷ []) in
+          let weaker = all-weaker Q P (kept_before (Abandoned group)) in
+          all-append P (waiting_chunks old h.memory.pinned) (old.hand ++ placed ∷ [])
+          (weaker (waiting_chunks old h.memory.pinned) (all-left Q (waiting_chunks old h.memory.pinned) old.hand h.each))
+          (all-append P old.hand (placed ∷ []) (weaker old.hand (all-right Q (waiting_chunks old h.memory.pinned) old.hand h.each)) (kept_new (Abandoned group), tt));
+      paged = all-weaker (HasPage point.settings taken) (HasPage point.settings (all (Abandoned group))) (paged_before (Abandoned group)) (waiting_chunks old h.memory.pinned) h.paged;
+      few =
+          let few = h.few in
+          let long = more (Abandoned group) in
+          omega (arith, few, long);
+      fits = let long = more (Abandoned group) in omega (arith, long, room);
+    }

@@ -1,0 +1,167 @@
+-- That what the index lets go, and what it keeps, is what the model does.
+use Rattle.std.proofs.Common.{◌≡◌, ℕ, ◌+◌, ◌≤◌, Bool, true, false, cond, ◌||◌, List, [], ◌∷◌, ◌++◌, length, map, fold, Option, Some, None, nat_lt, refl, sym, ap, subst, ◌∙◌, arith, append-nil}
+use Rattle.std.specs.Prelude.{find}
+use Rattle.std.specs.List.{AllByRecursion}
+use Rattle.std.specs.Option.{option_map_or}
+use Rattle.std.proofs.lemmas.List.{append_assoc, map-append, length-map}
+use Rattle.std.proofs.lemmas.List.Sums.{fold-append, sum_by-cons}
+use Rattle.std.proofs.lemmas.Simd.{map-map}
+use Rattle.hs_base.specs.declared.told.Fate.TheVariants as fates
+use Rattle.hs_base.specs.declared.ids.TraceId.{TraceId}
+use Rattle.hs_base.specs.declared.told.Group.{Group}
+use Rattle.hs_journal.specs.declared.books.Standing.{Standing}
+use Rattle.hs_records.specs.Plain.{PlainSettings}
+use Rattle.hs_index.specs.Index.{Indexed, Leaving, leaving, chunk_count, count_chunks, chunks_left, kept, evicted, is_over, is_of, nothing}
+use Rattle.hs_pins.specs.Remembered.{Claim}
+use Rattle.hs_model.specs.Standings.{moved, indexed_places, indexed_count, pinned_for, Evicted}
+use Rattle.hs_model.specs.State.{AgentState}
+use Rattle.hs_model.specs.Books.{page_standing, fate_of}
+use Rattle.hs_model.specs.Evicting as model
+use Rattle.hs_agent.specs.declared.placed.Place.{Place}
+use Rattle.hs_agent.specs.Placing.{Placed, place_of}
+use Rattle.hs_agent.specs.Keeping.{IsIndexed}
+use Rattle.hs_agent.specs.LettingGo.{with_fate}
+use Rattle.hs_agent.proofs.Alls.{all-append, all-left, all-right}
+use Rattle.hs_agent.proofs.Indexing.{indexed-evicted, same_itself}
+use Rattle.hs_agent.proofs.Moved.{sheets, sheets-moved}
+use Rattle.hs_agent.proofs.Moving.{pinned_for-leaving}
+use Rattle.hs_agent.proofs.NotedFates.{fates-moved}
+
+abbrev Traced : Type 0
+Traced = Indexed Place
+
+abbrev traces_of : List Traced → List TraceId
+traces_of ts = map (λ (t : Traced). t.trace) ts
+
+-- the fate of a chunk that leaves is noted
+abbrev pub note_leaving : List Standing → Leaving Place → List Standing
+note_leaving standings l = with_fate (place_of l.buffer) (fates.Evicted l.chunks l.traces) standings
+
+noted_of_trace : (chunks traces : ℕ) (standings : List Standing) (buffers : List Placed)
+    → fold note_leaving standings (map (leaving chunks traces) buffers) ≡ fold (λ ss place. with_fate place (fates.Evicted chunks traces) ss) standings (map place_of buffers)
+noted_of_trace chunks traces standings [] = refl
+noted_of_trace chunks traces standings (b ∷ bs) = noted_of_trace chunks traces (note_leaving standings (leaving chunks traces b)) bs
+
+module _ (settings : PlainSettings) (claims : List Claim) where
+  abbrev stay : List Traced → List Traced
+  stay ts = kept settings.threshold settings.traces ts
+
+  abbrev go : List Traced → List (Leaving Place)
+  go ts = evicted settings.threshold settings.traces ts
+
+  abbrev over : List Traced → Bool
+  over ts = is_over settings.threshold settings.traces ts
+
+  -- what an eviction leaves in the model, where these traces were indexed
+  pub record HasEvicted (old new : AgentState) (ts : List Traced) : Type 0 where
+    pub indexed : IsIndexed claims new (stay ts)
+    pub hand : new.hand ≡ old.hand ++ map (λ (l : Leaving Place). place_of l.buffer) (go ts)
+    pub noted : fold note_leaving (map page_standing old.taken) (go ts) ≡ map page_standing new.taken
+    pub pages : sheets new.taken ≡ sheets old.taken
+    pub pinned : (place : ℕ) (group : Group) → pinned_for old.taken place ≡ Some group → pinned_for new.taken place ≡ Some group
+    pub others : new ≡ record old { taken = new.taken; touched = new.touched; crumbs = new.crumbs; hand = new.hand }
+
+  over_same : (ts : List Traced) (state : AgentState) → IsIndexed claims state ts → model.is_over settings state ≡ over ts
+  over_same ts state i =
+      ap (λ n. nat_lt settings.threshold n || nat_lt settings.traces (length state.touched)) i.count
+      ∙ ap (λ n. nat_lt settings.threshold (count_chunks ts) || nat_lt settings.traces n) (ap length i.traces ∙ length-map ts (λ (t : Traced). t.trace))
+
+  nobody : (ts : List Traced) (state : AgentState) → stay ts ≡ ts → go ts ≡ [] → IsIndexed claims state ts → HasEvicted state state ts
+  nobody ts state stays none i = record {
+    indexed = subst (IsIndexed claims state) (sym stays) i;
+    hand = sym (append-nil state.hand) ∙ ap (λ l. state.hand ++ map (λ (l' : Leaving Place). place_of l'.buffer) l) (sym none);
+    noted = ap (fold note_leaving (map page_standing state.taken)) none;
+    pages = refl;
+    pinned = λ place group e. e;
+    others = refl;
+  }
+
+  -- the first trace goes, and then others
+  one_more : (t : Traced) (ts : List Traced) (state new : AgentState) → IsIndexed claims state (t ∷ ts) → over (t ∷ ts) ≡ true
+      → HasEvicted (model.evict_trace t.trace (traces_of ts) state) new ts → HasEvicted state new (t ∷ ts)
+  one_more t ts state new i o more =
+      let n = count_chunks (t ∷ ts) in
+      let m = length (t ∷ ts) in
+      let stays : stay (t ∷ ts) ≡ stay ts = ap (λ b. cond b (stay ts) (t ∷ ts)) o in
+      let goes : go (t ∷ ts) ≡ map (leaving n m) t.noted.chunks ++ go ts = ap (λ b. cond b (map (leaving n m) t.noted.chunks ++ go ts) []) o in
+      let own : map place_of t.noted.chunks ≡ indexed_places state.taken t.trace =
+      ap (λ b. map place_of (option_map_or (λ (u : Traced). u.noted) (cond b (Some t) (find (is_of t.trace) ts)) nothing).chunks) (sym (same_itself t.trace)) ∙ i.places t.trace in
+      let counts : (λ (a b : ℕ). fold (λ ss place. with_fate place (fates.Evicted a b) ss) (map page_standing state.taken) (indexed_places state.taken t.trace)) n m
+      ≡ fold (λ ss place. with_fate place (fate_of (Evicted (indexed_count state.taken) (length state.touched))) ss) (map page_standing state.taken) (indexed_places state.taken t.trace) =
+      λ k. fold (λ ss place. with_fate place (fates.Evicted (sym i.count k) (sym (ap length i.traces ∙ length-map (t ∷ ts) (λ (u : Traced). u.trace)) k)) ss) (map page_standing state.taken) (indexed_places state.taken t.trace) in
+      record {
+        indexed = subst (IsIndexed claims new) (sym stays) more.indexed;
+        hand =
+            more.hand
+            ∙ ap (λ l. (state.hand ++ l) ++ map (λ (l' : Leaving Place). place_of l'.buffer) (go ts)) (sym own)
+            ∙ append_assoc state.hand (map place_of t.noted.chunks) (map (λ (l' : Leaving Place). place_of l'.buffer) (go ts))
+            ∙ ap (λ l. state.hand ++ l)
+            (sym (ap (map (λ (l' : Leaving Place). place_of l'.buffer)) goes
+            ∙ map-append (λ (l' : Leaving Place). place_of l'.buffer) (map (leaving n m) t.noted.chunks) (go ts)
+            ∙ ap (λ l. l ++ map (λ (l' : Leaving Place). place_of l'.buffer) (go ts)) (map-map (λ (l' : Leaving Place). place_of l'.buffer) (leaving n m) t.noted.chunks)));
+        noted =
+            ap (fold note_leaving (map page_standing state.taken)) goes
+            ∙ fold-append note_leaving (map page_standing state.taken) (map (leaving n m) t.noted.chunks) (go ts)
+            ∙ ap (λ ss. fold note_leaving ss (go ts))
+            (noted_of_trace n m (map page_standing state.taken) t.noted.chunks
+            ∙ ap (fold (λ ss place. with_fate place (fates.Evicted n m) ss) (map page_standing state.taken)) own
+            ∙ counts
+            ∙ fates-moved (Evicted (indexed_count state.taken) (length state.touched)) (indexed_places state.taken t.trace) state.taken)
+            ∙ more.noted;
+        pages = more.pages ∙ sheets-moved (indexed_places state.taken t.trace) (λ _. Evicted (indexed_count state.taken) (length state.touched)) state.taken;
+        pinned = λ place group e. more.pinned place group (pinned_for-leaving t.trace (λ _. Evicted (indexed_count state.taken) (length state.touched)) state.taken place group e);
+        others = more.others;
+      }
+
+  evicts_from : (ts : List Traced) (state : AgentState) → IsIndexed claims state ts → HasEvicted state (model.evict_from settings (traces_of ts) state) ts
+  evicts_from [] state i = nobody [] state refl refl i
+  evicts_from (t ∷ ts) state i =
+      by (over (t ∷ ts)) refl (over_same (t ∷ ts) state i) (evicts_from ts (model.evict_trace t.trace (traces_of ts) state) (indexed-evicted claims t ts state i))
+    where
+      by : (b : Bool) → over (t ∷ ts) ≡ b → model.is_over settings state ≡ over (t ∷ ts)
+          → HasEvicted (model.evict_trace t.trace (traces_of ts) state) (model.evict_from settings (traces_of ts) (model.evict_trace t.trace (traces_of ts) state)) ts
+          → HasEvicted state (model.evict_from settings (traces_of (t ∷ ts)) state) (t ∷ ts)
+      by true e same more =
+          subst (λ b. HasEvicted state (cond b (model.evict_from settings (traces_of ts) (model.evict_trace t.trace (traces_of ts) state)) state) (t ∷ ts)) (sym (same ∙ e)) (one_more t ts state _ i e more)
+      by false e same more =
+          subst (λ b. HasEvicted state (cond b (model.evict_from settings (traces_of ts) (model.evict_trace t.trace (traces_of ts) state)) state) (t ∷ ts)) (sym (same ∙ e))
+          (nobody (t ∷ ts) state (ap (λ b. cond b (stay ts) (t ∷ ts)) e) (ap (λ b. cond b (map (leaving (count_chunks (t ∷ ts)) (length (t ∷ ts))) t.noted.chunks ++ go ts) []) e) i)
+
+  -- an eviction is the same in the model and in the index
+  pub same_evicted : (state : AgentState) (ts : List Traced) → IsIndexed claims state ts → HasEvicted state (model.evict settings state) ts
+  same_evicted state ts i = subst (λ traces. HasEvicted state (model.evict_from settings traces state) ts) (sym i.traces) (evicts_from ts state i)
+
+-- ---- which chunks stay and which go
+
+module _ (P : Placed → Type 0) (threshold most : ℕ) where
+  pub all-kept : (ts : List Traced) → AllByRecursion P (chunks_left ts) → AllByRecursion P (chunks_left (kept threshold most ts))
+  all-kept [] h = tt
+  all-kept (t ∷ ts) h = by (is_over threshold most (t ∷ ts)) (all-kept ts (all-right P t.noted.chunks (chunks_left ts) h))
+    where
+      by : (b : Bool) → AllByRecursion P (chunks_left (kept threshold most ts)) → AllByRecursion P (chunks_left (cond b (kept threshold most ts) (t ∷ ts)))
+      by true rest = rest
+      by false rest = h
+
+  all-leaving : (chunks traces : ℕ) (buffers : List Placed) → AllByRecursion P buffers → AllByRecursion P (map (λ (l : Leaving Place). l.buffer) (map (leaving chunks traces) buffers))
+  all-leaving chunks traces [] h = tt
+  all-leaving chunks traces (b ∷ bs) h = (h.0, all-leaving chunks traces bs h.1)
+
+  pub all-evicted : (ts : List Traced) → AllByRecursion P (chunks_left ts) → AllByRecursion P (map (λ (l : Leaving Place). l.buffer) (evicted threshold most ts))
+  all-evicted [] h = tt
+  all-evicted (t ∷ ts) h = by (is_over threshold most (t ∷ ts)) (all-evicted ts (all-right P t.noted.chunks (chunks_left ts) h))
+    where
+      by : (b : Bool) → AllByRecursion P (map (λ (l : Leaving Place). l.buffer) (evicted threshold most ts))
+          → AllByRecursion P (map (λ (l : Leaving Place). l.buffer) (cond b (map (leaving (count_chunks (t ∷ ts)) (length (t ∷ ts))) t.noted.chunks ++ evicted threshold most ts) []))
+      by true rest =
+          subst (AllByRecursion P) (sym (map-append (λ (l : Leaving Place). l.buffer) (map (leaving (count_chunks (t ∷ ts)) (length (t ∷ ts))) t.noted.chunks) (evicted threshold most ts)))
+          (all-append P (map (λ (l : Leaving Place). l.buffer) (map (leaving (count_chunks (t ∷ ts)) (length (t ∷ ts))) t.noted.chunks)) (map (λ (l : Leaving Place). l.buffer) (evicted threshold most ts))
+          (all-leaving (count_chunks (t ∷ ts)) (length (t ∷ ts)) t.noted.chunks (all-left P t.noted.chunks (chunks_left ts) h)) rest)
+      by false rest = tt
+
+pub count-kept : (threshold most : ℕ) (ts : List Traced) → count_chunks (kept threshold most ts) ≤ count_chunks ts
+count-kept threshold most [] = omega arith
+count-kept threshold most (t ∷ ts) = by (is_over threshold most (t ∷ ts)) (count-kept threshold most ts) (sum_by-cons (λ (u : Traced). chunk_count u.noted) t ts)
+  where
+    by : (b : Bool) → count_chunks (kept threshold most ts) ≤ count_chunks ts → count_chunks (t ∷ ts) ≡ chunk_count t.noted + count_chunks ts → count_chunks (cond b (kept threshold most ts) (t ∷ ts)) ≤ count_chunks (t ∷ ts)
+    by true rest whole = omega (arith, rest, whole)
+    by false rest whole = omega arith

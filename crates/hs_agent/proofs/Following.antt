@@ -1,0 +1,148 @@
+-- An agent follows its run from call to call.
+use Rattle.std.proofs.Common.{◌≡◌, ◌<◌, ◌≤◌, append-nil, ℕ, List, [], ◌∷◌, ◌++◌, length, slice_set, Option, Some, None, IsSome, refl, sym, ap, subst, ◌∙◌}
+use Rattle.std.specs.Prelude.{Result, Ok, Err, IfOk, OnOk, IfSome}
+use Rattle.std.specs.Option.{option_map_or}
+use Rattle.hs_journal.specs.declared.journal.Step.{Step}
+use Rattle.std.proofs.lemmas.Bool.{false≢true}
+use Rattle.hs_base.specs.declared.limits.TheConstants.{MAX_NODES}
+use Rattle.hs_records.specs.Plain.{PlainSettings}
+use Rattle.hs_sched.specs.Turns.{Schedule, IsSchedule}
+use Rattle.hs_words.specs.Buffers.{Buffer, buffer_of}
+use Rattle.hs_words.specs.declared.token.Given.{Given as Answer}
+use Rattle.hs_words.specs.declared.token.Given.TheVariants as given
+use Rattle.hs_model.specs.Laws.{IsInOnePlace, EventsGoOn}
+use Rattle.hs_model.specs.State.{AgentState}
+use Rattle.hs_model.specs.Stepping.{Answered, Given, Missed, Unread, Took, Gave, note, step_of, take_input, step_of_answer, give_back, take_answer, after_gave}
+use Rattle.hs_agent.specs.Keeping.{Kept, Keeping, Holds, Point}
+use Rattle.hs_agent.specs.Offering.{answered}
+use Rattle.hs_agent.specs.Runs.{Run, input_of, taken_in, after_input, Follows, StandsAt, point_of, state_of, after_offer, answer_of, back_in, with_back, after_answer}
+use Rattle.hs_agent.specs.declared.input.Input.{Input}
+use Rattle.hs_agent.proofs.Unchanged.{input-log}
+use Rattle.hs_agent.proofs.Offered.{below, holds-rest, holds-given, holds-back}
+
+pub on_ok-then : {A E : Type 0} {P Q : Type 0} (r : Result A E) → (P → Q) → OnOk r P → OnOk r Q
+on_ok-then (Ok x) f p = f p
+on_ok-then (Err e) f p = tt
+
+pub some_place : (o : Option ℕ) → IsSome o → (place : ℕ) × (o ≡ Some place)
+some_place None h = absurd (false≢true h)
+some_place (Some place) h = (place, refl)
+
+-- an answer leaves the log and the shares
+given-log : (stamp : ℕ) (hand : List ℕ) (state : AgentState) → (give_back stamp hand state).log ≡ state.log
+given-log stamp [] state = refl
+given-log stamp (place ∷ hand) state = refl
+
+given-shares : (stamp : ℕ) (hand : List ℕ) (state : AgentState) → (give_back stamp hand state).shares ≡ state.shares
+given-shares stamp [] state = refl
+given-shares stamp (place ∷ hand) state = refl
+
+pub answer-log : (state : AgentState) (answer : Answered) → (take_answer state answer).log ≡ state.log
+answer-log state (Given stamp) = given-log stamp state.hand state
+answer-log state (Missed stamp) = refl
+answer-log state Unread = refl
+
+answer-shares : (state : AgentState) (answer : Answered) → (take_answer state answer).shares ≡ state.shares
+answer-shares state (Given stamp) = given-shares stamp state.hand state
+answer-shares state (Missed stamp) = refl
+answer-shares state Unread = refl
+
+module _ {L : Type 0} where
+  -- the offered chunk was taken, so there is a place for its lease
+  pub offered-within : (kept : Kept L) (point : Point L) → Holds kept point → ((place : ℕ) → IsInOnePlace point.state place) → IsSome point.offered
+      → IfSome kept.offered (λ place. place < length kept.leases) × IsSome kept.offered
+  offered-within kept point h one some =
+      let found = some_place point.offered some in
+      let within : found.0 < length kept.leases = subst (λ n. found.0 < n) (sym h.leases) (below kept point h one found.0 found.1) in
+      subst (λ o. IfSome o (λ place. place < length kept.leases) × IsSome o) (sym (h.offered ∙ found.1)) (within, refl)
+
+  module _ (agent next : Keeping L) (run : Run L) (follows : Follows agent run) where
+    pub follows-offered : next.schedule ≡ agent.schedule → next.log ≡ agent.log → next.spent ≡ agent.spent → Holds next.kept (point_of (after_offer run)) → Follows next (after_offer run)
+    follows-offered schedule log spent holds = record {
+      working = spent ∙ follows.working;
+      stands = record { chunks = holds; shares = schedule ∙ follows.stands.shares; is_schedule = subst IsSchedule (sym schedule) follows.stands.is_schedule; nodes = follows.stands.nodes };
+      log = log ∙ follows.log;
+    }
+
+    module _ (go_on : EventsGoOn) (one : (place : ℕ) → IsInOnePlace (state_of run) place) (some : IsSome run.offered) where
+      abbrev place : ℕ
+      place = (some_place run.offered some).0
+
+      out : run.offered ≡ Some place
+      out = (some_place run.offered some).1
+
+      -- a chunk came back, which leaves the state but for the log
+      came : (buffer : Buffer L) (answer : Answered) → take_answer (state_of run) answer ≡ state_of run
+          → Holds (answered (Some buffer) agent.kept) (record (point_of run) { state = after_gave (state_of run) answer; buffers = with_back run (Some buffer); offered = None })
+      came buffer answer same =
+          subst (λ bs. Holds (answered (Some buffer) agent.kept) (record (point_of run) { state = after_gave (state_of run) answer; buffers = bs; offered = None }))
+          (sym (ap (λ o. option_map_or (λ p. slice_set run.buffers p buffer) o run.buffers) out))
+          (subst (λ (s : AgentState). Holds (answered (Some buffer) agent.kept) (record (point_of run) { state = note (step_of_answer answer) s; buffers = slice_set run.buffers place buffer; offered = None })) (sym same)
+          (holds-back agent.kept (point_of run) follows.stands.chunks one place out buffer (step_of_answer answer)))
+
+      holds-answered : {g : _} → (answer : Answer L g)
+          → Holds (answered (back_in answer) agent.kept) (record (point_of run) { state = after_gave (state_of run) (answer_of answer); buffers = with_back run (back_in answer); offered = None })
+      holds-answered (given.Given stamp) = holds-given agent.kept (point_of run) follows.stands.chunks one place out stamp
+      holds-answered {g} (given.Missed held stamp) = came (buffer_of {L = L} {g = g} held) (Missed stamp) refl
+      holds-answered {g} (given.Unread held) = came (buffer_of {L = L} {g = g} held) Unread refl
+
+      pub follows-answered : {g : _} → (answer : Answer L g) → next.kept ≡ answered (back_in answer) agent.kept → next.schedule ≡ agent.schedule
+          → next.log ≡ agent.log ++ step_of_answer (answer_of answer) ∷ [] → next.spent ≡ agent.spent → Follows next (after_answer run answer)
+      follows-answered answer kept schedule log spent =
+          let state : AgentState = after_gave (state_of run) (answer_of answer) in
+          let goes : state_of (after_answer run answer) ≡ state = go_on run.settings run.node run.events (Gave (answer_of answer) ∷ []) in
+          record {
+            working = spent ∙ follows.working;
+            stands = record {
+              chunks =
+                  subst (λ (s : AgentState). Holds next.kept (record (point_of run) { state = s; buffers = with_back run (back_in answer); offered = None })) (sym goes)
+                  (subst (λ k. Holds k (record (point_of run) { state = state; buffers = with_back run (back_in answer); offered = None })) (sym kept) (holds-answered answer));
+              shares = schedule ∙ follows.stands.shares ∙ ap (λ shares. record { shares = shares; size = run.settings.size }) (sym (answer-shares (state_of run) (answer_of answer)) ∙ ap (λ (s : AgentState). s.shares) (sym goes));
+              is_schedule = subst IsSchedule (sym schedule) follows.stands.is_schedule;
+              nodes = follows.stands.nodes;
+            };
+            log =
+                log
+                ∙ ap (λ l. l ++ step_of_answer (answer_of answer) ∷ []) (follows.log ∙ sym (answer-log (state_of run) (answer_of answer)))
+                ∙ ap (λ (s : AgentState). s.log) (sym goes);
+          }
+
+    module _ (go_on : EventsGoOn) where
+      pub follows-taken : {g : _} → (input : Input L g) → StandsAt next.kept next.schedule (taken_in input (point_of run)) → next.log ≡ agent.log ++ step_of (input_of input) ∷ [] → next.spent ≡ agent.spent
+          → Follows next (after_input run input)
+      follows-taken input stands log spent =
+          let state : AgentState = take_input run.settings run.node (state_of run) (input_of input) in
+          let goes : state_of (after_input run input) ≡ note (step_of (input_of input)) state = go_on run.settings run.node run.events (Took (input_of input) ∷ []) in
+          let point : Point L = taken_in input (point_of run) in
+          record {
+            working = spent ∙ follows.working;
+            stands = record {
+              chunks =
+                  subst (λ (s : AgentState). Holds next.kept (record point { state = s })) (sym goes)
+                  (holds-rest next.kept point state.said state.given (state.log ++ step_of (input_of input) ∷ []) state.shares stands.chunks);
+              shares = stands.shares ∙ ap (λ (s : AgentState). record { shares = s.shares; size = run.settings.size }) (sym goes);
+              is_schedule = stands.is_schedule;
+              nodes = follows.stands.nodes;
+            };
+            log =
+                log
+                ∙ ap (λ l. l ++ step_of (input_of input) ∷ []) (follows.log ∙ sym (input-log run.settings run.node (state_of run) (input_of input)))
+                ∙ ap (λ (s : AgentState). s.log) (sym goes);
+          }
+
+pub if_ok-then : {A E : Type 0} {P Q : A → Type 0} (r : Result A E) → ((x : A) → P x → Q x) → IfOk r P → IfOk r Q
+if_ok-then (Ok x) f p = f x p
+if_ok-then (Err e) f p = tt
+
+-- the same shares, with other chunks
+pub stands-then : {L : Type 0} (old new : Kept L) (schedule : Schedule) (point next : Point L) → StandsAt old schedule point → next.settings ≡ point.settings → next.state.shares ≡ point.state.shares → Holds new next → StandsAt new schedule next
+stands-then old new schedule point next stands settings shares holds = record {
+  chunks = holds;
+  shares = stands.shares ∙ (λ i. record { shares = sym shares i; size = (sym settings i).size });
+  is_schedule = stands.is_schedule;
+  nodes = subst (λ (s : PlainSettings). s.nodes ≤ MAX_NODES) (sym settings) stands.nodes;
+}
+
+-- no chunk came
+pub nothing-came : {L : Type 0} (kept : Kept L) (schedule : Schedule) (point : Point L) → StandsAt kept schedule point → StandsAt kept schedule (record point { buffers = point.buffers ++ [] })
+nothing-came kept schedule point stands = subst (λ bs. StandsAt kept schedule (record point { buffers = bs })) (sym (append-nil point.buffers)) stands

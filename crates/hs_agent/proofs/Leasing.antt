@@ -1,0 +1,29 @@
+-- Chunks that are handed out one after another, each with the lease that is kept for it.
+use Rattle.std.proofs.Common.{◌≡◌, ◌≢◌, ℕ, List, [], ◌∷◌, ◌++◌, map, Option, Some, None, option_map, slice_get, refl, sym, ap, subst, ◌∙◌}
+use Rattle.std.specs.Prelude.{filter_map}
+use Rattle.std.specs.List.{AllByRecursion, cons_option}
+use Rattle.std.specs.Option.{option_and_then}
+use Rattle.hs_words.specs.Buffers.{Buffer}
+use Rattle.hs_agent.specs.Placing.{Placed, Pledged, place_of, leased, lent, HandsOut, HaveOwnPlaces, IsPledged}
+use Rattle.hs_agent.proofs.Alls.{all-weaker}
+use Rattle.hs_agent.proofs.Offered.{get-other, all-both}
+
+module _ {L : Type 0} (old new : List (Option (Pledged L))) (first : Placed) (rest : List Placed) (buffer : Buffer L) (out : HandsOut old first buffer new) (apart : AllByRecursion (λ (other : Placed). place_of first ≢ place_of other) rest) where
+  same_slot : (other : Placed) → place_of first ≢ place_of other → slice_get new (place_of other) ≡ slice_get old (place_of other)
+  same_slot other differ = ap (λ ls. slice_get ls (place_of other)) out.now ∙ get-other old (place_of first) (place_of other) None differ
+
+  pub still_pledged : AllByRecursion (IsPledged old) rest → AllByRecursion (IsPledged new) rest
+  still_pledged pledged =
+      all-weaker (λ (other : Placed). IsPledged old other × (place_of first ≢ place_of other)) (IsPledged new) (λ other h. record { lease = h.0.lease; is = same_slot other h.1 ∙ h.0.is }) rest
+      (all-both (IsPledged old) (λ (other : Placed). place_of first ≢ place_of other) rest pledged apart)
+
+  rest_lent : (others : List Placed) → AllByRecursion (λ (other : Placed). place_of first ≢ place_of other) others → filter_map (lent new) others ≡ filter_map (lent old) others
+  rest_lent [] differ = refl
+  rest_lent (other ∷ others) differ =
+      ap (λ slot. cons_option (option_and_then (λ s. option_map (λ (p : Pledged L). leased other p.lease) s) slot) (filter_map (lent new) others)) (same_slot other differ.0)
+      ∙ ap (cons_option (lent old other)) (rest_lent others differ.1)
+
+  pub first_lent : filter_map (lent old) (first ∷ rest) ≡ buffer ∷ filter_map (lent new) rest
+  first_lent =
+      ap (λ slot. cons_option (option_and_then (λ s. option_map (λ (p : Pledged L). leased first p.lease) s) slot) (filter_map (lent old) rest)) out.was
+      ∙ (λ i. record { chunk = sym out.chunk i; lease = buffer.lease } ∷ sym (rest_lent rest apart) i)

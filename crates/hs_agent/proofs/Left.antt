@@ -1,0 +1,49 @@
+-- What is left at the end, with the leases that are kept, is what the model has left, each chunk as it came last.
+use Rattle.std.proofs.Common.{◌≡◌, ℕ, List, [], ◌∷◌, ◌++◌, map, Option, Some, None, option_map, slice_get, refl, sym, ap, subst, ◌∙◌}
+use Rattle.std.specs.Prelude.{filter_map, flat_map}
+use Rattle.std.specs.List.{AllByRecursion, cons_option}
+use Rattle.std.specs.Option.{option_and_then, option_to_list}
+use Rattle.std.proofs.lemmas.List.{append_assoc, map-append}
+use Rattle.hs_index.specs.Index.{chunks_left}
+use Rattle.hs_words.specs.Buffers.{Buffer}
+use Rattle.hs_model.specs.Standings.{Taken, indexed_places}
+use Rattle.hs_model.specs.State.{AgentState}
+use Rattle.hs_agent.specs.Placing.{Placed, Pledged, place_of, leased, lent, IsPledged}
+use Rattle.hs_agent.specs.Keeping.{Kept, Holds, Point, IsKept, waiting_chunks}
+use Rattle.hs_agent.specs.Points.{places_left, buffers_left}
+use Rattle.hs_agent.proofs.Alls.{all-weaker, all-append, all-left, all-right}
+use Rattle.hs_agent.proofs.OwnPlaces.{Traced, HasPlaces, have_places}
+
+module _ {L : Type 0} (leases : List (Option (Pledged L))) (buffers : List (Buffer L)) where
+  kept_lent : (placeds : List Placed) → AllByRecursion (IsKept leases buffers) placeds → filter_map (lent leases) placeds ≡ filter_map (slice_get buffers) (map place_of placeds)
+  kept_lent [] h = refl
+  kept_lent (placed ∷ placeds) h =
+      ap (λ slot. cons_option (option_and_then (λ s. option_map (λ (p : Pledged L). leased placed p.lease) s) slot) (filter_map (lent leases) placeds)) h.0.kept
+      ∙ ap (λ o. cons_option o (filter_map (lent leases) placeds)) (sym h.0.came)
+      ∙ ap (cons_option (slice_get buffers (place_of placed))) (kept_lent placeds h.1)
+
+places-left : (taken : List Taken) (ts : List Traced) → AllByRecursion (HasPlaces taken) ts → map place_of (chunks_left ts) ≡ flat_map (indexed_places taken) (map (λ (t : Traced). t.trace) ts)
+places-left taken [] h = refl
+places-left taken (t ∷ ts) h =
+    map-append place_of t.noted.chunks (chunks_left ts) ∙ (λ i. h.0 i ++ places-left taken ts h.1 i)
+
+module _ {L : Type 0} (kept : Kept L) (point : Point L) (h : Holds kept point) where
+  each_left : AllByRecursion (IsKept kept.leases point.buffers) (chunks_left kept.index.touched ++ kept.hand)
+  each_left =
+      let P = IsKept kept.leases point.buffers in
+      let wait = all-left P (waiting_chunks kept h.memory.pinned) kept.hand h.each in
+      all-append P (chunks_left kept.index.touched) kept.hand (all-left P (chunks_left kept.index.touched) _ wait) (all-right P (waiting_chunks kept h.memory.pinned) kept.hand h.each)
+
+  pub pledged_left : AllByRecursion (IsPledged kept.leases) (chunks_left kept.index.touched ++ kept.hand)
+  pledged_left =
+      all-weaker (IsKept kept.leases point.buffers) (IsPledged kept.leases) (λ (placed : Placed) (k : IsKept kept.leases point.buffers placed). record { lease = k.lease; is = k.kept })
+      (chunks_left kept.index.touched ++ kept.hand) each_left
+
+  pub lent_left : point.offered ≡ None → filter_map (lent kept.leases) (chunks_left kept.index.touched ++ kept.hand) ≡ buffers_left point
+  lent_left none =
+      kept_lent kept.leases point.buffers (chunks_left kept.index.touched ++ kept.hand) each_left
+      ∙ ap (filter_map (slice_get point.buffers))
+      (map-append place_of (chunks_left kept.index.touched) kept.hand
+      ∙ (λ i.
+      (places-left point.state.taken kept.index.touched (have_places kept point h) ∙ ap (flat_map (indexed_places point.state.taken)) (sym h.index.touched.traces)) i
+      ++ (ap (λ o. option_to_list o ++ map place_of kept.hand) (sym none) ∙ h.hand) i))

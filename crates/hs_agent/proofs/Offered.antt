@@ -1,0 +1,275 @@
+-- What is kept when the first of the hand was offered, and when the pool answered, is what the model says then.
+use Rattle.std.proofs.Common.{◌≡◌, ◌≢◌, ℕ, ◌+◌, ◌<◌, suc, zero, eq-eqb, Bool, true, false, List, [], ◌∷◌, ◌++◌, length, map, set, Option, Some, None, slice_get, slice_set, refl, sym, ap, subst, ◌∙◌, arith}
+use Rattle.std.specs.List.{AllByRecursion}
+use Rattle.std.specs.Option.{option_map_or, option_and_then, option_to_list}
+use Rattle.std.proofs.lemmas.List.{length-set}
+use Rattle.std.proofs.lemmas.Option.{slice_get_within}
+use Rattle.hs_base.specs.declared.told.Told.{Told}
+use Rattle.hs_journal.specs.declared.journal.Step.{Step}
+use Rattle.std.specs.Prelude.{Result, Ok, Err, IfOk, OnOk, IfSome, IfNone}
+use Rattle.hs_words.specs.Buffers.{Buffer, buffer_of, buffer_in}
+use Rattle.hs_words.specs.declared.token.Held.{Held}
+use Rattle.hs_sched.specs.declared.share.Share.{Share}
+use Rattle.hs_pins.specs.Remembered.{Pin}
+use Rattle.hs_model.specs.State.{AgentState, GivenPlace}
+use Rattle.hs_model.specs.Standings.{Taken}
+use Rattle.hs_model.specs.Laws.{count_of, IsInOnePlace}
+use Rattle.hs_model.specs.Stepping.{Given, note, step_of_answer, give_back, after_gave}
+use Rattle.hs_agent.specs.declared.placed.Place.{Place}
+use Rattle.hs_agent.specs.Placing.{Placed, Pledged, place_of, placed_at, leased, HandsOut}
+use Rattle.hs_agent.specs.Keeping.{Kept, Holds, Point, IsKept, with_state, waiting_chunks, all_held}
+use Rattle.hs_agent.specs.Offering.{Offers, back_at, answered}
+use Rattle.hs_agent.proofs.Alls.{all-weaker, all-append, all-left, all-right}
+use Rattle.hs_agent.proofs.OwnPlaces.{one_if, apart_from_offered, apart_from_first}
+
+-- ---- a write in a list
+
+pub get-other : {X : Type 0} (xs : List X) (i j : ℕ) (x : X) → i ≢ j → slice_get (slice_set xs i x) j ≡ slice_get xs j
+get-other [] i j x other = refl
+get-other (y ∷ ys) zero zero x other = absurd (other refl)
+get-other (y ∷ ys) zero (suc j) x other = refl
+get-other (y ∷ ys) (suc i) zero x other = refl
+get-other (y ∷ ys) (suc i) (suc j) x other = get-other ys i j x (λ e. other (ap suc e))
+
+get-in : {X : Type 0} (xs : List X) (i : ℕ) (x : X) → i < length xs → slice_get (slice_set xs i x) i ≡ Some x
+get-in [] i x within = absurd (omega (arith, within))
+get-in (z ∷ zs) zero x within = refl
+get-in (z ∷ zs) (suc i) x within = get-in zs i x (omega (arith, within))
+
+pub all-both : {X : Type 0} (P Q : X → Type 0) (xs : List X) → AllByRecursion P xs → AllByRecursion Q xs → AllByRecursion (λ x. P x × Q x) xs
+all-both P Q [] h k = tt
+all-both P Q (x ∷ xs) h k = ((h.0, k.0), all-both P Q xs h.1 k.1)
+
+-- ---- what does not touch the chunks
+
+-- messages, gives, steps and shares
+abbrev pub with_rest : List Told → List GivenPlace → List Step → List Share → AgentState → AgentState
+with_rest said given log shares state = record state { said = said; given = given; log = log; shares = shares }
+
+module _ {L : Type 0} where
+  -- a lease that is kept for another chunk
+  kept-other : (leases : List (Option (Pledged L))) (buffers : List (Buffer L)) (place : ℕ) (slot : Option (Pledged L)) (placed : Placed)
+      → IsKept leases buffers placed × (place ≢ place_of placed) → IsKept (slice_set leases place slot) buffers placed
+  kept-other leases buffers place slot placed h = record { lease = h.0.lease; kept = get-other leases place (place_of placed) slot h.1 ∙ h.0.kept; came = h.0.came }
+
+  kept-instead : (leases : List (Option (Pledged L))) (buffers : List (Buffer L)) (place : ℕ) (slot : Option (Pledged L)) (buffer : Buffer L) (placed : Placed)
+      → IsKept leases buffers placed × (place ≢ place_of placed) → IsKept (slice_set leases place slot) (slice_set buffers place buffer) placed
+  kept-instead leases buffers place slot buffer placed h =
+      record { lease = h.0.lease; kept = get-other leases place (place_of placed) slot h.1 ∙ h.0.kept; came = get-other buffers place (place_of placed) buffer h.1 ∙ h.0.came }
+
+  -- what is kept does not speak of them
+  pub holds-rest : (kept : Kept L) (point : Point L) (said : List Told) (given : List GivenPlace) (log : List Step) (shares : List Share) → Holds kept point
+      → Holds kept (with_state (with_rest said given log shares point.state) point)
+  holds-rest kept point said given log shares h = record {
+    node_is = h.node_is;
+    memory = h.memory;
+    remembers = h.remembers;
+    pins = let p = h.pins in
+        record {
+          node_is = p.node_is;
+          rules = p.rules;
+          most = p.most;
+          claims = p.claims;
+          pinned = p.pinned;
+          groups = p.groups;
+          abandoned = p.abandoned;
+          tried = p.tried;
+          admitted = p.admitted;
+        };
+    index = let i = h.index in
+        record {
+          threshold = i.threshold;
+          most = i.most;
+          touched = record { traces = i.touched.traces; apart = i.touched.apart; free = i.touched.free; places = i.touched.places; count = i.touched.count; crumbs = i.touched.crumbs };
+        };
+    sent = h.sent;
+    offered = h.offered;
+    hand = h.hand;
+    standings = h.standings;
+    claims = h.claims;
+    pages = h.pages;
+    leases = h.leases;
+    buffers = h.buffers;
+    each = h.each;
+    paged = h.paged;
+    few = h.few;
+    fits = h.fits;
+    reported = h.reported;
+  }
+
+  -- the same with another hand, other leases and buffers, and another chunk offered
+  rehanded : (kept : Kept L) (point : Point L) (h : Holds kept point) (hand : List Placed) (leases : List (Option (Pledged L))) (offered : Option ℕ) (buffers : List (Buffer L)) (places : List ℕ)
+      → option_to_list offered ++ map place_of hand ≡ places → length leases ≡ length kept.leases → length buffers ≡ length point.buffers
+      → AllByRecursion (IsKept leases buffers) (waiting_chunks kept h.memory.pinned ++ hand)
+      → Holds (record kept { hand = hand; leases = leases; offered = offered }) (record point { state = record point.state { hand = places }; buffers = buffers; offered = offered })
+  rehanded kept point h hand leases offered buffers places is many came each = record {
+    node_is = h.node_is;
+    memory = h.memory;
+    remembers = h.remembers;
+    pins = let p = h.pins in
+        record {
+          node_is = p.node_is;
+          rules = p.rules;
+          most = p.most;
+          claims = p.claims;
+          pinned = p.pinned;
+          groups = p.groups;
+          abandoned = p.abandoned;
+          tried = p.tried;
+          admitted = p.admitted;
+        };
+    index = let i = h.index in
+        record {
+          threshold = i.threshold;
+          most = i.most;
+          touched = record { traces = i.touched.traces; apart = i.touched.apart; free = i.touched.free; places = i.touched.places; count = i.touched.count; crumbs = i.touched.crumbs };
+        };
+    sent = h.sent;
+    offered = refl;
+    hand = is;
+    standings = h.standings;
+    claims = h.claims;
+    pages = h.pages;
+    leases = many ∙ h.leases;
+    buffers = came ∙ h.buffers;
+    each = each;
+    paged = h.paged;
+    few = h.few;
+    fits = h.fits;
+    reported = h.reported;
+  }
+
+  -- ---- an offer
+
+  module _ (kept : Kept L) (point : Point L) (h : Holds kept point) (one : (place : ℕ) → IsInOnePlace point.state place) (none : point.offered ≡ None) where
+    abbrev pub first_of : Option ℕ
+    first_of = slice_get point.state.hand 0
+
+    in_hand : map place_of kept.hand ≡ point.state.hand
+    in_hand = ap (λ o. option_to_list o ++ map place_of kept.hand) (sym none) ∙ h.hand
+
+    -- the hand is empty
+    pub none_first : kept.hand ≡ [] → first_of ≡ None
+    none_first e = ap (λ l. slice_get l 0) (sym in_hand) ∙ ap (λ (l : List Placed). slice_get (map place_of l) 0) e
+
+    module _ (buffer : Buffer L) (new : Kept L) (offers : Offers kept buffer new) where
+      is_first : first_of ≡ Some (place_of offers.first)
+      is_first = ap (λ l. slice_get l 0) (sym in_hand) ∙ ap (λ (l : List Placed). slice_get (map place_of l) 0) offers.was
+
+      first_kept : IsKept kept.leases point.buffers offers.first
+      first_kept = (all-right (IsKept kept.leases point.buffers) (waiting_chunks kept h.memory.pinned) (offers.first ∷ new.hand) (subst (λ hand. AllByRecursion (IsKept kept.leases point.buffers) (waiting_chunks kept h.memory.pinned ++ hand)) offers.was h.each)).0
+
+      -- it is handed out as it came last
+      pub as_it_came : Some buffer ≡ option_and_then (λ place. slice_get point.buffers place) first_of
+      as_it_came =
+          let same : Some (Some (record { lease = buffer.lease; number = offers.first.chunk.number })) ≡ Some (Some (record { lease = first_kept.lease; number = offers.first.chunk.number })) = sym offers.handed.was ∙ first_kept.kept in
+          let lease : buffer.lease ≡ first_kept.lease = ap (λ (o : Option (Option (Pledged L))). option_map_or (λ (p : Option (Pledged L)). option_map_or (λ (q : Pledged L). q.lease) p buffer.lease) o buffer.lease) same in
+          let is : buffer ≡ leased offers.first first_kept.lease = λ i. record { chunk = offers.handed.chunk i; lease = lease i } in
+          ap Some is ∙ sym first_kept.came ∙ sym (ap (option_and_then (λ place. slice_get point.buffers place)) is_first)
+
+      pub holds-offered : Holds new (record point { offered = first_of })
+      holds-offered =
+          let p = place_of offers.first in
+          let leases : new.leases ≡ slice_set kept.leases p None = offers.handed.now in
+          let wait : List Placed = waiting_chunks kept h.memory.pinned in
+          let each : AllByRecursion (IsKept kept.leases point.buffers) (wait ++ offers.first ∷ new.hand) = subst (λ hand. AllByRecursion (IsKept kept.leases point.buffers) (wait ++ hand)) offers.was h.each in
+          let others : AllByRecursion (IsKept kept.leases point.buffers) (wait ++ new.hand) =
+          all-append (IsKept kept.leases point.buffers) wait new.hand (all-left (IsKept kept.leases point.buffers) wait (offers.first ∷ new.hand) each)
+          (all-right (IsKept kept.leases point.buffers) wait (offers.first ∷ new.hand) each).1 in
+          let apart = apart_from_first kept point h one offers.first new.hand offers.was in
+          let still : AllByRecursion (IsKept (slice_set kept.leases p None) point.buffers) (wait ++ new.hand) =
+          all-weaker (λ (placed : Placed). IsKept kept.leases point.buffers placed × (p ≢ place_of placed)) (IsKept (slice_set kept.leases p None) point.buffers)
+          (kept-other kept.leases point.buffers p None) (wait ++ new.hand)
+          (all-both (IsKept kept.leases point.buffers) (λ (placed : Placed). p ≢ place_of placed) (wait ++ new.hand) others apart) in
+          let made : Holds (record kept { hand = new.hand; leases = new.leases; offered = new.offered }) (record point { offered = new.offered }) =
+          rehanded kept point h new.hand new.leases new.offered point.buffers point.state.hand
+          (ap (λ o. option_to_list o ++ map place_of new.hand) offers.offered ∙ sym (ap (map place_of) offers.was) ∙ in_hand)
+          (ap length leases ∙ length-set kept.leases p None) refl
+          (subst (λ ls. AllByRecursion (IsKept ls point.buffers) (wait ++ new.hand)) (sym leases) still) in
+          subst (λ o. Holds new (record point { offered = o })) (offers.offered ∙ sym is_first)
+          (subst (λ k. Holds k (record point { offered = new.offered })) (sym offers.others) made)
+
+  -- ---- an answer
+
+  module _ (kept : Kept L) (point : Point L) (h : Holds kept point) (one : (place : ℕ) → IsInOnePlace point.state place) (place : ℕ) (out : point.offered ≡ Some place) where
+    in_front : place ∷ map place_of kept.hand ≡ point.state.hand
+    in_front = ap (λ o. option_to_list o ++ map place_of kept.hand) (sym out) ∙ h.hand
+
+    -- it was taken
+    pub below : place < length point.state.taken
+    below = by (slice_get point.state.taken place) refl
+      where
+        by : (found : Option Taken) → slice_get point.state.taken place ≡ found → place < length point.state.taken
+        by (Some chunk) e = slice_get_within point.state.taken place chunk e
+        by None e =
+            let part = one place in
+            let hand = ap (λ l. count_of l place) (sym in_front) ∙ ap (λ b. one_if b + count_of (map place_of kept.hand) place) (eq-eqb place place refl) in
+            let none = ap (λ o. one_if (option_map_or (λ (c : Taken). true) o false)) e in
+            absurd (omega (arith, part, hand, none))
+
+    -- the first of the hand was given
+    abbrev pub after_given : ℕ → Point L
+    after_given stamp = record point { state = after_gave point.state (Given stamp); offered = None }
+
+    pub holds-given : (stamp : ℕ) → Holds (answered None kept) (after_given stamp)
+    holds-given stamp =
+        let made : Holds (record kept { offered = None }) (record point { state = record point.state { hand = map place_of kept.hand }; offered = None }) =
+        rehanded kept point h kept.hand kept.leases None point.buffers (map place_of kept.hand) refl refl refl h.each in
+        subst (λ hand. Holds (record kept { offered = None }) (record point { state = note (step_of_answer (Given stamp)) (give_back stamp hand point.state); offered = None })) in_front
+        (holds-rest (record kept { offered = None }) (record point { state = record point.state { hand = map place_of kept.hand }; offered = None }) point.state.said
+        (point.state.given ++ record { place = place; stamp = stamp } ∷ []) (point.state.log ++ step_of_answer (Given stamp) ∷ []) point.state.shares made)
+
+    -- it came back
+    pub holds-back : (buffer : Buffer L) (step : Step)
+        → Holds (answered (Some buffer) kept) (record point { state = note step point.state; buffers = slice_set point.buffers place buffer; offered = None })
+    holds-back buffer step =
+        let wait : List Placed = waiting_chunks kept h.memory.pinned in
+        let back : Placed = placed_at place buffer in
+        let slot : Option (Pledged L) = Some (record { lease = buffer.lease; number = buffer.chunk.number }) in
+        let P = λ (placed : Placed). IsKept kept.leases point.buffers placed × (place ≢ place_of placed) in
+        let Q = IsKept (slice_set kept.leases place slot) (slice_set point.buffers place buffer) in
+        let apart = apart_from_offered kept point h one place out in
+        let both : AllByRecursion P (wait ++ kept.hand) = all-both (IsKept kept.leases point.buffers) (λ (placed : Placed). place ≢ place_of placed) (wait ++ kept.hand) h.each apart in
+        let still : AllByRecursion Q (wait ++ kept.hand) = all-weaker P Q (kept-instead kept.leases point.buffers place slot buffer) (wait ++ kept.hand) both in
+        let here : Q back = record {
+          lease = buffer.lease;
+          kept = get-in kept.leases place slot (subst (λ n. place < n) (sym h.leases) below);
+          came = get-in point.buffers place buffer (subst (λ n. place < n) (sym h.buffers) below);
+        } in
+        let each : AllByRecursion Q (wait ++ back ∷ kept.hand) = all-append Q wait (back ∷ kept.hand) (all-left Q wait kept.hand still) (here, all-right Q wait kept.hand still) in
+        let made : Holds (back_at kept place buffer) (record point { state = record point.state { hand = place ∷ map place_of kept.hand }; buffers = slice_set point.buffers place buffer; offered = None }) =
+        rehanded kept point h (back ∷ kept.hand) (slice_set kept.leases place slot) None (slice_set point.buffers place buffer) (place ∷ map place_of kept.hand) refl
+        (length-set kept.leases place slot) (length-set point.buffers place buffer) each in
+        let noted : Holds (back_at kept place buffer) (record point { state = note step (record point.state { hand = place ∷ map place_of kept.hand }); buffers = slice_set point.buffers place buffer; offered = None }) =
+        holds-rest (back_at kept place buffer) _ point.state.said point.state.given (point.state.log ++ step ∷ []) point.state.shares made in
+        subst (λ o. Holds (option_map_or (λ p. back_at kept p buffer) o kept) (record point { state = note step point.state; buffers = slice_set point.buffers place buffer; offered = None })) (sym (h.offered ∙ out))
+        (subst (λ hand. Holds (back_at kept place buffer) (record point { state = note step (record point.state { hand = hand }); buffers = slice_set point.buffers place buffer; offered = None })) in_front noted)
+
+-- ---- both outcomes of an offer
+
+abbrev pub next_chunk : {L : Type 0} → Point L → Option (Buffer L)
+next_chunk point = option_and_then (λ place. slice_get point.buffers place) (slice_get point.state.hand 0)
+
+-- what an offer says of the first of the hand, and of an empty hand
+abbrev pub SaysFirst : {L : Type 0} {g : _} {E : Type 0} → Kept L → Kept L → Result (Option (Held L g)) E → Type 0
+SaysFirst old new result = IfOk result (λ first. IfSome first (λ held. Offers old (buffer_of held) new))
+
+abbrev pub SaysNone : {L : Type 0} {g : _} {E : Type 0} → Kept L → Kept L → Result (Option (Held L g)) E → Type 0
+SaysNone old new result = IfOk result (λ first. IfNone first ((old.hand ≡ []) × (new ≡ old)))
+
+module _ {L : Type 0} (old new : Kept L) (point : Point L) (h : Holds old point) (one : (place : ℕ) → IsInOnePlace point.state place) (none : point.offered ≡ None) where
+  pub offers-first : {g : _} {E : Type 0} → (result : Result (Option (Held L g)) E) → SaysFirst old new result → SaysNone old new result → IfOk result (λ first. buffer_in {L = L} {g = g} first ≡ next_chunk point)
+  offers-first (Err e) some empty = tt
+  offers-first (Ok None) some empty = sym (ap (option_and_then (λ place. slice_get point.buffers place)) (none_first old point h one none empty.0))
+  offers-first {g} (Ok (Some held)) some empty = as_it_came old point h one none (buffer_of {L = L} {g = g} held) new some
+
+  pub offers-holds : {g : _} {E : Type 0} → (result : Result (Option (Held L g)) E) → SaysFirst old new result → SaysNone old new result → OnOk result (Holds new (record point { offered = slice_get point.state.hand 0 }))
+  offers-holds (Err e) some empty = tt
+  offers-holds (Ok None) some empty =
+      subst (λ o. Holds new (record point { offered = o })) (none ∙ sym (none_first old point h one none empty.0)) (subst (λ k. Holds k point) (sym empty.1) h)
+  offers-holds {g} (Ok (Some held)) some empty = holds-offered old point h one none (buffer_of {L = L} {g = g} held) new some
+
+  pub offers-empty : {g : _} {E : Type 0} → (result : Result (Option (Held L g)) E) → SaysNone old new result → IfOk result (λ first. IfNone first (point.state.hand ≡ []))
+  offers-empty (Err e) empty = tt
+  offers-empty (Ok None) empty = sym (in_hand old point h one none) ∙ ap (map place_of) empty.0
+  offers-empty (Ok (Some held)) empty = tt

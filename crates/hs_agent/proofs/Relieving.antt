@@ -1,0 +1,220 @@
+-- What is kept after an abandonment is what the model says then.
+use Rattle.std.proofs.Common.{◌≡◌, ℕ, ◌+◌, ◌≤◌, ◌<◌, ◌^◌, Bool, true, false, cond, not, List, [], ◌∷◌, ◌++◌, length, map, filter, fold, refl, sym, ap, subst, ◌∙◌, arith, append-nil}
+use Rattle.std.specs.Prelude.{filter_map}
+use Rattle.std.specs.List.{AllByRecursion}
+use Rattle.std.specs.Option.{option_to_list}
+use Rattle.std.proofs.lemmas.List.{append_assoc, map-append}
+use Rattle.std.proofs.lemmas.Simd.{map-map}
+use Rattle.hs_base.specs.declared.told.Group.{Group}
+use Rattle.hs_journal.specs.declared.books.Standing.{Standing}
+use Rattle.hs_pins.specs.Remembered.{Pin, Remembered, pins_for, without_group, is_for}
+use Rattle.hs_pins.specs.Abandoning.{leaving, staying, going, drops, relieved}
+use Rattle.hs_pins.specs.PinsLayout.{Pinning, Remembers}
+use Rattle.hs_index.specs.Index.{Indexed, chunks_left, count_chunks}
+use Rattle.hs_model.specs.State.{AgentState}
+use Rattle.hs_model.specs.Standings.{Taken}
+use Rattle.hs_model.specs.Books.{page_standing, claim_note, bytes_at}
+use Rattle.hs_model.specs.Messages.{has_crumb}
+use Rattle.hs_model.specs.Abandoning as model
+use Rattle.hs_agent.specs.declared.placed.Place.{Place}
+use Rattle.hs_agent.specs.Placing.{Placed, Pledged, place_of}
+use Rattle.hs_agent.specs.Keeping.{Kept, Holds, HasPage, IsKept, IsIndexed, IsIndexOf, RemembersAs, Point, with_state, pinned_place, waiting_chunks, all_held}
+use Rattle.hs_agent.specs.LettingGo.{Going, with_fate, let_go, let_go_all, abandoned_going}
+use Rattle.hs_agent.proofs.Alls.{all-weaker}
+use Rattle.hs_agent.proofs.Going.{length-staying}
+use Rattle.hs_agent.proofs.GivingWay.{HasAbandoned, same_go, note_abandoned}
+use Rattle.hs_agent.proofs.Moved.{length-same, pages-same, has_page-same}
+
+-- ---- what is let go, all at once
+
+abbrev note_going : List Standing → Going → List Standing
+note_going standings g = with_fate (place_of g.buffer) g.fate standings
+
+abbrev pub going_buffer : Going → Placed
+going_buffer g = g.buffer
+
+-- the fates are noted, the chunks stand last in the hand, and nothing else changes
+pub let_go_all-is : {L : Type 0} (kept : Kept L) (goings : List Going) → let_go_all kept goings ≡ record kept { standings = fold note_going kept.standings goings; hand = kept.hand ++ map going_buffer goings }
+let_go_all-is kept [] = λ i. record kept { hand = sym (append-nil kept.hand) i }
+let_go_all-is kept (g ∷ goings) =
+    let_go_all-is (let_go kept g) goings
+    ∙ ap (λ hand. record kept { standings = fold note_going (note_going kept.standings g) goings; hand = hand }) (append_assoc kept.hand (g.buffer ∷ []) (map going_buffer goings))
+
+pub fold-goings : {A : Type 0} (f : A → Going) (standings : List Standing) (items : List A) → fold note_going standings (map f items) ≡ fold (λ ss item. note_going ss (f item)) standings items
+fold-goings f standings [] = refl
+fold-goings f standings (item ∷ items) = fold-goings f (note_going standings (f item)) items
+
+-- ---- lists that an abandonment cuts
+
+module _ {A : Type 0} (P : A → Type 0) where
+  pub all-append : (xs ys : List A) → AllByRecursion P xs → AllByRecursion P ys → AllByRecursion P (xs ++ ys)
+  all-append [] ys h k = k
+  all-append (x ∷ xs) ys h k = (h.0, all-append xs ys h.1 k)
+
+  pub all-front : (xs ys : List A) → AllByRecursion P (xs ++ ys) → AllByRecursion P xs
+  all-front [] ys h = tt
+  all-front (x ∷ xs) ys h = (h.0, all-front xs ys h.1)
+
+  pub all-back : (xs ys : List A) → AllByRecursion P (xs ++ ys) → AllByRecursion P ys
+  all-back [] ys h = h
+  all-back (x ∷ xs) ys h = all-back xs ys h.1
+
+module _ {A : Type 0} {P Q : A → Type 0} (f : (x : A) → P x → Q x) where
+  pub all-same : (xs : List A) → AllByRecursion P xs → AllByRecursion Q xs
+  all-same [] h = tt
+  all-same (x ∷ xs) h = (f x h.0, all-same xs h.1)
+
+abbrev pub chunk_of : Pin Place → Placed
+chunk_of pin = pin.chunk
+
+module _ (P : Placed → Type 0) where
+  all-without : (group : Group) (pinned : List (Pin Place)) → AllByRecursion P (map chunk_of pinned) → AllByRecursion P (map chunk_of (without_group group pinned))
+  all-without group [] h = tt
+  all-without group (pin ∷ pinned) h = by (is_for group pin) (all-without group pinned h.1)
+    where
+      by : (b : Bool) → AllByRecursion P (map chunk_of (without_group group pinned)) → AllByRecursion P (map chunk_of (cond (not b) (pin ∷ without_group group pinned) (without_group group pinned)))
+      by true rest = rest
+      by false rest = (h.0, rest)
+
+  all-for : (group : Group) (pinned : List (Pin Place)) → AllByRecursion P (map chunk_of pinned) → AllByRecursion P (map chunk_of (pins_for group pinned))
+  all-for group [] h = tt
+  all-for group (pin ∷ pinned) h = by (is_for group pin) (all-for group pinned h.1)
+    where
+      by : (b : Bool) → AllByRecursion P (map chunk_of (pins_for group pinned)) → AllByRecursion P (map chunk_of (cond b (pin ∷ pins_for group pinned) (pins_for group pinned)))
+      by true rest = (h.0, rest)
+      by false rest = rest
+
+  all-staying : (groups : List Group) (pinned : List (Pin Place)) → AllByRecursion P (map chunk_of pinned) → AllByRecursion P (map chunk_of (staying groups pinned))
+  all-staying [] pinned h = h
+  all-staying (group ∷ groups) pinned h = all-staying groups (without_group group pinned) (all-without group pinned h)
+
+  all-going : (groups : List Group) (pinned : List (Pin Place)) → AllByRecursion P (map chunk_of pinned) → AllByRecursion P (map chunk_of (going groups pinned))
+  all-going [] pinned h = tt
+  all-going (group ∷ groups) pinned h =
+      subst (AllByRecursion P) (sym (map-append chunk_of (pins_for group pinned) (going groups (without_group group pinned))))
+      (all-append P (map chunk_of (pins_for group pinned)) (map chunk_of (going groups (without_group group pinned))) (all-for group pinned h) (all-going groups (without_group group pinned) (all-without group pinned h)))
+
+-- ---- an abandonment
+
+module _ {L : Type 0} (kept : Kept L) (pins : Pinning Place) (point : Point L) (h : Holds kept point) (remembers : Remembers pins (relieved h.memory)) where
+  abbrev pinned : List (Pin Place)
+  pinned = h.memory.pinned
+
+  abbrev groups : List Group
+  groups = leaving h.memory.most pinned
+
+  abbrev old : AgentState
+  old = point.state
+
+  abbrev new : AgentState
+  new = model.abandon point.settings point.state
+
+  gone : HasAbandoned pinned_place point.settings old new pinned groups
+  gone = subst (λ most. HasAbandoned pinned_place point.settings old new pinned (leaving most pinned)) (sym h.pins.most) (same_go pinned_place point.settings old pinned (sym h.pins.pinned) h.pins.groups)
+
+  -- what is kept then
+  abbrev left : Kept L
+  left = record kept { pins = pins; standings = fold note_going kept.standings (map abandoned_going (going groups pinned)); hand = kept.hand ++ map chunk_of (going groups pinned) }
+
+  is_left : let_go_all (record kept { pins = pins }) (map abandoned_going (drops h.memory)) ≡ left
+  is_left =
+      let_go_all-is (record kept { pins = pins }) (map abandoned_going (going groups pinned))
+      ∙ ap (λ hand. record kept { pins = pins; standings = fold note_going kept.standings (map abandoned_going (going groups pinned)); hand = kept.hand ++ hand }) (map-map going_buffer abandoned_going (going groups pinned))
+
+  stands_for : RemembersAs point.settings point.node new (relieved h.memory)
+  stands_for = record {
+    node_is = h.pins.node_is;
+    rules = h.pins.rules;
+    most = h.pins.most;
+    claims = h.pins.claims ∙ sym (ap (λ (s : AgentState). s.claims) gone.others);
+    pinned = sym gone.pinned_are;
+    groups = gone.are;
+    abandoned = ap (λ l. l ++ groups) h.pins.abandoned ∙ sym gone.abandoned;
+    tried = h.pins.tried ∙ sym (ap (λ (s : AgentState). s.tried) gone.others);
+    admitted = h.pins.admitted ∙ sym (ap (λ (s : AgentState). s.admitted) gone.others);
+  }
+
+  still_indexed : IsIndexed h.memory.claims new kept.index.touched
+  still_indexed =
+      let was = h.index.touched in
+      record {
+        traces = ap (λ (s : AgentState). s.touched) gone.others ∙ was.traces;
+        apart = was.apart;
+        free = was.free;
+        places = λ trace. was.places trace ∙ sym (gone.indexed trace);
+        count = gone.count ∙ was.count;
+        crumbs = λ trace n. ap (λ (s : AgentState). has_crumb s.crumbs (record { trace = trace; node = record { 0 = n } })) gone.others ∙ was.crumbs trace n;
+      }
+
+  fates_noted : fold note_going kept.standings (map abandoned_going (going groups pinned)) ≡ map page_standing new.taken
+  fates_noted =
+      fold-goings abandoned_going kept.standings (going groups pinned)
+      ∙ ap (λ ss. fold (note_abandoned pinned_place) ss (going groups pinned)) h.standings
+      ∙ gone.noted
+
+  hand_grew : option_to_list point.offered ++ map place_of (kept.hand ++ map chunk_of (going groups pinned)) ≡ new.hand
+  hand_grew =
+      ap (λ l. option_to_list point.offered ++ l) (map-append place_of kept.hand (map chunk_of (going groups pinned)) ∙ ap (λ l. map place_of kept.hand ++ l) (map-map place_of chunk_of (going groups pinned)))
+      ∙ sym (append_assoc (option_to_list point.offered) (map place_of kept.hand) (map pinned_place (going groups pinned)))
+      ∙ ap (λ l. l ++ map pinned_place (going groups pinned)) h.hand
+      ∙ sym gone.hand
+
+  abbrev index_chunks : List Placed
+  index_chunks = chunks_left kept.index.touched
+
+  -- each lease is kept as before
+  each_kept : AllByRecursion (IsKept kept.leases point.buffers) (all_held left (staying groups pinned))
+  each_kept =
+      let P = IsKept kept.leases point.buffers in
+      let front = all-front P (waiting_chunks kept pinned) kept.hand h.each in
+      let hand = all-back P (waiting_chunks kept pinned) kept.hand h.each in
+      let indexed = all-front P index_chunks (map chunk_of pinned) front in
+      let pins_kept = all-back P index_chunks (map chunk_of pinned) front in
+      all-append P (index_chunks ++ map chunk_of (staying groups pinned)) (kept.hand ++ map chunk_of (going groups pinned))
+      (all-append P index_chunks (map chunk_of (staying groups pinned)) indexed (all-staying P groups pinned pins_kept))
+      (all-append P kept.hand (map chunk_of (going groups pinned)) hand (all-going P groups pinned pins_kept))
+
+  each_paged : AllByRecursion (HasPage point.settings new.taken) (waiting_chunks left (staying groups pinned))
+  each_paged =
+      let P = HasPage point.settings old.taken in
+      let indexed = all-front P index_chunks (map chunk_of pinned) h.paged in
+      let pins_paged = all-back P index_chunks (map chunk_of pinned) h.paged in
+      all-same (λ (placed : Placed) (page : P placed). has_page-same old.taken new.taken gone.pages point.settings placed page)
+      (index_chunks ++ map chunk_of (staying groups pinned))
+      (all-append P index_chunks (map chunk_of (staying groups pinned)) indexed (all-staying P groups pinned pins_paged))
+
+  holds_left : Holds left (with_state new point)
+  holds_left =
+      let long = length-same old.taken new.taken gone.pages in
+      record {
+        node_is = h.node_is;
+        memory = relieved h.memory;
+        remembers = remembers;
+        pins = stands_for;
+        index = record { threshold = h.index.threshold; most = h.index.most; touched = still_indexed };
+        sent = h.sent;
+        offered = h.offered;
+        hand = hand_grew;
+        standings = fates_noted;
+        claims = h.claims ∙ sym (ap (λ (s : AgentState). map claim_note s.claims) gone.others);
+        pages =
+            h.pages
+            ∙ sym (pages-same old.taken new.taken gone.pages old.reported)
+            ∙ sym (ap (λ (s : AgentState). filter_map (bytes_at new.taken) s.reported) gone.others);
+        reported =
+            subst (AllByRecursion (λ (place : ℕ). place < length new.taken)) (sym (ap (λ (s : AgentState). s.reported) gone.others))
+            (all-weaker (λ (place : ℕ). place < length old.taken) (λ (place : ℕ). place < length new.taken) (λ place within. subst (λ n. place < n) (sym long) within) old.reported h.reported);
+        leases = h.leases ∙ sym long;
+        buffers = h.buffers ∙ sym long;
+        each = each_kept;
+        paged = each_paged;
+        few =
+            let fewer = length-staying groups pinned in
+            let few = h.few in
+            omega (arith, fewer, few, long);
+        fits = let fits = h.fits in omega (arith, fits, long);
+      }
+
+  -- what is kept is what the model says, where groups gave way
+  pub holds-abandoned : Holds (let_go_all (record kept { pins = pins }) (map abandoned_going (drops h.memory))) (with_state (model.abandon point.settings point.state) point)
+  holds-abandoned = subst (λ k. Holds k (with_state new point)) (sym is_left) holds_left

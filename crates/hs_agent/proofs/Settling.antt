@@ -1,0 +1,134 @@
+-- What is kept after an eviction is what the model says then.
+use Rattle.std.proofs.Common.{◌≡◌, ℕ, ◌+◌, ◌≤◌, ◌<◌, List, [], ◌∷◌, ◌++◌, length, map, fold, refl, sym, ap, subst, ◌∙◌, arith}
+use Rattle.std.specs.Prelude.{filter_map}
+use Rattle.std.specs.List.{AllByRecursion}
+use Rattle.std.specs.Option.{option_to_list}
+use Rattle.std.proofs.lemmas.List.{append_assoc, map-append}
+use Rattle.std.proofs.lemmas.Simd.{map-map}
+use Rattle.hs_journal.specs.declared.books.Standing.{Standing}
+use Rattle.hs_pins.specs.Remembered.{Pin}
+use Rattle.hs_index.specs.Index.{Index, Indexed, Leaving, chunks_left, kept, evicted, settled, going, with_touched}
+use Rattle.hs_model.specs.State.{AgentState}
+use Rattle.hs_model.specs.Books.{page_standing, claim_note, bytes_at}
+use Rattle.hs_model.specs.Evicting.{evict}
+use Rattle.hs_agent.specs.declared.placed.Place.{Place}
+use Rattle.hs_agent.specs.Placing.{Placed, place_of}
+use Rattle.hs_agent.specs.Keeping.{Kept, Holds, HasPage, IsKept, RemembersAs, Point, with_state, pinned_place, waiting_chunks, all_held}
+use Rattle.hs_agent.specs.LettingGo.{Going, let_go_all, evicted_going}
+use Rattle.hs_agent.proofs.Alls.{all-append, all-left, all-right, all-weaker}
+use Rattle.hs_agent.proofs.Evictions.{HasEvicted, same_evicted, note_leaving, all-kept, all-evicted, count-kept}
+use Rattle.hs_agent.proofs.Moved.{length-same, pages-same, has_page-same}
+use Rattle.hs_agent.proofs.Relieving.{let_go_all-is, fold-goings, going_buffer}
+
+module _ {L : Type 0} (old : Kept L) (point : Point L) (h : Holds old point) where
+  abbrev touched : List (Indexed Place)
+  touched = old.index.touched
+
+  abbrev after : AgentState
+  after = evict point.settings point.state
+
+  gone : HasEvicted point.settings h.memory.claims point.state after touched
+  gone = same_evicted point.settings h.memory.claims point.state touched h.index.touched
+
+  abbrev buffer_in : Leaving Place → Placed
+  buffer_in l = l.buffer
+
+  module _ (threshold most : ℕ) where
+    abbrev stay : List (Indexed Place)
+    stay = kept threshold most touched
+
+    abbrev leave : List (Leaving Place)
+    leave = evicted threshold most touched
+
+    -- what is kept then
+    abbrev left : Kept L
+    left = record old { index = with_touched old.index stay; standings = fold note_leaving old.standings leave; hand = old.hand ++ map buffer_in leave }
+
+    is_left : let_go_all (record old { index = with_touched old.index stay }) (map evicted_going leave) ≡ left
+    is_left =
+        let_go_all-is (record old { index = with_touched old.index stay }) (map evicted_going leave)
+        ∙ (λ i. record old { index = with_touched old.index stay; standings = fold-goings evicted_going old.standings leave i; hand = old.hand ++ map-map going_buffer evicted_going leave i })
+
+    each_kept : AllByRecursion (IsKept old.leases point.buffers) (all_held left h.memory.pinned)
+    each_kept =
+        let P = IsKept old.leases point.buffers in
+        let pins = map (λ (pin : Pin Place). pin.chunk) h.memory.pinned in
+        let front = all-left P (waiting_chunks old h.memory.pinned) old.hand h.each in
+        let hand = all-right P (waiting_chunks old h.memory.pinned) old.hand h.each in
+        let indexed = all-left P (chunks_left touched) pins front in
+        let pinned = all-right P (chunks_left touched) pins front in
+        all-append P (chunks_left stay ++ pins) (old.hand ++ map buffer_in leave)
+        (all-append P (chunks_left stay) pins (all-kept P threshold most touched indexed) pinned)
+        (all-append P old.hand (map buffer_in leave) hand (all-evicted P threshold most touched indexed))
+
+    each_paged : AllByRecursion (HasPage point.settings after.taken) (waiting_chunks left h.memory.pinned)
+    each_paged =
+        let P = HasPage point.settings point.state.taken in
+        let pins = map (λ (pin : Pin Place). pin.chunk) h.memory.pinned in
+        all-weaker P (HasPage point.settings after.taken) (λ placed page. has_page-same point.state.taken after.taken gone.pages point.settings placed page) (chunks_left stay ++ pins)
+        (all-append P (chunks_left stay) pins (all-kept P threshold most touched (all-left P (chunks_left touched) pins h.paged)) (all-right P (chunks_left touched) pins h.paged))
+
+  abbrev threshold : ℕ
+  threshold = point.settings.threshold
+
+  abbrev most : ℕ
+  most = point.settings.traces
+
+  stands_for : RemembersAs point.settings point.node after h.memory
+  stands_for = record {
+    node_is = h.pins.node_is;
+    rules = h.pins.rules;
+    most = h.pins.most;
+    claims = h.pins.claims ∙ sym (ap (λ (s : AgentState). s.claims) gone.others);
+    pinned = h.pins.pinned ∙ sym (ap (λ (s : AgentState). s.pinned) gone.others);
+    groups = all-weaker _ _ (λ (pin : Pin Place) e. gone.pinned (pinned_place pin) pin.group e) h.memory.pinned h.pins.groups;
+    abandoned = h.pins.abandoned ∙ sym (ap (λ (s : AgentState). s.abandoned) gone.others);
+    tried = h.pins.tried ∙ sym (ap (λ (s : AgentState). s.tried) gone.others);
+    admitted = h.pins.admitted ∙ sym (ap (λ (s : AgentState). s.admitted) gone.others);
+  }
+
+  hand_grew : option_to_list point.offered ++ map place_of (old.hand ++ map buffer_in (leave threshold most)) ≡ after.hand
+  hand_grew =
+      ap (λ l. option_to_list point.offered ++ l) (map-append place_of old.hand (map buffer_in (leave threshold most)) ∙ ap (λ l. map place_of old.hand ++ l) (map-map place_of buffer_in (leave threshold most)))
+      ∙ sym (append_assoc (option_to_list point.offered) (map place_of old.hand) (map (λ (l : Leaving Place). place_of l.buffer) (leave threshold most)))
+      ∙ ap (λ l. l ++ map (λ (l : Leaving Place). place_of l.buffer) (leave threshold most)) h.hand
+      ∙ sym gone.hand
+
+  holds_left : Holds (left threshold most) (with_state after point)
+  holds_left =
+      let long = length-same point.state.taken after.taken gone.pages in
+      record {
+        node_is = h.node_is;
+        memory = h.memory;
+        remembers = h.remembers;
+        pins = stands_for;
+        index = record { threshold = h.index.threshold; most = h.index.most; touched = gone.indexed };
+        sent = h.sent;
+        offered = h.offered;
+        hand = hand_grew;
+        standings = ap (λ ss. fold note_leaving ss (leave threshold most)) h.standings ∙ gone.noted;
+        claims = h.claims ∙ sym (ap (λ (s : AgentState). map claim_note s.claims) gone.others);
+        pages =
+            h.pages
+            ∙ sym (pages-same point.state.taken after.taken gone.pages point.state.reported)
+            ∙ sym (ap (λ (s : AgentState). filter_map (bytes_at after.taken) s.reported) gone.others);
+        reported =
+            subst (AllByRecursion (λ (place : ℕ). place < length after.taken)) (sym (ap (λ (s : AgentState). s.reported) gone.others))
+            (all-weaker (λ (place : ℕ). place < length point.state.taken) (λ (place : ℕ). place < length after.taken) (λ place within. subst (λ n. place < n) (sym long) within) point.state.reported h.reported);
+        leases = h.leases ∙ sym long;
+        buffers = h.buffers ∙ sym long;
+        each = each_kept threshold most;
+        paged = each_paged threshold most;
+        few =
+            let fewer = count-kept threshold most touched in
+            let few = h.few in
+            omega (arith, fewer, few, long);
+        fits = let fits = h.fits in omega (arith, fits, long);
+      }
+
+  -- what is kept is what the model says, where traces went
+  pub holds-settled : Holds (let_go_all (record old { index = settled old.index }) (map evicted_going (going old.index))) (with_state (evict point.settings point.state) point)
+  holds-settled =
+      subst (λ (limits : ℕ × ℕ). Holds (let_go_all (record old { index = with_touched old.index (kept limits.0 limits.1 touched) }) (map evicted_going (evicted limits.0 limits.1 touched))) (with_state after point))
+      (λ i. (sym h.index.threshold i, sym h.index.most i))
+      (subst (λ k. Holds k (with_state after point)) (sym (is_left threshold most)) holds_left)

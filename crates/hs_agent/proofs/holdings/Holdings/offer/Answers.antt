@@ -1,0 +1,23 @@
+use Rattle.std.proofs.Common.{◌≡◌, ◌∷◌, List, length, map, sym, ap, subst, ◌∙◌, arith}
+use Rattle.std.specs.Option.{option_map}
+use Rattle.std.proofs.lemmas.List.{length-map}
+use Rattle.std.specs.List.{AllByRecursion}
+use Rattle.std.proofs.lemmas.Option.{slice_get_within}
+use Rattle.hs_words.specs.Buffers.{buffer_of}
+use Rattle.hs_agent.specs.Placing.{IsPledged, pledged_of, pledges_in}
+use Rattle.hs_agent.specs.Keeping.{Kept}
+use Rattle.hs_agent.proofs.holdings.Holdings.offer.Goals as goal
+
+pub with_lease-requires-clause-pledged : goal.with_lease-requires-clause-pledged
+with_lease-requires-clause-pledged g c =
+    let hand : c.args.self.now.hand ≡ buffer_of c.in-Some.held ∷ map buffer_of c.pop_front.new.self.items =
+    sym (ap (λ (k : Kept g.row.L.Denot). k.hand) c.self.view_is) ∙ ap (map buffer_of) (sym c.in_ok-reserve.ensures.items ∙ c.in-Some.ensures.items) in
+    let leases : c.args.self.now.leases ≡ pledges_in c.self.inside.leases.items = sym (ap (λ (k : Kept g.row.L.Denot). k.leases) c.self.view_is) in
+    subst (λ ls. IsPledged ls (buffer_of c.in-Some.held)) leases (subst (AllByRecursion (IsPledged c.args.self.now.leases)) hand c.requires.pledged).0
+
+pub with_lease-requires-clause-within : goal.with_lease-requires-clause-within
+with_lease-requires-clause-within g c =
+    let p = with_lease-requires-clause-pledged g c in
+    let within = slice_get_within (pledges_in c.self.inside.leases.items) c.in-Some.held.lease.0 _ p.is in
+    let long = length-map c.self.inside.leases.items (option_map (pledged_of {L = g.row.L.Denot} {g = g.L.Token})) in
+    omega (arith, within, long)

@@ -1,0 +1,86 @@
+use Rattle.std.proofs.Common.{◌≡◌, true, false, cond, Some, None, Option, map, refl, sym, ap, subst, ◌∙◌}
+use Rattle.std.specs.Option.{option_map, is_some}
+use Rattle.hs_base.specs.declared.told.Told.{Told}
+use Rattle.hs_base.specs.declared.told.Why.TheVariants.{Late}
+use Rattle.hs_pins.specs.Remembered.{Claim, Remembered, claim_of, has_crumb, crumbed}
+use Rattle.hs_pins.specs.PinsLayout.{Remembers}
+use Rattle.hs_index.specs.Index.{leaving_of, settled, going}
+use Rattle.hs_model.specs.Evicting.{evict}
+use Rattle.hs_model.specs.Messages.{late_of}
+use Rattle.hs_model.specs.Stepping.{with_touched}
+use Rattle.hs_agent.specs.Keeping.{Kept, Point, Holds, with_state, plain_claim}
+use Rattle.hs_agent.specs.KeptLayout.{kept_in}
+use Rattle.hs_agent.specs.LettingGo.{let_go_all, evicted_going}
+use Rattle.hs_agent.specs.Points.{crumb_taken}
+use Rattle.hs_agent.proofs.Outcomes.{none_mapped, some_mapped, not_false, not_true}
+use Rattle.hs_agent.proofs.Crumbed.{left_touched, holds-touched, takes-touched, tells-nothing, holds-late, tells-late, with_one, claim-crumbed}
+use Rattle.hs_agent.proofs.Settling.{holds-settled}
+use Rattle.hs_agent.proofs.holdings.Holdings.take_crumb.Goals as goal
+
+pub returns-in_default-clause-told : goal.returns-in_default-clause-told
+returns-in_default-clause-told g c = λ point known.
+    let kept = kept_in {L = g.row.L.Denot} {g = g.L.Token} c.self.inside in
+    let h : Holds kept point = subst (λ k. Holds k point) (sym c.self.view_is) known in
+    let free = none_mapped (λ (claim : Claim). claim.group) (claim_of h.memory.claims c.args.crumb.trace) c.owner.result (c.owner.ensures h.memory h.remembers) (ap is_some c.in_default.is) in
+    sym (tells-nothing kept point h c.args.crumb free)
+
+pub returns-in_default-clause-after : goal.returns-in_default-clause-after
+returns-in_default-clause-after g c = λ point known.
+    let kept = kept_in {L = g.row.L.Denot} {g = g.L.Token} c.self.inside in
+    let h : Holds kept point = subst (λ k. Holds k point) (sym c.self.view_is) known in
+    let free = none_mapped (λ (claim : Claim). claim.group) (claim_of h.memory.claims c.args.crumb.trace) c.owner.result (c.owner.ensures h.memory h.remembers) (ap is_some c.in_default.is) in
+    let touched = with_state (with_touched c.args.crumb point.state) point in
+    subst (λ k. Holds k (crumb_taken c.args.crumb point))
+    (sym (c.in_ok-evict.ensures
+    ∙ (λ i. let_go_all (record kept { index = c.in_ok-gone.ensures.after i }) (map evicted_going (c.in_ok-gone.ensures.gone i)))))
+    (subst (Holds (let_go_all (record kept { index = settled (left_touched kept point h c.args.crumb free).index }) (map evicted_going (going (left_touched kept point h c.args.crumb free).index))))
+    (sym (takes-touched kept point h c.args.crumb free))
+    (holds-settled (left_touched kept point h c.args.crumb free) touched (holds-touched kept point h c.args.crumb free)))
+
+pub returns-then-not-crumb-clause-told : goal.returns-then-not-crumb-clause-told
+returns-then-not-crumb-clause-told g c = λ point known.
+    let kept = kept_in {L = g.row.L.Denot} {g = g.L.Token} c.self.inside in
+    let h : Holds kept point = subst (λ k. Holds k point) (sym c.self.view_is) known in
+    let found = some_mapped (λ (claim : Claim). claim.group) (claim_of h.memory.claims c.args.crumb.trace) c.owner.result (c.owner.ensures h.memory h.remembers) (ap is_some c.in-Some.is) in
+    let there = not_false (has_crumb h.memory.claims c.args.crumb.trace c.args.crumb.node.0) (sym c.if-not-crumb.true ∙ c.crumb-2.ensures.fresh h.memory h.remembers) in
+    sym (tells-late kept point h c.args.crumb found.0 found.1 ∙ ap (λ b. cond b None (Some (late_of (plain_claim found.0) c.args.crumb))) there)
+
+pub returns-then-not-crumb-clause-after : goal.returns-then-not-crumb-clause-after
+returns-then-not-crumb-clause-after g c = λ point known.
+    let kept = kept_in {L = g.row.L.Denot} {g = g.L.Token} c.self.inside in
+    let h : Holds kept point = subst (λ k. Holds k point) (sym c.self.view_is) known in
+    let found = some_mapped (λ (claim : Claim). claim.group) (claim_of h.memory.claims c.args.crumb.trace) c.owner.result (c.owner.ensures h.memory h.remembers) (ap is_some c.in-Some.is) in
+    holds-late kept point h c.args.crumb found.0 found.1 c.crumb-2.new.self (c.crumb-2.ensures.after h.memory h.remembers)
+
+pub laterals-requires : goal.laterals-requires
+laterals-requires g c =
+    let kept = kept_in {L = g.row.L.Denot} {g = g.L.Token} c.self.inside in
+    let point = c.requires.known.0 in
+    let h : Holds kept point = subst (λ k. Holds k point) (sym c.self.view_is) c.requires.known.1 in
+    let found = some_mapped (λ (claim : Claim). claim.group) (claim_of h.memory.claims c.args.crumb.trace) c.owner.result (c.owner.ensures h.memory h.remembers) (ap is_some c.in-Some.is) in (
+      crumbed h.memory c.args.crumb.trace c.args.crumb.node,
+      c.crumb-2.ensures.after h.memory h.remembers,
+      ap is_some (claim-crumbed c.args.crumb.trace c.args.crumb.node h.memory.claims ∙ ap (option_map (with_one c.args.crumb.trace c.args.crumb.node)) found.1),
+    )
+
+pub returns-clause-told : goal.returns-clause-told
+returns-clause-told g c = λ point known.
+    let kept = kept_in {L = g.row.L.Denot} {g = g.L.Token} c.self.inside in
+    let h : Holds kept point = subst (λ k. Holds k point) (sym c.self.view_is) known in
+    let found = some_mapped (λ (claim : Claim). claim.group) (claim_of h.memory.claims c.args.crumb.trace) c.owner.result (c.owner.ensures h.memory h.remembers) (ap is_some c.in-Some.is) in
+    let new = not_true (has_crumb h.memory.claims c.args.crumb.trace c.args.crumb.node.0) (sym c.if-not-crumb.false ∙ c.crumb-2.ensures.fresh h.memory h.remembers) in
+    let owner : Some c.in-Some.group ≡ Some found.0.group = sym c.in-Some.is ∙ c.owner.ensures h.memory h.remembers ∙ ap (option_map (λ (claim : Claim). claim.group)) found.1 in
+    let group : c.in-Some.group ≡ found.0.group = cc in
+    let answered : Some found.0.laterals ≡ Some c.laterals.result =
+    sym (ap (option_map (λ (claim : Claim). claim.laterals)) (claim-crumbed c.args.crumb.trace c.args.crumb.node h.memory.claims ∙ ap (option_map (with_one c.args.crumb.trace c.args.crumb.node)) found.1))
+    ∙ c.laterals.ensures (crumbed h.memory c.args.crumb.trace c.args.crumb.node) (c.crumb-2.ensures.after h.memory h.remembers) in
+    let laterals : c.laterals.result ≡ found.0.laterals = cc in
+    (λ i. Some (record { group = group i; laterals = laterals i; crumbs = c.only.ensures.value i; why = Late }))
+    ∙ sym (tells-late kept point h c.args.crumb found.0 found.1 ∙ ap (λ b. cond b None (Some (late_of (plain_claim found.0) c.args.crumb))) new)
+
+pub returns-clause-after : goal.returns-clause-after
+returns-clause-after g c = λ point known.
+    let kept = kept_in {L = g.row.L.Denot} {g = g.L.Token} c.self.inside in
+    let h : Holds kept point = subst (λ k. Holds k point) (sym c.self.view_is) known in
+    let found = some_mapped (λ (claim : Claim). claim.group) (claim_of h.memory.claims c.args.crumb.trace) c.owner.result (c.owner.ensures h.memory h.remembers) (ap is_some c.in-Some.is) in
+    holds-late kept point h c.args.crumb found.0 found.1 c.crumb-2.new.self (c.crumb-2.ensures.after h.memory h.remembers)

@@ -1,0 +1,21 @@
+use Rattle.std.proofs.Common.{◌≡◌, ◌++◌, length, map}
+use Rattle.std.specs.Prelude.{filter_map}
+use Rattle.std.specs.List.{AllByRecursion}
+use Rattle.hs_words.specs.Buffers.{buffer_of}
+use Rattle.hs_agent.specs.declared.placed.Place.{Place}
+use Rattle.hs_agent.specs.Placing.{pledges_in, IsPledged, HaveOwnPlaces, lent}
+use Rattle.hs_agent.proofs.holdings.with_leases.Given as goal
+
+-- what was handed out, and what will be, are all of them
+abbrev pub invariant-loop-held : goal.invariant-loop-held
+invariant-loop-held g l =
+    record {
+      apart : HaveOwnPlaces (map buffer_of l.chunks.items);
+      pledged : AllByRecursion (IsPledged (pledges_in {L = g.row.L.Denot} {g = g.L.Token} l.leases.items)) (map buffer_of l.chunks.items);
+      all :
+          map (buffer_of {L = g.row.L.Denot} {g = g.L.Token}) l.rest.items ++ filter_map (lent (pledges_in {L = g.row.L.Denot} {g = g.L.Token} l.leases.items)) (map buffer_of l.chunks.items)
+          ≡ filter_map (lent (pledges_in {L = g.row.L.Denot} {g = g.L.Token} l.fn.leases.items)) (map buffer_of l.fn.chunks.items);
+    }
+
+abbrev pub decreases-loop-held : goal.decreases-loop-held
+decreases-loop-held g l = length l.chunks.items

@@ -1,0 +1,156 @@
+-- What an agent keeps, and which run of the model that is. A chunk is where the model says: in the index under its trace,
+-- among the pinned, or in the hand; and what is noted of it is its standing there. Of a run contracts say the settings, the
+-- node, the events, and with which lease each chunk came last.
+use Rattle.std.specs.Prelude.{◌≡◌, ℕ, ◌+◌, ◌<◌, ◌≤◌, ◌^◌, Bool, true, false, List, [], ◌∷◌, ◌++◌, length, map, filter_map, flat_map, Option, Some, None, slice_get}
+use Rattle.std.specs.List.{AllByRecursion}
+use Rattle.std.specs.Option.{option_map_or, option_to_list}
+use Rattle.hs_base.specs.declared.ids.TraceId.{TraceId}
+use Rattle.hs_base.specs.declared.node_set.NodeSet.{NodeSet}
+use Rattle.hs_base.specs.NodeSets.{has_node}
+use Rattle.hs_journal.specs.declared.books.Standing.{Standing}
+use Rattle.hs_journal.specs.declared.books.Claim as noted
+use Rattle.hs_journal.specs.declared.journal.Step.{Step}
+use Rattle.hs_records.specs.Plain.{PlainSettings}
+use Rattle.hs_words.specs.Buffers.{Buffer}
+use Rattle.hs_words.specs.Chunks.{used_of}
+use Rattle.hs_index.specs.Index.{Index, Indexed, noted_of, count_chunks, chunks_left}
+use Rattle.hs_pins.specs.Remembered.{Claim, Pin, Tried, Remembered, claim_of}
+use Rattle.hs_pins.specs.PinsLayout.{Pinning, Remembers}
+use Rattle.hs_sched.specs.Turns.{Schedule}
+use Rattle.hs_model.specs.Standings.{Taken, same_trace, indexed_places, indexed_count, pinned_for}
+use Rattle.hs_model.specs.State.{AgentState, ClaimedTrace, TriedTrigger}
+use Rattle.hs_model.specs.Messages.{has_crumb}
+use Rattle.hs_model.specs.Books.{page_standing, claim_note, bytes_at}
+use Rattle.hs_agent.specs.declared.placed.Place.{Place}
+use Rattle.hs_agent.specs.Placing.{Placed, Pledged, place_of, leased}
+
+-- what an agent keeps of its chunks
+pub record Kept (L : Type 0) : Type 0 where
+  pub node : ℕ
+  pub index : Index Place
+  pub pins : Pinning Place
+  -- what the turn that is under way has sent
+  pub sent : List (Pin Place)
+  pub hand : List Placed
+  -- the place of the chunk that was offered and not answered
+  pub offered : Option ℕ
+  pub standings : List Standing
+  pub claims : List noted.Claim
+  pub pages : List (List ℕ)
+  -- the lease of each chunk that was taken, but of those that are out of the agent's hands
+  pub leases : List (Option (Pledged L))
+
+-- what an agent keeps
+pub record Keeping (L : Type 0) : Type 0 where
+  pub kept : Kept L
+  pub schedule : Schedule
+  pub log : List Step
+  pub spent : Bool
+
+-- ---- where the chunks are
+
+-- a lease is kept for the chunk, and with that lease it came last
+pub record IsKept {L : Type 0} (leases : List (Option (Pledged L))) (buffers : List (Buffer L)) (placed : Placed) : Type 0 where
+  pub lease : L
+  pub kept : slice_get leases (place_of placed) ≡ Some (Some (record { lease = lease; number = placed.chunk.number }))
+  pub came : slice_get buffers (place_of placed) ≡ Some (leased placed lease)
+
+-- The chunk has the page with which it was taken at its place, which fits the settings' size. That holds until the chunk is
+-- offered to the pool: what comes back may be clear.
+pub record HasPage (settings : PlainSettings) (taken : List Taken) (placed : Placed) : Type 0 where
+  pub chunk : Taken
+  pub at : slice_get taken (place_of placed) ≡ Some chunk
+  pub page : placed.chunk.page ≡ Some chunk.sheet
+  pub size : used_of chunk.sheet ≤ settings.size
+
+abbrev pub plain_claim : Claim → ClaimedTrace
+plain_claim claim = record { trace = claim.trace; group = claim.group; laterals = claim.laterals }
+
+abbrev pub plain_trigger : Tried → TriedTrigger
+plain_trigger tried = record { trigger = tried.trigger; moment = tried.moment }
+
+abbrev pub pinned_place : Pin Place → ℕ
+pinned_place pin = place_of pin.chunk
+
+-- the nodes to which the known crumbs of a trace lead, claimed or not
+abbrev pub crumbs_known : List Claim → List (Indexed Place) → TraceId → NodeSet
+crumbs_known claims touched trace = option_map_or (λ (claim : Claim). claim.crumbs) (claim_of claims trace) (noted_of trace touched).crumbs
+
+-- the pins are those of a node that remembers what the model does
+pub record RemembersAs (settings : PlainSettings) (node : ℕ) (state : AgentState) (memory : Remembered Place) : Type 0 where
+  pub node_is : memory.node ≡ node
+  pub rules : memory.rules ≡ settings.triggers
+  pub most : memory.most ≡ settings.pins
+  pub claims : map plain_claim memory.claims ≡ state.claims
+  pub pinned : map pinned_place memory.pinned ≡ state.pinned
+  pub groups : AllByRecursion (λ (pin : Pin Place). pinned_for state.taken (pinned_place pin) ≡ Some pin.group) memory.pinned
+  pub abandoned : memory.abandoned ≡ state.abandoned
+  pub tried : map plain_trigger memory.tried ≡ state.tried
+  pub admitted : memory.admitted ≡ state.admitted
+
+-- each trace stands once
+abbrev pub AreApart : List (Indexed Place) → Type 0
+AreApart [] = Unit {0}
+AreApart (t ∷ touched) = AllByRecursion (λ (u : Indexed Place). same_trace t.trace u.trace ≡ false) touched × AreApart touched
+
+-- These are the model's indexed traces, where these are the claims: each stands once, and none is claimed; each has its
+-- chunks; and the known crumbs are those of the model.
+pub record IsIndexed (claims : List Claim) (state : AgentState) (touched : List (Indexed Place)) : Type 0 where
+  pub traces : state.touched ≡ map (λ (t : Indexed Place). t.trace) touched
+  pub apart : AreApart touched
+  pub free : AllByRecursion (λ (t : Indexed Place). claim_of claims t.trace ≡ None) touched
+  pub places : (trace : TraceId) → map place_of (noted_of trace touched).chunks ≡ indexed_places state.taken trace
+  pub count : indexed_count state.taken ≡ count_chunks touched
+  pub crumbs : (trace : TraceId) (n : ℕ) → has_crumb state.crumbs (record { trace = trace; node = record { 0 = n } }) ≡ has_node (crumbs_known claims touched trace) n
+
+-- the index is that of the model
+pub record IsIndexOf (settings : PlainSettings) (claims : List Claim) (state : AgentState) (index : Index Place) : Type 0 where
+  pub threshold : index.threshold ≡ settings.threshold
+  pub most : index.most ≡ settings.traces
+  pub touched : IsIndexed claims state index.touched
+
+-- the chunks that are indexed or pinned
+abbrev pub waiting_chunks : {L : Type 0} → Kept L → List (Pin Place) → List Placed
+waiting_chunks kept pinned = chunks_left kept.index.touched ++ map (λ (pin : Pin Place). pin.chunk) pinned
+
+-- all chunks that are indexed, pinned or in the hand
+abbrev pub all_held : {L : Type 0} → Kept L → List (Pin Place) → List Placed
+all_held kept pinned = waiting_chunks kept pinned ++ kept.hand
+
+-- where a run of the model has come to: its state, the buffer of each taken chunk as it came last, and the place of the
+-- chunk that was offered and not answered
+pub record Point (L : Type 0) : Type 0 where
+  pub settings : PlainSettings
+  pub node : ℕ
+  pub state : AgentState
+  pub buffers : List (Buffer L)
+  pub offered : Option ℕ
+
+-- What is kept is what the model's state says, between two steps.
+pub record Holds {L : Type 0} (kept : Kept L) (point : Point L) : Type 0 where
+  pub node_is : kept.node ≡ point.node
+  pub memory : Remembered Place
+  pub remembers : Remembers kept.pins memory
+  pub pins : RemembersAs point.settings point.node point.state memory
+  pub index : IsIndexOf point.settings memory.claims point.state kept.index
+  pub sent : kept.sent ≡ []
+  pub offered : kept.offered ≡ point.offered
+  pub hand : option_to_list point.offered ++ map place_of kept.hand ≡ point.state.hand
+  pub standings : kept.standings ≡ map page_standing point.state.taken
+  pub claims : kept.claims ≡ map claim_note point.state.claims
+  pub pages : kept.pages ≡ filter_map (bytes_at point.state.taken) point.state.reported
+  pub reported : AllByRecursion (λ (place : ℕ). place < length point.state.taken) point.state.reported
+  -- each chunk that was taken has a place for its lease, and came in a buffer
+  pub leases : length kept.leases ≡ length point.state.taken
+  pub buffers : length point.buffers ≡ length point.state.taken
+  pub each : AllByRecursion (IsKept kept.leases point.buffers) (all_held kept memory.pinned)
+  pub paged : AllByRecursion (HasPage point.settings point.state.taken) (waiting_chunks kept memory.pinned)
+  pub few : count_chunks kept.index.touched + length memory.pinned ≤ length point.state.taken
+  pub fits : length point.state.taken < 2 ^ 32
+
+-- What is kept is that of some point of a run, of which this holds.
+abbrev pub HoldsThat : {L : Type 0} → Kept L → (Point L → Type 0) → Type 0
+HoldsThat {L} kept fact = (point : Point L) × Holds kept point × fact point
+
+abbrev pub with_state : {L : Type 0} → AgentState → Point L → Point L
+with_state state point = record point { state = state }

@@ -1,0 +1,31 @@
+-- How an agent's chunks lie in its fields. There is always room to send all that is pinned, so that a turn takes no memory.
+use Rattle.std.specs.Prelude.{ℕ, ◌+◌, ◌<◌, ◌≤◌, length, map, IsSome}
+use Rattle.std.specs.VecDeque.{deque_len, deque_capacity}
+use Rattle.std.specs.Option.{option_map}
+use Rattle.hs_words.specs.Buffers.{buffer_of}
+use Rattle.hs_pins.specs.Remembered.{pin_of}
+use Rattle.hs_pins.specs.PinsLayout.{KnowsThat}
+use Rattle.hs_agent.specs.declared.holdings.Holdings.TheInside.{Inside}
+use Rattle.hs_agent.specs.Keeping.{Kept}
+use Rattle.hs_agent.specs.Placing.{pledges_in}
+use Rattle.hs_agent.specs.declared.placed.Place.{Place}
+
+abbrev pub kept_in : {L : Type 0} {g : _} → Inside L g → Kept L
+kept_in a =
+    record {
+      node = a.node.0;
+      index = a.index;
+      pins = a.pins;
+      sent = map pin_of a.sent.items;
+      hand = map buffer_of a.hand.items;
+      offered = option_map (λ (place : Place). place.0) a.offered;
+      standings = a.standings.items;
+      claims = a.claims.items;
+      pages = map (λ page. page.items) a.pages.items;
+      leases = pledges_in a.leases.items;
+    }
+
+-- There is room to send all that is pinned, and for an offered chunk to come back.
+pub record HasRoom {L : Type 0} {g : _} (a : Inside L g) : Type 0 where
+  pub sent : KnowsThat a.pins (λ memory. deque_len a.sent + length memory.pinned ≤ deque_capacity a.sent)
+  pub hand : IsSome a.offered → deque_len a.hand < deque_capacity a.hand

@@ -1,0 +1,12 @@
+pub mod Placing
+pub mod Keeping
+pub mod KeptLayout
+pub mod LettingGo
+pub mod Arriving
+pub mod Offering
+pub mod Reporting
+pub mod Points
+pub mod AgentLayout
+pub mod Runs
+pub mod Calls
+pub mod CallExamples

@@ -1,0 +1,236 @@
+//! The agent.
+
+ghost use Rattle.std.specs.Prelude.{◌≡◌, ◌≤◌, [], length, map, false, None, IsSome, IfOk, IfNone, IsErr, OnOk, OnErr};
+ghost use Rattle.hs_base.specs.Rules.{AreRules};
+ghost use Rattle.hs_records.specs.Plain.{settings_of};
+ghost use Rattle.hs_words.specs.Buffers.{buffer_of, buffer_in};
+ghost use Rattle.hs_journal.specs.Books.{agent_book_of};
+ghost use Rattle.hs_sched.specs.Turns.{IsSize};
+ghost use Rattle.hs_model.specs.Books.{book_of};
+ghost use Rattle.hs_model.specs.Laws.{PlacesMatch};
+ghost use Rattle.hs_model.specs.Stepping.{step_of, step_of_answer, told_by};
+ghost use Rattle.hs_model.specs.Turning as model;
+ghost use Rattle.hs_agent.specs.Keeping.{Point, Holds, HoldsThat, with_state};
+ghost use Rattle.hs_agent.specs.Runs.{Run, point_of, state_of, new_run, StandsAt, Follows, Knows, IsSpent, IsTakable, input_of, taken_in, after_input, told_in, offered_next, after_offer, answer_of, back_in, after_answer};
+ghost use Rattle.hs_agent.specs.Points.{buffers_left};
+
+use crate::holdings::Holdings;
+use crate::input::{Finished, Input};
+use hs_base::limits::MAX_NODES;
+use hs_base::{List, Memory, NodeId, Settings, Told, Why};
+use hs_journal::Step;
+use hs_model::laws::{events_go_on, lists_have_their_chunks, standings_partition};
+use hs_sched::Scheduler;
+use hs_words::{Given, Held, Token};
+use std::alloc::Global;
+use std::marker::Model;
+
+/// A node's agent. Contracts speak of the run that it follows: the settings, the node and the events so far, which the
+/// agent's model takes to a state. Once a call has answered `Memory` the agent is spent and follows no run: each later
+/// `step` and `offer` answers so too, and `gave` does nothing.
+#[derive(Drop)]
+pub struct Agent<L: Token> {
+    holdings: Holdings<L>,
+    scheduler: Scheduler,
+    log: List<Step>,
+    spent: bool,
+}
+
+impl<L: Token> Model for Agent<L> {
+    ghost use Rattle.hs_agent.specs.Keeping.{Keeping};
+
+    ghost Value = { Keeping L };
+
+    ghost use Rattle.hs_agent.specs.AgentLayout.{keeping_in, HasLogRoom};
+
+    ghost view = { keeping_in };
+
+    ghost invariant = { HasLogRoom };
+}
+
+impl<L: Token> Agent<L> {
+    /// An agent that has taken nothing.
+    pub fn make(alloc: Global, node: NodeId, settings: &Settings) -> Result<Agent<L>, Memory>
+        requires rules { AreRules settings.now.triggers.items }
+        requires size { IsSize settings.now.size }
+        requires nodes { settings.now.nodes ≤ MAX_NODES }
+        ensures { IfOk result (λ agent. Follows agent (new_run (settings_of settings.now) node.0)) }
+    {
+        Ok(Agent {
+            holdings: Holdings::make(alloc, node, settings)?,
+            scheduler: Scheduler::make(alloc, &settings.triggers, settings.size)?,
+            log: List::new(alloc),
+            spent: false,
+        })
+    }
+
+    /// Takes an input, and notes one step in the log. Answers what is to be told to the coordinator, if anything.
+    pub fn step(&mut self, input: Input<L>) -> Result<Option<Told>, Memory>
+        requires { Knows self.old (λ run. IsTakable (point_of run) input) }
+        ensures told { (run : Run L) → Follows self.old run → IfOk result (λ told. told ≡ told_in run input) }
+        ensures after { (run : Run L) → Follows self.old run → OnOk result (Follows self.new (after_input run input)) }
+        ensures spent { OnErr result (IsSpent self.new) }
+        ensures stays { IsSpent self.old → IsErr result }
+    {
+        if self.spent {
+            return Err(Memory);
+        }
+        match self.take(input) {
+            Ok(told) => Ok(told),
+            Err(_) => {
+                self.spent = true;
+                Err(Memory)
+            }
+        }
+    }
+
+    /// Takes an input where memory was never wanting.
+    fn take(&mut self, input: Input<L>) -> Result<Option<Told>, Memory>
+        requires { (run : Run L) × Follows self.old run × IsTakable (point_of run) input }
+        ensures told { (run : Run L) → Follows self.old run → IfOk result (λ told. told ≡ told_in run input) }
+        ensures after { (run : Run L) → Follows self.old run → OnOk result (Follows self.new (after_input run input)) }
+    {
+        events_go_on();
+        lists_have_their_chunks();
+        self.log.reserve(2)?;
+        let step = step_of(&input);
+        let told = take_input(&mut self.scheduler, &mut self.holdings, input)?;
+        self.log.push(step);
+        Ok(told)
+    }
+
+    /// The first of the hand, to be offered to the pool, or `None` where the hand is empty. `gave` takes the pool's answer.
+    pub fn offer(&mut self) -> Result<Option<Held<L>>, Memory>
+        requires { Knows self.old (λ run. run.offered ≡ None) }
+        ensures first { (run : Run L) → Follows self.old run → IfOk result (λ first. buffer_in first ≡ offered_next run) }
+        ensures empty { (run : Run L) → Follows self.old run → IfOk result (λ first. IfNone first ((state_of run).hand ≡ [])) }
+        ensures after { (run : Run L) → Follows self.old run → OnOk result (Follows self.new (after_offer run)) }
+        ensures spent { OnErr result (IsSpent self.new) }
+        ensures stays { IsSpent self.old → IsErr result }
+    {
+        if self.spent {
+            return Err(Memory);
+        }
+        match self.first() {
+            Ok(first) => Ok(first),
+            Err(_) => {
+                self.spent = true;
+                Err(Memory)
+            }
+        }
+    }
+
+    /// The first of the hand where memory was never wanting, with room to note the answer.
+    fn first(&mut self) -> Result<Option<Held<L>>, Memory>
+        requires { (run : Run L) × Follows self.old run × (run.offered ≡ None) }
+        ensures first { (run : Run L) → Follows self.old run → IfOk result (λ first. buffer_in first ≡ offered_next run) }
+        ensures empty { (run : Run L) → Follows self.old run → IfOk result (λ first. IfNone first ((state_of run).hand ≡ [])) }
+        ensures after { (run : Run L) → Follows self.old run → OnOk result (Follows self.new (after_offer run)) }
+    {
+        standings_partition();
+        self.log.reserve(1)?;
+        self.holdings.offer()
+    }
+
+    /// Takes the pool's answer to the chunk that was offered last, and notes one step in the log. A chunk that came back
+    /// is first in the hand again, with the lease with which it came. Takes no memory.
+    pub fn gave(&mut self, given: Given<L>)
+        requires { Knows self.old (λ run. IsSome run.offered) }
+        ensures after { (run : Run L) → Follows self.old run → Follows self.new (after_answer run given) }
+        ensures spent { self.new.spent ≡ self.old.spent }
+    {
+        if self.spent {
+            return;
+        }
+        events_go_on();
+        standings_partition();
+        let (step, back) = answer_in(given);
+        self.holdings.answer(back);
+        self.log.push(step);
+    }
+
+    /// How many chunks are pinned.
+    pub fn pinned(&self) -> u32
+        ensures { (run : Run L) → Follows self.now run → result ≡ length (state_of run).pinned }
+    {
+        self.holdings.pinned()
+    }
+
+    /// The book of the agent, and the chunks that it has left.
+    pub fn finish(self) -> Result<Finished<L>, Memory>
+        requires { Knows self (λ run. ((state_of run).pinned ≡ []) × (run.offered ≡ None)) }
+        ensures book { (run : Run L) → Follows self run → IfOk result (λ finished. agent_book_of finished.book ≡ book_of run.node (state_of run)) }
+        ensures rest { (run : Run L) → Follows self run → IfOk result (λ finished. map buffer_of finished.rest.items ≡ buffers_left (point_of run)) }
+    {
+        let Agent {
+            holdings,
+            scheduler: _,
+            log,
+            spent,
+        } = self;
+        standings_partition();
+        if spent {
+            return Err(Memory);
+        }
+        holdings.finish(log)
+    }
+}
+
+/// The step that stands for an input in the log.
+fn step_of<L: Token>(input: &Input<L>) -> Step
+    ensures { result ≡ step_of (input_of input.now) }
+{
+    match input {
+        Input::Chunk { client, held: _ } => Step::Chunk { client: *client },
+        Input::Crumb { client, crumb: _ } => Step::Crumb { client: *client },
+        Input::Trigger { client, trigger: _ } => Step::Trigger { client: *client },
+        Input::Ask { ask: _ } => Step::Ask,
+        Input::Turn => Step::Turn,
+    }
+}
+
+/// The step that stands for the pool's answer in the log, and the chunk that came back, if one did.
+fn answer_in<L: Token>(given: Given<L>) -> (Step, Option<Held<L>>)
+    ensures step { result.0 ≡ step_of_answer (answer_of given) }
+    ensures back { buffer_in result.1 ≡ back_in given }
+{
+    match given {
+        Given::Given { stamp } => (Step::Given { stamp }, None),
+        Given::Missed { held, stamp } => (Step::Missed { stamp }, Some(held)),
+        Given::Unread { held } => (Step::Unread, Some(held)),
+    }
+}
+
+/// Does what an input asks for. Answers what is to be told to the coordinator, if anything.
+fn take_input<L: Token>(
+    scheduler: &mut Scheduler,
+    holdings: &mut Holdings<L>,
+    input: Input<L>,
+) -> Result<Option<Told>, Memory>
+    requires { (point : Point L) × StandsAt holdings.old scheduler.old point × IsTakable point input × PlacesMatch point.state }
+    ensures told { (point : Point L) → Holds holdings.old point → IfOk result (λ told. told ≡ told_by point.settings point.node point.state (input_of input)) }
+    ensures after { (point : Point L) → StandsAt holdings.old scheduler.old point → PlacesMatch point.state → OnOk result (StandsAt holdings.new scheduler.new (taken_in input point)) }
+{
+    match input {
+        Input::Chunk { client: _, held } => {
+            holdings.take_chunk(held)?;
+            Ok(None)
+        }
+        Input::Crumb { client: _, crumb } => holdings.take_crumb(crumb),
+        Input::Trigger { client: _, trigger } => holdings.take_trigger(&trigger),
+        Input::Ask { ask } => Ok(Some(holdings.take_ask(&ask, Why::Answer)?)),
+        Input::Turn => {
+            turn(scheduler, holdings)?;
+            Ok(None)
+        }
+    }
+}
+
+/// Makes a fair turn over what is pinned, and reports what it sent.
+fn turn<L: Token>(scheduler: &mut Scheduler, holdings: &mut Holdings<L>) -> Result<(), Memory>
+    requires { (point : Point L) × StandsAt holdings.old scheduler.old point × PlacesMatch point.state }
+    ensures { (point : Point L) → StandsAt holdings.old scheduler.old point → PlacesMatch point.state → OnOk result (StandsAt holdings.new scheduler.new (with_state (model.turn point.settings point.state) point)) }
+{
+    scheduler.turn(holdings);
+    holdings.report()
+}

@@ -1,0 +1,512 @@
+//! The chunks of an agent, wherever they are, and what it notes of them.
+
+ghost use Rattle.std.specs.Prelude.{◌≡◌, ◌+◌, ◌<◌, ◌^◌, ℕ, true, List, [], ◌∷◌, ◌++◌, length, None, Some, Option, IfOk, IfSome, IfNone, OnOk, OnErr, IsSome, All, map, filter_map, slice_get, slice_set, ◌≤◌};
+ghost use Rattle.std.specs.List.{AllByRecursion};
+ghost use Rattle.hs_base.specs.Rules.{AreRules, is_declared};
+ghost use Rattle.hs_records.specs.Plain.{PlainSettings, settings_of};
+ghost use Rattle.std.specs.Option.{option_map_or};
+ghost use Rattle.hs_words.specs.Pages.{page_bytes};
+ghost use Rattle.hs_words.specs.Buffers.{Buffer, buffer_of, buffer_in};
+ghost use Rattle.hs_words.specs.Chunks.{used_in};
+ghost use Rattle.hs_model.specs.State.{AgentState, start};
+ghost use Rattle.hs_pins.specs.Remembered.{Remembered, claim_of, claim_for, pin_of};
+ghost use Rattle.hs_pins.specs.Abandoning.{drops, relieved};
+ghost use Rattle.hs_pins.specs.PinsLayout.{Remembers, KnowsThat};
+ghost use Rattle.hs_index.specs.Index.{leaving_of};
+ghost use Rattle.hs_model.specs.Messages.{told_of, crumb_nodes};
+ghost use Rattle.hs_model.specs.Claiming.{traces_of, claim_unclaimed};
+ghost use Rattle.hs_model.specs.Stepping as model;
+ghost use Rattle.hs_agent.specs.declared.placed.Place.{Place};
+ghost use Rattle.hs_journal.specs.Books.{agent_book_of};
+ghost use Rattle.hs_model.specs.Books.{book_of};
+ghost use Rattle.hs_model.specs.Laws.{IsInOnePlace};
+ghost use Rattle.hs_agent.specs.Placing.{place_of, placed_at, pledges_in, IsPledged, HandsOut, HaveOwnPlaces, lent};
+ghost use Rattle.hs_agent.specs.Keeping.{Point, Holds, HoldsThat, with_state};
+ghost use Rattle.hs_agent.specs.LettingGo.{let_go, let_go_all, with_fate, reported, abandoned_fate, evicted_going, abandoned_going, reported_going};
+ghost use Rattle.hs_agent.specs.Arriving.{noted, indexed, ArrivesAtPins};
+ghost use Rattle.hs_agent.specs.Offering.{Offers, answered};
+ghost use Rattle.hs_agent.specs.Points.{chunk_taken, crumb_taken, trigger_taken, claimed_for, buffers_left};
+
+use crate::input::Finished;
+use crate::placed::{Place, Pledge};
+use hs_base::limits::MAX_NODES;
+use hs_base::{
+    Ask, Bytes, Crumb, Fate, Group, GroupId, List, Memory, NodeId, NodeSet, Settings, Told,
+    TraceId, Trigger, TriggerId, Why, rank_of,
+};
+use hs_index::{Gone, TraceIndex};
+use hs_journal::{AgentBook, Claim, Standing, Step};
+use hs_pins::{Admitted, Dropped, Pins, Taken2};
+use hs_sched::Queues;
+use hs_words::{Chunk, Header, Held, Token};
+use std::alloc::Global;
+use std::collections::VecDeque;
+use std::marker::Model;
+
+/// The chunks that an agent has, each in the index, pinned, or in the hand, and of each chunk that it took its fate so
+/// far. A chunk is named by its place in the order of arrival.
+#[derive(Drop)]
+pub struct Holdings<L: Token> {
+    alloc: Global,
+    node: NodeId,
+    index: TraceIndex<Place>,
+    pins: Pins<Place>,
+    /// What the turn that is under way has sent. There is room for all that is pinned.
+    sent: VecDeque<Dropped<Place>>,
+    /// The chunks whose buffers are to be given back, the next one first, but for the one that was offered.
+    hand: VecDeque<Held<Place>>,
+    /// The chunk that was offered to the pool and not answered yet. There is room in the hand for it to come back.
+    offered: Option<Place>,
+    /// Of each chunk that was taken.
+    standings: List<Standing>,
+    claims: List<Claim>,
+    /// The bytes of the reported pages.
+    pages: List<Bytes>,
+    /// The lease of each chunk that was taken, but of the one that was offered and not answered, and of those that were given.
+    leases: List<Option<Pledge<L>>>,
+}
+
+impl<L: Token> Model for Holdings<L> {
+    ghost use Rattle.hs_agent.specs.Keeping.{Kept};
+
+    ghost Value = { Kept L };
+
+    ghost use Rattle.hs_agent.specs.KeptLayout.{kept_in, HasRoom};
+
+    ghost view = { kept_in };
+
+    ghost invariant = { HasRoom };
+}
+
+impl<L: Token> Holdings<L> {
+    /// Nothing.
+    pub fn make(alloc: Global, node: NodeId, settings: &Settings) -> Result<Holdings<L>, Memory>
+        requires { AreRules settings.now.triggers.items }
+        ensures { IfOk result (λ holdings. Holds holdings (record { settings = settings_of settings.now; node = node.0; state = start (settings_of settings.now); buffers = []; offered = None })) }
+    {
+        Ok(Holdings {
+            alloc,
+            node,
+            index: TraceIndex::make(alloc, settings.threshold, settings.traces)?,
+            pins: Pins::make(alloc, node, settings)?,
+            sent: VecDeque::new(alloc),
+            hand: VecDeque::new(alloc),
+            offered: None,
+            standings: List::new(alloc),
+            claims: List::new(alloc),
+            pages: List::new(alloc),
+            leases: List::new(alloc),
+        })
+    }
+
+    /// Takes a chunk whose page was started.
+    pub fn take_chunk(&mut self, held: Held<L>) -> Result<(), Memory>
+        requires started { IsSome held.chunk.page }
+        requires known { HoldsThat self.old (λ point. Unit {0}) }
+        ensures { (point : Point L) → Holds self.old point → held.chunk.size ≡ point.settings.size → OnOk result (Holds self.new (chunk_taken (buffer_of held) point)) }
+    {
+        let Some(header) = held.chunk.header() else {
+            unreachable!()
+        };
+        let held = self.note(header, held)?;
+        match self.pins.owner(header.trace) {
+            Some(group) => self.pin(held, group),
+            None => self.index_chunk(held),
+        }
+    }
+
+    /// Notes a chunk that came, whose page has this header, and keeps its lease. There are 2^32 - 1 chunks at most.
+    fn note(&mut self, header: Header, held: Held<L>) -> Result<Held<Place>, Memory>
+        ensures noted { OnOk result (self.new ≡ noted header (buffer_of held) self.old) }
+        ensures placed { IfOk result (λ placed. buffer_of placed ≡ placed_at (length self.old.standings) (buffer_of held)) }
+        ensures fits { OnOk result (length self.old.standings + 1 < 2 ^ 32) }
+        ensures used { OnOk result (used_in held.chunk ≤ held.chunk.size) }
+    {
+        let Ok(place) = u32::try_from(self.standings.len()) else {
+            return Err(Memory);
+        };
+        if place == u32::MAX {
+            return Err(Memory);
+        }
+        self.standings.append(Standing {
+            client: header.client,
+            page: header.page,
+            fate: Fate::Live,
+        })?;
+        let Held { chunk, lease } = held;
+        let number = chunk.number();
+        let _used = chunk.used();
+        self.leases.append(Some(Pledge { lease, number }))?;
+        Ok(Held {
+            chunk,
+            lease: Place(place),
+        })
+    }
+
+    /// Indexes a chunk of a trace that nobody claimed, and lets go what is too much then.
+    fn index_chunk(&mut self, held: Held<Place>) -> Result<(), Memory>
+        requires { IsSome held.chunk.page }
+        ensures { OnOk result (self.new ≡ indexed (buffer_of held) self.old) }
+    {
+        match self.index.arrive(held) {
+            Ok(gone) => self.evict(gone),
+            Err(_) => Err(Memory),
+        }
+    }
+
+    /// Pins a chunk of a trace that the group claimed, or lets it go where the group was abandoned.
+    fn pin(&mut self, held: Held<Place>, group: Group) -> Result<(), Memory>
+        requires { KnowsThat self.old.pins (λ memory. (IsSome (claim_for memory.claims (buffer_of held))) × (length memory.pinned + 1 < 2 ^ 32)) }
+        ensures { (memory : Remembered Place) → Remembers self.old.pins memory → OnOk result (ArrivesAtPins memory group (buffer_of held) self.old self.new) }
+    {
+        let room = (self.pins.chunks() as usize).saturating_add(1);
+        self.sent.reserve(room)?;
+        match self.pins.arrive(held) {
+            Ok(None) => self.abandon(),
+            Ok(Some(held)) => self.let_go(held, abandoned(group)),
+            Err(_) => Err(Memory),
+        }
+    }
+
+    /// Takes a crumb. Answers what is to be told, if its trace is claimed and its node is new there.
+    pub fn take_crumb(&mut self, crumb: Crumb) -> Result<Option<Told>, Memory>
+        requires node { crumb.node.0 < MAX_NODES }
+        requires known { HoldsThat self.old (λ point. Unit {0}) }
+        ensures told { (point : Point L) → Holds self.old point → IfOk result (λ told. told ≡ model.told_by point.settings point.node point.state (model.Crumbed 0 crumb)) }
+        ensures after { (point : Point L) → Holds self.old point → OnOk result (Holds self.new (crumb_taken crumb point)) }
+    {
+        let Some(group) = self.pins.owner(crumb.trace) else {
+            let gone = self.index.crumb(crumb)?;
+            self.evict(gone)?;
+            return Ok(None);
+        };
+        if !self.pins.crumb(crumb) {
+            return Ok(None);
+        }
+        Ok(Some(Told {
+            group,
+            laterals: self.pins.laterals(crumb.trace),
+            crumbs: NodeSet::only(crumb.node),
+            why: Why::Late,
+        }))
+    }
+
+    /// Takes a trigger. Answers what is to be told, if it is admitted.
+    pub fn take_trigger(&mut self, trigger: &Trigger) -> Result<Option<Told>, Memory>
+        requires { HoldsThat self.old (λ point. (is_declared point.settings.triggers trigger.now.trigger ≡ true) × (point.state.admitted + 1 < 2 ^ 32)) }
+        ensures told { (point : Point L) → Holds self.old point → IfOk result (λ told. told ≡ model.told_by point.settings point.node point.state (model.Triggered 0 trigger.now)) }
+        ensures after { (point : Point L) → Holds self.old point → OnOk result (Holds self.new (trigger_taken trigger.now point)) }
+    {
+        let Admitted::Admitted { number } = self.pins.admit(trigger.trigger, trigger.moment) else {
+            return Ok(None);
+        };
+        let ask = Ask {
+            group: Group {
+                id: GroupId {
+                    node: self.node.0,
+                    number,
+                },
+                trigger: trigger.trigger,
+                lead: trigger.lead,
+            },
+            laterals: trigger.laterals,
+        };
+        Ok(Some(self.take_ask(&ask, Why::Fired)?))
+    }
+
+    /// Claims what the group names and nobody claimed, and answers what is to be told.
+    pub fn take_ask(&mut self, ask: &Ask, why: Why) -> Result<Told, Memory>
+        requires { HoldsThat self.old (λ point. is_declared point.settings.triggers ask.now.group.trigger ≡ true) }
+        ensures told { (point : Point L) → Holds self.old point → IfOk result (λ told. told ≡ told_of point.state.crumbs ask.now why) }
+        ensures after { (point : Point L) → Holds self.old point → OnOk result (Holds self.new (claimed_for ask.now point)) }
+    {
+        self.claim(ask, ask.group.lead)?;
+        for place in 0..ask.laterals.len() {
+            let Some(trace) = ask.laterals.get(place) else {
+                unreachable!()
+            };
+            self.claim(ask, trace)?;
+        }
+        self.abandon()?;
+        Ok(Told {
+            group: ask.group,
+            laterals: ask.laterals,
+            crumbs: self.crumbs(ask),
+            why,
+        })
+    }
+
+    /// Claims a trace for a group, unless it is claimed already.
+    fn claim(&mut self, ask: &Ask, trace: TraceId) -> Result<(), Memory>
+        requires { HoldsThat self.old (λ point. is_declared point.settings.triggers ask.now.group.trigger ≡ true) }
+        ensures after { (point : Point L) → Holds self.old point → OnOk result (Holds self.new (with_state (claim_unclaimed ask.now point.state trace) point)) }
+    {
+        if self.pins.owner(trace).is_some() {
+            return Ok(());
+        }
+        let taken = self.index.claim(trace)?;
+        let room = (self.pins.chunks() as usize).saturating_add(taken.held.len());
+        self.sent.reserve(room)?;
+        self.claims.append(Claim {
+            trace,
+            group: ask.group,
+        })?;
+        let taken = Taken2 {
+            held: taken.held,
+            crumbs: taken.crumbs,
+        };
+        match self.pins.claim(ask.group, ask.laterals, trace, taken) {
+            Ok(()) => Ok(()),
+            Err(_) => Err(Memory),
+        }
+    }
+
+    /// The nodes to which the crumbs of a group's traces lead, each of which is claimed.
+    fn crumbs(&self, ask: &Ask) -> NodeSet
+        requires { KnowsThat self.now.pins (λ memory. All (λ trace. IsSome (claim_of memory.claims trace)) (traces_of ask.now)) }
+        ensures { (point : Point L) → Holds self.now point → result ≡ crumb_nodes point.state.crumbs (traces_of ask.now) }
+    {
+        let mut crumbs = self.pins.crumbs(ask.group.lead);
+        for place in 0..ask.laterals.len() {
+            let Some(trace) = ask.laterals.get(place) else {
+                unreachable!()
+            };
+            crumbs = crumbs.union(self.pins.crumbs(trace));
+        }
+        crumbs
+    }
+
+    /// Abandons groups while too much is pinned.
+    fn abandon(&mut self) -> Result<(), Memory>
+        ensures pins { (memory : Remembered Place) → Remembers self.old.pins memory → OnOk result (Remembers self.new.pins (relieved memory)) }
+        ensures gone { (memory : Remembered Place) → Remembers self.old.pins memory → OnOk result (self.new ≡ let_go_all (record self.old { pins = self.new.pins }) (map abandoned_going (drops memory))) }
+    {
+        for dropped in self.pins.abandon()?.into_vec() {
+            let Dropped { held, group } = dropped;
+            self.let_go(held, abandoned(group))?;
+        }
+        Ok(())
+    }
+
+    /// Lets go what the index evicted.
+    fn evict(&mut self, gone: List<Gone<Place>>) -> Result<(), Memory>
+        ensures { OnOk result (self.new ≡ let_go_all self.old (map evicted_going (map leaving_of gone.items))) }
+    {
+        for leaving in gone.into_vec() {
+            let Gone {
+                held,
+                chunks,
+                traces,
+            } = leaving;
+            self.let_go(held, Fate::Evicted { chunks, traces })?;
+        }
+        Ok(())
+    }
+
+    /// Notes a chunk's fate, and puts it last into the hand, where a place stays free for a chunk that comes back.
+    fn let_go(&mut self, held: Held<Place>, fate: Fate) -> Result<(), Memory>
+        ensures { OnOk result (self.new ≡ let_go self.old (record { buffer = buffer_of held; fate = fate })) }
+    {
+        note_fate(&mut self.standings, held.lease, fate);
+        self.hand.reserve(2)?;
+        self.hand.push_back_reserved(held);
+        Ok(())
+    }
+
+    /// Reports what a turn sent: notes the fates, keeps the bytes of the pages, and puts the chunks last into the hand.
+    pub fn report(&mut self) -> Result<(), Memory>
+        requires { All (λ pin. IsSome pin.chunk.chunk.page) self.old.sent }
+        ensures { OnOk result (self.new ≡ reported self.old) }
+    {
+        while let Some(dropped) = self.sent.pop_front() {
+            let Dropped { held, group } = dropped;
+            let page = page_of(self.alloc, &held.chunk)?;
+            self.pages.append(page)?;
+            let fate = Fate::Reported {
+                trigger: group.trigger,
+                lead: group.lead,
+            };
+            self.let_go(held, fate)?;
+        }
+        Ok(())
+    }
+
+    /// The first of the hand, with the lease with which it came last, to be offered to the pool. `None` where the hand is
+    /// empty.
+    pub fn offer(&mut self) -> Result<Option<Held<L>>, Memory>
+        requires none { self.old.offered ≡ None }
+        requires pledged { AllByRecursion (IsPledged self.old.leases) self.old.hand }
+        ensures some { IfOk result (λ first. IfSome first (λ held. Offers self.old (buffer_of held) self.new)) }
+        ensures none { IfOk result (λ first. IfNone first ((self.old.hand ≡ []) × (self.new ≡ self.old))) }
+    {
+        self.hand.reserve(1)?;
+        let Some(held) = self.hand.pop_front() else {
+            return Ok(None);
+        };
+        self.offered = Some(held.lease);
+        Ok(Some(with_lease(&mut self.leases, held)))
+    }
+
+    /// Takes the chunk that was offered first into the hand again, with its new lease, if it came back.
+    pub fn answer(&mut self, back: Option<Held<L>>)
+        requires { IfSome self.old.offered (λ place. place < length self.old.leases) × IsSome self.old.offered }
+        ensures { self.new ≡ answered (buffer_in back) self.old }
+    {
+        let Some(place) = self.offered.take() else {
+            unreachable!()
+        };
+        let Some(held) = back else {
+            return;
+        };
+        let held = put_lease(&mut self.leases, place, held);
+        self.hand.push_front_reserved(held);
+    }
+
+    /// How many chunks are pinned.
+    pub fn pinned(&self) -> u32
+        ensures { (memory : Remembered Place) → Remembers self.now.pins memory → result ≡ length memory.pinned }
+    {
+        self.pins.chunks()
+    }
+
+    /// What is left at the end, with these steps.
+    pub fn finish(self, log: List<Step>) -> Result<Finished<L>, Memory>
+        requires { HoldsThat self (λ point. (point.offered ≡ None) × ((place : ℕ) → IsInOnePlace point.state place)) }
+        ensures book { (point : Point L) → Holds self point → IfOk result (λ finished. agent_book_of finished.book ≡ record (book_of point.node point.state) { log = log.items }) }
+        ensures rest { (point : Point L) → Holds self point → point.offered ≡ None → IfOk result (λ finished. map buffer_of finished.rest.items ≡ buffers_left point) }
+    {
+        let Holdings {
+            alloc,
+            node,
+            index,
+            pins: _,
+            sent: _,
+            mut hand,
+            offered: _,
+            standings,
+            claims,
+            pages,
+            leases,
+        } = self;
+        let mut indexed = index.finish()?;
+        while let Some(held) = indexed.pop() {
+            hand.push_front(held)?;
+        }
+        let rest = with_leases(alloc, leases, hand)?;
+        let book = AgentBook {
+            node,
+            log,
+            standings,
+            claims,
+            sent: pages,
+        };
+        Ok(Finished { book, rest })
+    }
+}
+
+impl<L: Token> Queues for Holdings<L> {
+    ghost use Rattle.hs_agent.specs.Reporting.{costs_of, SendsNext};
+
+    ghost costs = { costs_of };
+
+    ghost sends = { SendsNext };
+
+    fn next_cost(&self, trigger: TriggerId) -> Option<u32> {
+        self.pins.next_cost(trigger)
+    }
+
+    fn send_next(&mut self, trigger: TriggerId) {
+        match self.pins.take_next(trigger) {
+            Some(dropped) => self.sent.push_back_reserved(dropped),
+            None => unreachable!(),
+        }
+    }
+}
+
+/// The fate of a chunk whose group is abandoned.
+fn abandoned(group: Group) -> Fate
+    ensures { result ≡ abandoned_fate group }
+{
+    Fate::Abandoned {
+        trigger: group.trigger,
+        lead: group.lead,
+        rank: rank_of(group.lead),
+    }
+}
+
+/// The bytes of a chunk's page.
+fn page_of(alloc: Global, chunk: &Chunk) -> Result<Bytes, Memory>
+    requires { IsSome chunk.now.page }
+    ensures { IfOk result (λ page. page.items ≡ option_map_or page_bytes chunk.now.page []) }
+{
+    let mut page = Bytes::new(alloc);
+    page.append_slice(chunk.bytes())?;
+    Ok(page)
+}
+
+/// Notes a chunk's fate, where it has a standing.
+fn note_fate(standings: &mut List<Standing>, place: Place, fate: Fate)
+    ensures { standings.new.items ≡ with_fate place.0 fate standings.old.items }
+{
+    let standings = standings.as_mut_slice();
+    let place = place.0 as usize;
+    if place < standings.len() {
+        standings[place].fate = fate;
+    }
+}
+
+/// A chunk whose lease is kept at its place from now on.
+fn put_lease<L: Token>(
+    leases: &mut List<Option<Pledge<L>>>,
+    place: Place,
+    held: Held<L>,
+) -> Held<Place>
+    requires { place.0 < length leases.old.items }
+    ensures chunk { buffer_of result ≡ placed_at place.0 (buffer_of held) }
+    ensures leases { pledges_in leases.new.items ≡ slice_set (pledges_in leases.old.items) place.0
+        (Some (record { lease = held.lease; number = held.chunk.number })) }
+{
+    let Held { chunk, lease } = held;
+    let number = chunk.number();
+    let leases = leases.as_mut_slice();
+    leases[place.0 as usize] = Some(Pledge { lease, number });
+    Held {
+        chunk,
+        lease: place,
+    }
+}
+
+/// A chunk with the lease with which it came last, which is taken out.
+fn with_lease<L: Token>(leases: &mut List<Option<Pledge<L>>>, held: Held<Place>) -> Held<L>
+    requires within { held.lease.0 < length leases.old.items }
+    requires pledged { IsPledged (pledges_in leases.old.items) (buffer_of held) }
+    ensures { HandsOut (pledges_in leases.old.items) (buffer_of held) (buffer_of result)
+        (pledges_in leases.new.items) }
+{
+    let Held {
+        chunk,
+        lease: place,
+    } = held;
+    let leases = leases.as_mut_slice();
+    match leases[place.0 as usize].take() {
+        Some(Pledge { lease, number: _ }) => Held { chunk, lease },
+        None => unreachable!(),
+    }
+}
+
+/// The chunks, each with the lease with which it came last. No two have one place.
+fn with_leases<L: Token>(
+    alloc: Global,
+    mut leases: List<Option<Pledge<L>>>,
+    mut chunks: VecDeque<Held<Place>>,
+) -> Result<List<Held<L>>, Memory>
+    requires apart { HaveOwnPlaces (map buffer_of chunks.items) }
+    requires pledged { AllByRecursion (IsPledged (pledges_in leases.items)) (map buffer_of chunks.items) }
+    ensures { IfOk result (λ rest. map buffer_of rest.items ≡ filter_map (lent (pledges_in leases.items)) (map buffer_of chunks.items)) }
+{
+    let mut rest = List::new(alloc);
+    while let Some(held) = chunks.pop_front() {
+        rest.append(with_lease(&mut leases, held))?;
+    }
+    Ok(rest)
+}

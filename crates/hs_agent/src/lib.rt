@@ -1,0 +1,13 @@
+//! The agent of a node: it takes what its clients and the coordinator send, keeps or evicts, pins or abandons, reports by
+//! fair turns, and hands buffers back (`docs/RULES.md`, "The agent"). It is exactly the model of `hs_model`.
+#![tactic(auto)]
+
+mod agent;
+mod holdings;
+mod input;
+mod laws;
+mod placed;
+
+pub use agent::Agent;
+pub use input::{Finished, Input};
+pub use laws::{any_calls_meet_the_model, few_are_admitted};
