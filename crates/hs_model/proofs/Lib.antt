@@ -14,3 +14,5 @@ pub mod PageOrder
 pub mod Apart
 pub mod Saying
 pub mod Adding
+pub mod Bearing
+pub mod Reporting

@@ -76,7 +76,7 @@ touched_moved change only places s m =
     all_moved (IsTouched s.touched) (IsTouched s.touched) change places 0 s.taken m
     (λ p c at h. elim (is_among places (0 + p)) as (λ b. IsTouched s.touched (cond b (record c { standing = change c.standing }) c)) [ true ↦ (λ is. h (only c.standing is)) | false ↦ h ])
 
-reported_indexed : (u : ChunkStanding) → is_indexed (reported_standing u) ≡ true → is_indexed u ≡ true
+pub reported_indexed : (u : ChunkStanding) → is_indexed (reported_standing u) ≡ true → is_indexed u ≡ true
 reported_indexed Indexed e = e
 reported_indexed (Pinned g) e = absurd (true≢false (sym e))
 reported_indexed (Reported g) e = absurd (true≢false (sym e))
@@ -235,7 +235,7 @@ few_pinned settings s m = abandoned_within settings s.pinned s m (omega arith)
 
 -- ---- what the steps leave within the limits
 
-indexed_moved : (change : ChunkStanding → ChunkStanding) → ((u : ChunkStanding) → is_indexed (change u) ≡ true → is_indexed u ≡ true) → (places : List ℕ) (k : ℕ) (taken : List Taken)
+pub indexed_moved : (change : ChunkStanding → ChunkStanding) → ((u : ChunkStanding) → is_indexed (change u) ≡ true → is_indexed u ≡ true) → (places : List ℕ) (k : ℕ) (taken : List Taken)
     → indexed_count (moved_from k places change taken) ≤ indexed_count taken
 indexed_moved change only places k [] = omega arith
 indexed_moved change only places k (c ∷ taken) =
@@ -256,7 +256,7 @@ indexed_moved change only places k (c ∷ taken) =
     same true h = omega arith
     same false h = omega arith
 
-indexed_more : (taken : List Taken) (c : Taken) → is_indexed c.standing ≡ false → indexed_count (taken ++ c ∷ []) ≡ indexed_count taken
+pub indexed_more : (taken : List Taken) (c : Taken) → is_indexed c.standing ≡ false → indexed_count (taken ++ c ∷ []) ≡ indexed_count taken
 indexed_more [] c e = rw e refl
 indexed_more (x ∷ taken) c e =
     elim (is_indexed x.standing)

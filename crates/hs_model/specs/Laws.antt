@@ -9,13 +9,14 @@ use Rattle.hs_base.specs.declared.told.Group.{Group}
 use Rattle.hs_journal.specs.declared.journal.Step.{Step}
 use Rattle.hs_records.specs.Plain.{PlainSettings}
 use Rattle.hs_sched.specs.declared.share.Share.{Share}
+use Rattle.hs_sched.specs.Visits.{budget_of}
 use Rattle.hs_words.specs.Pages.{Sheet}
 use Rattle.hs_model.specs.Standings.{ChunkStanding, Indexed, Pinned, Reported, Evicted, Abandoned, Taken, same_trace, same_group, trace_of, indexed_count, is_indexed, is_pinned, is_reported, is_evicted, is_let_go, stands, is_of_trace}
 use Rattle.hs_model.specs.State.{AgentState, ClaimedTrace, GivenPlace, claim_of, is_claimed}
 use Rattle.hs_model.specs.Evicting.{is_over, evict_trace, evict}
 use Rattle.hs_model.specs.Abandoning.{pinned_groups, count_of_id, is_no_greater, next_to_go, abandon_group, abandon}
-use Rattle.hs_model.specs.Turning.{order_of, costs_of, visit}
-use Rattle.hs_model.specs.Stepping.{Input, Chunk, Crumbed, Triggered, Asked, Turn, Answered, Event, Took, Gave, step_of, step_of_answer, told_by, after_step, after_gave, after_event, after_from, after}
+use Rattle.hs_model.specs.Turning.{is_pinned_under, order_of, used_at, costs_of, shares_after, visit}
+use Rattle.hs_model.specs.Stepping.{Input, Chunk, Crumbed, Triggered, Asked, Turn, Answered, Event, Took, Gave, step_of, step_of_answer, admits, group_of, told_by, after_step, after_gave, after_event, after_from, after}
 
 -- ---- places
 
@@ -260,3 +261,69 @@ pub record AddsThis (settings : PlainSettings) (node : ℕ) (state : AgentState)
 
 abbrev pub EventsAddThis : Type 0
 EventsAddThis = (settings : PlainSettings) (node : ℕ) (state : AgentState) → AddsThis settings node state
+
+-- What an agent bears: the chunks that are indexed or pinned.
+abbrev pub borne : AgentState → ℕ
+borne state = indexed_count state.taken + length state.pinned
+
+-- the group for which an input claims, if it does
+abbrev pub claimed_by : PlainSettings → ℕ → AgentState → Input → Option Group
+claimed_by settings node state (Chunk client sheet) = None
+claimed_by settings node state (Crumbed client crumb) = None
+claimed_by settings node state (Triggered client trigger) = if admits settings state.tried trigger then Some (group_of node state trigger).group else None
+claimed_by settings node state (Asked ask) = Some ask.group
+claimed_by settings node state Turn = None
+
+-- how many triggers an input admits
+abbrev pub admitted_by : PlainSettings → AgentState → Input → ℕ
+admitted_by settings state (Chunk client sheet) = 0
+admitted_by settings state (Crumbed client crumb) = 0
+admitted_by settings state (Triggered client trigger) = if admits settings state.tried trigger then 1 else 0
+admitted_by settings state (Asked ask) = 0
+admitted_by settings state Turn = 0
+
+-- the shares behind an input: a turn changes them
+abbrev pub shares_by : PlainSettings → AgentState → Input → List Share
+shares_by settings state (Chunk client sheet) = state.shares
+shares_by settings state (Crumbed client crumb) = state.shares
+shares_by settings state (Triggered client trigger) = state.shares
+shares_by settings state (Asked ask) = state.shares
+shares_by settings state Turn = shares_after settings state
+
+-- the groups of these claims pass a test, and so does a group, if there is one
+abbrev pub AllPass : (Group → Bool) → List ClaimedTrace → Type 0
+AllPass test claims = AllByRecursion (λ (claim : ClaimedTrace). test claim.group ≡ true) claims
+
+abbrev pub IsPassed : (Group → Bool) → Option Group → Type 0
+IsPassed test None = Unit {0}
+IsPassed test (Some group) = test group ≡ true
+
+-- An input adds to what the agent bears the chunk that it brings, and nothing else; it claims for one group at most. An offer adds
+-- nothing.
+pub record AddsFew (settings : PlainSettings) (node : ℕ) (state : AgentState) : Type 0 where
+  pub load : (input : Input) → borne (after_step settings node state input) ≤ borne state + length (brought_by (Took input))
+  pub offered : (answer : Answered) → borne (after_gave state answer) ≤ borne state
+  pub claims : (test : Group → Bool) (input : Input) → AllPass test state.claims → IsPassed test (claimed_by settings node state input) → AllPass test (after_step settings node state input).claims
+  pub kept : (answer : Answered) → (after_gave state answer).claims ≡ state.claims
+  pub admitted : (input : Input) → (after_step settings node state input).admitted ≡ state.admitted + admitted_by settings state input
+  pub counted : (answer : Answered) → (after_gave state answer).admitted ≡ state.admitted
+  pub shares : (input : Input) → (after_step settings node state input).shares ≡ shares_by settings state input
+  pub shared : (answer : Answered) → (after_gave state answer).shares ≡ state.shares
+
+abbrev pub EventsAddFew : Type 0
+EventsAddFew = (settings : PlainSettings) (node : ℕ) (state : AgentState) → AddsFew settings node state
+
+-- A chunk is pinned for a trigger id that has a share, and each share's budget pays for the page of any chunk.
+pub record CanReport (settings : PlainSettings) (state : AgentState) : Type 0 where
+  pub place : ℕ
+  pub pin : ℕ
+  pub pinned : slice_get state.pinned pin ≡ Some place
+  pub share : Share
+  pub at : ℕ
+  pub shared : slice_get state.shares at ≡ Some share
+  pub under : stands (is_pinned_under share.trigger.0) state.taken place ≡ true
+  pub cheap : AllByRecursion (λ (share : Share). (place : ℕ) → used_at state.taken place ≤ budget_of settings.size share) state.shares
+
+-- Then a turn reports a chunk.
+abbrev pub TurnsReport : Type 0
+TurnsReport = (settings : PlainSettings) (node : ℕ) (state : AgentState) → CanReport settings state → borne (after_step settings node state Turn) < borne state

@@ -1,6 +1,6 @@
 //! What holds of an agent after any events. These functions do nothing: their contracts say it.
 
-ghost use Rattle.hs_model.specs.Laws.{ListsHaveTheirChunks, StandingsPartition, HeldChunksAreInNoHand, TracesAreClaimedOnce, ClaimsHoldForGood, ChunksStandByTheirClaim, NothingClaimedIsEvicted, TheLeastGoes, LimitsHold, ReportedInOrder, EvictsWhileOver, IndexedStayTouched, AbandonsWhileOver, EventsGoOn, ClientsPagesRise, VisitsAreApart, StepsSayWhatTheyTell, EventsAddThis};
+ghost use Rattle.hs_model.specs.Laws.{ListsHaveTheirChunks, StandingsPartition, HeldChunksAreInNoHand, TracesAreClaimedOnce, ClaimsHoldForGood, ChunksStandByTheirClaim, NothingClaimedIsEvicted, TheLeastGoes, LimitsHold, ReportedInOrder, EvictsWhileOver, IndexedStayTouched, AbandonsWhileOver, EventsGoOn, ClientsPagesRise, VisitsAreApart, StepsSayWhatTheyTell, EventsAddThis, EventsAddFew, TurnsReport};
 
 /// The pinned and the reported chunks stand in their lists, each once, and the evicted, abandoned and
 /// reported ones in the hand, each once, until they are given back.
@@ -95,4 +95,15 @@ pub fn steps_say_what_they_tell()
 /// An event adds its step to the log and the page of the chunk that it takes to the pages. Only a give gives a buffer back.
 pub fn events_add_this()
     ensures { EventsAddThis }
+{}
+
+/// An input adds to the indexed and pinned chunks the one that it brings, and claims for one group at most; an offer
+/// adds nothing.
+pub fn events_add_few()
+    ensures { EventsAddFew }
+{}
+
+/// A turn reports a chunk where one is pinned for a trigger id that has a share, and budgets pay for any page.
+pub fn turns_report()
+    ensures { TurnsReport }
 {}

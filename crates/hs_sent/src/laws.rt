@@ -1,6 +1,6 @@
 //! What holds of what clients send. These functions do nothing: their contracts say it.
 
-ghost use Rattle.hs_sent.specs.Laws.{TimedPagesAreThePages, TimedPagesAreTimely};
+ghost use Rattle.hs_sent.specs.Laws.{TimedPagesAreThePages, TimedPagesAreTimely, PagesFit};
 
 use hs_records::pages_carry_the_records;
 
@@ -15,3 +15,8 @@ pub fn timed_pages_are_timely()
 {
     pages_carry_the_records();
 }
+
+/// No page that is sent has more used bytes than its size.
+pub fn pages_fit()
+    ensures { PagesFit }
+{}
