@@ -169,7 +169,7 @@ module _ (run : Run) where
 -- ---- through the schedule
 
 module _ (k : Known) (W : PlainWorkload) (laid : IsLaidOut W) where
-  abbrev own : ℕ → NodeId
+  abbrev pub own : ℕ → NodeId
   own i = record { 0 = i }
 
   -- what an agent's pass takes of the asks is enough, where so much was heard
@@ -233,7 +233,7 @@ module _ (k : Known) (W : PlainWorkload) (laid : IsLaidOut W) where
 
   -- ---- a pass
 
-  module _ (made : ℕ) (m : Machine) (g : Going k W laid made (length W.clients) m) (h : AsksPaced made m) where
+  module _ (made : ℕ) (m : Machine) (g : Going k W laid made (length W.clients) m) where
     abbrev before : Run
     before = followed W m.journal
 
@@ -244,7 +244,7 @@ module _ (k : Known) (W : PlainWorkload) (laid : IsLaidOut W) where
     abbrev given : Machine
     given = agents_give W (agents_take W m)
 
-    given_done : IsDone W given
+    pub given_done : IsDone W given
     given_done = done_given k.plays k.agree k.rests k.goes_on k.runs k.noted k.unsent k.comes W m g.offers
 
     -- the agents let the coordinator be
@@ -253,10 +253,10 @@ module _ (k : Known) (W : PlainWorkload) (laid : IsLaidOut W) where
         (give_there k.plays k.agree k.rests k.goes_on k.runs k.noted k.unsent W (agents_take W m) (done_taken k.plays k.agree k.rests k.goes_on k.runs k.noted k.unsent k.comes W m g.offers)).heard
         ∙ (take_there k.plays k.agree k.rests k.goes_on k.runs k.noted k.unsent W m g.offers.done).heard
 
-    abbrev more : Messages
+    abbrev pub more : Messages
     more = (hear_there k.plays k.agree k.rests k.goes_on k.runs k.noted k.unsent W given given_done).more
 
-    heard_now : now.heard ≡ before.heard ++ more
+    pub heard_now : now.heard ≡ before.heard ++ more
     heard_now =
         (hear_there k.plays k.agree k.rests k.goes_on k.runs k.noted k.unsent W given given_done).heard ∙ ap (λ (front : Messages). front ++ more) heard_given
 
@@ -312,7 +312,7 @@ module _ (k : Known) (W : PlainWorkload) (laid : IsLaidOut W) where
           ∙ ap (λ (state : AgentState). length state.said) (sym step.comes_later)
 
       -- what the coordinator heard of the node in this pass
-      heard_more : count_by (is_from (own i)) more ≡ min (length later.state.said - count_by (is_from (own i)) before.heard) MAX_TAKEN
+      pub heard_more : count_by (is_from (own i)) more ≡ min (length later.state.said - count_by (is_from (own i)) before.heard) MAX_TAKEN
       heard_more =
           let hears = hear_there k.plays k.agree k.rests k.goes_on k.runs k.noted k.unsent W given given_done in
           let u =
@@ -341,8 +341,8 @@ module _ (k : Known) (W : PlainWorkload) (laid : IsLaidOut W) where
           let both = count_append (is_from (own i)) before.heard more in
           omega (arith, most, said, all, both)
 
-      due_now : count_by (is_from (own i)) now.heard ≡ due_of (said_in W.settings later) (made + 1)
-      due_now =
+      due_now : AsksPaced made m → count_by (is_from (own i)) now.heard ≡ due_of (said_in W.settings later) (made + 1)
+      due_now h =
           let same : made + 1 ≡ suc made = omega arith in
           let whole = ap (count_by (is_from (own i))) heard_now in
           let both = count_append (is_from (own i)) before.heard more in
@@ -384,82 +384,83 @@ module _ (k : Known) (W : PlainWorkload) (laid : IsLaidOut W) where
           let d = taken_before Asks ps (pass ∷ []) (n + 1) (omega (arith, count, few)) in
           omega (arith, a, b, c, d, t)
 
-    abbrev marks_now : ℕ → ℕ
-    marks_now n = cond (leb n made) (h.marks n) (length now.heard)
+    module _ (h : AsksPaced made m) where
+      abbrev marks_now : ℕ → ℕ
+      marks_now n = cond (leb n made) (h.marks n) (length now.heard)
 
-    old_mark : (n : ℕ) → n ≤ made → marks_now n ≡ h.marks n
-    old_mark n few = ap (λ b. cond b (h.marks n) (length now.heard)) (le-leb n made few)
+      old_mark : (n : ℕ) → n ≤ made → marks_now n ≡ h.marks n
+      old_mark n few = ap (λ b. cond b (h.marks n) (length now.heard)) (le-leb n made few)
 
-    new_mark : (n : ℕ) → made < n → marks_now n ≡ length now.heard
-    new_mark n past = ap (λ b. cond b (h.marks n) (length now.heard)) (beyond (leb n made) refl)
-      where
-        beyond : (b : Bool) → leb n made ≡ b → leb n made ≡ false
-        beyond true e = let low = leb-true n made e in absurd (omega (arith, low, past))
-        beyond false e = e
+      new_mark : (n : ℕ) → made < n → marks_now n ≡ length now.heard
+      new_mark n past = ap (λ b. cond b (h.marks n) (length now.heard)) (beyond (leb n made) refl)
+        where
+          beyond : (b : Bool) → leb n made ≡ b → leb n made ≡ false
+          beyond true e = let low = leb-true n made e in absurd (omega (arith, low, past))
+          beyond false e = e
 
-    longer_now : length before.heard ≤ length now.heard
-    longer_now = let all = ap length heard_now in let both = length-append before.heard more in omega (arith, all, both)
+      longer_now : length before.heard ≤ length now.heard
+      longer_now = let all = ap length heard_now in let both = length-append before.heard more in omega (arith, all, both)
 
-    below_or : (a b : ℕ) → (a ≤ b) ⊎ (b < a)
-    below_or zero b = inl (omega arith)
-    below_or (suc a) zero = inr (omega arith)
-    below_or (suc a) (suc b) = elim (below_or a b) as (λ _. (suc a ≤ suc b) ⊎ (suc b < suc a)) [ inl less ↦ inl (omega (arith, less)) | inr more ↦ inr (omega (arith, more)) ]
+      below_or : (a b : ℕ) → (a ≤ b) ⊎ (b < a)
+      below_or zero b = inl (omega arith)
+      below_or (suc a) zero = inr (omega arith)
+      below_or (suc a) (suc b) = elim (below_or a b) as (λ _. (suc a ≤ suc b) ⊎ (suc b < suc a)) [ inl less ↦ inl (omega (arith, less)) | inr more ↦ inr (omega (arith, more)) ]
 
-    asks_pass : AsksPaced (made + 1) (passes W m)
-    asks_pass =
-        record {
-          marks = marks_now;
-          low = λ n few. low_case n (below_or n made);
-          rising = λ n few. rising_case n few (below_or (n + 1) made);
-          last = new_mark (made + 1) (omega arith);
-          heard = λ n few i run stands. heard_case n few i run stands (below_or n made);
-          takes = λ n few i run stands. takes_case n few i run stands (below_or (n + 1) made);
-        }
-      where
-        low_case : (n : ℕ) → (n ≤ made) ⊎ (made < n) → marks_now n ≤ length now.heard
-        low_case n (inl few) =
-            let is = old_mark n few in
-            let low = h.low n few in
-            let long = longer_now in
-            omega (arith, is, low, long)
-        low_case n (inr past) = let is = new_mark n past in omega (arith, is)
+      asks_pass : AsksPaced (made + 1) (passes W m)
+      asks_pass =
+          record {
+            marks = marks_now;
+            low = λ n few. low_case n (below_or n made);
+            rising = λ n few. rising_case n few (below_or (n + 1) made);
+            last = new_mark (made + 1) (omega arith);
+            heard = λ n few i run stands. heard_case n few i run stands (below_or n made);
+            takes = λ n few i run stands. takes_case n few i run stands (below_or (n + 1) made);
+          }
+        where
+          low_case : (n : ℕ) → (n ≤ made) ⊎ (made < n) → marks_now n ≤ length now.heard
+          low_case n (inl few) =
+              let is = old_mark n few in
+              let low = h.low n few in
+              let long = longer_now in
+              omega (arith, is, low, long)
+          low_case n (inr past) = let is = new_mark n past in omega (arith, is)
 
-        rising_case : (n : ℕ) → n < made + 1 → (n + 1 ≤ made) ⊎ (made < n + 1) → marks_now n ≤ marks_now (n + 1)
-        rising_case n few (inl less) =
-            let a = old_mark n (omega (arith, less)) in
-            let b = old_mark (n + 1) less in
-            let up = h.rising n (omega (arith, less)) in
-            omega (arith, a, b, up)
-        rising_case n few (inr past) = let b = new_mark (n + 1) past in let low = low_case n (below_or n made) in omega (arith, b, low)
+          rising_case : (n : ℕ) → n < made + 1 → (n + 1 ≤ made) ⊎ (made < n + 1) → marks_now n ≤ marks_now (n + 1)
+          rising_case n few (inl less) =
+              let a = old_mark n (omega (arith, less)) in
+              let b = old_mark (n + 1) less in
+              let up = h.rising n (omega (arith, less)) in
+              omega (arith, a, b, up)
+          rising_case n few (inr past) = let b = new_mark (n + 1) past in let low = low_case n (below_or n made) in omega (arith, b, low)
 
-        heard_case : (n : ℕ) → n ≤ made + 1 → (i : ℕ) (run : NodeRun) → slice_get now.nodes i ≡ Some run → (n ≤ made) ⊎ (made < n) → count_by (is_from (own i)) (take (marks_now n) now.heard) ≡ due_of (said_in W.settings run) n
-        heard_case n few i run stands (inl less) =
-            let s = step i run stands in
-            ap (λ (c : ℕ). count_by (is_from (own i)) (take c now.heard)) (old_mark n less)
-            ∙ ap (count_by (is_from (own i))) (front_now (h.marks n) (h.low n less))
-            ∙ h.heard n less i s.node s.stands
-            ∙ due_same (said_in W.settings s.node) (said_in W.settings run) n (λ j low. sym (said_before i run stands j (omega (arith, low, less))))
-        heard_case n few i run stands (inr past) =
-            let is : n ≡ made + 1 = omega (arith, few, past) in
-            ap (λ (c : ℕ). count_by (is_from (own i)) (take c now.heard)) (new_mark n past)
-            ∙ ap (count_by (is_from (own i))) (take_all (length now.heard) now.heard (omega arith))
-            ∙ due_now i run stands
-            ∙ ap (due_of (said_in W.settings run)) (sym is)
+          heard_case : (n : ℕ) → n ≤ made + 1 → (i : ℕ) (run : NodeRun) → slice_get now.nodes i ≡ Some run → (n ≤ made) ⊎ (made < n) → count_by (is_from (own i)) (take (marks_now n) now.heard) ≡ due_of (said_in W.settings run) n
+          heard_case n few i run stands (inl less) =
+              let s = step i run stands in
+              ap (λ (c : ℕ). count_by (is_from (own i)) (take c now.heard)) (old_mark n less)
+              ∙ ap (count_by (is_from (own i))) (front_now (h.marks n) (h.low n less))
+              ∙ h.heard n less i s.node s.stands
+              ∙ due_same (said_in W.settings s.node) (said_in W.settings run) n (λ j low. sym (said_before i run stands j (omega (arith, low, less))))
+          heard_case n few i run stands (inr past) =
+              let is : n ≡ made + 1 = omega (arith, few, past) in
+              ap (λ (c : ℕ). count_by (is_from (own i)) (take c now.heard)) (new_mark n past)
+              ∙ ap (count_by (is_from (own i))) (take_all (length now.heard) now.heard (omega arith))
+              ∙ due_now i run stands h
+              ∙ ap (due_of (said_in W.settings run)) (sym is)
 
-        takes_case : (n : ℕ) → n < made + 1 → (i : ℕ) (run : NodeRun) → slice_get now.nodes i ≡ Some run → (n + 1 ≤ made) ⊎ (made < n + 1) → TakesEnough i (take (marks_now n) now.heard) n run
-        takes_case n few i run stands (inl less) =
-            let short : n ≤ made = omega (arith, less) in
-            let s = step i run stands in
-            let same : take (marks_now n) now.heard ≡ take (h.marks n) before.heard = ap (λ (c : ℕ). take c now.heard) (old_mark n short) ∙ front_now (h.marks n) (h.low n short) in
-            subst (λ (messages : Messages). TakesEnough i messages n run) (sym same)
-            (takes_before i run stands n (omega (arith, less)) (take (h.marks n) before.heard) (h.takes n (omega (arith, less)) i s.node s.stands))
-        takes_case n few i run stands (inr past) =
-            let is : made ≡ n = omega (arith, few, past) in
-            let short : n ≤ made = omega (arith, few) in
-            let same : take (marks_now n) now.heard ≡ before.heard =
-            ap (λ (c : ℕ). take c now.heard) (old_mark n short ∙ ap h.marks (sym is) ∙ h.last) ∙ front_now (length before.heard) (omega arith) ∙ take_all (length before.heard) before.heard (omega arith)
-            in
-            subst (λ (messages : Messages). TakesEnough i messages n run) (sym same) (subst (λ (n : ℕ). TakesEnough i before.heard n run) is (takes_now i run stands))
+          takes_case : (n : ℕ) → n < made + 1 → (i : ℕ) (run : NodeRun) → slice_get now.nodes i ≡ Some run → (n + 1 ≤ made) ⊎ (made < n + 1) → TakesEnough i (take (marks_now n) now.heard) n run
+          takes_case n few i run stands (inl less) =
+              let short : n ≤ made = omega (arith, less) in
+              let s = step i run stands in
+              let same : take (marks_now n) now.heard ≡ take (h.marks n) before.heard = ap (λ (c : ℕ). take c now.heard) (old_mark n short) ∙ front_now (h.marks n) (h.low n short) in
+              subst (λ (messages : Messages). TakesEnough i messages n run) (sym same)
+              (takes_before i run stands n (omega (arith, less)) (take (h.marks n) before.heard) (h.takes n (omega (arith, less)) i s.node s.stands))
+          takes_case n few i run stands (inr past) =
+              let is : made ≡ n = omega (arith, few, past) in
+              let short : n ≤ made = omega (arith, few) in
+              let same : take (marks_now n) now.heard ≡ before.heard =
+              ap (λ (c : ℕ). take c now.heard) (old_mark n short ∙ ap h.marks (sym is) ∙ h.last) ∙ front_now (length before.heard) (omega arith) ∙ take_all (length before.heard) before.heard (omega arith)
+              in
+              subst (λ (messages : Messages). TakesEnough i messages n run) (sym same) (subst (λ (n : ℕ). TakesEnough i before.heard n run) is (takes_now i run stands))
 
   -- ---- the clause
 

@@ -42,7 +42,7 @@ use Rattle.hs_lockstep.proofs.Takes.{before_turn, all_takes}
 
 -- ---- lists
 
-zipped_all : {X : Type 0} (p : ℕ × X → Bool) (start : ℕ) (xs : List X) → ((n : ℕ) (x : X) → slice_get xs n ≡ Some x → p (start + n, x) ≡ true) → list_all p (zip (range_with_len start (length xs)) xs) ≡ true
+pub zipped_all : {X : Type 0} (p : ℕ × X → Bool) (start : ℕ) (xs : List X) → ((n : ℕ) (x : X) → slice_get xs n ≡ Some x → p (start + n, x) ≡ true) → list_all p (zip (range_with_len start (length xs)) xs) ≡ true
 zipped_all p start [] each = refl
 zipped_all p start (x ∷ xs) each =
     let here : start + 0 ≡ start = omega arith in
@@ -54,13 +54,14 @@ flat_all P f [] each = tt
 flat_all P f (x ∷ xs) each = all_append P (f x) (flat_map f xs) (each 0 x refl) (flat_all P f xs (λ i y h. each (suc i) y h))
 
 -- a page that was drawn is one of the pages, with one of the draws
-record DrawnAt (pages : List TimedPage) (draws : List Draw) (j : ℕ) (d : DrawnPage) : Type 0 where
-  page : TimedPage
-  there : slice_get pages j ≡ Some page
-  started : d.started ≡ page.started
-  draw : slice_get draws j ≡ Some d.draw
+pub record DrawnAt (pages : List TimedPage) (draws : List Draw) (j : ℕ) (d : DrawnPage) : Type 0 where
+  pub page : TimedPage
+  pub there : slice_get pages j ≡ Some page
+  pub plain : d.page ≡ page.page
+  pub started : d.started ≡ page.started
+  pub draw : slice_get draws j ≡ Some d.draw
 
-drawn_at : (client : ClientId) (k : ℕ) (pages : List TimedPage) (draws : List Draw) (j : ℕ) (d : DrawnPage) → slice_get (drawn_from client k pages draws) j ≡ Some d → DrawnAt pages draws j d
+pub drawn_at : (client : ClientId) (k : ℕ) (pages : List TimedPage) (draws : List Draw) (j : ℕ) (d : DrawnPage) → slice_get (drawn_from client k pages draws) j ≡ Some d → DrawnAt pages draws j d
 drawn_at client k [] draws j d h = let never : None ≡ Some d = h in absurd cc
 drawn_at client k (page ∷ pages) [] j d h = let never : None ≡ Some d = h in absurd cc
 drawn_at client k (page ∷ pages) (draw ∷ draws) zero d h =
@@ -68,12 +69,13 @@ drawn_at client k (page ∷ pages) (draw ∷ draws) zero d h =
     record {
       page = page;
       there = refl;
+      plain = ap (λ (d : DrawnPage). d.page) (sym same);
       started = ap (λ (d : DrawnPage). d.started) (sym same);
       draw = ap (λ (d : DrawnPage). Some d.draw) same;
     }
-drawn_at client k (page ∷ pages) (draw ∷ draws) (suc j) d h = let rest = drawn_at client (k + 1) pages draws j d h in record { page = rest.page; there = rest.there; started = rest.started; draw = rest.draw }
+drawn_at client k (page ∷ pages) (draw ∷ draws) (suc j) d h = let rest = drawn_at client (k + 1) pages draws j d h in record { page = rest.page; there = rest.there; plain = rest.plain; started = rest.started; draw = rest.draw }
 
-get_low : {X : Type 0} (xs : List X) (i : ℕ) (x : X) → slice_get xs i ≡ Some x → i < length xs
+pub get_low : {X : Type 0} (xs : List X) (i : ℕ) (x : X) → slice_get xs i ≡ Some x → i < length xs
 get_low [] i x h = let never : None ≡ Some x = h in absurd cc
 get_low (y ∷ xs) zero x h = omega arith
 get_low (y ∷ xs) (suc i) x h = let rest = get_low xs i x h in omega (arith, rest)

@@ -125,7 +125,7 @@ module _ (n : ℕ) (a b : List ClientSends) (s : ClientSends) (sheets : List She
           either (inr o) = ap (option_and_then (λ (s : ClientSends). slice_get s.drawn sheet.header.page)) (o later) ∙ f.is
 
   drawn_still : (sheet : Sheet) → IsDrawn sends sheet → IsDrawn sends_later sheet
-  drawn_still sheet i = record { page = i.page; buffer = i.buffer; stamp = i.stamp; there = page_still sheet i.page i.there; got = i.got }
+  drawn_still sheet i = record { page = i.page; buffer = i.buffer; stamp = i.stamp; there = page_still sheet i.page i.there; got = i.got; is = i.is }
 
   gives_still : (givens : List GivenPlace) → AllByRecursion (GiveAnswers sends sheets given) givens → gives_in sends_later sheets givens ≡ gives_in sends sheets givens
   unfolding drawn_still

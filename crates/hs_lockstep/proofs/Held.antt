@@ -167,6 +167,7 @@ module _ (n : ℕ) (sends : List ClientSends) (sheets : List Sheet) (given : Lis
               ∙ ap (slice_get s.drawn) page_is
               ∙ sent.there;
           got = sent.got;
+          is = sym sent.is;
         }
 
     only_one : {X : Type 0} (x y : X) (q : ℕ) → slice_get (x ∷ []) q ≡ Some y → x ≡ y

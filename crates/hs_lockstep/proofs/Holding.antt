@@ -11,7 +11,7 @@ use Rattle.hs_journal.specs.declared.journal.Step.{Step}
 use Rattle.hs_journal.specs.declared.journal.Step.TheVariants as steps
 use Rattle.hs_model.specs.State.{GivenPlace}
 use Rattle.hs_sent.specs.Drawn.{DrawnPage, stamp_of}
-use Rattle.hs_sent.specs.Sending.{Sent, ClientSends, sent_chunks}
+use Rattle.hs_sent.specs.Sending.{Sent, ClientSends, sheet_of, sent_chunks}
 use Rattle.hs_words.specs.Pages.{Sheet}
 use Rattle.hs_words.specs.PoolHistory.{Given}
 use Rattle.hs_lawful.specs.Following.{Chunks, taken, takes}
@@ -61,6 +61,7 @@ pub record IsDrawn (sends : List ClientSends) (sheet : Sheet) : Type 0 where
   pub stamp : ℕ
   pub there : page_in sends sheet ≡ Some page
   pub got : page.draw ≡ draws.Got buffer stamp
+  pub is : sheet_of page ≡ sheet
 
 -- a give answers the draw of its chunk's page
 pub record GiveAnswers (sends : List ClientSends) (sheets : List Sheet) (given : List GivenPlace) (g : GivenPlace) : Type 0 where

@@ -41,7 +41,7 @@ use Rattle.hs_lockstep.proofs.Machines.{machine_end}
 -- ---- counts
 
 module _ {X : Type 0} where
-  filter_same : (p q : X → Bool) (xs : List X) → AllByRecursion (λ x. p x ≡ q x) xs → filter p xs ≡ filter q xs
+  pub filter_same : (p q : X → Bool) (xs : List X) → AllByRecursion (λ x. p x ≡ q x) xs → filter p xs ≡ filter q xs
   filter_same p q [] all = refl
   filter_same p q (x ∷ xs) all = ap (λ b. cond b (x ∷ filter p xs) (filter p xs)) all.0 ∙ ap (λ (kept : List X). cond (q x) (x ∷ kept) kept) (filter_same p q xs all.1)
 
@@ -140,11 +140,11 @@ module _ (queue : Queue) where
 
 -- ---- items and operations
 
-abbrev IsWithin : {A : Type 0} → ℕ → List (Sent A) → Type 0
+abbrev pub IsWithin : {A : Type 0} → ℕ → List (Sent A) → Type 0
 IsWithin n items = AllByRecursion (λ item. item.number < n) items
 
 -- where all items are of operations before one, no later one sends any
-sent_same : {A : Type 0} (x most : ℕ) (items : List (Sent A)) → IsWithin most items → sent_within (min x most) items ≡ sent_within x items
+pub sent_same : {A : Type 0} (x most : ℕ) (items : List (Sent A)) → IsWithin most items → sent_within (min x most) items ≡ sent_within x items
 sent_same {A = A} x most items all = filter_same (λ (item : Sent A). ltb item.number (min x most)) (λ (item : Sent A). ltb item.number x) items (each items all)
   where
     one_item : (n : ℕ) → n < most → (b c : Bool) → ltb n (min x most) ≡ b → ltb n x ≡ c → b ≡ c
@@ -169,7 +169,7 @@ within_here : {A : Type 0} (number n : ℕ) (items : List A) → number < n → 
 within_here number n [] low = tt
 within_here number n (item ∷ items) low = (low, within_here number n items low)
 
-crumbs_within : (number : ℕ) (trace : Option TraceId) (ops : List Operation)
+pub crumbs_within : (number : ℕ) (trace : Option TraceId) (ops : List Operation)
     → IsWithin (number + length ops) (flat_map (λ (op : NumberedOperation). map (λ (crumb : Crumb). record { number = op.number; item = crumb }) (crumb_in op.trace op.operation)) (numbered_from number trace ops))
 crumbs_within number trace [] = tt
 crumbs_within number trace (op ∷ ops) =
@@ -178,7 +178,7 @@ crumbs_within number trace (op ∷ ops) =
     within_both (number + suc (length ops)) (map (λ (crumb : Crumb). record { number = number; item = crumb }) (crumb_in trace op)) _ (within_here number (number + suc (length ops)) (crumb_in trace op) here)
     (within_more (number + 1 + length ops) (number + suc (length ops)) _ same (crumbs_within (number + 1) (open_behind trace op) ops))
 
-triggers_within : (autos : List AutoRule) (earlier : List NumberedOperation) (number : ℕ) (trace : Option TraceId) (ops : List Operation) → IsWithin (number + length ops) (triggers_behind autos earlier (numbered_from number trace ops))
+pub triggers_within : (autos : List AutoRule) (earlier : List NumberedOperation) (number : ℕ) (trace : Option TraceId) (ops : List Operation) → IsWithin (number + length ops) (triggers_behind autos earlier (numbered_from number trace ops))
 triggers_within autos earlier number trace [] = tt
 triggers_within autos earlier number trace (op ∷ ops) =
     let here : number < number + suc (length ops) = omega arith in
@@ -200,7 +200,7 @@ in_time from to (first ∷ pages) zero page h at = subst (InTime to) (some_same 
 in_time from to (first ∷ pages) (suc j) page h at = in_time first.sent to pages j page h.3 at
 
 -- what holds of the pages of a list holds of its drawn pages
-drawn_all : (P : ℕ → Type 0) (client : ClientId) (k : ℕ) (pages : List TimedPage) (draws : List Draw) → ((j : ℕ) (page : TimedPage) → slice_get pages j ≡ Some page → P page.sent) → AllByRecursion (λ (d : DrawnPage). P d.sent) (drawn_from client k pages draws)
+pub drawn_all : (P : ℕ → Type 0) (client : ClientId) (k : ℕ) (pages : List TimedPage) (draws : List Draw) → ((j : ℕ) (page : TimedPage) → slice_get pages j ≡ Some page → P page.sent) → AllByRecursion (λ (d : DrawnPage). P d.sent) (drawn_from client k pages draws)
 drawn_all P client k [] draws each = tt
 drawn_all P client k (page ∷ pages) [] each = tt
 drawn_all P client k (page ∷ pages) (draw ∷ draws) each = (each 0 page refl, drawn_all P client (k + 1) pages draws (λ j p h. each (suc j) p h))
@@ -212,7 +212,7 @@ chunks_case : (P : ℕ → Type 0) (d : DrawnPage) (kept : List DrawnPage) (b : 
 chunks_case P d kept true h all = (h, all)
 chunks_case P d kept false h all = all
 
-chunks_all : (P : ℕ → Type 0) (drawn : List DrawnPage) → AllByRecursion (λ (d : DrawnPage). P d.sent) drawn → AllByRecursion (λ (item : Sent Sheet). P item.number) (sent_chunks drawn)
+pub chunks_all : (P : ℕ → Type 0) (drawn : List DrawnPage) → AllByRecursion (λ (d : DrawnPage). P d.sent) drawn → AllByRecursion (λ (item : Sent Sheet). P item.number) (sent_chunks drawn)
 chunks_all P [] all = tt
 chunks_all P (d ∷ drawn) all = chunks_case P d (filter (λ (d : DrawnPage). has_buffer d.draw) drawn) (has_buffer d.draw) all.0 (chunks_all P drawn all.1)
 
@@ -302,7 +302,7 @@ module _ (k : Known) (W : PlainWorkload) (laid : IsLaidOut W) (least : MIN_SIZE 
   abbrev every : ℕ
   every = W.settings.stride
 
-  abbrev pages_at : ℕ → List TimedPage
+  abbrev pub pages_at : ℕ → List TimedPage
   pages_at place = timed_pages W.settings.size (operations_at W place)
 
   pub timely_at : (place : ℕ) → IsTimely 0 (length (operations_at W place)) (pages_at place)

@@ -332,7 +332,7 @@ module _ (plays : FollowingPlaysOut) (agree : OrdersAgree) (rests : DoneIsAtRest
           (mapped_all (Walked W.settings run_of.heard ThroughHeld) (node_behind W m.journal (agents_take W m).journal) run_of.nodes
           (all_places (λ (node : NodeRun). Walked W.settings run_of.heard ThroughHeld (node_behind W m.journal (agents_take W m).journal node)) run_of.nodes
           (λ i node stands.
-          takes_keep noted W.settings run_of.heard Held (λ run step rest event quiet met p. take_held adds go_on places W.settings run_of.heard run step rest event quiet met p) (pass_steps W m run_of node)
+          takes_keep noted W.settings run_of.heard Held (λ run step rest event left quiet met p. take_held adds go_on places W.settings run_of.heard run step rest event quiet met p) (pass_steps W m run_of node)
           (node_behind W m.journal (agents_take W m).journal node) (left_is plays agree rests goes_on runs noted unsent W m (pass_steps W m run_of) h.done i node stands)
           (all_append (λ (step : Step). is_offer step ≡ false) (before_turn W m run_of node) (steps.Turn ∷ [])
           (all_takes (λ (step : Step). is_offer step ≡ false) (λ client. refl) (λ client. refl) (λ client. refl) refl W m run_of node) (refl, tt))

@@ -23,3 +23,10 @@ pub mod Items
 pub mod Asks
 pub mod Beside
 pub mod Pace
+pub mod FewAsks
+pub mod Groups
+pub mod Working
+pub mod Pins
+pub mod Progress
+pub mod Closing
+pub mod Valid

@@ -158,7 +158,7 @@ module _ (noted : StepsAreNoted) (settings : PlainSettings) (heard : Messages) w
 
   -- what each step keeps is kept
   pub takes_keep : (P : NodeRun → Type 0)
-      → ((run : NodeRun) (step : Step) (rest : List Step) (event : Event) → is_offer step ≡ false → event_of run heard step ≡ Some event → P run → P (perform settings rest run event))
+      → ((run : NodeRun) (step : Step) (rest : List Step) (event : Event) → run.left ≡ step ∷ rest → is_offer step ≡ false → event_of run heard step ≡ Some event → P run → P (perform settings rest run event))
       → (left : List Step) (run : NodeRun) → run.left ≡ left → AllByRecursion (λ (step : Step). is_offer step ≡ false) left → Enough run heard → P run → Walked settings heard (λ (r : NodeRun). IsThrough r × P r) run
   takes_keep P keeps [] run e all enough p = record { last = run; walks = Stands run; ends = (e, p) }
   takes_keep P keeps (step ∷ rest) run e all enough p =
@@ -172,7 +172,7 @@ module _ (noted : StepsAreNoted) (settings : PlainSettings) (heard : Messages) w
       let log : taken queue (next.state.log ++ next.left) ≡ taken queue (run.state.log ++ run.left) = ap (taken queue) n.log in
       let there = same_supply next run heard queue refl refl in
       omega (arith, all, log, there))
-      (keeps run step rest h.event all.0 h.met p) in
+      (keeps run step rest h.event e all.0 h.met p) in
       record { last = w.last; walks = Steps run next w.last stepped w.walks; ends = w.ends }
 
   -- ---- what is given

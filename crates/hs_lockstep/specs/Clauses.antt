@@ -2,17 +2,20 @@
 use Rattle.std.specs.Prelude.{◌≡◌, ◌*◌, ◌≤◌, true, false, length}
 use Rattle.std.specs.List.{AllByRecursion}
 use Rattle.hs_base.specs.declared.limits.TheConstants.{MIN_SIZE}
+use Rattle.hs_base.specs.declared.settings.TriggerRule.{TriggerRule}
 use Rattle.hs_records.specs.Plain.{PlainWorkload}
 use Rattle.hs_records.specs.Records.{AreBracketed}
 use Rattle.hs_words.specs.PoolHistory.{IsPoolHistory}
-use Rattle.hs_lawful.specs.Ends.{is_followed, has_rounds}
+use Rattle.hs_lawful.specs.Ends.{is_followed, has_rounds, is_bare}
 use Rattle.hs_lawful.specs.Following.{NodeRun, followed}
+use Rattle.hs_lawful.specs.Lawful.{IsLawful}
 use Rattle.hs_lawful.specs.Pace.{has_pace}
 use Rattle.hs_lawful.specs.Passes.{has_passes, has_offers}
 use Rattle.hs_lawful.specs.Played.{played}
 use Rattle.hs_lawful.specs.Pooled.{has_answers, pool_history}
 use Rattle.hs_lawful.specs.Shape.{has_shape, has_stamps}
 use Rattle.hs_lawful.specs.Unreads.{has_unreads}
+use Rattle.hs_workload.specs.Validity.{IsValid}
 use Rattle.hs_lockstep.specs.Lockstep.{lockstep}
 
 -- Every step of the schedule is ready when its turn comes: following the journal leaves none over.
@@ -61,3 +64,21 @@ ScheduleHasOffers = (W : PlainWorkload) → has_offers (played W (lockstep W)) �
 -- Agents and coordinator keep pace with the clients, where pages have their least size at least.
 abbrev pub ScheduleHasPace : Type 0
 ScheduleHasPace = (W : PlainWorkload) → IsLaidOut W → MIN_SIZE ≤ W.settings.size → has_pace (played W (lockstep W)) ≡ true
+
+-- What a whole schedule asks of a workload beside its shape: pages of the least size at least, and a weight for each trigger id. Every
+-- valid workload keeps this.
+pub record IsRunnable (W : PlainWorkload) : Type 0 where
+  pub laid : IsLaidOut W
+  pub size : MIN_SIZE ≤ W.settings.size
+  pub weights : AllByRecursion (λ (rule : TriggerRule). 1 ≤ rule.weight) W.settings.triggers
+
+-- Closing ends, with nothing left over.
+abbrev pub ScheduleIsBare : Type 0
+ScheduleIsBare = (W : PlainWorkload) → IsRunnable W → is_bare (played W (lockstep W)) ≡ true
+
+abbrev pub ValidWorkloadsRun : Type 0
+ValidWorkloadsRun = (W : PlainWorkload) → IsValid W → IsRunnable W
+
+-- The lockstep journal of each valid workload is lawful.
+abbrev pub ScheduleIsLawful : Type 0
+ScheduleIsLawful = (W : PlainWorkload) → IsValid W → IsLawful W (lockstep W)

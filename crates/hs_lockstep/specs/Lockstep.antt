@@ -159,10 +159,10 @@ abbrev pub closing : ℕ → PlainWorkload → Machine → Machine
 closing zero W m = m
 closing (suc more) W m = elim (is_bare (played W m.journal)) [ true ↦ m | false ↦ closing more W (passes W m) ]
 
--- More passes than this never come: each takes something or reports a chunk, there are no more chunks than pages, and of a
--- trigger come at most one message and one ask for each node, each of them answered once.
+-- More passes than this never come, for each takes an item or an ask, or hears a message, or reports a chunk: of a client's pages and
+-- operations comes one item each, of a trigger one ask for each node, and what is taken leads to one message or one pinned chunk.
 abbrev pub closing_limit : PlainWorkload → ℕ
-closing_limit W = 64 * sum_by (λ ops. length (pages_of W.settings.size ops) + length ops) W.clients
+closing_limit W = let all = sum_by (λ ops. length (pages_of W.settings.size ops) + length ops) W.clients in 2 * (all + W.settings.nodes * all) + 1
 
 -- the journal of the lockstep schedule
 abbrev pub lockstep : PlainWorkload → PlainJournal

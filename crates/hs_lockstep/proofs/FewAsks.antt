@@ -1,0 +1,145 @@
+-- A node gets one ask of a group at most. So where the groups that were spoken of are numbered at their nodes, there are no more asks than
+-- groups.
+use Rattle.std.proofs.Common.{◌≡◌, ◌⊎◌, inl, inr, ℕ, zero, suc, ◌+◌, ◌<◌, ◌≤◌, Bool, true, false, ◌&&◌, ◌||◌, not, cond, [], ◌∷◌, ◌++◌, length, refl, ap, subst, ◌∙◌, Some, arith, find, eqb, append-nil, append_assoc, length-append}
+use Rattle.std.specs.List.{AllByRecursion}
+use Rattle.std.specs.Option.{option_map_or}
+use Rattle.hs_base.specs.declared.ids.GroupId.{GroupId}
+use Rattle.hs_base.specs.declared.told.Ask.{Ask}
+use Rattle.hs_base.specs.NodeSets.{has_node}
+use Rattle.hs_coord.specs.Following.{Message, Messages, is_of, is_first_sender, has_crumb, has_ask, first_of, is_newly_asked}
+use Rattle.hs_lawful.specs.Following.{ask_by, asks_behind, asks_to}
+use Rattle.hs_lockstep.proofs.Lists.{one}
+
+-- ---- sums
+
+abbrev pub sum_to : (ℕ → ℕ) → ℕ → ℕ
+sum_to f zero = 0
+sum_to f (suc n) = sum_to f n + f n
+
+pub sum_le : (f g : ℕ → ℕ) (n : ℕ) → ((i : ℕ) → i < n → f i ≤ g i) → sum_to f n ≤ sum_to g n
+sum_le f g zero each = omega arith
+sum_le f g (suc n) each = let rest = sum_le f g n (λ i low. each i (omega (arith, low))) in let here = each n (omega arith) in omega (arith, rest, here)
+
+same_or_less : (i n : ℕ) → i < suc n → (i ≡ n) ⊎ (i < n)
+same_or_less zero zero low = inl refl
+same_or_less zero (suc n) low = inr (omega arith)
+same_or_less (suc i) zero low = absurd (omega (arith, low))
+same_or_less (suc i) (suc n) low = elim (same_or_less i n (omega (arith, low))) as (λ _. (suc i ≡ suc n) ⊎ (suc i < suc n)) [ inl e ↦ inl (ap suc e) | inr l ↦ inr (omega (arith, l)) ]
+
+less_case : (f g : ℕ → ℕ) (n i : ℕ) → (i ≡ n) ⊎ (i < n) → sum_to f n ≤ sum_to g n → f n ≤ g n → f i < g i → (i < n → sum_to f n < sum_to g n) → sum_to f n + f n < sum_to g n + g n
+less_case f g n i (inl e) rest here less on = let same = subst (λ (k : ℕ). f k < g k) e less in omega (arith, rest, same)
+less_case f g n i (inr l) rest here less on = let more = on l in omega (arith, here, more)
+
+-- one that is greater makes the sum greater
+pub sum_lt : (f g : ℕ → ℕ) (n i : ℕ) → ((i : ℕ) → i < n → f i ≤ g i) → i < n → f i < g i → sum_to f n < sum_to g n
+sum_lt f g zero i each low less = absurd (omega (arith, low))
+sum_lt f g (suc n) i each low less =
+    less_case f g n i (same_or_less i n low) (sum_le f g n (λ i low. each i (omega (arith, low)))) (each n (omega arith)) less (λ l. sum_lt f g n i (λ i low. each i (omega (arith, low))) l less)
+
+pub sum_most : (f : ℕ → ℕ) (n : ℕ) → ((i : ℕ) → f i ≤ 1) → sum_to f n ≤ n
+sum_most f zero each = omega arith
+sum_most f (suc n) each = let rest = sum_most f n each in let here = each n in omega (arith, rest, here)
+
+one_most : (b : Bool) → one b ≤ 1
+one_most true = omega arith
+one_most false = omega arith
+
+one_le : (a b : Bool) → (a ≡ true → b ≡ true) → one a ≤ one b
+one_le true true on = omega arith
+one_le true false on = let never : false ≡ true = on refl in absurd cc
+one_le false b on = omega arith
+
+-- ---- asks of a group
+
+and_parts : (a b : Bool) → (a && b) ≡ true → (a ≡ true) × (b ≡ true)
+and_parts true b h = (refl, h)
+and_parts false b h = let never : false ≡ true = h in absurd cc
+
+not_true : (b : Bool) → not b ≡ true → b ≡ false
+not_true true h = let never : false ≡ true = h in absurd cc
+not_true false h = refl
+
+crumb_more : (g : GroupId) (ms more : Messages) (v : ℕ) → has_crumb g ms v ≡ true → has_crumb g (ms ++ more) v ≡ true
+crumb_more g [] more v h = let never : false ≡ true = h in absurd cc
+crumb_more g (m ∷ ms) more v h = either (is_of g m && has_node m.told.crumbs v) h (λ h. crumb_more g ms more v h)
+  where
+    either : (b : Bool) → (b || has_crumb g ms v) ≡ true → (has_crumb g ms v ≡ true → has_crumb g (ms ++ more) v ≡ true) → (b || has_crumb g (ms ++ more) v) ≡ true
+    either true h on = refl
+    either false h on = on h
+
+-- the first message of a group that has one stays the first
+first_more : (g : GroupId) (ms more : Messages) (v : ℕ) → has_crumb g ms v ≡ true → is_first_sender g (ms ++ more) v ≡ is_first_sender g ms v
+first_more g [] more v h = let never : false ≡ true = h in absurd cc
+first_more g (m ∷ ms) more v h = either (is_of g m) h (λ h. first_more g ms more v h)
+  where
+    either : (b : Bool) → ((b && has_node m.told.crumbs v) || has_crumb g ms v) ≡ true → (has_crumb g ms v ≡ true → is_first_sender g (ms ++ more) v ≡ is_first_sender g ms v)
+        → option_map_or (λ (m : Message). eqb v m.node.0) (cond b (Some m) (find (is_of g) (ms ++ more))) false ≡ option_map_or (λ (m : Message). eqb v m.node.0) (cond b (Some m) (find (is_of g) ms)) false
+    either true h on = refl
+    either false h on = on h
+
+ask_more : (g : GroupId) (ms more : Messages) (v : ℕ) → has_ask g ms v ≡ true → has_ask g (ms ++ more) v ≡ true
+ask_more g ms more v h =
+    let parts = and_parts (has_crumb g ms v) (not (is_first_sender g ms v)) h in
+    ap (λ b. b && not (is_first_sender g (ms ++ more) v)) (crumb_more g ms more v parts.0) ∙ ap not (first_more g ms more v parts.0) ∙ parts.1
+
+-- ---- all groups
+
+module _ (limit : ℕ → ℕ) (nodes v : ℕ) where
+  -- how many groups have asked the node
+  abbrev asked_groups : Messages → ℕ
+  asked_groups ms = sum_to (λ u. sum_to (λ n. one (has_ask (record { node = u; number = n }) ms v)) (limit u)) nodes
+
+  -- a message is of a group that is numbered so
+  abbrev pub IsNumbered : Message → Type 0
+  IsNumbered m = (m.told.group.id.node < nodes) × (m.told.group.id.number < limit m.told.group.id.node)
+
+  asked_more : (ms more : Messages) → asked_groups ms ≤ asked_groups (ms ++ more)
+  asked_more ms more =
+      sum_le (λ u. sum_to (λ n. one (has_ask (record { node = u; number = n }) ms v)) (limit u)) (λ u. sum_to (λ n. one (has_ask (record { node = u; number = n }) (ms ++ more) v)) (limit u)) nodes
+      (λ u low.
+      sum_le (λ n. one (has_ask (record { node = u; number = n }) ms v)) (λ n. one (has_ask (record { node = u; number = n }) (ms ++ more) v)) (limit u)
+      (λ n low. one_le (has_ask (record { node = u; number = n }) ms v) (has_ask (record { node = u; number = n }) (ms ++ more) v) (ask_more (record { node = u; number = n }) ms more v)))
+
+  -- a node that is newly asked is asked of one group more
+  asked_one : (before : Messages) (m : Message) → IsNumbered m → is_newly_asked before m v ≡ true → asked_groups before < asked_groups (before ++ m ∷ [])
+  asked_one before m numbered newly =
+      let g = m.told.group.id in
+      let parts = and_parts (has_ask g (before ++ m ∷ []) v) (not (has_ask g before v)) newly in
+      let was = ap one (not_true (has_ask g before v) parts.1) in
+      let now = ap one parts.0 in
+      let f = λ (u : ℕ) (n : ℕ). one (has_ask (record { node = u; number = n }) before v) in
+      let h = λ (u : ℕ) (n : ℕ). one (has_ask (record { node = u; number = n }) (before ++ m ∷ []) v) in
+      let each : (u n : ℕ) → f u n ≤ h u n = λ u n. one_le (has_ask (record { node = u; number = n }) before v) (has_ask (record { node = u; number = n }) (before ++ m ∷ []) v) (ask_more (record { node = u; number = n }) before (m ∷ []) v) in
+      sum_lt (λ u. sum_to (f u) (limit u)) (λ u. sum_to (h u) (limit u)) nodes g.node (λ u low. sum_le (f u) (h u) (limit u) (λ n low. each u n)) numbered.0
+      (sum_lt (f g.node) (h g.node) (limit g.node) g.number (λ n low. each g.node n) numbered.1 (omega (arith, was, now)))
+
+  ask_case : (before : Messages) (m : Message) (b : Bool) → is_newly_asked before m v ≡ b → IsNumbered m → one b + asked_groups before ≤ asked_groups (before ++ m ∷ [])
+  ask_case before m true e numbered = let more = asked_one before m numbered e in omega (arith, more)
+  ask_case before m false e numbered = let more = asked_more before (m ∷ []) in omega (arith, more)
+
+  ask_length : (before : Messages) (m : Message) → length (ask_by v before m) ≡ one (is_newly_asked before m v)
+  ask_length before m = either (is_newly_asked before m v)
+    where
+      either : (b : Bool) → length {A = Ask} (cond b (record { group = (first_of before m).told.group; laterals = (first_of before m).told.laterals } ∷ []) []) ≡ one b
+      either true = refl
+      either false = refl
+
+  asks_counted : (before ms : Messages) → AllByRecursion IsNumbered ms → length (asks_behind v before ms) + asked_groups before ≤ asked_groups (before ++ ms)
+  asks_counted before [] all = let same = ap asked_groups (append-nil before) in omega (arith, same)
+  asks_counted before (m ∷ ms) all =
+      let both = length-append (ask_by v before m) (asks_behind v (before ++ m ∷ []) ms) in
+      let first = ask_length before m in
+      let here = ask_case before m (is_newly_asked before m v) refl all.0 in
+      let rest = asks_counted (before ++ m ∷ []) ms all.1 in
+      let same = ap asked_groups (append_assoc before (m ∷ []) ms) in
+      omega (arith, both, first, here, rest, same)
+
+  -- so there are no more asks than groups
+  pub asks_few : (heard : Messages) → AllByRecursion IsNumbered heard → length (asks_to v heard) ≤ sum_to limit nodes
+  asks_few heard all =
+      let counted = asks_counted [] heard all in
+      let few =
+      sum_le (λ u. sum_to (λ n. one (has_ask (record { node = u; number = n }) heard v)) (limit u)) limit nodes
+      (λ u low. sum_most (λ n. one (has_ask (record { node = u; number = n }) heard v)) (limit u) (λ n. one_most (has_ask (record { node = u; number = n }) heard v)))
+      in
+      omega (arith, counted, few)
