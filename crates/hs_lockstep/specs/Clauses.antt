@@ -45,7 +45,7 @@ ScheduleHasShape = (W : PlainWorkload) → IsLaidOut W → has_shape (played W (
 abbrev pub ScheduleHasStamps : Type 0
 ScheduleHasStamps = (W : PlainWorkload) → IsLaidOut W → has_stamps (played W (lockstep W)) ≡ true
 
--- In the order of stamps, these events are a history of the pool.
+-- Sorted by stamp, these events are a history of the pool.
 abbrev pub ScheduleHasHistory : Type 0
 ScheduleHasHistory = (W : PlainWorkload) → AllByRecursion (λ (run : NodeRun). IsPoolHistory W.settings.buffers (pool_history run)) (followed W (lockstep W)).nodes
 
