@@ -103,7 +103,7 @@ notes_stay fates k (draw ∷ draws) [] same = let no : suc (length draws) ≡ 0 
 notes_stay fates k (draw ∷ draws) (note ∷ notes) same =
     let tails : suc (length draws) ≡ suc (length notes) = same in ap (λ rest. note ∷ rest) (notes_stay fates (k + 1) draws notes (omega (arith, tails)))
 
-counts_end : (before : ℕ) (pages : List PlainPage) → count_from before (map note_of pages) ≡ end_from before pages
+pub counts_end : (before : ℕ) (pages : List PlainPage) → count_from before (map note_of pages) ≡ end_from before pages
 counts_end before [] = refl
 counts_end before (page ∷ pages) = counts_end (end_of page) pages
 

@@ -11,3 +11,4 @@ pub mod Stamps
 pub mod Claimed
 pub mod LetGo
 pub mod DrawnChunks
+pub mod ClientBooks

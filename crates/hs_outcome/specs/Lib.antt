@@ -5,6 +5,7 @@ pub mod Records
 pub mod Causes
 pub mod Origins
 pub mod Nulls
+pub mod ClientBooks
 pub mod Versions
 pub mod Examples
 pub mod TextExamples

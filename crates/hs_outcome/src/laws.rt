@@ -4,6 +4,7 @@ ghost use Rattle.hs_outcome.specs.Records.{EachRecordHasOneEntry, TotalsCountThe
 ghost use Rattle.hs_outcome.specs.Causes.{AgentsKeepTheirModel, EvictedOnlyWhereOver, GivenWereLetGo, NothingClaimedWasEvicted, NoBufferIsOutTwice, EmptyOnlyWhereEmpty};
 ghost use Rattle.hs_outcome.specs.Origins.{EachFateHasItsCause, TakenPagesWereDrawn};
 ghost use Rattle.hs_outcome.specs.Nulls.{EmptyDrawsFoundNothing};
+ghost use Rattle.hs_outcome.specs.ClientBooks.{BooksOfClientsFit};
 ghost use Rattle.hs_outcome.specs.Versions.{VersionsHaveOneOutcome};
 
 use hs_lawful::laws::{
@@ -116,4 +117,11 @@ pub fn taken_pages_were_drawn()
     ensures { TakenPagesWereDrawn }
 {
     following_plays_out();
+}
+
+/// The books of the clients come in order, and each holds its client's records without a gap.
+pub fn books_of_clients_fit()
+    ensures { BooksOfClientsFit }
+{
+    pages_carry_the_records();
 }
