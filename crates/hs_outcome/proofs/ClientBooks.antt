@@ -25,7 +25,7 @@ use Rattle.hs_outcome.proofs.Entries.{PagesCarryTheRecords, counts_end, ends_at,
 
 -- ---- order
 
-compare : (a b : ℕ) → (a < b) ⊎ ((a ≡ b) ⊎ (b < a))
+pub compare : (a b : ℕ) → (a < b) ⊎ ((a ≡ b) ⊎ (b < a))
 compare a b = either (ltb a b) refl
   where
     not_below : (b ≡ a) ⊎ (b < a) → (a < b) ⊎ ((a ≡ b) ⊎ (b < a))

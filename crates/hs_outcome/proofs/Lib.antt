@@ -12,3 +12,4 @@ pub mod Claimed
 pub mod LetGo
 pub mod DrawnChunks
 pub mod ClientBooks
+pub mod GotPages

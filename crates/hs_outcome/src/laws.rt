@@ -4,7 +4,7 @@ ghost use Rattle.hs_outcome.specs.Records.{EachRecordHasOneEntry, TotalsCountThe
 ghost use Rattle.hs_outcome.specs.Causes.{AgentsKeepTheirModel, EvictedOnlyWhereOver, GivenWereLetGo, NothingClaimedWasEvicted, NoBufferIsOutTwice, EmptyOnlyWhereEmpty};
 ghost use Rattle.hs_outcome.specs.Origins.{EachFateHasItsCause, TakenPagesWereDrawn};
 ghost use Rattle.hs_outcome.specs.Nulls.{EmptyDrawsFoundNothing};
-ghost use Rattle.hs_outcome.specs.ClientBooks.{BooksOfClientsFit};
+ghost use Rattle.hs_outcome.specs.ClientBooks.{BooksOfClientsFit, StandingsAreOfGotPages};
 ghost use Rattle.hs_outcome.specs.Versions.{VersionsHaveOneOutcome};
 
 use hs_lawful::laws::{
@@ -124,4 +124,13 @@ pub fn books_of_clients_fit()
     ensures { BooksOfClientsFit }
 {
     pages_carry_the_records();
+}
+
+/// Each standing of an agent is that of a page for which a client of its node got a buffer.
+pub fn standings_are_of_got_pages()
+    ensures { StandingsAreOfGotPages }
+{
+    following_plays_out();
+    runs_are_of_the_journal();
+    taken_pages_were_drawn();
 }
