@@ -1,0 +1,22 @@
+use Rattle.std.proofs.Common.{◌≡◌, ℕ, ◌+◌, ◌-◌, ◌*◌, ◌≤◌, length, subst, arith}
+use Rattle.fixtures_live.specs.Pairs.{CanCall}
+use Rattle.fixtures_live.specs.PairLaws.{keeps_both}
+use Rattle.rows_live.proofs.calls.do_calls.Goals as goal
+use Rattle.rows_live.proofs.calls.do_calls.Goals.{then-ne, else-ne}
+
+pub loop-call-preserved : goal.loop-call-preserved
+loop-call-preserved c =
+    record {
+      left = λ n can.
+          let size = length c.args.calls.now in
+          let within = c.loop-call-test.true in
+          let more : 2 * (length c.args.calls.now - c.loop-call.call-index) + n ≡ (2 * (length c.args.calls.now - (c.loop-call.call-index + 1)) + n) + 2 = omega (arith, within) in
+          c.do_call.ensures.left (2 * (length c.args.calls.now - (c.loop-call.call-index + 1)) + n) (subst (λ m. CanCall 64 m c.loop-call.client) more (c.loop-call.invariant.left n can));
+      same = keeps_both c.args.client.now c.loop-call.client c.do_call.new.client c.loop-call.invariant.same c.do_call.ensures.same;
+      few = elim c.if-ne.branch [ then-ne w ↦ omega (arith, w.others-is, c.loop-call.invariant.few) | else-ne w ↦ omega (arith, w.others-is, c.loop-call.invariant.few) ];
+    }
+
+pub returns-clause-left : goal.returns-clause-left
+returns-clause-left c = λ n can.
+    let over : 2 * (length c.args.calls.now - c.loop-call.call-index) + n ≡ n = omega (arith, c.loop-call-test.false) in
+    subst (λ m. CanCall 64 m c.loop-call.client) over (c.loop-call.invariant.left n can)

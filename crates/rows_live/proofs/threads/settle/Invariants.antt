@@ -1,0 +1,5 @@
+use Rattle.fixtures_live.specs.Pairs.{CanCall, IsOnly}
+use Rattle.rows_live.proofs.threads.settle.Given as goal
+
+abbrev pub invariant-loop-round : goal.invariant-loop-round
+invariant-loop-round l = CanCall 64 1 l.client × IsOnly l.port l.client

@@ -1,0 +1,6 @@
+use Rattle.std.proofs.Common.{◌+◌, ◌-◌, ◌*◌}
+use Rattle.fixtures_live.specs.Pairs.{CanCall, KeepsClient}
+use Rattle.rows_live.proofs.threads.work.Given as goal
+
+abbrev pub invariant-loop-round : goal.invariant-loop-round
+invariant-loop-round l = CanCall 64 (14 * (100 - l._round) + 1) l.client × KeepsClient l.initial.client l.client

@@ -1,0 +1,137 @@
+//! A client near its greatest sizes: 1,024 chunks of 32,768 bytes, and records of 65,535 bytes.
+
+ghost use Rattle.std.specs.Prelude.{◌≡◌, ℕ, ◌+◌, ◌*◌, ◌≤◌, length, IsSome, IfOk};
+ghost use Rattle.hs_records.specs.Records.{piece_count};
+ghost use Rattle.fixtures_live.specs.Pairs.{CanCall, KeepsPort, HasClient};
+
+use fixtures_live::{Making, client_and_port, flush, give_back, next_chunk, nothing_comes};
+use hs_base::TraceId;
+use hs_live::{AgentPort, Called, Client};
+use hs_ring::Lease;
+use hs_words::Held;
+use std::alloc::{AllocError, Global};
+use std::test::Fail;
+
+const GREATEST: Making = Making {
+    buffers: 1024,
+    size: 32_768,
+    calls: 1040,
+    capacity: 64,
+};
+
+/// So many records need 1,026 pages.
+const RECORDS: u32 = 342;
+
+/// A payload of so many bytes.
+fn payload_of(alloc: Global, count: usize) -> Result<Vec<u8>, AllocError>
+    ensures { IfOk result (λ bytes. length bytes.items ≡ count) }
+{
+    Vec::from_elem(alloc, 9u8, count)
+}
+
+/// Opens a trace.
+fn begin(client: &mut Client) -> Called
+    ensures { (n : ℕ) → CanCall 32768 (n + 1) client.old → CanCall 32768 n client.new }
+{
+    client.begin(TraceId(1))
+}
+
+/// Records a payload of three pieces, or one that is a byte too long.
+fn point(client: &mut Client, moment: u64, payload: &[u8]) -> Called
+    requires pieces { piece_count 32768 (length payload.now) ≡ 3 }
+    requires can { CanCall 32768 3 client.old }
+    ensures { (n : ℕ) → CanCall 32768 (n + 3) client.old → CanCall 32768 n client.new }
+{
+    client.point(moment, payload)
+}
+
+/// Records the longest payload again and again. Answers how often that was done.
+fn record_all(client: &mut Client, payload: &[u8]) -> u32
+    requires pieces { piece_count 32768 (length payload.now) ≡ 3 }
+    requires can { CanCall 32768 1027 client.old }
+    ensures left { CanCall 32768 1 client.new }
+    ensures few { result ≤ 342 }
+{
+    let mut done = 0;
+    for moment in 0..RECORDS {
+        if point(client, u64::from(moment), payload) == Called::Done {
+            done += 1;
+        }
+    }
+    done
+}
+
+/// A trace of the longest records, and one that is too long.
+fn records(client: &mut Client, longest: &[u8], too_long: &[u8]) -> bool
+    requires longest { length longest.now ≡ 65535 }
+    requires too_long { length too_long.now ≡ 65536 }
+    requires can { CanCall 32768 1031 client.old }
+{
+    let begun = begin(client);
+    let wide = point(client, 0, too_long);
+    let done = record_all(client, longest);
+    let ended = client.end();
+    begun == Called::Done && wide == Called::TooWide && done == RECORDS && ended == Called::Done
+}
+
+/// Whether the chunk has this page. Each record has two full pages and one of 67 bytes.
+fn is_page(held: &Held<Lease>, page: u32) -> bool {
+    let used = if page % 3 == 2 { 101 } else { 32_768 };
+    match held.chunk.header() {
+        Some(header) => {
+            header.trace == TraceId(1)
+                && header.page == page
+                && header.first == page / 3
+                && held.chunk.used() == used
+        }
+        None => false,
+    }
+}
+
+/// Takes what is in the ring of the link, and gives it back. Answers how many were the pages from this one on.
+fn take_pages(port: &mut AgentPort, first: u32) -> u32
+    requires ends { HasClient port.old }
+    requires first { first ≤ 1024 }
+    ensures same { KeepsPort port.old port.new }
+    ensures few { result ≤ 64 }
+{
+    let mut right = 0;
+    for place in 0..64 {
+        let Some(held) = next_chunk(port) else {
+            break;
+        };
+        let is_right = is_page(&held, first + place);
+        if is_right && give_back(port, held, 8).is_some() {
+            right += 1;
+        }
+    }
+    right
+}
+
+/// Takes all pages, as many at a time as the link has entries. Answers whether they are those that were sent, and as many
+/// wait each time as should.
+fn takes_all(client: &mut Client, port: &mut AgentPort) -> bool
+    requires { HasClient port.old }
+    ensures { KeepsPort port.old port.new }
+{
+    let mut right = 0;
+    for round in 0..16 {
+        let waits = flush(client);
+        if waits == 960 - 64 * round {
+            right += take_pages(port, 64 * round);
+        }
+    }
+    right == 1024
+}
+
+#[test]
+fn the_greatest_sizes(rt: HostRuntime) -> Result<(), Fail> {
+    let (mut client, mut port) = client_and_port(rt.alloc(), GREATEST)?;
+    let longest = payload_of(rt.alloc(), 65_535)?;
+    let too_long = payload_of(rt.alloc(), 65_536)?;
+    assert!(rt; records(&mut client, longest.as_slice(), too_long.as_slice()));
+    assert_eq!(rt; client.nulls(), 2);
+    assert!(rt; takes_all(&mut client, &mut port));
+    assert!(rt; nothing_comes(&mut port));
+    Ok(())
+}
