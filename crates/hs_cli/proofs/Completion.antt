@@ -1,15 +1,14 @@
--- A command over a workload that it can run ends well, where neither the source nor the sink failed.
+-- A command over a valid workload ends well, where neither the source nor the sink failed.
 use Rattle.std.proofs.Common.{◌≡◌, ℕ, ◌≤◌, List, ◌++◌, length, Option, Some, None, ◌⊎◌, inl, inr, refl, sym, ap, subst, ◌∙◌, arith, append-nil, length-append, true≢false}
-use Rattle.std.specs.Prelude.{IsSome}
 use Rattle.hs_base.specs.Outside.{Rose}
 use Rattle.hs_base.specs.declared.limits.TheConstants.{MAX_INPUT}
 use Rattle.hs_records.specs.Plain.{PlainWorkload}
 use Rattle.hs_workload.specs.Validity.{Reads}
 use Rattle.hs_cli.specs.Commands.{command_in}
 use Rattle.hs_cli.specs.Input.{ReadWhole, ReadBeyond}
-use Rattle.hs_cli.specs.Endings.{IsAbout, WillBeAbout, IsRefused, Owes, Ends, due_text}
+use Rattle.hs_cli.specs.Endings.{IsAbout, WillBeAbout, IsRefused, Owes, Ends}
 use Rattle.hs_cli.specs.declared.command.Command.{Command}
-use Rattle.hs_cli.specs.declared.command.Command.TheVariants.{Replay, Convert, Make}
+use Rattle.hs_cli.specs.declared.command.Command.TheVariants.{Replay, Convert, Make, Drill}
 use Rattle.hs_cli.specs.declared.status.Status.{Status}
 use Rattle.hs_cli.specs.declared.status.Status.TheVariants.{Done, Usage, Refused, ReadFault, WriteFault, Memory, TooLong}
 
@@ -30,35 +29,17 @@ taken_beyond (Some known) (Some rest) input bytes is beyond =
     let size = ap length (sym same ∙ beyond.taken) ∙ length-append bytes rest in
     omega (arith, size)
 
--- a text reads as one workload
-abbrev pub IsOne : Type 0
-IsOne = (text : List ℕ) (V W : PlainWorkload) → Reads text V → Reads text W → V ≡ W
-
--- what a command that reads was about
-one_read : IsOne → (left left' : Option (List ℕ)) (V W : PlainWorkload) → ((bytes : List ℕ) × ReadWhole left left' bytes × Reads bytes V)
-    → ((input : List ℕ) × (left ≡ Some input) × Reads input W × (length input ≤ MAX_INPUT)) → V ≡ W
-one_read one left left' V W (bytes, whole, reads) (input, is, known, short) =
-    one input V W (subst (λ (text : List ℕ). Reads text V) (taken_whole left left' input bytes is whole) reads) known
-
--- a command is about one workload
-one_about : IsOne → (command : Command) (left left' : Option (List ℕ)) (V W : PlainWorkload) → IsAbout command left left' V → WillBeAbout command left W → V ≡ W
-one_about one (Make seed size) left left' V W (none, made) will = made ∙ sym will
-one_about one Replay left left' V W about will = one_read one left left' V W about will
-one_about one Convert left left' V W about will = one_read one left left' V W about will
-
 -- a workload's text is not refused
 text_reads : (left left' : Option (List ℕ)) (W : PlainWorkload) (bytes text : List ℕ) → ReadWhole left left' bytes → IsRefused bytes text
     → ((input : List ℕ) × (left ≡ Some input) × Reads input W × (length input ≤ MAX_INPUT)) → ⊥
 text_reads left left' W bytes text whole refused (input, is, known, short) =
     refused.no_workload W (subst (λ (t : List ℕ). Reads t W) (sym (taken_whole left left' input bytes is whole)) known)
 
-not_refused : IsOne → (command : Command) (left left' : Option (List ℕ)) (text : List ℕ) (W : PlainWorkload) → WillBeAbout command left W → IsSome (due_text command W) → Owes command left left' Refused text → ⊥
-not_refused one (Make seed size) left left' text W will due (inl (reader, rest)) = reader
-not_refused one Replay left left' text W will due (inl (reader, (bytes, whole, refused))) = text_reads left left' W bytes text whole refused will
-not_refused one Convert left left' text W will due (inl (reader, (bytes, whole, refused))) = text_reads left left' W bytes text whole refused will
-not_refused one command left left' text W will due (inr (V, about, none, told)) =
-    let bad : IsSome {T = List ℕ} None = subst IsSome (ap (due_text command) (sym (one_about one command left left' V W about will)) ∙ none) due in
-    absurd (true≢false (sym bad))
+not_refused : (command : Command) (left left' : Option (List ℕ)) (text : List ℕ) (W : PlainWorkload) → WillBeAbout command left W → Owes command left left' Refused text → ⊥
+not_refused (Make seed size) left left' text W will (reader, rest) = reader
+not_refused (Drill seed size) left left' text W will (reader, rest) = reader
+not_refused (Replay form) left left' text W will (reader, (bytes, whole, refused)) = text_reads left left' W bytes text whole refused will
+not_refused Convert left left' text W will (reader, (bytes, whole, refused)) = text_reads left left' W bytes text whole refused will
 
 -- no more was read of it than an input may have
 fits : (left left' : Option (List ℕ)) (W : PlainWorkload) (bytes : List ℕ) → ReadBeyond left left' bytes → ((input : List ℕ) × (left ≡ Some input) × Reads input W × (length input ≤ MAX_INPUT)) → ⊥
@@ -69,7 +50,8 @@ fits left left' W bytes beyond (input, is, known, short) =
 
 not_too_long : (command : Command) (left left' : Option (List ℕ)) (text : List ℕ) (W : PlainWorkload) → WillBeAbout command left W → Owes command left left' TooLong text → ⊥
 not_too_long (Make seed size) left left' text W will (reader, rest) = reader
-not_too_long Replay left left' text W will (reader, (bytes, beyond, told)) = fits left left' W bytes beyond will
+not_too_long (Drill seed size) left left' text W will (reader, rest) = reader
+not_too_long (Replay form) left left' text W will (reader, (bytes, beyond, told)) = fits left left' W bytes beyond will
 not_too_long Convert left left' text W will (reader, (bytes, beyond, told)) = fits left left' W bytes beyond will
 
 -- words are one command
@@ -78,8 +60,8 @@ same_command words command other is also =
     let both : Some other ≡ Some command = sym also ∙ is in
     cc
 
-module _ (words : List (List ℕ)) (left left' written written' : Option (List ℕ)) (source source' sink sink' : ℕ) (one : IsOne) (command : Command) (W : PlainWorkload)
-    (is : command_in words ≡ Some command) (will : WillBeAbout command left W) (due : IsSome (due_text command W)) (steady : ¬ Rose source source') (still : ¬ Rose sink sink') where
+module _ (words : List (List ℕ)) (left left' written written' : Option (List ℕ)) (source source' sink sink' : ℕ) (command : Command) (W : PlainWorkload)
+    (is : command_in words ≡ Some command) (will : WillBeAbout command left W) (steady : ¬ Rose source source') (still : ¬ Rose sink sink') where
   pub completed : (result : Status) → Ends words left left' written written' source source' sink sink' result → (result ≡ Done) ⊎ (result ≡ Memory)
   completed Done ends = inl refl
   completed Memory ends = inr refl
@@ -87,7 +69,7 @@ module _ (words : List (List ℕ)) (left left' written written' : Option (List �
       let both : Some command ≡ None = sym is ∙ isnt in
       cc
   completed Refused (none, (text, (other, also, owes), gains)) =
-      absurd (not_refused one command left left' text W will due (subst (λ (c : Command). Owes c left left' Refused text) (same_command words command other is also) owes))
+      absurd (not_refused command left left' text W will (subst (λ (c : Command). Owes c left left' Refused text) (same_command words command other is also) owes))
   completed TooLong (none, (text, (other, also, owes), gains)) =
       absurd (not_too_long command left left' text W will (subst (λ (c : Command). Owes c left left' TooLong text) (same_command words command other is also) owes))
   completed ReadFault ends = absurd (steady ends.1)

@@ -1,17 +1,19 @@
 -- The table of commands, and which lists of words are one of its rows. The words are told apart as those of one simple
 -- command line: a command, a seed and a size behind it, and two flags anywhere.
-use Rattle.std.specs.Prelude.{◌≡◌, ◌≤◌, ⊤, ℕ, ◌&&◌, ◌||◌, Bool, true, false, nat_le, List, [], ◌∷◌, Option, Some, None, is_some, option_map, option_and_then, if◌then◌else◌, codes, refl}
+use Rattle.std.specs.Prelude.{◌≡◌, ◌≤◌, ⊤, ℕ, ◌&&◌, ◌||◌, Bool, true, false, not, nat_le, List, [], ◌∷◌, Option, Some, None, is_some, option_map, option_and_then, if◌then◌else◌, codes, refl}
 use Rattle.std.specs.Str.{bytes_eq}
 use Rattle.std.specs.Option.{option_map_or}
 use Rattle.hs_base.specs.declared.limits.TheConstants.{MAX_REQUESTS}
 use Rattle.hs_text.specs.Text.{number_of}
+use Rattle.hs_outcome.specs.declared.form.Form.{Form}
+use Rattle.hs_outcome.specs.declared.form.Form.TheVariants.{Text as Lines, Json}
 use Rattle.clap.specs.Words.{App, Row, Rule, Text, new_app, new_rule, with_rule, Kinds, fault_of, first_of, matches_of}
 use Rattle.clap.specs.Walk.{is_empty}
 use Rattle.clap.specs.Simple.{on_top}
 use Rattle.clap.specs.declared.builder.action.ArgAction.TheVariants.{SetTrue}
 use Rattle.clap.proofs.OnLiterals.{clap_on_literals}
 use Rattle.hs_cli.specs.declared.command.Command.{Command}
-use Rattle.hs_cli.specs.declared.command.Command.TheVariants.{Replay, Convert, Make}
+use Rattle.hs_cli.specs.declared.command.Command.TheVariants.{Replay, Convert, Make, Drill}
 use Rattle.hs_cli.specs.declared.command.Line as told
 
 -- the words of a call, told apart
@@ -19,11 +21,12 @@ pub record Line : Type 0 where
   pub command : Text
   pub seed : Option Text
   pub size : Option Text
-  -- whether a flag is there, which no command takes yet
-  pub flagged : Bool
+  -- whether these flags are there; no command takes the second one yet
+  pub json : Bool
+  pub watch : Bool
 
 abbrev pub line_in : told.Line → Line
-line_in line = record { command = line.command.now; seed = option_map (λ word. word.now) line.seed; size = option_map (λ word. word.now) line.size; flagged = line.flagged }
+line_in line = record { command = line.command.now; seed = option_map (λ word. word.now) line.seed; size = option_map (λ word. word.now) line.size; json = line.json; watch = line.watch }
 
 -- ---- the table, a row a command
 
@@ -35,26 +38,32 @@ seed_of word = number_of word
 abbrev pub size_of : Text → Option ℕ
 size_of word = option_and_then (λ size. if nat_le 1 size && nat_le size MAX_REQUESTS then Some size else None) (number_of word)
 
--- the command, if the line has nothing else
-abbrev pub alone : Command → Line → Option Command
-alone command line = if is_some line.seed || (is_some line.size || line.flagged) then None else Some command
+-- whether the line has nothing but a command and the flag `--json`
+abbrev pub is_alone : Line → Bool
+is_alone line = not (is_some line.seed) && (not (is_some line.size) && not line.watch)
 
--- the command with a seed and a size, if the line has these and no flag
-abbrev pub sized : (ℕ → ℕ → Command) → Line → Option Command
-sized command line =
-    if line.flagged then None else
-    option_and_then (λ seed. option_map (command seed) (option_and_then size_of line.size)) (option_and_then seed_of line.seed)
+-- the form of the output that the line asks for
+abbrev pub form_in : Line → Option Form
+form_in line = if is_alone line then Some (if line.json then Json else Lines) else None
+
+-- the seed and the size, if the line has these and no flag
+abbrev pub sizes_in : Line → Option (ℕ × ℕ)
+sizes_in line =
+    if line.json || line.watch then None else
+    option_and_then (λ seed. option_map (λ size. (seed, size)) (option_and_then size_of line.size)) (option_and_then seed_of line.seed)
 
 abbrev pub command_of : Line → Option Command
 command_of line =
-    if bytes_eq line.command (codes "replay") then alone Replay line
-    else (if bytes_eq line.command (codes "convert") then alone Convert line
-    else (if bytes_eq line.command (codes "make") then sized Make line
-    else None))
+    if bytes_eq line.command (codes "replay") then option_map Replay (form_in line)
+    else (if bytes_eq line.command (codes "convert") then (if is_alone line && not line.json then Some Convert else None)
+    else (if bytes_eq line.command (codes "make") then option_map (λ (both : ℕ × ℕ). Make both.0 both.1) (sizes_in line)
+    else (if bytes_eq line.command (codes "drill") then option_map (λ (both : ℕ × ℕ). Drill both.0 both.1) (sizes_in line)
+    else None)))
 
 -- a size that a made workload may have
 abbrev pub IsSized : Command → Type 0
 IsSized (Make seed size) = (1 ≤ size) × (size ≤ MAX_REQUESTS)
+IsSized (Drill seed size) = (1 ≤ size) × (size ≤ MAX_REQUESTS)
 IsSized command = ⊤
 
 -- ---- words
@@ -78,7 +87,7 @@ is_set name rows = option_map_or (λ value. bytes_eq value (codes "true")) (firs
 
 -- the line that the rows give, where they name a command
 abbrev pub line_of : List Row → Option Line
-line_of rows = option_map (λ command. record { command = command; seed = first_of (codes "SEED") rows; size = first_of (codes "SIZE") rows; flagged = is_set (codes "json") rows || is_set (codes "watch") rows }) (first_of (codes "COMMAND") rows)
+line_of rows = option_map (λ command. record { command = command; seed = first_of (codes "SEED") rows; size = first_of (codes "SIZE") rows; json = is_set (codes "json") rows; watch = is_set (codes "watch") rows }) (first_of (codes "COMMAND") rows)
 
 -- the command of these rows, unless the words were refused
 abbrev pub command_by : Kinds → List Row → Option Command
@@ -92,9 +101,29 @@ named words = codes "hindsight" ∷ words
 abbrev pub command_in : List Text → Option Command
 command_in words = command_by (fault_of parser (named words)) (matches_of parser (named words))
 
-the_word_replay : command_in (codes "replay" ∷ []) ≡ Some Replay
+the_word_replay : command_in (codes "replay" ∷ []) ≡ Some (Replay Lines)
 unfolding clap_on_literals
 the_word_replay = refl
+
+a_flag_behind : command_in (codes "replay" ∷ codes "--json" ∷ []) ≡ Some (Replay Json)
+unfolding clap_on_literals
+a_flag_behind = refl
+
+a_flag_before : command_in (codes "--json" ∷ codes "replay" ∷ []) ≡ Some (Replay Json)
+unfolding clap_on_literals
+a_flag_before = refl
+
+no_flag_for_convert : command_in (codes "convert" ∷ codes "--json" ∷ []) ≡ None
+unfolding clap_on_literals
+no_flag_for_convert = refl
+
+drilled_with_two_numbers : command_in (codes "drill" ∷ codes "0" ∷ codes "1" ∷ []) ≡ Some (Drill 0 1)
+unfolding clap_on_literals
+drilled_with_two_numbers = refl
+
+no_drill_without_a_size : command_in (codes "drill" ∷ codes "7" ∷ []) ≡ None
+unfolding clap_on_literals
+no_drill_without_a_size = refl
 
 made_of_two_numbers : command_in (codes "make" ∷ codes "7" ∷ codes "3" ∷ []) ≡ Some (Make 7 3)
 unfolding clap_on_literals

@@ -1,6 +1,6 @@
 -- What each status says of a call: of its words, of what it took from its source and of what its sink gained.
 -- `left` and `written` are before and after the call.
-use Rattle.std.specs.Prelude.{◌≡◌, ◌⊎◌, ⊤, ℕ, ◌≤◌, List, length, Option, Some, None, if◌then◌else◌}
+use Rattle.std.specs.Prelude.{◌≡◌, ◌⊎◌, ⊤, ℕ, ◌≤◌, List, [], ◌∷◌, length, Option, Some, None}
 use Rattle.hs_base.specs.Outside.{Rose, Gains}
 use Rattle.hs_base.specs.declared.limits.TheConstants.{MAX_INPUT}
 use Rattle.hs_records.specs.Plain.{PlainWorkload}
@@ -9,39 +9,57 @@ use Rattle.hs_workload.specs.Validity.{Reads}
 use Rattle.hs_workload.specs.Faults.{first_fault}
 use Rattle.hs_workload.specs.Grammar.{workload_text}
 use Rattle.hs_make.specs.Made.{made_workload}
-use Rattle.hs_replay.specs.OutcomeText.{outcome_text}
-use Rattle.hs_replay.specs.Replayable.{can_replay}
+use Rattle.hs_journal.specs.Views.{PlainJournal}
+use Rattle.hs_lawful.specs.Lawful.{IsLawful}
+use Rattle.hs_ledger.specs.Totals.{totals_of}
+use Rattle.hs_lockstep.specs.Lockstep.{lockstep}
+use Rattle.hs_outcome.specs.Outcomes.{outcome_of}
+use Rattle.hs_outcome.specs.OutcomeText.{outcome_text, total_line}
+use Rattle.hs_text.specs.Text.{text_of}
 use Rattle.hs_cli.specs.Input.{ReadWhole, ReadBeyond}
 use Rattle.hs_cli.specs.Written.{GainsFront}
 use Rattle.hs_cli.specs.Commands.{command_in}
-use Rattle.hs_cli.specs.Messages.{usage_text, too_long_text, beyond_text, refusal_text}
+use Rattle.hs_cli.specs.Messages.{usage_text, too_long_text, refusal_text}
 use Rattle.hs_cli.specs.declared.command.Command.{Command}
-use Rattle.hs_cli.specs.declared.command.Command.TheVariants.{Replay, Convert, Make}
+use Rattle.hs_cli.specs.declared.command.Command.TheVariants.{Replay, Convert, Make, Drill}
 use Rattle.hs_cli.specs.declared.status.Status.{Status}
 use Rattle.hs_cli.specs.declared.status.Status.TheVariants.{Done, Usage, Refused, ReadFault, WriteFault, Memory, TooLong}
 
 -- ---- what a command owes
 
--- the text that a command owes for a workload, or `None` where it cannot run it yet
-abbrev pub due_text : Command → PlainWorkload → Option (List ℕ)
-due_text Replay W = if can_replay W then Some (outcome_text W) else None
-due_text Convert W = Some (workload_text (record W { version = 2 }))
-due_text (Make seed size) W = Some (workload_text W)
+-- the total line of a workload's lockstep outcome
+abbrev pub drill_text : PlainWorkload → List ℕ
+drill_text W = text_of (total_line (totals_of (outcome_of W (lockstep W)).entries) ∷ [])
+
+-- The text is what a command owes for a workload. What `replay` owes is the outcome of the workload and a journal that is lawful for
+-- it, and this journal is that of the lockstep schedule.
+abbrev pub Due : Command → PlainWorkload → List ℕ → Type 0
+Due (Replay form) W text = (J : PlainJournal) × IsLawful W J × (J ≡ lockstep W) × (text ≡ outcome_text W J form)
+Due Convert W text = text ≡ workload_text (record W { version = 2 })
+Due (Make seed size) W text = text ≡ workload_text W
+Due (Drill seed size) W text = text ≡ drill_text W
 
 -- whether a command reads its workload; else it makes it
 abbrev pub IsReader : Command → Type 0
-IsReader Replay = ⊤
+IsReader (Replay form) = ⊤
 IsReader Convert = ⊤
 IsReader (Make seed size) = ⊥
+IsReader (Drill seed size) = ⊥
+
+-- Nothing was taken from the source, and it did not fail.
+abbrev pub IsUntouched : Option (List ℕ) → Option (List ℕ) → (source source' : ℕ) → Type 0
+IsUntouched left left' source source' = (left' ≡ left) × (source' ≡ source)
 
 -- The command was about this workload: it made it and read nothing, or read the whole input, which is its text.
 abbrev pub IsAbout : Command → Option (List ℕ) → Option (List ℕ) → PlainWorkload → Type 0
 IsAbout (Make seed size) left left' W = (left' ≡ left) × (W ≡ made_workload seed size)
+IsAbout (Drill seed size) left left' W = (left' ≡ left) × (W ≡ made_workload seed size)
 IsAbout command left left' W = (input : List ℕ) × ReadWhole left left' input × Reads input W
 
 -- The command will be about this workload: it makes it, or a source that has a whole, short enough input gives it.
 abbrev pub WillBeAbout : Command → Option (List ℕ) → PlainWorkload → Type 0
 WillBeAbout (Make seed size) left W = W ≡ made_workload seed size
+WillBeAbout (Drill seed size) left W = W ≡ made_workload seed size
 WillBeAbout command left W = (input : List ℕ) × (left ≡ Some input) × Reads input W × (length input ≤ MAX_INPUT)
 
 -- The input is no workload, and this text names its first bad line with the line's first reason.
@@ -55,9 +73,8 @@ pub record IsRefused (input text : List ℕ) : Type 0 where
 
 -- Of a command, before anything is written, this status is due, with this text.
 abbrev pub Owes : Command → Option (List ℕ) → Option (List ℕ) → Status → List ℕ → Type 0
-Owes command left left' Done text = (W : PlainWorkload) × IsAbout command left left' W × (due_text command W ≡ Some text)
-Owes command left left' Refused text = (IsReader command × ((input : List ℕ) × ReadWhole left left' input × IsRefused input text))
-    ⊎ ((W : PlainWorkload) × IsAbout command left left' W × (due_text command W ≡ None) × (text ≡ beyond_text))
+Owes command left left' Done text = (W : PlainWorkload) × IsAbout command left left' W × Due command W text
+Owes command left left' Refused text = IsReader command × ((input : List ℕ) × ReadWhole left left' input × IsRefused input text)
 Owes command left left' TooLong text = IsReader command × ((input : List ℕ) × ReadBeyond left left' input × (text ≡ too_long_text))
 Owes command left left' Usage text = ⊥
 Owes command left left' ReadFault text = ⊥

@@ -12,10 +12,6 @@ usage_text = text_of (codes "usage: hindsight replay [--json] | run [--json] | r
 abbrev pub too_long_text : List ℕ
 too_long_text = text_of (codes "refused input longer than 16777216 bytes" ∷ [])
 
--- what is written of a workload that the command cannot run yet
-abbrev pub beyond_text : List ℕ
-beyond_text = text_of (codes "refused workload beyond replay" ∷ [])
-
 -- what is written of an input whose first bad line is this one, for this reason
 abbrev pub refusal_text : ℕ → Reason → List ℕ
 refusal_text line reason = text_of (line_of (codes "refused" ∷ codes "line" ∷ decimal line ∷ reason_text reason ∷ []) ∷ [])

@@ -1,18 +1,19 @@
 //! The workload that a command is about, and the text that it owes for it.
 
-ghost use Rattle.std.specs.Prelude.{◌≡◌, IfOk, option_map};
+ghost use Rattle.std.specs.Prelude.{◌≡◌, ◌⊎◌, IfOk};
 ghost use Rattle.hs_workload.specs.Validity.{IsValid};
 ghost use Rattle.hs_workload.specs.Views.{workload_of};
 ghost use Rattle.hs_cli.specs.Commands.{IsSized};
-ghost use Rattle.hs_cli.specs.Endings.{due_text, IsReader};
+ghost use Rattle.hs_cli.specs.Endings.{Due, IsReader, IsUntouched};
 ghost use Rattle.hs_cli.specs.Answers.{IsSubject};
 ghost use Rattle.hs_cli.specs.Messages.{refusal_text};
 
 use crate::command::Command;
 use crate::reading::{Input, read_all};
 use hs_base::{Bytes, Memory, Source};
+use hs_lockstep::laws::schedule_is_lawful;
 use hs_make::make_workload;
-use hs_replay::{Form, can_replay, replay, write_outcome};
+use hs_replay::{replay, write_outcome, write_total};
 use hs_workload::{
     ReadError, Refusal, Workload, read_workload, versions_are_exchanged, write_workload,
 };
@@ -36,14 +37,17 @@ pub(crate) enum Subject {
 /// What a command is about: what it makes, or what its source has.
 pub(crate) fn subject_of<S: Source>(alloc: Global, command: Command, source: &mut S) -> Subject
     requires { IsSized command }
-    ensures { IsSubject command (S.left source.old) (S.left source.new) (S.faults source.old) (S.faults source.new) result }
+    ensures subject { IsSubject command (S.left source.old) (S.left source.new) (S.faults source.old) (S.faults source.new) result }
+    ensures untouched { IsReader command ⊎ IsUntouched (S.left source.old) (S.left source.new) (S.faults source.old) (S.faults source.new) }
 {
     match command {
-        Command::Make { seed, size } => match make_workload(alloc, seed, size) {
-            Ok(workload) => Subject::Found(workload),
-            Err(_) => Subject::NoMemory,
-        },
-        Command::Replay | Command::Convert => read(alloc, command, source),
+        Command::Make { seed, size } | Command::Drill { seed, size } => {
+            match make_workload(alloc, seed, size) {
+                Ok(workload) => Subject::Found(workload),
+                Err(_) => Subject::NoMemory,
+            }
+        }
+        Command::Replay { form: _ } | Command::Convert => read(alloc, command, source),
     }
 }
 
@@ -77,22 +81,16 @@ fn refusal_line(alloc: Global, refusal: Refusal) -> Result<Vec<u8>, Memory>
     Ok(format!(in alloc; "refused line {line} {reason}\n")?.into_bytes())
 }
 
-/// The text that a command owes for a workload, or `None` where it cannot run it yet.
-pub(crate) fn text_for(
-    alloc: Global,
-    command: Command,
-    workload: Workload,
-) -> Result<Option<Bytes>, Memory>
+/// The text that a command owes for a workload.
+pub(crate) fn text_for(alloc: Global, command: Command, workload: Workload) -> Result<Bytes, Memory>
     requires { IsValid (workload_of workload) }
-    ensures { IfOk result (λ text. option_map (λ bytes. bytes.items) text ≡ due_text command (workload_of workload)) }
+    ensures { IfOk result (λ text. Due command (workload_of workload) text.items) }
 {
     match command {
-        Command::Replay => {
-            if !can_replay(&workload) {
-                return Ok(None);
-            }
+        Command::Replay { form } => {
+            schedule_is_lawful();
             let outcome = replay(alloc, &workload)?;
-            Ok(Some(write_outcome(alloc, &outcome, Form::Text)?))
+            write_outcome(alloc, &outcome, form)
         }
         Command::Convert => {
             versions_are_exchanged();
@@ -101,8 +99,12 @@ pub(crate) fn text_for(
                 settings: workload.settings,
                 clients: workload.clients,
             };
-            Ok(Some(write_workload(alloc, &widened)?))
+            write_workload(alloc, &widened)
         }
-        Command::Make { seed: _, size: _ } => Ok(Some(write_workload(alloc, &workload)?)),
+        Command::Make { seed: _, size: _ } => write_workload(alloc, &workload),
+        Command::Drill { seed: _, size: _ } => {
+            let outcome = replay(alloc, &workload)?;
+            write_total(alloc, &outcome)
+        }
     }
 }

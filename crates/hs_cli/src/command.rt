@@ -2,25 +2,28 @@
 
 ghost use Rattle.std.specs.Prelude.{◌≡◌, ◌≤◌, false, Option, IfOk, IfSome, map, string_bytes, option_map};
 ghost use Rattle.hs_base.specs.declared.limits.TheConstants.{MAX_REQUESTS};
-ghost use Rattle.hs_cli.specs.Commands.{Line, command_of, command_in, line_in, line_of, is_set, named, parser, needed, flag, seed_of, size_of, alone, IsSized};
+ghost use Rattle.hs_cli.specs.Commands.{Line, command_of, command_in, line_in, line_of, is_set, named, parser, needed, flag, seed_of, size_of, form_in, sizes_in, is_alone, IsSized};
 ghost use Rattle.clap.specs.Words.{app_of, rule_of, first_of, found_of, rows_of};
 
 use clap::error::ErrorKind;
 use clap::{Arg, ArgAction, ArgMatches, Command as Parser};
 use hs_base::Memory;
 use hs_base::limits::MAX_REQUESTS;
+use hs_replay::Form;
 use hs_text::number;
 use std::alloc::Global;
 
 /// What a call is to do.
 #[derive(Clone, Copy, Debug, PartialEq, Eq)]
 pub enum Command {
-    /// Replays the workload that it reads.
-    Replay,
+    /// Replays the workload that it reads, and writes the outcome in this form.
+    Replay { form: Form },
     /// Writes the workload that it reads with version 2.
     Convert,
     /// Writes the workload of so many requests that the seed makes. Reads nothing.
     Make { seed: u64, size: u32 },
+    /// Replays the workload of so many requests that the seed makes, and writes the total line. Reads nothing.
+    Drill { seed: u64, size: u32 },
 }
 
 /// The words of a call, told apart.
@@ -29,20 +32,39 @@ struct Line<'a> {
     command: &'a str,
     seed: Option<&'a str>,
     size: Option<&'a str>,
-    /// Whether `--json` or `--watch` is there, which no command takes yet.
-    flagged: bool,
+    json: bool,
+    watch: bool,
 }
 
 impl Line<'_> {
-    /// The command, if the line has nothing else.
-    fn alone(self, command: Command) -> Option<Command>
-        ensures is { result ≡ alone command (line_in self.entry) }
-        ensures same { IfSome result (λ same. same ≡ command) }
+    /// Whether the line has nothing but a command and the flag `--json`.
+    fn is_alone(self) -> bool
+        ensures { result ≡ is_alone (line_in self.entry) }
     {
-        if self.seed.is_some() || self.size.is_some() || self.flagged {
+        self.seed.is_none() && self.size.is_none() && !self.watch
+    }
+
+    /// The form of the output that the line asks for, or `None` where it has anything but a command and `--json`.
+    fn form(self) -> Option<Form>
+        ensures { result ≡ form_in (line_in self.entry) }
+    {
+        if !self.is_alone() {
             return None;
         }
-        Some(command)
+        Some(if self.json { Form::Json } else { Form::Text })
+    }
+
+    /// The seed and the size of the line, or `None` where it has not both or has a flag.
+    fn sizes(self) -> Option<(u64, u32)>
+        ensures is { result ≡ sizes_in (line_in self.entry) }
+        ensures within { IfSome result (λ both. (1 ≤ both.1) × (both.1 ≤ MAX_REQUESTS)) }
+    {
+        if self.json || self.watch {
+            return None;
+        }
+        let seed = seed_in(self.seed?)?;
+        let size = size_in(self.size?)?;
+        Some((seed, size))
     }
 
     /// The command of the table that the line is, or `None` where it is none.
@@ -51,13 +73,19 @@ impl Line<'_> {
         ensures sized { IfSome result IsSized }
     {
         if self.command == "replay" {
-            self.alone(Command::Replay)
+            let form = self.form()?;
+            Some(Command::Replay { form })
         } else if self.command == "convert" {
-            self.alone(Command::Convert)
-        } else if self.command == "make" && !self.flagged {
-            let seed = seed_in(self.seed?)?;
-            let size = size_in(self.size?)?;
+            if !self.is_alone() || self.json {
+                return None;
+            }
+            Some(Command::Convert)
+        } else if self.command == "make" {
+            let (seed, size) = self.sizes()?;
             Some(Command::Make { seed, size })
+        } else if self.command == "drill" {
+            let (seed, size) = self.sizes()?;
+            Some(Command::Drill { seed, size })
         } else {
             None
         }
@@ -140,7 +168,8 @@ fn line_in<'a>(matches: &ArgMatches<'a>) -> Option<Line<'a>>
         command: word(matches, "COMMAND")?,
         seed: word(matches, "SEED"),
         size: word(matches, "SIZE"),
-        flagged: is_set(matches, "json") || is_set(matches, "watch"),
+        json: is_set(matches, "json"),
+        watch: is_set(matches, "watch"),
     })
 }
 

@@ -1,18 +1,17 @@
 //! The top call.
 
-ghost use Rattle.std.specs.Prelude.{◌≡◌, ◌<◌, ◌⊎◌, map, string_bytes, Some, None, IsSome};
+ghost use Rattle.std.specs.Prelude.{◌≡◌, ◌<◌, ◌⊎◌, map, string_bytes, Some, None};
 ghost use Rattle.hs_base.specs.Outside.{Rose, Gains};
 ghost use Rattle.hs_records.specs.Plain.{PlainWorkload};
 ghost use Rattle.hs_cli.specs.Commands.{command_in, IsSized};
 ghost use Rattle.hs_cli.specs.Written.{GainsFront};
-ghost use Rattle.hs_cli.specs.Endings.{Ends, EndsWith, Wrote, WroteFront, Reading, WillBeAbout, due_text};
+ghost use Rattle.hs_cli.specs.Endings.{Ends, EndsWith, Wrote, WroteFront, IsReader, IsUntouched, Reading, WillBeAbout};
 
 use crate::answer::{Subject, subject_of, text_for};
 use crate::command::{Command, command_in};
 use crate::status::Status;
 use crate::writing::write_all;
 use hs_base::{Gate, Sink, Source};
-use hs_workload::one_workload_a_text;
 use std::alloc::Global;
 use std::marker::Sync;
 use std::thread::Threads;
@@ -23,9 +22,6 @@ const USAGE: &[u8] =
 
 /// What is written of an input that is too long.
 const TOO_LONG: &[u8] = b"refused input longer than 16777216 bytes\n";
-
-/// What is written of a workload that the command cannot run yet.
-const BEYOND: &[u8] = b"refused workload beyond replay\n";
 
 /// Writes a text, and answers the status that goes with it, or `WriteFault`.
 fn finish<K: Sink>(sink: &mut K, text: &[u8], status: Status) -> Status
@@ -41,13 +37,13 @@ fn finish<K: Sink>(sink: &mut K, text: &[u8], status: Status) -> Status
 /// Runs a command.
 fn run<S: Source, K: Sink>(alloc: Global, command: Command, source: &mut S, sink: &mut K) -> Status
     requires { IsSized command }
-    ensures { EndsWith command (S.left source.old) (S.left source.new) (K.written sink.old) (K.written sink.new)
+    ensures ends { EndsWith command (S.left source.old) (S.left source.new) (K.written sink.old) (K.written sink.new)
         (S.faults source.old) (S.faults source.new) (K.faults sink.old) (K.faults sink.new) result }
+    ensures untouched { IsReader command ⊎ IsUntouched (S.left source.old) (S.left source.new) (S.faults source.old) (S.faults source.new) }
 {
     match subject_of(alloc, command, source) {
         Subject::Found(workload) => match text_for(alloc, command, workload) {
-            Ok(Some(text)) => finish(sink, text.as_slice(), Status::Done),
-            Ok(None) => finish(sink, BEYOND, Status::Refused),
+            Ok(text) => finish(sink, text.as_slice(), Status::Done),
             Err(_) => Status::Memory,
         },
         Subject::Refused(text) => finish(sink, &text, Status::Refused),
@@ -59,8 +55,9 @@ fn run<S: Source, K: Sink>(alloc: Global, command: Command, source: &mut S, sink
 
 /// What the call does, with its answer as one fact.
 fn call<S: Source, K: Sink>(alloc: Global, words: &[String], source: &mut S, sink: &mut K) -> Status
-    ensures { Ends (map (λ word. string_bytes word) words.now) (S.left source.old) (S.left source.new) (K.written sink.old) (K.written sink.new)
+    ensures ends { Ends (map (λ word. string_bytes word) words.now) (S.left source.old) (S.left source.new) (K.written sink.old) (K.written sink.new)
         (S.faults source.old) (S.faults source.new) (K.faults sink.old) (K.faults sink.new) result }
+    ensures untouched { Reading (map (λ word. string_bytes word) words.now) ⊎ IsUntouched (S.left source.old) (S.left source.new) (S.faults source.old) (S.faults source.new) }
 {
     match command_in(alloc, words) {
         Ok(Some(command)) => run(alloc, command, source, sink),
@@ -79,8 +76,9 @@ pub fn hindsight<R: Threads + Sync, S: Source, K: Sink, G: Gate>(
     sink: &mut K,
     _gate: &G,
 ) -> Status
-    // The words are a command, and the sink gained the text that it owes: `replay` for a workload that it can run,
-    // `convert` for any, both of the input read whole; `make` for the workload that it makes, and nothing was read.
+    // The words are a command, and the sink gained the text that it owes. Of the input read whole, which reads as one
+    // workload: `replay` the outcome of that workload and the lockstep journal, which is lawful for it, and `convert` the
+    // workload's text. Of the workload that it makes, with nothing read: `make` its text, and `drill` the total line.
     ensures done { result ≡ Status.Done
         → Wrote (map (λ word. string_bytes word) words.now) (S.left source.old) (S.left source.new)
         (K.written sink.old) (K.written sink.new) Status.Done }
@@ -93,8 +91,7 @@ pub fn hindsight<R: Threads + Sync, S: Source, K: Sink, G: Gate>(
     ensures no_command { command_in (map (λ word. string_bytes word) words.now) ≡ None
         → (result ≡ Status.Usage) ⊎ ((result ≡ Status.WriteFault) ⊎ (result ≡ Status.Memory)) }
 
-    // The input was read whole and is no workload, and the sink gained its first bad line and reason; or it is a
-    // workload that the command cannot run yet, and the sink gained the text that says so.
+    // The input was read whole and is no workload, and the sink gained its first bad line and reason.
     ensures refused { result ≡ Status.Refused
         → Wrote (map (λ word. string_bytes word) words.now) (S.left source.old) (S.left source.new)
         (K.written sink.old) (K.written sink.new) Status.Refused }
@@ -125,15 +122,18 @@ pub fn hindsight<R: Threads + Sync, S: Source, K: Sink, G: Gate>(
     // Want of memory comes with any words, and then nothing was written.
     ensures memory_writes { result ≡ Status.Memory → K.written sink.new ≡ K.written sink.old }
 
-    // A command over a workload that it can run, which it makes or reads whole from a short enough input, is done
-    // where nothing fails, unless memory runs out.
+    // The words are a command that reads, or the source was left alone.
+    ensures untouched { Reading (map (λ word. string_bytes word) words.now)
+        ⊎ IsUntouched (S.left source.old) (S.left source.new) (S.faults source.old) (S.faults source.new) }
+
+    // A command over any valid workload, which it makes or reads whole from a short enough input, is done where nothing
+    // fails, unless memory runs out.
     ensures complete { (command : Command) (W : PlainWorkload)
         → command_in (map (λ word. string_bytes word) words.now) ≡ Some command
-        → WillBeAbout command (S.left source.old) W → IsSome (due_text command W)
+        → WillBeAbout command (S.left source.old) W
         → ¬ Rose (S.faults source.old) (S.faults source.new)
         → ¬ Rose (K.faults sink.old) (K.faults sink.new)
         → (result ≡ Status.Done) ⊎ (result ≡ Status.Memory) }
 {
-    one_workload_a_text();
     call(alloc, words, source, sink)
 }

@@ -10,7 +10,7 @@ use Rattle.hs_base.specs.declared.ids.TraceId.{TraceId}
 use Rattle.hs_base.specs.declared.ids.ClientId.{ClientId}
 use Rattle.hs_base.specs.declared.ids.RecordId.{RecordId}
 use Rattle.hs_words.specs.Pages.{Piece, Sheet}
-use Rattle.hs_collect.specs.Collected.{Placed, is_of, is_same, is_piece_of, pieces_from, page_pieces, pieces_of, AreWholes, AreCollected, end_of, CanPrecede, CanBeAdded, is_by, IsReordering}
+use Rattle.hs_collect.specs.Collected.{Placed, is_of, is_same, is_piece_of, pieces_from, page_pieces, pieces_of, AreWholes, AreCollected, end_of, CanPrecede, CanBeAdded, is_by, KeepsRuns, IsReordering}
 use Rattle.hs_collect.specs.Views.{Collection}
 use Rattle.hs_collect.proofs.Ids.{same_itself}
 use Rattle.hs_collect.proofs.Listed.{pairs_head, pairs_tail}
@@ -52,9 +52,9 @@ by-run id trace (sheet ∷ sheets) =
         ∙ later
     by_test false apart false later = later
 
-same-record : (sheets others : List Sheet) → IsReordering sheets others → (id : RecordId) (trace : TraceId)
+same-record : (sheets others : List Sheet) → KeepsRuns sheets others → (id : RecordId) (trace : TraceId)
     → filter (is_piece_of id) (pieces_of trace sheets) ≡ filter (is_piece_of id) (pieces_of trace others)
-same-record sheets others is id trace = by-run id trace sheets ∙ ap (record_on id) (is.pages id.client trace) ∙ sym (by-run id trace others)
+same-record sheets others is id trace = by-run id trace sheets ∙ ap (record_on id) (is id.client trace) ∙ sym (by-run id trace others)
 
 -- ---- the records
 
@@ -100,13 +100,16 @@ wholes-same pieces others wholes same are =
           found_holds (λ id. Any (λ whole. whole.id ≡ id) wholes) id pieces own.0 are.all (sym (first-same (is_piece_of id) pieces others (same id)) ∙ own.1);
     }
 
+pub records-same : (sheets others : List Sheet) (trace : TraceId) (wholes : List Placed) → KeepsRuns sheets others → AreWholes (pieces_of trace sheets) wholes → AreWholes (pieces_of trace others) wholes
+records-same sheets others trace wholes is = wholes-same (pieces_of trace sheets) (pieces_of trace others) wholes (λ id. same-record sheets others is id trace)
+
 pub collect-same : (sheets others : List Sheet) (collection : Collection) → IsReordering sheets others → AreCollected sheets collection → AreCollected others collection
 collect-same sheets others collection is are =
     record {
       seen = are.seen ∙ is.seen;
       each = λ k d within.
           let entry = get_or collection k d in
-          wholes-same (pieces_of entry.0 sheets) (pieces_of entry.0 others) entry.1 (λ id. same-record sheets others is id entry.0) (are.each k d within);
+          records-same sheets others entry.0 entry.1 is.pages (are.each k d within);
     }
 
 -- ---- they can be added too
@@ -136,11 +139,11 @@ own_run : (sheet : Sheet) → is_by sheet.header.client sheet.header.trace sheet
 own_run sheet = grind (arith, nat_tests)
 
 -- what holds of each page holds of each in the other order
-along : (P : Sheet → Type 0) (sheets others : List Sheet) → IsReordering sheets others → All P sheets → All P others
+along : (P : Sheet → Type 0) (sheets others : List Sheet) → KeepsRuns sheets others → All P sheets → All P others
 along P sheets others is each = λ k d within.
     let sheet = get_or others k d in
     let its = is_by sheet.header.client sheet.header.trace in
-    passing its P others (subst (All P) (is.pages sheet.header.client sheet.header.trace) (All-filter its P sheets each)) k d within (own_run sheet)
+    passing its P others (subst (All P) (is sheet.header.client sheet.header.trace) (All-filter its P sheets each)) k d within (own_run sheet)
 
 -- pages of one client and two traces differ in number, whichever comes first
 abbrev AreApart : Sheet → Sheet → Type 0
@@ -164,7 +167,7 @@ same_run a b client trace =
     let number : a.header.client.number ≡ b.header.client.number = ap (λ (c : ClientId). c.number) client in
     grind (arith, nat_tests)
 
-pub can-same : (sheets others : List Sheet) → IsReordering sheets others → CanBeAdded sheets → CanBeAdded others
+pub can-same : (sheets others : List Sheet) → KeepsRuns sheets others → CanBeAdded sheets → CanBeAdded others
 can-same sheets others is can =
     record {
       pairs = λ i j d lt within.
@@ -172,7 +175,7 @@ can-same sheets others is can =
           let b = get_or others j d in
           let its = is_by a.header.client a.header.trace in
           let run : AllPairs (λ x y. its x ≡ true → its y ≡ true → CanPrecede x y) others =
-          passing_pairs its CanPrecede others (subst (AllPairs CanPrecede) (is.pages a.header.client a.header.trace) (AllPairs-filter CanPrecede its sheets can.pairs)) in
+          passing_pairs its CanPrecede others (subst (AllPairs CanPrecede) (is a.header.client a.header.trace) (AllPairs-filter CanPrecede its sheets can.pairs)) in
           let precede : a.header.client ≡ b.header.client → a.header.trace.0 ≡ b.header.trace.0 → CanPrecede a b = λ client trace. run i j d lt within (own_run a) (same_run a b client trace) in
           let apart : AreApart a b =
           along (AreApart a) sheets others is (along (λ x. All (AreApart x) sheets) sheets others is (all_apart sheets can.pairs) i d (omega arith)) j d within in

@@ -123,10 +123,13 @@ ComeInTurn (sheet ∷ earlier) = ComesNext earlier sheet × ComeInTurn earlier
 abbrev pub is_by : ClientId → TraceId → Sheet → Bool
 is_by client trace sheet = sheet.header.client.node == client.node && sheet.header.client.number == client.number && is_of trace sheet
 
--- The same pages in another order, which keeps that of the pages of each client and trace, and that in which the traces
--- were first seen.
+-- The same pages in another order, which keeps that of the pages of each client and trace.
+abbrev pub KeepsRuns : List Sheet → List Sheet → Type 0
+KeepsRuns sheets others = (client : ClientId) (trace : TraceId) → filter (is_by client trace) sheets ≡ filter (is_by client trace) others
+
+-- Such an order, in which the traces are also first seen as before.
 pub record IsReordering (sheets others : List Sheet) : Type 0 where
-  pub pages : (client : ClientId) (trace : TraceId) → filter (is_by client trace) sheets ≡ filter (is_by client trace) others
+  pub pages : KeepsRuns sheets others
   pub seen : first_seen sheets ≡ first_seen others
 
 -- ---- worked examples

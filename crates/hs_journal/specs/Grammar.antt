@@ -77,6 +77,13 @@ IsStep clients steps.Unread = ⊤
 abbrev pub IsNodeBelow : ℕ → NodeId → Type 0
 IsNodeBelow nodes node = node.0 < nodes
 
+-- The counts that the first line names are in their ranges, and there are as many lists of draws and logs as they say.
+pub record HasItsLists (J : PlainJournal) : Type 0 where
+  pub nodes : Within 1 MAX_NODES J.nodes
+  pub clients : Within 1 MAX_CLIENTS J.clients
+  pub draw_lists : length J.draws ≡ J.nodes * J.clients
+  pub log_lists : length J.logs ≡ J.nodes
+
 pub record IsJournal (J : PlainJournal) : Type 0 where
   pub nodes : Within 1 MAX_NODES J.nodes
   pub clients : Within 1 MAX_CLIENTS J.clients

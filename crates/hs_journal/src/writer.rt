@@ -4,7 +4,7 @@ ghost use Rattle.std.specs.Prelude.{◌≡◌, ◌<◌, ◌+◌, ◌≤◌, ◌+
 ghost use Rattle.hs_base.specs.declared.limits.TheConstants.{MAX_NODES};
 ghost use Rattle.hs_journal.specs.Views.{journal_of};
 ghost use Rattle.hs_journal.specs.Statements.{statement_line, draw_statement, step_statement, told_statement};
-ghost use Rattle.hs_journal.specs.Grammar.{IsJournal, draw_statements, log_statements, statements_text, journal_text};
+ghost use Rattle.hs_journal.specs.Grammar.{HasItsLists, draw_statements, log_statements, statements_text, journal_text};
 
 use crate::journal::{Draw, Journal, Step};
 use crate::word::Keyword;
@@ -110,9 +110,10 @@ fn push_told(out: &mut Vec<u8>, told: &[NodeId]) -> Result<(), Memory>
     Ok(())
 }
 
-/// The text of a journal that has one (`docs/FORMATS.md`, "The journal").
+/// The text of a journal that has its lists (`docs/FORMATS.md`, "The journal"). It reads as the journal where all
+/// numbers of that are in their ranges too.
 pub fn write_journal(alloc: Global, journal: &Journal) -> Result<Bytes, Memory>
-    requires { IsJournal (journal_of journal.now) }
+    requires { HasItsLists (journal_of journal.now) }
     ensures { IfOk result (λ text. text.items ≡ journal_text (journal_of journal.now)) }
 {
     let mut out = Vec::new(alloc);

@@ -6,4 +6,5 @@ pub mod Orders
 pub mod Logs
 pub mod Extending
 pub mod Supplied
+pub mod Taking
 pub mod Givens

@@ -15,6 +15,7 @@ pub mod Samples
 pub mod Workloads
 pub mod Journals
 pub mod Supply
+pub mod Taking
 pub mod FollowingExamples
 pub mod LawfulExamples
 pub mod UnlawfulExamples

@@ -13,6 +13,7 @@ use Rattle.hs_model.specs.State.{AgentState, GivenPlace}
 use Rattle.hs_words.specs.Pages.{Sheet}
 use Rattle.hs_words.specs.PoolHistory.{Event, Got, Empty, Given, Missed, is_got, is_empty, is_given, is_missed, queue_after}
 use Rattle.hs_sent.specs.Drawn.{DrawnPage, stamp_of}
+pub use Rattle.hs_sent.specs.Draws.{event_drawn}
 use Rattle.hs_sent.specs.Sending.{ClientSends}
 use Rattle.hs_lawful.specs.Following.{NodeRun}
 use Rattle.hs_lawful.specs.Played.{Played}
@@ -26,11 +27,6 @@ pub record PoolEvent : Type 0 where
 -- items by rising stamps, where all stamps are below this number
 abbrev pub by_stamp : {A : Type 0} → (A → ℕ) → ℕ → List A → List A
 by_stamp stamp bound items = flat_map (λ s. filter (λ item. stamp item == s) items) (range_with_len 0 bound)
-
--- a draw as an event
-abbrev pub event_drawn : Draw → Event
-event_drawn (draws.Got buffer stamp) = Got buffer
-event_drawn (draws.Empty stamp) = Empty
 
 abbrev pub drawn_event : DrawnPage → PoolEvent
 drawn_event d = record { stamp = stamp_of d.draw; event = event_drawn d.draw }

@@ -5,8 +5,9 @@ ghost use Rattle.hs_lawful.specs.Orders.{FollowingPlaysOut, OrdersAgree, DoneIsA
 ghost use Rattle.hs_lawful.specs.Extending.{JournalsGoOn, RunsAreOfTheJournal, StepsAreNoted};
 ghost use Rattle.hs_lawful.specs.Gives.{GivesAreNoted};
 ghost use Rattle.hs_lawful.specs.Supply.{NothingIsTakenUnsent};
+ghost use Rattle.hs_lawful.specs.Taking.{ChunksAreTakenInOrder, TakenPagesRise};
 
-use hs_model::laws::{events_go_on, steps_say_what_they_tell};
+use hs_model::laws::{events_add_this, events_go_on, steps_say_what_they_tell};
 
 /// The test of a pool's history answers yes exactly for histories.
 pub fn histories_are_decided()
@@ -74,3 +75,17 @@ pub fn nothing_is_taken_unsent()
 pub fn gives_are_noted()
     ensures { GivesAreNoted }
 {}
+
+/// Of each client an agent has taken the first chunks that it sent, in their order.
+pub fn chunks_are_taken_in_order()
+    ensures { ChunksAreTakenInOrder }
+{
+    events_add_this();
+}
+
+/// Among the chunks that an agent took each client's pages rise, so no page is there twice.
+pub fn taken_pages_rise()
+    ensures { TakenPagesRise }
+{
+    events_add_this();
+}

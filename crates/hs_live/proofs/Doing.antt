@@ -1,6 +1,6 @@
 -- A client that has done some operations does one more.
 use Rattle.std.proofs.Common.{◌≡◌, ℕ, zero, suc, ◌+◌, List, [], ◌∷◌, ◌++◌, length, reverse, Option, Some, None, IsSome, refl, sym, ap, ap₂, ◌∙◌, subst, append_assoc}
-use Rattle.std.proofs.lemmas.List.{append-nil}
+use Rattle.std.proofs.lemmas.List.{append-nil, reverse-append}
 use Rattle.std.proofs.lemmas.Option.{same_Some}
 use Rattle.std.specs.Prelude.{slice_get}
 use Rattle.hs_base.specs.declared.ids.TraceId.{TraceId}
@@ -21,8 +21,8 @@ use Rattle.hs_sent.specs.Sending.{crumb_in, sample_in, samples_of, trigger_in}
 use Rattle.hs_live.specs.Keys.{Key}
 use Rattle.hs_live.specs.Live.{Live}
 use Rattle.hs_live.specs.Writing.{Made, with_all, IsWriting, WritesPieces, WritesEnd, coming, writing_of}
-use Rattle.hs_live.specs.Done.{HasDone, AreWatching}
-use Rattle.hs_live.proofs.Operations.{open_more, earlier_last, crumbs_last, triggers_last}
+use Rattle.hs_live.specs.Done.{HasDone}
+use Rattle.hs_sent.specs.OneMore.{open_after, next_behind, AreWatching, OneMoreOperation, OneMoreCrumb, OneMoreTrigger}
 use Rattle.std.specs.List.{AllByRecursion}
 use Rattle.hs_live.specs.declared.called.Called.{Called}
 use Rattle.hs_live.specs.declared.called.Called.TheVariants as called
@@ -30,9 +30,19 @@ use Rattle.hs_live.specs.Done.{Does, DoesNothing}
 use Rattle.hs_live.specs.Calls.{IsNew, made_of, BeginsBy, EndsBy, WritesOnly, begun}
 use Rattle.hs_live.proofs.Steps.{began_trace, writing_kept, made_size}
 
+-- what is known of one operation more
+pub record OneMore : Type 0 where
+  pub numbered : OneMoreOperation
+  pub crumbs : OneMoreCrumb
+  pub triggers : OneMoreTrigger
+
+open_more : (trace : Option TraceId) (ops : List Operation) (op : Operation) → open_after trace (ops ++ op ∷ []) ≡ open_behind (open_after trace ops) op
+open_more trace [] op = refl
+open_more trace (first ∷ ops) op = open_more (open_behind trace first) ops op
+
 -- the operation behind these, where this trace is open
 abbrev at : List Operation → Option TraceId → Operation → NumberedOperation
-at ops trace op = record { number = 0 + length ops; trace = trace; operation = op }
+at ops trace op = record { number = length ops; trace = trace; operation = op }
 
 abbrev Writes : Made → List Operation → List Operation → Live → Type 0
 Writes made all rest client =
@@ -45,15 +55,16 @@ pub record DoesNow (made : Made) (ops : List Operation) (op : Operation) (old ne
   pub triggers : sent new.triggers ≡ sent old.triggers ++ trigger_in made.autos (reverse (numbered_of ops)) old.core.trace op
   pub autos : AreWatching made.autos (at ops old.core.trace op ∷ reverse (numbered_of ops)) new.autos
 
-pub done_now : (made : Made) (ops : List Operation) (op : Operation) (old new : Live) → HasDone made ops old → DoesNow made ops op old new → HasDone made (ops ++ op ∷ []) new
-done_now made ops op old new h d =
+pub done_now : OneMore → (made : Made) (ops : List Operation) (op : Operation) (old new : Live) → HasDone made ops old → DoesNow made ops op old new → HasDone made (ops ++ op ∷ []) new
+done_now laws made ops op old new h d =
+    let earlier : reverse (numbered_of (ops ++ op ∷ [])) ≡ next_behind ops op ∷ reverse (numbered_of ops) = ap reverse (laws.numbered ops op) ∙ reverse-append (numbered_of ops) (next_behind ops op ∷ []) in
     record {
       writes = λ rest. subst (λ (all : List Operation). Writes made all rest new) (sym (append_assoc ops (op ∷ []) rest)) (d.writes rest);
       trace = d.trace ∙ ap (λ (trace : Option TraceId). open_behind trace op) h.trace ∙ sym (open_more None ops op);
-      crumbs = d.crumbs ∙ ap₂ (λ (l : List Crumb) (trace : Option TraceId). l ++ crumb_in trace op) h.crumbs h.trace ∙ sym (crumbs_last ops op);
-      triggers = d.triggers ∙ ap₂ (λ (l : List Trigger) (trace : Option TraceId). l ++ trigger_in made.autos (reverse (numbered_of ops)) trace op) h.triggers h.trace ∙ sym (triggers_last made.autos ops op);
+      crumbs = d.crumbs ∙ ap₂ (λ (l : List Crumb) (trace : Option TraceId). l ++ crumb_in trace op) h.crumbs h.trace ∙ sym (laws.crumbs ops op);
+      triggers = d.triggers ∙ ap₂ (λ (l : List Trigger) (trace : Option TraceId). l ++ trigger_in made.autos (reverse (numbered_of ops)) trace op) h.triggers h.trace ∙ sym (laws.triggers made.autos ops op);
       autos =
-          subst (λ (earlier : List NumberedOperation). AreWatching made.autos earlier new.autos) (sym (earlier_last ops op))
+          subst (λ (earlier : List NumberedOperation). AreWatching made.autos earlier new.autos) (sym earlier)
           (subst (λ (trace : Option TraceId). AreWatching made.autos (at ops trace op ∷ reverse (numbered_of ops)) new.autos) h.trace d.autos);
     }
 
@@ -79,8 +90,8 @@ begin_no_sample trace auto (Some other) = refl
 begin_unseen : (trace : TraceId) → IsUnseen (Begin trace)
 begin_unseen trace = record { samples = begin_no_sample trace }
 
-pub begin_done : (made : Made) (ops : List Operation) (trace : TraceId) (old new : Live) → May old.core (Began trace) → new ≡ record old { core = after_step old.core (Began trace) } → HasDone made ops old → HasDone made (ops ++ Begin trace ∷ []) new
-begin_done made ops trace old new may is h =
+pub begin_done : OneMore → (made : Made) (ops : List Operation) (trace : TraceId) (old new : Live) → May old.core (Began trace) → new ≡ record old { core = after_step old.core (Began trace) } → HasDone made ops old → HasDone made (ops ++ Begin trace ∷ []) new
+begin_done laws made ops trace old new may is h =
     let begun : Live = record old { core = after_step old.core (Began trace) } in
     let none : old.core.trace ≡ None = may.1 in
     let now : DoesNow made ops (Begin trace) old begun =
@@ -97,7 +108,7 @@ begin_done made ops trace old new may is h =
       triggers = sym (ap (λ (l : List Trigger). sent old.triggers ++ l) (no_trigger old.core.trace) ∙ append-nil (sent old.triggers));
       autos = unseen made ops (Begin trace) old.core.trace old.autos (begin_unseen trace) h.autos;
     } in
-    subst (λ (client : Live). HasDone made (ops ++ Begin trace ∷ []) client) (sym is) (done_now made ops (Begin trace) old begun h now)
+    subst (λ (client : Live). HasDone made (ops ++ Begin trace ∷ []) client) (sym is) (done_now laws made ops (Begin trace) old begun h now)
   where
     no_crumb : (found : Option TraceId) → crumb_in found (Begin trace) ≡ []
     no_crumb None = refl
@@ -107,12 +118,12 @@ begin_done made ops trace old new may is h =
     no_trigger None = refl
     no_trigger (Some other) = refl
 
-pub begins : (trace : TraceId) (answer : Called) (old new : Live) → BeginsBy old.core answer → new ≡ record old { core = begun trace answer old.core } → Does (Begin trace) answer old new
-begins trace called.Done old new may is = λ made ops h. begin_done made ops trace old new may is h
-begins trace called.Spent old new may is = is
-begins trace called.AlreadyOpen old new may is = is
-begins trace called.NoTrace old new may is = is
-begins trace called.TooWide old new may is = is
+pub begins : OneMore → (trace : TraceId) (answer : Called) (old new : Live) → BeginsBy old.core answer → new ≡ record old { core = begun trace answer old.core } → Does (Begin trace) answer old new
+begins laws trace called.Done old new may is = λ made ops h. begin_done laws made ops trace old new may is h
+begins laws trace called.Spent old new may is = is
+begins laws trace called.AlreadyOpen old new may is = is
+begins laws trace called.NoTrace old new may is = is
+begins laws trace called.TooWide old new may is = is
 
 -- ---- point
 
@@ -135,16 +146,16 @@ point_no_sample moment payload auto (Some other) = refl
 point_unseen : (moment : ℕ) (payload : List ℕ) → IsUnseen (Point moment payload)
 point_unseen moment payload = record { samples = point_no_sample moment payload }
 
-pub point_done : (moment : ℕ) (payload : List ℕ) (old new : Live) → IsSome old.core.trace → new.core.trace ≡ old.core.trace → new.core.number ≡ old.core.number + 1
+pub point_done : OneMore → (moment : ℕ) (payload : List ℕ) (old new : Live) → IsSome old.core.trace → new.core.trace ≡ old.core.trace → new.core.number ≡ old.core.number + 1
     → WritesPieces (record_pieces old.core.size old.core.number moment payload) (writing_of old) (writing_of new) → WritesOnly old new → Does (Point moment payload) called.Done old new
-point_done moment payload old new some trace number written only = λ made ops h.
+point_done laws moment payload old new some trace number written only = λ made ops h.
     let size = made.size in
     let op : Operation = Point moment payload in
     let t = some_trace old.core.trace some in
     let same : old.core.size ≡ size = made_size made _ _ _ (writing_of old) (h.writes []) in
     let pieces : WritesPieces (record_pieces size old.core.number moment payload) (writing_of old) (writing_of new) =
     subst (λ (n : ℕ). WritesPieces (record_pieces n old.core.number moment payload) (writing_of old) (writing_of new)) same written in
-    done_now made ops op old new h
+    done_now laws made ops op old new h
     (record {
       writes = λ rest.
           let all = segments_of size (ops ++ op ∷ rest) in
@@ -180,11 +191,11 @@ end_no_sample auto (Some other) = refl
 end_unseen : IsUnseen (End)
 end_unseen = record { samples = end_no_sample }
 
-pub end_done : (old new : Live) → IsSome old.core.trace → new.core.trace ≡ None → new.core.number ≡ old.core.number → WritesEnd (writing_of old) (writing_of new) → WritesOnly old new → Does End called.Done old new
-end_done old new some trace number written only = λ made ops h.
+pub end_done : OneMore → (old new : Live) → IsSome old.core.trace → new.core.trace ≡ None → new.core.number ≡ old.core.number → WritesEnd (writing_of old) (writing_of new) → WritesOnly old new → Does End called.Done old new
+end_done laws old new some trace number written only = λ made ops h.
     let size = made.size in
     let t = some_trace old.core.trace some in
-    done_now made ops End old new h
+    done_now laws made ops End old new h
     (record {
       writes = λ rest.
           let all = segments_of size (ops ++ End ∷ rest) in
@@ -202,13 +213,13 @@ end_done old new some trace number written only = λ made ops h.
           (unseen made ops End old.core.trace old.autos end_unseen h.autos);
     })
 
-pub ends : (answer : Called) (old new : Live) → EndsBy old.core answer → ((answer ≡ called.Done → ⊥) → new ≡ old) → (answer ≡ called.Done → new.core.trace ≡ None) → new.core.number ≡ old.core.number
+pub ends : OneMore → (answer : Called) (old new : Live) → EndsBy old.core answer → ((answer ≡ called.Done → ⊥) → new ≡ old) → (answer ≡ called.Done → new.core.trace ≡ None) → new.core.number ≡ old.core.number
     → (answer ≡ called.Done → WritesEnd (writing_of old) (writing_of new)) → WritesOnly old new → Does End answer old new
-ends called.Done old new by refused trace number written only = end_done old new by.1 (trace refl) number (written refl) only
-ends called.Spent old new by refused trace number written only = refused (λ e. cc)
-ends called.AlreadyOpen old new by refused trace number written only = absurd by
-ends called.NoTrace old new by refused trace number written only = refused (λ e. cc)
-ends called.TooWide old new by refused trace number written only = absurd by
+ends laws called.Done old new by refused trace number written only = end_done laws old new by.1 (trace refl) number (written refl) only
+ends laws called.Spent old new by refused trace number written only = refused (λ e. cc)
+ends laws called.AlreadyOpen old new by refused trace number written only = absurd by
+ends laws called.NoTrace old new by refused trace number written only = refused (λ e. cc)
+ends laws called.TooWide old new by refused trace number written only = absurd by
 
 -- ---- crumb and trigger
 
@@ -227,11 +238,11 @@ crumb_no_sample node auto (Some other) = refl
 crumb_unseen : (node : NodeId) → IsUnseen (plain.Crumb node)
 crumb_unseen node = record { samples = crumb_no_sample node }
 
-pub crumb_done : (node : NodeId) (trace : TraceId) (old : Live) (crumbs : Outgoing Crumb Key) → old.core.trace ≡ Some trace → sent crumbs ≡ sent old.crumbs ++ record { trace = trace; node = node } ∷ []
+pub crumb_done : OneMore → (node : NodeId) (trace : TraceId) (old : Live) (crumbs : Outgoing Crumb Key) → old.core.trace ≡ Some trace → sent crumbs ≡ sent old.crumbs ++ record { trace = trace; node = node } ∷ []
     → Does (plain.Crumb node) called.Done old (record old { crumbs = crumbs })
-crumb_done node trace old crumbs some sends = λ made ops h.
+crumb_done laws node trace old crumbs some sends = λ made ops h.
     let op : Operation = plain.Crumb node in
-    done_now made ops op old (record old { crumbs = crumbs }) h
+    done_now laws made ops op old (record old { crumbs = crumbs }) h
     (record {
       writes = λ rest.
           subst (λ (pieces : List Piece). IsWriting made pieces (segments_from made.size old.core.number rest) (segments_of made.size (ops ++ op ∷ rest)) (writing_of old))
@@ -261,10 +272,10 @@ fire_no_sample trigger auto (Some other) = refl
 fire_unseen : (trigger : Trigger) → IsUnseen (Fire trigger)
 fire_unseen trigger = record { samples = fire_no_sample trigger }
 
-pub trigger_done : (trigger : Trigger) (old : Live) (triggers : Outgoing Trigger Key) → sent triggers ≡ sent old.triggers ++ trigger ∷ [] → Does (Fire trigger) called.Done old (record old { triggers = triggers })
-trigger_done trigger old triggers sends = λ made ops h.
+pub trigger_done : OneMore → (trigger : Trigger) (old : Live) (triggers : Outgoing Trigger Key) → sent triggers ≡ sent old.triggers ++ trigger ∷ [] → Does (Fire trigger) called.Done old (record old { triggers = triggers })
+trigger_done laws trigger old triggers sends = λ made ops h.
     let op : Operation = Fire trigger in
-    done_now made ops op old (record old { triggers = triggers }) h
+    done_now laws made ops op old (record old { triggers = triggers }) h
     (record {
       writes = λ rest.
           subst (λ (pieces : List Piece). IsWriting made pieces (segments_from made.size old.core.number rest) (segments_of made.size (ops ++ op ∷ rest)) (writing_of old))

@@ -2,7 +2,6 @@ pub mod Senders
 pub mod Steps
 pub mod Sound
 pub mod Cuts
-pub mod Operations
 pub mod Doing
 pub mod Lists
 pub mod Samples

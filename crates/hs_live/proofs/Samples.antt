@@ -1,5 +1,5 @@
 -- A sample that an autotrigger of a client is given.
-use Rattle.std.proofs.Common.{◌≡◌, ℕ, zero, suc, ◌+◌, ◌<◌, Bool, List, [], ◌∷◌, ◌++◌, length, map, set, get_or, reverse, Option, Some, None, inl, inr, eq-eqb, ne_eqb, refl, sym, ap, ◌∙◌, subst}
+use Rattle.std.proofs.Common.{◌≡◌, ℕ, zero, suc, ◌<◌, Bool, List, [], ◌∷◌, ◌++◌, length, map, set, get_or, reverse, Option, Some, None, inl, inr, eq-eqb, ne_eqb, refl, sym, ap, ◌∙◌, subst}
 use Rattle.std.proofs.lemmas.List.{append-nil}
 use Rattle.std.proofs.lemmas.Option.{same_Some, slice_get-map, slice_get_within}
 use Rattle.std.specs.Prelude.{slice_get, if◌then◌else◌}
@@ -18,14 +18,15 @@ use Rattle.hs_auto.specs.Watching.{Watch, HasSampled}
 use Rattle.hs_auto.specs.declared.sampled.Sampled.{Sampled}
 use Rattle.hs_auto.specs.declared.sampled.Sampled.TheVariants as answers
 use Rattle.hs_link.specs.Contents.{Outgoing, sent}
+use Rattle.hs_sent.specs.OneMore.{AreWatching}
 use Rattle.hs_sent.specs.Sending.{crumb_in, samples_of, trigger_in, trigger_of}
 use Rattle.hs_live.specs.declared.called.Called.TheVariants as called
 use Rattle.hs_live.specs.Keys.{Key}
 use Rattle.hs_live.specs.Live.{Live}
 use Rattle.hs_live.specs.Writing.{IsWriting, coming, writing_of}
-use Rattle.hs_live.specs.Done.{AreWatching, Does}
+use Rattle.hs_live.specs.Done.{Does}
 use Rattle.hs_live.proofs.Lists.{found_in, lent_from}
-use Rattle.hs_live.proofs.Doing.{done_now}
+use Rattle.hs_live.proofs.Doing.{OneMore, done_now}
 
 -- ---- the autotriggers
 
@@ -61,7 +62,7 @@ trigger_is moment rule lead answers.Quiet = refl
 trigger_is moment rule lead (answers.Fired laterals) = refl
 
 abbrev at : List Operation → TraceId → Operation → NumberedOperation
-at ops trace op = record { number = 0 + length ops; trace = Some trace; operation = op }
+at ops trace op = record { number = length ops; trace = Some trace; operation = op }
 
 watches : (rules : List AutoRule) (ops : List Operation) (earlier : List NumberedOperation) (autos : List Watch) (moment place value : ℕ) (lead : TraceId) (watch watch' : Watch) → slice_get autos place ≡ Some watch
     → ((samples : List firing.Sample) → HasSampled watch samples → HasSampled watch' (sample value lead ∷ samples)) → watch'.rule ≡ watch.rule
@@ -89,11 +90,11 @@ no_crumb_of_sample : (moment place value : ℕ) (found : Option TraceId) → cru
 no_crumb_of_sample moment place value None = refl
 no_crumb_of_sample moment place value (Some trace) = refl
 
-pub sample_done : (moment place value : ℕ) (trigger : TriggerId) (lead : TraceId) (old : Live) (watch watch' : Watch) (answer : Sampled) (autos : List Watch) (triggers : Outgoing Trigger Key) → old.core.trace ≡ Some lead
+pub sample_done : OneMore → (moment place value : ℕ) (trigger : TriggerId) (lead : TraceId) (old : Live) (watch watch' : Watch) (answer : Sampled) (autos : List Watch) (triggers : Outgoing Trigger Key) → old.core.trace ≡ Some lead
     → slice_get old.autos place ≡ Some watch → fired_by watch.rule ≡ trigger → ((samples : List firing.Sample) → HasSampled watch samples → answer ≡ sampled watch.rule samples (sample value lead))
     → ((samples : List firing.Sample) → HasSampled watch samples → HasSampled watch' (sample value lead ∷ samples)) → watch'.rule ≡ watch.rule → autos ≡ set old.autos place watch'
     → sent triggers ≡ sent old.triggers ++ fired_trigger moment trigger lead answer → Does (Sample moment place value) called.Done old (record old { autos = autos; triggers = triggers })
-sample_done moment place value trigger lead old watch watch' answer autos triggers open_is found fires answered after same autos_are sends = λ made ops h.
+sample_done laws moment place value trigger lead old watch watch' answer autos triggers open_is found fires answered after same autos_are sends = λ made ops h.
     let op : Operation = Sample moment place value in
     let earlier = reverse (numbered_of ops) in
     let answer_is : answer ≡ sampled watch.rule (samples_of place earlier) (sample value lead) = answered (samples_of place earlier) (h.autos.each place watch found) in
@@ -102,7 +103,7 @@ sample_done moment place value trigger lead old watch watch' answer autos trigge
     let of_rule : AutoRule → List Trigger = λ rule. trigger_of moment rule lead (sampled rule (samples_of place earlier) (sample value lead)) in
     let fired : fired_trigger moment trigger lead answer ≡ trigger_in made.autos earlier (Some lead) op =
     ap (λ (id : TriggerId). fired_trigger moment id lead answer) (sym fires) ∙ sym (trigger_is moment watch.rule lead answer) ∙ ap (trigger_of moment watch.rule lead) answer_is ∙ ap (λ (o : Option AutoRule). option_map_or of_rule o []) (sym rule_found) in
-    done_now made ops op old (record old { autos = autos; triggers = triggers }) h
+    done_now laws made ops op old (record old { autos = autos; triggers = triggers }) h
     (record {
       writes = λ rest.
           subst (λ (pieces : List Piece). IsWriting made pieces (segments_from made.size old.core.number rest) (segments_of made.size (ops ++ op ∷ rest)) (writing_of old))
@@ -113,5 +114,5 @@ sample_done moment place value trigger lead old watch watch' answer autos trigge
       autos =
           let now = watches made.autos ops earlier old.autos moment place value lead watch watch' found after same h.autos in
           let there = subst (λ (l : List Watch). AreWatching made.autos (at ops lead op ∷ earlier) l) (sym autos_are) now in
-          subst (λ (trace : Option TraceId). AreWatching made.autos (record { number = 0 + length ops; trace = trace; operation = op } ∷ earlier) autos) (sym open_is) there;
+          subst (λ (trace : Option TraceId). AreWatching made.autos (record { number = length ops; trace = trace; operation = op } ∷ earlier) autos) (sym open_is) there;
     })

@@ -23,9 +23,10 @@ use Rattle.hs_sent.specs.Timing.{TimedPage, timed_pages}
 use Rattle.hs_sent.specs.Drawn.{drawn_from, drawn_pages, has_buffer}
 use Rattle.hs_sent.specs.Sending.{Sent, sent_chunks}
 use Rattle.hs_sent.specs.Laws.{TimedPagesAreThePages}
+use Rattle.hs_sent.specs.OneMore.{open_after, items_of}
 use Rattle.hs_live.specs.Live.{Live}
 use Rattle.hs_live.specs.Writing.{Made, new_of, coming, noted, draws_by, buffer_got, buffers_by, with_all}
-use Rattle.hs_live.specs.Done.{HasDone, HasSent, HasSentAll, open_after, items_of}
+use Rattle.hs_live.specs.Done.{HasDone, HasSent, HasSentAll}
 
 nothing_comes : (size number : ℕ) (trace : Option TraceId) → coming size number trace [] ≡ []
 nothing_comes size number None = refl

@@ -1,13 +1,10 @@
 -- What a client has done since it was made, over the list of its operations so far, and what it sent: the crumbs and the
 -- triggers of these operations, and the chunks of all pages that it began, but the one that the next piece may still join.
-use Rattle.std.specs.Prelude.{◌≡◌, ℕ, List, [], ◌∷◌, ◌++◌, map, reverse, slice_get, Option, Some, None, refl}
+use Rattle.std.specs.Prelude.{◌≡◌, List, [], ◌∷◌, ◌++◌, map, reverse, Some, None}
 use Rattle.std.specs.Option.{option_to_list}
-use Rattle.hs_base.specs.declared.ids.TraceId.{TraceId}
-use Rattle.hs_base.specs.declared.settings.AutoRule.{AutoRule}
-use Rattle.hs_records.specs.Plain.{Operation, Begin, Point, Crumb as LeaveCrumb, End}
-use Rattle.hs_records.specs.Records.{NumberedOperation, numbered_of, open_behind, segments_from, segments_of}
+use Rattle.hs_records.specs.Plain.{Operation}
+use Rattle.hs_records.specs.Records.{numbered_of, segments_from, segments_of}
 use Rattle.hs_records.specs.Pages.{pages_of}
-use Rattle.hs_auto.specs.Watching.{Watch, HasSampled}
 use Rattle.hs_client.specs.Core.{all_pages, handed}
 use Rattle.hs_client.specs.Calls.{note_of, filled_chunks}
 use Rattle.hs_link.specs.Contents.{sent}
@@ -16,25 +13,12 @@ use Rattle.hs_words.specs.Pages.{Sheet}
 use Rattle.hs_words.specs.Buffers.{Buffer}
 use Rattle.hs_ring.specs.Parts.{Leased}
 use Rattle.hs_sent.specs.Drawn.{drawn_pages}
-use Rattle.hs_sent.specs.Sending.{Sent, sent_chunks, sent_crumbs, sent_triggers, samples_of}
+use Rattle.hs_sent.specs.OneMore.{open_after, items_of, AreWatching}
+use Rattle.hs_sent.specs.Sending.{sent_chunks, sent_crumbs, sent_triggers}
 use Rattle.hs_live.specs.declared.called.Called.{Called}
 use Rattle.hs_live.specs.declared.called.Called.TheVariants as called
 use Rattle.hs_live.specs.Live.{Live}
 use Rattle.hs_live.specs.Writing.{Made, IsWriting, coming, writing_of, draws_by, buffers_by}
-
--- the trace that is open behind these operations
-abbrev pub open_after : Option TraceId → List Operation → Option TraceId
-open_after trace [] = trace
-open_after trace (operation ∷ ops) = open_after (open_behind trace operation) ops
-
--- the items without the numbers of their operations
-abbrev pub items_of : {A : Type 0} → List (Sent A) → List A
-items_of items = map (λ item. item.item) items
-
--- Each autotrigger has its rule, and was given its samples among these operations, the latest first.
-pub record AreWatching (rules : List AutoRule) (earlier : List NumberedOperation) (autos : List Watch) : Type 0 where
-  pub rules_are : map (λ (watch : Watch). watch.rule) autos ≡ rules
-  pub each : (auto : ℕ) (watch : Watch) → slice_get autos auto ≡ Some watch → HasSampled watch (samples_of auto earlier)
 
 -- The client has done these operations. Whatever operations may follow, with the pieces that these add to the open trace
 -- and the segments that they begin, it has recorded the segments of all.
@@ -76,12 +60,3 @@ pub record HasSentAll (made : Made) (ops : List Operation) (client : Live) : Typ
   pub sheets : map (λ (buffer : Buffer Leased). buffer.chunk.page) (sent client.chunks) ≡ map (λ (sheet : Sheet). Some sheet) (items_of (sent_chunks (drawn_pages made.size made.client ops client.core.draws)))
   pub crumbs : sent client.crumbs ≡ items_of (sent_crumbs ops)
   pub triggers : sent client.triggers ≡ items_of (sent_triggers made.autos ops)
-
--- ---- examples
-
-abbrev trace : TraceId
-trace = record { 0 = 5 }
-
--- behind a begin its trace is open, and behind its end none
-open_and_closed : (open_after None (Begin trace ∷ Point 1 [] ∷ []) ≡ Some trace) × (open_after None (Begin trace ∷ End ∷ LeaveCrumb (record { 0 = 1 }) ∷ []) ≡ None)
-open_and_closed = (refl, refl)

@@ -23,6 +23,7 @@ use hs_base::{Crumb, List, NodeId, TraceId, Trigger, TriggerId};
 use hs_client::ClientCore;
 use hs_link::{Receiver, Sender};
 use hs_ring::{Drawer, Giver, Lease};
+use hs_sent::laws::one_operation_more;
 use hs_words::Held;
 use std::marker::Model;
 
@@ -75,6 +76,7 @@ impl Client {
         ensures after { self.new ≡ record self.old { core = begun trace result self.old.core } }
         ensures does { Does (Begin trace) result self.old self.new }
     {
+        one_operation_more();
         self.writer.begin(trace)
     }
 
@@ -89,6 +91,7 @@ impl Client {
         ensures spends { Spends (counts (piece_count self.old.core.size (length payload.now)) result) (writing_of self.old) (writing_of self.new) }
         ensures only { WritesOnly self.old self.new }
     {
+        one_operation_more();
         if self.writer.core.trace().is_none() {
             return Called::NoTrace;
         }
@@ -109,6 +112,7 @@ impl Client {
         ensures crumbs { GoesOn self.old.crumbs self.new.crumbs }
         ensures most { length (sent self.new.crumbs) ≤ length (sent self.old.crumbs) + 1 }
     {
+        one_operation_more();
         let Some(trace) = self.writer.core.trace() else {
             return Called::NoTrace;
         };
@@ -125,6 +129,7 @@ impl Client {
         ensures only { self.new ≡ record self.old { triggers = self.new.triggers } }
         ensures triggers { Sends trigger self.old.triggers self.new.triggers }
     {
+        one_operation_more();
         self.triggers.send(trigger);
         Called::Done
     }
@@ -141,6 +146,7 @@ impl Client {
         ensures triggers { GoesOn self.old.triggers self.new.triggers }
         ensures most { length (sent self.new.triggers) ≤ length (sent self.old.triggers) + 1 }
     {
+        one_operation_more();
         let Some(lead) = self.writer.core.trace() else {
             return Called::NoTrace;
         };
@@ -168,6 +174,7 @@ impl Client {
         ensures spends { Spends (counts 1 result) (writing_of self.old) (writing_of self.new) }
         ensures only { WritesOnly self.old self.new }
     {
+        one_operation_more();
         self.writer.end()
     }
 

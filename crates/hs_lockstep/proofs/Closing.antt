@@ -58,7 +58,7 @@ pub sum_both : (f g : ℕ → ℕ) (n : ℕ) → sum_to (λ i. f i + g i) n ≡ 
 sum_both f g zero = refl
 sum_both f g (suc n) = let rest = sum_both f g n in omega (arith, rest)
 
-sum_const : (c n : ℕ) → sum_to (λ i. c) n ≡ n * c
+pub sum_const : (c n : ℕ) → sum_to (λ i. c) n ≡ n * c
 sum_const c zero = omega arith
 sum_const c (suc n) = let rest = sum_const c n in let product = suc-mul n c in omega (arith, rest, product)
 
@@ -114,7 +114,7 @@ filter_few p (x ∷ xs) = either (p x) (filter_few p xs)
     either true h = omega (arith, h)
     either false h = omega (arith, h)
 
-drawn_few : (client : ClientId) (k : ℕ) (pages : List TimedPage) (draws : List Draw) → length (drawn_from client k pages draws) ≤ length pages
+pub drawn_few : (client : ClientId) (k : ℕ) (pages : List TimedPage) (draws : List Draw) → length (drawn_from client k pages draws) ≤ length pages
 drawn_few client k [] draws = omega arith
 drawn_few client k (page ∷ pages) [] = omega arith
 drawn_few client k (page ∷ pages) (draw ∷ draws) = let rest = drawn_few client (k + 1) pages draws in omega (arith, rest)
@@ -501,14 +501,14 @@ module _ (k : Known) (a : Agents) (W : PlainWorkload) (laid : IsLaidOut W) (leas
 
   -- ---- the most that can be worked off
 
-  abbrev size_of : ℕ → ℕ
+  abbrev pub size_of : ℕ → ℕ
   size_of place = length (pages_of W.settings.size (operations_at W place)) + length (operations_at W place)
 
   -- what all clients send at most
-  abbrev all_of : ℕ
+  abbrev pub all_of : ℕ
   all_of = sum_by (λ ops. length (pages_of W.settings.size ops) + length ops) W.clients
 
-  sizes_are : sum_to (λ i. sum_to (λ c. size_of (place_of clients i c)) clients) nodes ≡ all_of
+  pub sizes_are : sum_to (λ i. sum_to (λ c. size_of (place_of clients i c)) clients) nodes ≡ all_of
   sizes_are =
       let rows = sum_rows size_of clients nodes in
       let count = ap (sum_to size_of) (sym laid.clients) in
@@ -555,7 +555,7 @@ module _ (k : Known) (a : Agents) (W : PlainWorkload) (laid : IsLaidOut W) (leas
         omega (arith, x, y, z, own_chunks, own_crumbs, own_triggers, few)
 
     -- no more groups are admitted than triggers are sent
-    admitted_few : (i : ℕ) → i < nodes → admitted_at run_of.nodes i ≤ sum_to (λ c. size_of (place_of clients i c)) clients
+    pub admitted_few : (i : ℕ) → i < nodes → admitted_at run_of.nodes i ≤ sum_to (λ c. size_of (place_of clients i c)) clients
     admitted_few i low =
         let node = later_at k W laid m i low in
         let speaks : Speaks W.settings run_of.nodes node.0 = all_get (Speaks W.settings run_of.nodes) run_of.nodes i node.0 (spoken k a W laid least weights m).nodes node.1 in

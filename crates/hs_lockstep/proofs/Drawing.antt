@@ -1,9 +1,9 @@
 -- A client draws: with the next stamps, the front of the queue or none where it is empty. What is held is held then, and the new
 -- buffers too.
-use Rattle.std.proofs.Common.{◌≡◌, ◌⊎◌, inl, inr, ℕ, zero, suc, ◌+◌, ◌<◌, ◌≤◌, Bool, true, false, cond, List, [], ◌∷◌, ◌++◌, length, refl, sym, ap, subst, ◌∙◌, Some, None, arith, map, filter, drop, slice_get, append_assoc, append-nil, length-append}
+use Rattle.std.proofs.Common.{◌≡◌, ◌⊎◌, inl, inr, ℕ, zero, suc, ◌+◌, ◌<◌, ◌≤◌, Bool, true, false, cond, List, [], ◌∷◌, ◌++◌, length, refl, sym, ap, subst, ◌∙◌, Some, None, arith, map, filter, drop, reverse, slice_get, append_assoc, append-nil, length-append}
 use Rattle.std.specs.List.{AllByRecursion, cons_option}
 use Rattle.std.specs.Option.{option_and_then}
-use Rattle.std.proofs.lemmas.List.{map-append}
+use Rattle.std.proofs.lemmas.List.{map-append, reverse-append, reverse-reverse}
 use Rattle.std.proofs.lemmas.List.Elements.{filter-append}
 use Rattle.std.proofs.lemmas.Grind.{flat_map-append}
 use Rattle.hs_base.specs.declared.ids.ClientId.{ClientId}
@@ -15,12 +15,12 @@ use Rattle.hs_sent.specs.Drawn.{DrawnPage, stamp_of, has_buffer, drawn_from}
 use Rattle.hs_sent.specs.Sending.{Sent, ClientSends, sheet_of, sent_chunks}
 use Rattle.hs_sent.specs.Timing.{TimedPage}
 use Rattle.hs_words.specs.Pages.{Sheet}
-use Rattle.hs_words.specs.PoolHistory.{Got, Empty, queue_after}
+use Rattle.hs_words.specs.PoolHistory.{Event, Got, Empty, queue_after}
 use Rattle.hs_lawful.specs.Pooled.{PoolEvent, drawn_event, event_drawn}
 use Rattle.hs_lawful.specs.Shape.{rise}
 use Rattle.hs_lawful.specs.Following.{Chunks, taken}
 use Rattle.hs_lockstep.specs.Lockstep.{next_draws}
-use Rattle.hs_lockstep.proofs.Growing.{events_back, IsPooled, IsOut, IsAnswered, next, after, back, answered, longer, got_kept, got_out, got_stays, empty_kept, empty_stays}
+use Rattle.hs_lockstep.proofs.Growing.{events_back, history_of, IsPooled, IsOut, IsAnswered, next, after, back, answered, longer, got_kept, got_out, got_stays, empty_kept, empty_stays}
 use Rattle.hs_lockstep.proofs.Holding.{page_in, pages_in, gives_in, events_in, event_at, event_there, WasGiven, IsDrawn, GiveAnswers, ClientHolds, Holds, get_front, InFront, Behind, in_either, rises_more, FoundPage, page_found, at_page, all_answers}
 use Rattle.hs_lockstep.proofs.Lists.{some_same, get_at}
 
@@ -411,3 +411,67 @@ module _ (n : ℕ) (a b : List ClientSends) (sheets : List Sheet) (given : List 
   draws_keep [] count s h = none_more s h
   draws_keep (page ∷ pages) zero s h = none_more s h
   draws_keep (page ∷ pages) (suc count) s h = queue_case page pages count (draws_keep pages count) s h (queue_with s) refl
+
+  -- ---- and what happened at the pool
+
+  -- the latest event is the last of the history
+  last_event : (was now : List Event) (event : Event) → reverse now ≡ event ∷ reverse was → now ≡ was ++ event ∷ []
+  last_event was now event e =
+      sym (reverse-reverse now) ∙ ap reverse e ∙ reverse-append (event ∷ []) (reverse was) ∙ ap (λ (front : List Event). front ++ event ∷ []) (reverse-reverse was)
+
+  abbrev history_with : ClientSends → List Event
+  history_with s = history_of (events_with s)
+
+  abbrev Told : List TimedPage → ℕ → Type 0
+  Told pages count =
+      (s : ClientSends) → HoldsWith s
+      → history_with (grown s (drawn_from client (length s.drawn) pages (next_draws count (length (events_with s)) (queue_with s)))) ≡ history_with s ++ map event_drawn (next_draws count (length (events_with s)) (queue_with s))
+
+  none_told : (s : ClientSends) → HoldsWith s → history_with (grown s []) ≡ history_with s ++ []
+  none_told s h =
+      let c = h.clients (length a) s (get_at a s b) in
+      ap history_with
+      (ap (λ (drawn : List DrawnPage). record s { drawn = drawn; chunks = sent_chunks drawn }) (append-nil s.drawn) ∙ ap (λ (chunks : List (Sent Sheet)). record s { chunks = chunks }) (sym c.chunks))
+      ∙ sym (append-nil (history_with s))
+
+  module _ (page : TimedPage) (pages : List TimedPage) (count : ℕ) (on : Told pages count) (s : ClientSends) (h : HoldsWith s) where
+    told_more : (draw : Draw) → Drew n (events_with s) (events_with (grown s (page_with client (length s.drawn) page draw ∷ []))) draw → (queue : List ℕ) → queue_after n (event_drawn draw ∷ events_back (events_with s)) ≡ queue
+        → history_with (grown s (page_with client (length s.drawn) page draw ∷ drawn_from client (length s.drawn + 1) pages (next_draws count (length (events_with s) + 1) queue)))
+        ≡ history_with s ++ event_drawn draw ∷ map event_drawn (next_draws count (length (events_with s) + 1) queue)
+    told_more draw drew queue is =
+        let first = grown s (page_with client (length s.drawn) page draw ∷ []) in
+        let one = draw_keeps n a b s sheets given log h (page_with client (length s.drawn) page draw) drew refl own in
+        let number : length first.drawn ≡ length s.drawn + 1 = length-append s.drawn (page_with client (length s.drawn) page draw ∷ []) in
+        let queued : queue_with first ≡ queue = ap (queue_after n) drew.last ∙ is in
+        let more : List DrawnPage = drawn_from client (length s.drawn + 1) pages (next_draws count (length (events_with s) + 1) queue) in
+        let whole : grown first more ≡ grown s (page_with client (length s.drawn) page draw ∷ more) =
+        ap (λ (drawn : List DrawnPage). record s { drawn = drawn; chunks = sent_chunks drawn }) (append_assoc s.drawn (page_with client (length s.drawn) page draw ∷ []) more)
+        in
+        let rest : history_with (grown first more) ≡ history_with first ++ map event_drawn (next_draws count (length (events_with s) + 1) queue) =
+        subst (λ (q : List ℕ). history_with (grown first (drawn_from client (length s.drawn + 1) pages (next_draws count (length (events_with s) + 1) q))) ≡ history_with first ++ map event_drawn (next_draws count (length (events_with s) + 1) q)) queued
+        (subst (λ (t : ℕ). history_with (grown first (drawn_from client (length s.drawn + 1) pages (next_draws count t (queue_with first)))) ≡ history_with first ++ map event_drawn (next_draws count t (queue_with first))) drew.more
+        (subst
+        (λ (k : ℕ).
+        history_with (grown first (drawn_from client k pages (next_draws count (length (events_with first)) (queue_with first)))) ≡ history_with first ++ map event_drawn (next_draws count (length (events_with first)) (queue_with first))) number
+        (on first one)))
+        in
+        ap history_with (sym whole)
+        ∙ rest
+        ∙ ap (λ (front : List Event). front ++ map event_drawn (next_draws count (length (events_with s) + 1) queue)) (last_event (history_with s) (history_with first) (event_drawn draw) drew.last)
+        ∙ append_assoc (history_with s) (event_drawn draw ∷ []) (map event_drawn (next_draws count (length (events_with s) + 1) queue))
+
+    told_case : (queue : List ℕ) → queue_with s ≡ queue
+        → history_with (grown s (drawn_from client (length s.drawn) (page ∷ pages) (next_draws (suc count) (length (events_with s)) queue))) ≡ history_with s ++ map event_drawn (next_draws (suc count) (length (events_with s)) queue)
+    told_case [] e =
+        told_more (draws.Empty (length (events_with s))) (finds_drew n a b s sheets given log h (page_with client (length s.drawn) page (draws.Empty (length (events_with s)))) (record { none = e; is = refl })) [] e
+    told_case (buffer ∷ queue) e =
+        told_more (draws.Got buffer (length (events_with s)))
+        (takes_drew n a b s sheets given log h (page_with client (length s.drawn) page (draws.Got buffer (length (events_with s)))) (record { buffer = buffer; front = ap (λ (q : List ℕ). slice_get q 0) e; is = refl })) queue
+        (ap (drop 1) e)
+
+  -- where there is a page for each draw, the draws are the last of what happened
+  pub draws_told : (pages : List TimedPage) (count : ℕ) → count ≤ length pages → Told pages count
+  draws_told [] zero low s h = none_told s h
+  draws_told [] (suc count) low s h = absurd (omega (arith, low))
+  draws_told (page ∷ pages) zero low s h = none_told s h
+  draws_told (page ∷ pages) (suc count) low s h = told_case page pages count (draws_told pages count (omega (arith, low))) s h (queue_with s) refl

@@ -55,7 +55,7 @@ dropped : {X : Type 0} (xs ys : List X) → drop (length xs) (xs ++ ys) ≡ ys
 dropped [] ys = refl
 dropped (x ∷ xs) ys = dropped xs ys
 
-dropped_all : {X : Type 0} (xs : List X) → drop (length xs) xs ≡ []
+pub dropped_all : {X : Type 0} (xs : List X) → drop (length xs) xs ≡ []
 dropped_all [] = refl
 dropped_all (x ∷ xs) = dropped_all xs
 
@@ -296,10 +296,10 @@ module _ (plays : FollowingPlaysOut) (agree : OrdersAgree) (rests : DoneIsAtRest
           told = record { more = told_now; is = refl };
         }
 
-    abbrev behind : Run
+    abbrev pub behind : Run
     behind = run_behind W m.journal heard_more before
 
-    behind_left : behind.left ≡ told_now
+    pub behind_left : behind.left ≡ told_now
     behind_left = ap (λ (left : List NodeId). left ++ drop (length m.journal.told) (m.journal.told ++ told_now)) h.over.left ∙ dropped m.journal.told told_now
 
     behind_nodes : AllByRecursion IsThrough behind.nodes

@@ -111,7 +111,7 @@ module _ (test : Group → Bool) (v : ℕ) where
   one_ask before m true h = (h, tt)
   one_ask before m false h = tt
 
-  asks_known : (before ms : Messages) → AllByRecursion KnownMessage before → AllByRecursion KnownMessage ms → AllByRecursion KnownAsk (asks_behind v before ms)
+  pub asks_known : (before ms : Messages) → AllByRecursion KnownMessage before → AllByRecursion KnownMessage ms → AllByRecursion KnownAsk (asks_behind v before ms)
   asks_known before [] a b = tt
   asks_known before (m ∷ ms) a b =
       all_append KnownAsk (ask_by v before m) (asks_behind v (before ++ m ∷ []) ms) (one_ask before m (is_newly_asked before m v) (first_known before m a b.0))
@@ -352,7 +352,7 @@ module _ (add : EventsAddFew) (this : EventsAddThis) (says : StepsSayWhatTheyTel
       let more = (add settings node state).counted answer in
       omega (arith, log, grows, more, few)
 
-  admits_more : (node : ℕ) (state : AgentState) (event : Event) → state.admitted ≤ (after_event settings node state event).admitted
+  pub admits_more : (node : ℕ) (state : AgentState) (event : Event) → state.admitted ≤ (after_event settings node state event).admitted
   admits_more node state (Took input) = let more = (add settings node state).admitted input in omega (arith, more)
   admits_more node state (Gave answer) = let more = (add settings node state).counted answer in omega (arith, more)
 

@@ -14,6 +14,10 @@ use Rattle.hs_lockstep.proofs.Lists.{one, all_append, all_each, count_cons, coun
 abbrev pub events_back : List PoolEvent → List Event
 events_back events = reverse (map (λ (e : PoolEvent). e.event) (by_stamp (λ (e : PoolEvent). e.stamp) (length events) events))
 
+-- and in the order of stamps
+abbrev pub history_of : List PoolEvent → List Event
+history_of events = map (λ (e : PoolEvent). e.event) (by_stamp (λ (e : PoolEvent). e.stamp) (length events) events)
+
 abbrev of_stamp : List PoolEvent → ℕ → List PoolEvent
 of_stamp events s = filter (λ (e : PoolEvent). eqb e.stamp s) events
 

@@ -12,7 +12,7 @@ use Rattle.hs_journal.specs.declared.journal.Step.TheVariants as steps
 use Rattle.hs_model.specs.Laws.{count_of, given_places, PlacesMatch, ListsHaveTheirChunks, EventsGoOn, sheets_of, brought_by, noted_as, EventsAddThis}
 use Rattle.hs_model.specs.Standings.{Taken, is_let_go, stands}
 use Rattle.hs_model.specs.State.{AgentState, GivenPlace}
-use Rattle.hs_model.specs.Stepping.{Input, Chunk, Crumbed, Triggered, Asked, Turn, Answered, Event, Took, Gave, after_event, after}
+use Rattle.hs_model.specs.Stepping.{Input, Chunk, Crumbed, Triggered, Asked, Turn, Event, Took, Gave, after_event}
 use Rattle.hs_model.specs.Stepping as model
 use Rattle.hs_records.specs.Plain.{PlainSettings}
 use Rattle.hs_sent.specs.Drawn.{DrawnPage, has_buffer}
@@ -21,9 +21,9 @@ use Rattle.hs_words.specs.Pages.{Sheet}
 use Rattle.hs_lawful.specs.Following.{Chunks, Crumbs, Triggers, Asks, taken, takes, asks_to, NodeRun, next_of, event_of, perform}
 use Rattle.hs_lawful.specs.Laws.{ComesByEvents}
 use Rattle.hs_lawful.specs.Passes.{is_offer}
-use Rattle.hs_lawful.specs.Pooled.{PoolEvent, drawn_event, buffer_of, page_of, given_event, missed_event, node_pages, pool_events}
+use Rattle.hs_lawful.specs.Pooled.{PoolEvent, drawn_event, buffer_of, page_of, given_page, given_buffer, given_event, missed_event, node_pages, pool_events}
 use Rattle.hs_lawful.specs.Shape.{step_stamp}
-use Rattle.hs_lockstep.proofs.Holding.{given_as, event_at, gives_in, events_in, IsDrawn, ClientHolds, Holds, Adds, takes_keep, gives_keep, given_longer}
+use Rattle.hs_lockstep.proofs.Holding.{given_as, event_at, gives_in, events_in, IsDrawn, ClientHolds, Holds, Adds, same_events, takes_keep, given_drawn, now_is, gives_keep, given_longer}
 use Rattle.hs_lockstep.proofs.Lists.{some_same, count_append, count_cons, one}
 
 -- ---- a node
@@ -300,6 +300,16 @@ module _ (adds : EventsAddThis) (go_on : EventsGoOn) (places : ListsHaveTheirChu
             (subst (λ (log : List Step). Holds settings.buffers run.sends (sheets_of run.state.taken ++ brought_by event) run.state.given log) (sym log_is) kept));
       }
 
+  -- and what happened at its pool
+  pub take_events : (heard : Messages) (run : NodeRun) (step : Step) (rest : List Step) (event : Event) → is_offer step ≡ false → event_of run heard step ≡ Some event → IsHeld settings run → node_events (perform settings rest run event) ≡ node_events run
+  take_events heard run step rest event quiet met h =
+      let t = takes_so settings run h.holds heard step event quiet met in
+      let a = adds settings run.node run.state in
+      let sheets = sheets_of run.state.taken in
+      let same = same_events settings.buffers run.sends sheets run.state.given run.state.log h.holds (brought_by event) step (quiet_stamp step quiet) (quiet_missed step quiet) t.adds in
+      let given_is : (after_event settings run.node run.state event).given ≡ run.state.given = ap (λ (event : Event). (after_event settings run.node run.state event).given) t.is ∙ a.given t.input in
+      ap (λ (sheets : List Sheet). events_in run.sends sheets (after_event settings run.node run.state event).given) (a.chunks event) ∙ ap (events_in run.sends (sheets ++ brought_by event)) given_is ∙ sym same
+
   -- ---- the first of the hand
 
   count_first : (place : ℕ) (hand : List ℕ) → count_of (place ∷ hand) place ≡ 1 + count_of hand place
@@ -332,12 +342,12 @@ module _ (adds : EventsAddThis) (go_on : EventsGoOn) (places : ListsHaveTheirChu
       go None e h = let no : false ≡ true = h in absurd cc
       go (Some chunk) e h = (chunk, e)
 
-  record HasFirst (run : NodeRun) (place : ℕ) : Type 0 where
-    sheet : Sheet
-    is : slice_get (sheets_of run.state.taken) place ≡ Some sheet
-    ungiven : (i : ℕ) (g : GivenPlace) → slice_get run.state.given i ≡ Some g → g.place ≡ place → ⊥
+  pub record HasFirst (run : NodeRun) (place : ℕ) : Type 0 where
+    pub sheet : Sheet
+    pub is : slice_get (sheets_of run.state.taken) place ≡ Some sheet
+    pub ungiven : (i : ℕ) (g : GivenPlace) → slice_get run.state.given i ≡ Some g → g.place ≡ place → ⊥
 
-  first_held : (run : NodeRun) (place : ℕ) (hand : List ℕ) → run.state.hand ≡ place ∷ hand → ComesByEvents settings run → HasFirst run place
+  pub first_held : (run : NodeRun) (place : ℕ) (hand : List ℕ) → run.state.hand ≡ place ∷ hand → ComesByEvents settings run → HasFirst run place
   first_held run place hand e comes =
       let m : PlacesMatch run.state = subst PlacesMatch (sym comes) (places settings run.node run.events) in
       let all = m.gone_each place in
@@ -392,3 +402,34 @@ module _ (adds : EventsAddThis) (go_on : EventsGoOn) (places : ListsHaveTheirChu
             ∙ more_there
             ∙ ap (λ (k : ℕ). k + 1) h.events;
       }
+
+  -- the buffer of the page of the chunk that is given
+  pub buffer_given : (place : ℕ) (hand : List ℕ) (run : NodeRun) → run.state.hand ≡ place ∷ hand → IsHeld settings run → ℕ
+  buffer_given place hand run e h =
+      let f = first_held run place hand e h.comes in (given_drawn settings.buffers run.sends (sheets_of run.state.taken) run.state.given run.state.log h.holds place f.sheet f.is f.ungiven).buffer
+
+  pub buffer_there : (place : ℕ) (hand : List ℕ) (run : NodeRun) (e : run.state.hand ≡ place ∷ hand) (h : IsHeld settings run) → given_buffer run place ≡ Some (buffer_given place hand run e h)
+  unfolding buffer_given
+  buffer_there place hand run e h =
+      let f = first_held run place hand e h.comes in
+      let drawn = given_drawn settings.buffers run.sends (sheets_of run.state.taken) run.state.given run.state.log h.holds place f.sheet f.is f.ungiven in
+      let found : given_page run run.state place ≡ Some drawn.page = sheet_at (page_of run) run.state.taken place ∙ ap (option_and_then (page_of run)) f.is ∙ drawn.there in
+      ap (option_and_then (λ (d : DrawnPage). buffer_of d.draw)) found ∙ ap buffer_of drawn.got
+
+  -- a give is the last of what happened at the pool
+  pub give_events : (stamp place : ℕ) (hand : List ℕ) (run : NodeRun) (rest : List Step) (e : run.state.hand ≡ place ∷ hand) (h : HeldUpTo stamp run)
+      → node_events (perform settings rest run (Gave (model.Given stamp))) ≡ node_events run ++ given_as (length (node_events run)) (buffer_given place hand run e h.held) ∷ []
+  unfolding buffer_given
+  give_events stamp place hand run rest e h =
+      let f = first_held run place hand e h.held.comes in
+      let a = adds settings run.node run.state in
+      let event : Event = Gave (model.Given stamp) in
+      let sheets = sheets_of run.state.taken in
+      let sheets_are : sheets_of (after_event settings run.node run.state event).taken ≡ sheets = a.chunks event ∙ append-nil sheets in
+      let given_is : (after_event settings run.node run.state event).given ≡ run.state.given ++ record { place = place; stamp = stamp } ∷ [] = ap (λ (hand : List ℕ). (model.give_back stamp hand run.state).given) e in
+      let now = now_is settings.buffers run.sends sheets run.state.given run.state.log h.held.holds place f.sheet f.is f.ungiven in
+      ap (λ (s : List Sheet). events_in run.sends s (after_event settings run.node run.state event).given) sheets_are
+      ∙ ap (events_in run.sends sheets) given_is
+      ∙ ap (λ (k : ℕ). events_in run.sends sheets (run.state.given ++ record { place = place; stamp = k } ∷ [])) (sym h.events)
+      ∙ sym now
+      ∙ ap (λ (es : List PoolEvent). node_events run ++ given_as (length es) (buffer_given place hand run e h.held) ∷ []) (append-nil (node_events run))

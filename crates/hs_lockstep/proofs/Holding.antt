@@ -260,7 +260,7 @@ all_answers sends others sheets more given after (g ∷ givens) on all = (on g a
 
 module _ (n : ℕ) (sends : List ClientSends) (sheets : List Sheet) (given : List GivenPlace) (log : List Step) (h : Holds n sends sheets given log) where
   module _ (added : List Sheet) (step : Step) (quiet : step_stamp step ≡ None) (unmissed : missed_event step ≡ None) (adds : Adds sends sheets log added step) where
-    same_events : events_in sends sheets given ≡ events_in sends (sheets ++ added) given
+    pub same_events : events_in sends sheets given ≡ events_in sends (sheets ++ added) given
     same_events = ap (λ (gives : List PoolEvent). map drawn_event (pages_in sends) ++ gives) (sym (gives_same sends sheets added given given h.answers))
 
     given_still : (client page : ℕ) → WasGiven sheets given client page → WasGiven (sheets ++ added) given client page
@@ -362,7 +362,7 @@ module _ (n : ℕ) (sends : List ClientSends) (sheets : List Sheet) (given : Lis
     abbrev now : List PoolEvent
     now = events_in sends sheets (given ++ give ∷ [])
 
-    given_drawn : IsDrawn sends sheet
+    pub given_drawn : IsDrawn sends sheet
     given_drawn = h.drawn place sheet is
 
     found : FoundPage sends sheet given_drawn.page
@@ -415,7 +415,7 @@ module _ (n : ℕ) (sends : List ClientSends) (sheets : List Sheet) (given : Lis
     pooled_there : IsPooled n (was ++ [])
     pooled_there = subst (IsPooled n) was_is h.pooled
 
-    now_is : was ++ given_as (length (was ++ [])) given_drawn.buffer ∷ [] ≡ now
+    pub now_is : was ++ given_as (length (was ++ [])) given_drawn.buffer ∷ [] ≡ now
     now_is =
         let gives = filter_map-append (event_at sends sheets) given (give ∷ []) ∙ ap (λ o. gives_in sends sheets given ++ cons_option o []) (event_there sends sheets give sheet is given_drawn) in
         ap (λ (es : List PoolEvent). was ++ given_as (length es) given_drawn.buffer ∷ []) (append-nil was)

@@ -38,7 +38,7 @@ use Rattle.hs_lockstep.proofs.Walks.{Walked, IsThrough, IsEmptied, takes_keep, g
 
 -- ---- lists
 
-range_parts : (start a b : ℕ) → range_with_len start (a + suc b) ≡ range_with_len start a ++ (start + a) ∷ range_with_len (start + a + 1) b
+pub range_parts : (start a b : ℕ) → range_with_len start (a + suc b) ≡ range_with_len start a ++ (start + a) ∷ range_with_len (start + a + 1) b
 range_parts start zero b =
     let same : 0 + suc b ≡ suc b = omega arith in
     let here : start ≡ start + 0 = omega arith in
@@ -79,11 +79,12 @@ module _ {X : Type 0} where
 pub record MorePages (client : ClientId) (k : ℕ) (pages : List TimedPage) (draws new : List Draw) : Type 0 where
   pub rest : List TimedPage
   pub there : (j : ℕ) (page : TimedPage) → slice_get rest j ≡ Some page → slice_get pages (length draws + j) ≡ Some page
+  pub all : length draws ≤ length pages → length draws + length rest ≡ length pages
   pub is : drawn_from client k pages (draws ++ new) ≡ drawn_from client k pages draws ++ drawn_from client (k + length (drawn_from client k pages draws)) rest new
 
 pub more_pages : (client : ClientId) (k : ℕ) (pages : List TimedPage) (draws new : List Draw) → MorePages client k pages draws new
-more_pages client k [] draws new = record { rest = []; there = λ j page h. let no : None ≡ Some page = h in absurd cc; is = refl }
-more_pages client k (page ∷ pages) [] new = let same : k ≡ k + 0 = omega arith in record { rest = page ∷ pages; there = λ j p h. let here : 0 + j ≡ j = omega arith in ap (slice_get (page ∷ pages)) here ∙ h; is = ap (λ (n : ℕ). drawn_from client n (page ∷ pages) new) same }
+more_pages client k [] draws new = record { rest = []; there = λ j page h. let no : None ≡ Some page = h in absurd cc; all = λ low. omega (arith, low); is = refl }
+more_pages client k (page ∷ pages) [] new = let same : k ≡ k + 0 = omega arith in record { rest = page ∷ pages; there = λ j p h. let here : 0 + j ≡ j = omega arith in ap (slice_get (page ∷ pages)) here ∙ h; all = λ low. omega arith; is = ap (λ (n : ℕ). drawn_from client n (page ∷ pages) new) same }
 more_pages client k (page ∷ pages) (draw ∷ draws) new =
     let m = more_pages client (k + 1) pages draws new in
     let same : k + 1 + length (drawn_from client (k + 1) pages draws) ≡ k + suc (length (drawn_from client (k + 1) pages draws)) = omega arith in
@@ -91,6 +92,7 @@ more_pages client k (page ∷ pages) (draw ∷ draws) new =
     record {
       rest = m.rest;
       there = λ j p h. let here : suc (length draws) + j ≡ suc (length draws + j) = omega arith in ap (slice_get (page ∷ pages)) here ∙ m.there j p h;
+      all = λ low. let rest = m.all (omega (arith, low)) in omega (arith, rest);
       is =
           ap (λ (pages : List DrawnPage). first ∷ pages) m.is
           ∙ ap (λ (n : ℕ). first ∷ (drawn_from client (k + 1) pages draws ++ drawn_from client n m.rest new)) same;
@@ -132,26 +134,28 @@ starts_held n sends all =
 
 module _ (W : PlainWorkload) (J K : PlainJournal) where
   -- where a node's clients drew the same, they send the same
-  same_sends : (node : ℕ) → ((number : ℕ) → number < W.settings.clients → draws_at K (place_of W.settings.clients node number) ≡ draws_at J (place_of W.settings.clients node number)) → node_sends W K node ≡ node_sends W J node
+  pub same_sends : (node : ℕ) → ((number : ℕ) → number < W.settings.clients → draws_at K (place_of W.settings.clients node number) ≡ draws_at J (place_of W.settings.clients node number)) → node_sends W K node ≡ node_sends W J node
   same_sends node same =
       map_range (client_sends W K node) (client_sends W J node) 0 W.settings.clients
       (λ number low high.
       ap (λ (drew : List Draw). sends_of W.settings (record { node = node; number = number }) (operations_at W (place_of W.settings.clients node number)) drew) (same number (omega (arith, high))))
 
   -- where one client of a node drew more, it sends more
-  record OneMore (node : ℕ) (new : List Draw) : Type 0 where
-    a : List ClientSends
-    s : ClientSends
-    b : List ClientSends
-    client : ClientId
-    rest : List TimedPage
-    own : client.number ≡ length a
-    was : node_sends W J node ≡ a ++ s ∷ b
-    now : node_sends W K node ≡ a ++ grown s (drawn_from client (length s.drawn) rest new) ∷ b
+  pub record OneMore (node number : ℕ) (new : List Draw) : Type 0 where
+    pub a : List ClientSends
+    pub s : ClientSends
+    pub b : List ClientSends
+    pub client : ClientId
+    pub rest : List TimedPage
+    pub all : length (draws_at J (place_of W.settings.clients node number)) ≤ length (timed_pages W.settings.size (operations_at W (place_of W.settings.clients node number)))
+        → length (draws_at J (place_of W.settings.clients node number)) + length rest ≡ length (timed_pages W.settings.size (operations_at W (place_of W.settings.clients node number)))
+    pub own : client.number ≡ length a
+    pub was : node_sends W J node ≡ a ++ s ∷ b
+    pub now : node_sends W K node ≡ a ++ grown s (drawn_from client (length s.drawn) rest new) ∷ b
 
-  one_more : (node number : ℕ) (new : List Draw) → number < W.settings.clients
+  pub one_more : (node number : ℕ) (new : List Draw) → number < W.settings.clients
       → ((other : ℕ) → other ≢ number → draws_at K (place_of W.settings.clients node other) ≡ draws_at J (place_of W.settings.clients node other))
-      → draws_at K (place_of W.settings.clients node number) ≡ draws_at J (place_of W.settings.clients node number) ++ new → OneMore node new
+      → draws_at K (place_of W.settings.clients node number) ≡ draws_at J (place_of W.settings.clients node number) ++ new → OneMore node number new
   one_more node number new low others more =
       let each = W.settings.clients in
       let behind = each - suc number in
@@ -186,6 +190,7 @@ module _ (W : PlainWorkload) (J K : PlainJournal) where
         b = map f (range_with_len (number + 1) behind);
         client = client;
         rest = m.rest;
+        all = m.all;
         own = sym (length-map (range_with_len 0 number) f ∙ length-range_with_len 0 number);
         was = split f;
         now =
@@ -369,14 +374,14 @@ module _ (plays : FollowingPlaysOut) (agree : OrdersAgree) (rests : DoneIsAtRest
           (mapped_all (Walked W.settings run_of.heard EmptiedHeld) (node_behind W m.journal (agents_give W m).journal) run_of.nodes
           (all_places (λ (node : NodeRun). Walked W.settings run_of.heard EmptiedHeld (node_behind W m.journal (agents_give W m).journal node)) run_of.nodes give_node))
 
-      give_keeps_held : Keeps (agents_give W m)
+      pub give_keeps_held : Keeps (agents_give W m)
       give_keeps_held =
           record {
             done = give_keeps plays agree rests goes_on runs noted unsent W m h.done;
             held = all_each EmptiedHeld Held (followed W (agents_give W m).journal).nodes (λ node e. e.1) give_holds.each;
           }
 
-      hear_keeps_held : Keeps (coordinator_hears W m)
+      pub hear_keeps_held : Keeps (coordinator_hears W m)
       hear_keeps_held =
           record {
             done = hear_keeps plays agree rests goes_on runs noted unsent W m h.done;
@@ -392,15 +397,15 @@ module _ (plays : FollowingPlaysOut) (agree : OrdersAgree) (rests : DoneIsAtRest
 
     -- ---- the start
 
-    abbrev no_draws : List Draw
+    abbrev pub no_draws : List Draw
     no_draws = []
 
-    undrawn : (clients : List (List Operation)) (place : ℕ) → unwrap_or (slice_get (map (λ _. no_draws) clients) place) [] ≡ []
+    pub undrawn : (clients : List (List Operation)) (place : ℕ) → unwrap_or (slice_get (map (λ _. no_draws) clients) place) [] ≡ []
     undrawn [] place = refl
     undrawn (ops ∷ clients) zero = refl
     undrawn (ops ∷ clients) (suc place) = undrawn clients place
 
-    no_pages : (client : ClientId) (pages : List TimedPage) → drawn_from client 0 pages [] ≡ []
+    pub no_pages : (client : ClientId) (pages : List TimedPage) → drawn_from client 0 pages [] ≡ []
     no_pages client [] = refl
     no_pages client (page ∷ pages) = refl
 

@@ -39,7 +39,7 @@ use Rattle.hs_lockstep.proofs.Shapes.{all_timed}
 -- ---- a node
 
 module _ (W : PlainWorkload) (run : NodeRun) (h : HoldsAt W.settings run) where
-  history_there : IsPoolHistory W.settings.buffers (pool_history run)
+  pub history_there : IsPoolHistory W.settings.buffers (pool_history run)
   history_there = subst (λ (es : List PoolEvent). IsHistoryBack W.settings.buffers (events_back es)) (sym (pool_is run h.missed)) h.pooled.history
 
   give_passes : (g : GivenPlace) → GiveAnswers run.sends (sheets_of run.state.taken) run.state.given g

@@ -101,7 +101,7 @@ module _ {X : Type 0} where
   get_other (z ∷ xs) (suc i) zero y ne = refl
   get_other (z ∷ xs) (suc i) (suc j) y ne = get_other xs i j y (λ e. ne (ap suc e))
 
-all_set : {X : Type 0} (P : X → Type 0) (xs : List X) (i : ℕ) (x : X) → AllByRecursion P xs → P x → AllByRecursion P (set xs i x)
+pub all_set : {X : Type 0} (P : X → Type 0) (xs : List X) (i : ℕ) (x : X) → AllByRecursion P xs → P x → AllByRecursion P (set xs i x)
 all_set P [] i x all h = tt
 all_set P (y ∷ xs) zero x all h = (h, all.1)
 all_set P (y ∷ xs) (suc i) x all h = (all.0, all_set P xs i x all.1 h)
@@ -115,7 +115,7 @@ hear_case : (run next : Run) (rest : List NodeId) (o : Option Message) → optio
 hear_case run next rest None h = let no : None ≡ Some next = h in absurd cc
 hear_case run next rest (Some m) h = ap (λ (r : Run). r.nodes) (sym (some_same (record run { left = rest; heard = run.heard ++ m ∷ [] }) next h))
 
-hear_nodes : (run next : Run) (left : List NodeId) → hear run left ≡ Some next → next.nodes ≡ run.nodes
+pub hear_nodes : (run next : Run) (left : List NodeId) → hear run left ≡ Some next → next.nodes ≡ run.nodes
 hear_nodes run next [] h = let no : None ≡ Some next = h in absurd cc
 hear_nodes run next (node ∷ rest) h = hear_case run next rest (message_of run.nodes run.heard node) h
 

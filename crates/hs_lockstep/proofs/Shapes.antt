@@ -52,6 +52,14 @@ module _ {X : Type 0} where
   filter_more p q [] on = omega arith
   filter_more p q (x ∷ xs) on = more_case x (filter p xs) (filter q xs) (p x) (q x) (on x) (filter_more p q xs on)
 
+  few_case : (x : X) (a xs : List X) (b : Bool) → length a ≤ length xs → length (cond b (x ∷ a) a) ≤ suc (length xs)
+  few_case x a xs true h = omega (arith, h)
+  few_case x a xs false h = omega (arith, h)
+
+  filter_few : (p : X → Bool) (xs : List X) → length (filter p xs) ≤ length xs
+  filter_few p [] = omega arith
+  filter_few p (x ∷ xs) = few_case x (filter p xs) xs (p x) (filter_few p xs)
+
   filter_all : (p : X → Bool) (xs : List X) → AllByRecursion (λ x. p x ≡ true) xs → filter p xs ≡ xs
   filter_all p [] all = refl
   filter_all p (x ∷ xs) all = ap (λ b. cond b (x ∷ filter p xs) (filter p xs)) all.0 ∙ ap (λ rest. x ∷ rest) (filter_all p xs all.1)
@@ -132,7 +140,7 @@ rounds_cover stride operations some =
     let below = lt-div-mul-add {a = operations + (stride - 1)} {b = stride} positive in
     omega (arith, below, some)
 
-drawn_count : (count stamp : ℕ) (queue : List ℕ) → length (next_draws count stamp queue) ≡ count
+pub drawn_count : (count stamp : ℕ) (queue : List ℕ) → length (next_draws count stamp queue) ≡ count
 drawn_count zero stamp queue = refl
 drawn_count (suc count) stamp [] = ap suc (drawn_count count (stamp + 1) [])
 drawn_count (suc count) stamp (buffer ∷ queue) = ap suc (drawn_count count (stamp + 1) queue)
@@ -154,6 +162,10 @@ module _ (plays : FollowingPlaysOut) (runs : RunsAreOfTheJournal) (timed_are : T
   started_more place a b low =
       filter_more (λ (page : TimedPage). ltb page.started a) (λ (page : TimedPage). ltb page.started b) (timed_pages W.settings.size (operations_at W place))
       (λ page h. let below = ltb-true page.started a h in lt-ltb page.started b (omega (arith, below, low)))
+
+  -- and no more pages are started than there are
+  pub started_few : (place n : ℕ) → pages_started W place n ≤ length (timed_pages W.settings.size (operations_at W place))
+  started_few place n = filter_few (λ (page : TimedPage). ltb page.started n) (timed_pages W.settings.size (operations_at W place))
 
   pub node_there : (place : ℕ) → place < count → place / W.settings.clients < W.settings.nodes
   node_there place below = either (eq-zero-or-pos W.settings.clients)
@@ -287,7 +299,7 @@ module _ (plays : FollowingPlaysOut) (runs : RunsAreOfTheJournal) (timed_are : T
     pub done : (place : ℕ) → place < count → done_at m place ≡ min (n * W.settings.stride) (length (operations_at W place))
     pub past : (place : ℕ) → count ≤ place → done_at m place ≡ 0
 
-  within_of : (n : ℕ) (m : Machine) → HasRounds n m → IsWithin m
+  pub within_of : (n : ℕ) (m : Machine) → HasRounds n m → IsWithin m
   within_of n m h place = either (below_or place count)
     where
       below_or : (a b : ℕ) → (a < b) ⊎ (b ≤ a)
@@ -332,7 +344,7 @@ module _ (plays : FollowingPlaysOut) (runs : RunsAreOfTheJournal) (timed_are : T
       one_more : (n : ℕ) → (n + 1) * W.settings.stride ≡ n * W.settings.stride + W.settings.stride
       one_more n = let e : n + 1 ≡ suc n = omega arith in ap (λ (k : ℕ). k * W.settings.stride) e ∙ suc-mul n W.settings.stride
 
-  rounds_go : (k n : ℕ) (m : Machine) → HasRounds n m → HasRounds (n + k) (rounds k W m)
+  pub rounds_go : (k n : ℕ) (m : Machine) → HasRounds n m → HasRounds (n + k) (rounds k W m)
   rounds_go zero n m h = let same : n ≡ n + 0 = omega arith in subst (λ (j : ℕ). HasRounds j m) same h
   rounds_go (suc k) n m h =
       let same : n + 1 + k ≡ n + suc k = omega arith in

@@ -82,7 +82,7 @@ record HasEvent (run : NodeRun) (heard : Messages) (step : Step) : Type 0 where
   event : Event
   met : event_of run heard step ≡ Some event
 
-step_is : (settings : PlainSettings) (heard : Messages) (run : NodeRun) (step : Step) (rest : List Step) (event : Event) → run.left ≡ step ∷ rest → event_of run heard step ≡ Some event
+pub step_is : (settings : PlainSettings) (heard : Messages) (run : NodeRun) (step : Step) (rest : List Step) (event : Event) → run.left ≡ step ∷ rest → event_of run heard step ≡ Some event
     → step_node settings heard run ≡ Some (perform settings rest run event)
 step_is settings heard run step rest event e met = ap (step_of settings heard run) e ∙ ap (option_map (perform settings rest run)) met
 

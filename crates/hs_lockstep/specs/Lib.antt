@@ -1,4 +1,10 @@
 pub mod Lockstep
 pub mod Laws
 pub mod Clauses
+pub mod Performing
+pub mod Reaching
+pub mod Parts
+pub mod Conditions
+pub mod Ending
+pub mod PartExamples
 pub mod Examples

@@ -13,6 +13,7 @@ use Rattle.hs_journal.specs.declared.journal.Step.TheVariants as steps
 use Rattle.hs_journal.specs.Views.{PlainJournal}
 use Rattle.hs_records.specs.Plain.{PlainWorkload}
 use Rattle.hs_records.specs.Pages.{pages_of}
+pub use Rattle.hs_sent.specs.Draws.{next_draws}
 use Rattle.hs_sent.specs.Timing.{TimedPage, timed_pages}
 use Rattle.hs_sent.specs.Sending.{ClientSends, operations_at, place_of, sent_within}
 use Rattle.hs_words.specs.PoolHistory.{queue_after}
@@ -51,12 +52,6 @@ extended (items ∷ lists) (behind ∷ more) = (items ++ behind) ∷ extended li
 
 abbrev pub done_at : Machine → ℕ → ℕ
 done_at m place = unwrap_or (slice_get m.done place) 0
-
--- the next draws from this queue, from this stamp on: its front, or none where it is empty
-abbrev pub next_draws : (count : ℕ) → (stamp : ℕ) → List ℕ → List Draw
-next_draws zero stamp queue = []
-next_draws (suc count) stamp [] = draws.Empty stamp ∷ next_draws count (stamp + 1) []
-next_draws (suc count) stamp (buffer ∷ queue) = draws.Got buffer stamp ∷ next_draws count (stamp + 1) queue
 
 -- so many draws at a node
 abbrev pub draws_by : PlainWorkload → ℕ → NodeRun → List Draw

@@ -1,6 +1,11 @@
 //! What holds of the lockstep schedule. These functions do nothing: their contracts say it.
 
 ghost use Rattle.hs_lockstep.specs.Laws.{VersionsHaveOneSchedule};
+ghost use Rattle.hs_lockstep.specs.Performing.{StepByStep};
+ghost use Rattle.hs_lockstep.specs.Reaching.{MachinesAreWhole, MachinesStartSo, MachinesLeadOn};
+ghost use Rattle.hs_lockstep.specs.Parts.{ClientsGoSo, AgentsTakeSo, AgentsGiveSo, CoordinatorHearsSo};
+ghost use Rattle.hs_lockstep.specs.Conditions.{MachinesFit, MachinesTellWithin};
+ghost use Rattle.hs_lockstep.specs.Ending.{RoundsEnd, ClosingEnds};
 ghost use Rattle.hs_lockstep.specs.Clauses.{ScheduleHasShape, ScheduleHasStamps, ScheduleHasHistory, ScheduleHasAnswers, ScheduleHasPasses, ScheduleHasOffers, ScheduleIsFollowed, ScheduleHasUnreads, ScheduleHasRounds, ScheduleHasPace, ScheduleIsBare, ScheduleIsLawful, ValidWorkloadsRun};
 
 use hs_lawful::laws::{
@@ -8,9 +13,10 @@ use hs_lawful::laws::{
     nothing_is_taken_unsent, orders_agree, runs_are_of_the_journal, steps_are_noted,
 };
 use hs_model::laws::{
-    chunks_stand_by_their_claim, events_add_few, events_add_this, events_go_on,
+    chunks_stand_by_their_claim, crumbs_lead_below, events_add_few, events_add_this, events_go_on,
     lists_have_their_chunks, steps_say_what_they_tell, turns_report,
 };
+use hs_records::pieces_are_counted;
 use hs_sent::laws::{pages_fit, timed_pages_are_the_pages, timed_pages_are_timely};
 
 /// A workload has one schedule, whichever version it is written in.
@@ -191,4 +197,197 @@ pub fn schedule_is_lawful()
     schedule_has_rounds();
     schedule_is_bare();
     schedule_has_pace();
+}
+
+/// Steps and messages may be performed one after another, some first and the others behind them.
+pub fn step_by_step()
+    ensures { StepByStep }
+{}
+
+/// What a machine noted up to some part of a round is performed, and nothing of it is left over.
+pub fn machines_are_whole()
+    ensures { MachinesAreWhole }
+{
+    following_plays_out();
+    orders_agree();
+    done_is_at_rest();
+    journals_go_on();
+    runs_are_of_the_journal();
+    steps_are_noted();
+    nothing_is_taken_unsent();
+    agents_come_by_events();
+    events_add_this();
+    events_go_on();
+    lists_have_their_chunks();
+    timed_pages_are_the_pages();
+    timed_pages_are_timely();
+    valid_workloads_run();
+}
+
+/// At the start nothing was performed.
+pub fn machines_start_so()
+    ensures { MachinesStartSo }
+{
+    following_plays_out();
+    orders_agree();
+    done_is_at_rest();
+    journals_go_on();
+    runs_are_of_the_journal();
+    steps_are_noted();
+    nothing_is_taken_unsent();
+    agents_come_by_events();
+    events_add_this();
+    events_go_on();
+    lists_have_their_chunks();
+    timed_pages_are_the_pages();
+    timed_pages_are_timely();
+}
+
+/// All parts of rounds and passes lead from machine to machine.
+pub fn machines_lead_on()
+    ensures { MachinesLeadOn }
+{}
+
+/// A client's turn draws from its node's pool, and leaves all else.
+pub fn clients_go_so()
+    ensures { ClientsGoSo }
+{
+    following_plays_out();
+    orders_agree();
+    done_is_at_rest();
+    journals_go_on();
+    runs_are_of_the_journal();
+    steps_are_noted();
+    nothing_is_taken_unsent();
+    agents_come_by_events();
+    events_add_this();
+    events_go_on();
+    lists_have_their_chunks();
+    timed_pages_are_the_pages();
+    timed_pages_are_timely();
+    events_add_few();
+    steps_say_what_they_tell();
+    turns_report();
+    chunks_stand_by_their_claim();
+    pages_fit();
+    pieces_are_counted();
+    valid_workloads_run();
+}
+
+/// What the agents take is ready step by step.
+pub fn agents_take_so()
+    ensures { AgentsTakeSo }
+{
+    following_plays_out();
+    orders_agree();
+    done_is_at_rest();
+    journals_go_on();
+    runs_are_of_the_journal();
+    steps_are_noted();
+    nothing_is_taken_unsent();
+    agents_come_by_events();
+    events_add_this();
+    events_go_on();
+    lists_have_their_chunks();
+    timed_pages_are_the_pages();
+    timed_pages_are_timely();
+}
+
+/// What the agents give may be given, step by step.
+pub fn agents_give_so()
+    ensures { AgentsGiveSo }
+{
+    following_plays_out();
+    orders_agree();
+    done_is_at_rest();
+    journals_go_on();
+    runs_are_of_the_journal();
+    steps_are_noted();
+    nothing_is_taken_unsent();
+    agents_come_by_events();
+    events_add_this();
+    events_go_on();
+    lists_have_their_chunks();
+    timed_pages_are_the_pages();
+    timed_pages_are_timely();
+    events_add_few();
+    steps_say_what_they_tell();
+    turns_report();
+    chunks_stand_by_their_claim();
+    pages_fit();
+    pieces_are_counted();
+    valid_workloads_run();
+}
+
+/// The coordinator hears what the nodes told, one message after another.
+pub fn coordinator_hears_so()
+    ensures { CoordinatorHearsSo }
+{
+    following_plays_out();
+    orders_agree();
+    done_is_at_rest();
+    journals_go_on();
+    runs_are_of_the_journal();
+    steps_are_noted();
+    nothing_is_taken_unsent();
+    agents_come_by_events();
+    events_add_this();
+    events_go_on();
+    lists_have_their_chunks();
+    timed_pages_are_the_pages();
+    timed_pages_are_timely();
+}
+
+/// On the way through the schedule all that is taken, told and given fits.
+pub fn machines_fit()
+    ensures { MachinesFit }
+{
+    following_plays_out();
+    orders_agree();
+    done_is_at_rest();
+    journals_go_on();
+    runs_are_of_the_journal();
+    steps_are_noted();
+    nothing_is_taken_unsent();
+    agents_come_by_events();
+    events_add_this();
+    events_go_on();
+    lists_have_their_chunks();
+    timed_pages_are_the_pages();
+    timed_pages_are_timely();
+    events_add_few();
+    steps_say_what_they_tell();
+    turns_report();
+    chunks_stand_by_their_claim();
+    pages_fit();
+    pieces_are_counted();
+    valid_workloads_run();
+}
+
+/// There are as many rounds as the longest client needs.
+pub fn rounds_end()
+    ensures { RoundsEnd }
+{
+    following_plays_out();
+    runs_are_of_the_journal();
+    timed_pages_are_the_pages();
+    pieces_are_counted();
+    valid_workloads_run();
+}
+
+/// The closing ends where nothing waits any more, and no earlier.
+pub fn closing_ends()
+    ensures { ClosingEnds }
+{
+    schedule_is_bare();
+    pieces_are_counted();
+    valid_workloads_run();
+}
+
+/// What agents tell leads to nodes that there are.
+pub fn machines_tell_within()
+    ensures { MachinesTellWithin }
+{
+    following_plays_out();
+    crumbs_lead_below();
 }

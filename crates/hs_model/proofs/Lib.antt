@@ -16,3 +16,4 @@ pub mod Saying
 pub mod Adding
 pub mod Bearing
 pub mod Reporting
+pub mod Leading

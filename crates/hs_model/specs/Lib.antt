@@ -8,6 +8,7 @@ pub mod Messages
 pub mod Stepping
 pub mod Books
 pub mod Laws
+pub mod Leading
 pub mod Samples
 pub mod EvictionExamples
 pub mod ClaimExamples

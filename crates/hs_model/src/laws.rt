@@ -1,5 +1,6 @@
 //! What holds of an agent after any events. These functions do nothing: their contracts say it.
 
+ghost use Rattle.hs_model.specs.Leading.{CrumbsLeadBelow};
 ghost use Rattle.hs_model.specs.Laws.{ListsHaveTheirChunks, StandingsPartition, HeldChunksAreInNoHand, TracesAreClaimedOnce, ClaimsHoldForGood, ChunksStandByTheirClaim, NothingClaimedIsEvicted, TheLeastGoes, LimitsHold, ReportedInOrder, EvictsWhileOver, IndexedStayTouched, AbandonsWhileOver, EventsGoOn, ClientsPagesRise, VisitsAreApart, StepsSayWhatTheyTell, EventsAddThis, EventsAddFew, TurnsReport};
 
 /// The pinned and the reported chunks stand in their lists, each once, and the evicted, abandoned and
@@ -106,4 +107,9 @@ pub fn events_add_few()
 /// A turn reports a chunk where one is pinned for a trigger id that has a share, and budgets pay for any page.
 pub fn turns_report()
     ensures { TurnsReport }
+{}
+
+/// An agent remembers and tells no nodes but those to which crumbs led that it took.
+pub fn crumbs_lead_below()
+    ensures { CrumbsLeadBelow }
 {}

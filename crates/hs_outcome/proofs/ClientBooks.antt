@@ -79,7 +79,7 @@ notes_numbered : (pages : List PlainPage) → AreNumberedFrom 0 pages → AreNum
 notes_numbered [] h = tt
 notes_numbered (page ∷ pages) h = (h.0, notes_follow page pages h.1)
 
-length_named : (client : ClientId) (number : ℕ) (records : List Record) → length (named_from client number records) ≡ length records
+pub length_named : (client : ClientId) (number : ℕ) (records : List Record) → length (named_from client number records) ≡ length records
 length_named client number [] = refl
 length_named client number (r ∷ records) = ap suc (length_named client (number + 1) records)
 

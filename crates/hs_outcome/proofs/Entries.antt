@@ -36,7 +36,7 @@ PagesCarryTheRecords =
 
 -- ---- the trace of a number
 
-piece_traced : (traces : Traces) (trace : TraceId) (n first : ℕ) (pieces : List Piece) → RiseFrom first pieces → AllByRecursion (λ (piece : Piece). traces piece.number ≡ Some trace) pieces
+pub piece_traced : (traces : Traces) (trace : TraceId) (n first : ℕ) (pieces : List Piece) → RiseFrom first pieces → AllByRecursion (λ (piece : Piece). traces piece.number ≡ Some trace) pieces
     → first ≤ n → n < first + length pieces → traces n ≡ Some trace
 piece_traced traces trace n first [] rises traced low high = absurd (omega (arith, low, high))
 piece_traced traces trace n first (piece ∷ pieces) rises traced low high =
@@ -108,7 +108,7 @@ counts_end before [] = refl
 counts_end before (page ∷ pages) = counts_end (end_of page) pages
 
 -- the first page behind nothing begins with record 0
-follow_first : (trace : TraceId) (pages : List PlainPage) → AreNumberedFrom 0 pages → AllFollow 0 trace pages
+pub follow_first : (trace : TraceId) (pages : List PlainPage) → AreNumberedFrom 0 pages → AllFollow 0 trace pages
 follow_first trace [] h = tt
 follow_first trace (page ∷ pages) h = (inl h.0, h.1)
 

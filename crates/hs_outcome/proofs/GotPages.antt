@@ -57,41 +57,41 @@ module _ (each node number : ℕ) (low : number < each) where
       same_rest (node * each) (place_of each node number % each) number (place_of each node number)
       (ap (λ n. n * each + place_of each node number % each) (sym node_is) ∙ div-add-mod' (place_of each node number) each) refl
 
-  client_is : client_at each (place_of each node number) ≡ record { node = node; number = number }
+  pub client_is : client_at each (place_of each node number) ≡ record { node = node; number = number }
   client_is =
       ap (λ n. record { node = n; number = place_of each node number % each }) node_is
       ∙ ap (λ n. record { node = node; number = n }) number_is
 
-  place_below : (nodes : ℕ) → node < nodes → place_of each node number < nodes * each
+  pub place_below : (nodes : ℕ) → node < nodes → place_of each node number < nodes * each
   place_below nodes h = (div-lt_iff_lt-mul {k = each} {x = place_of each node number} {y = nodes} some).0 (subst (λ n. n < nodes) (sym node_is) h)
 
 -- ---- lists
 
 module _ {X Y : Type 0} where
-  then_parts : (f : X → Option Y) (o : Option X) (y : Y) → option_and_then f o ≡ Some y → (x : X) × (o ≡ Some x) × (f x ≡ Some y)
+  pub then_parts : (f : X → Option Y) (o : Option X) (y : Y) → option_and_then f o ≡ Some y → (x : X) × (o ≡ Some x) × (f x ≡ Some y)
   then_parts f None y h = let no : None ≡ Some y = h in absurd cc
   then_parts f (Some x) y h = (x, refl, h)
 
-  unmapped : (f : X → Y) (o : Option X) (y : Y) → option_map f o ≡ Some y → (x : X) × (o ≡ Some x) × (f x ≡ y)
+  pub unmapped : (f : X → Y) (o : Option X) (y : Y) → option_map f o ≡ Some y → (x : X) × (o ≡ Some x) × (f x ≡ y)
   unmapped f None y h = let no : None ≡ Some y = h in absurd cc
   unmapped f (Some x) y h = (x, refl, some_same (f x) y h)
 
-index_of : {X : Type 0} (xs : List X) (k : ℕ) (x d : X) → slice_get xs k ≡ Some x → slice_index_or xs k d ≡ x
+pub index_of : {X : Type 0} (xs : List X) (k : ℕ) (x d : X) → slice_get xs k ≡ Some x → slice_index_or xs k d ≡ x
 index_of [] k x d h = let no : None ≡ Some x = h in absurd cc
 index_of (y ∷ xs) zero x d h = some_same y x h
 index_of (y ∷ xs) (suc k) x d h = index_of xs k x d h
 
-range_at : (start count i : ℕ) → i < count → slice_get (range_with_len start count) i ≡ Some (start + i)
+pub range_at : (start count i : ℕ) → i < count → slice_get (range_with_len start count) i ≡ Some (start + i)
 range_at start zero i h = absurd (omega (arith, h))
 range_at start (suc count) zero h = let same : start ≡ start + 0 = omega arith in ap Some same
 range_at start (suc count) (suc i) h = let more : start + 1 + i ≡ start + suc i = omega arith in range_at (start + 1) count i (omega (arith, h)) ∙ ap Some more
 
-in_range : (start count i n : ℕ) → slice_get (range_with_len start count) i ≡ Some n → (n ≡ start + i) × (i < count)
+pub in_range : (start count i n : ℕ) → slice_get (range_with_len start count) i ≡ Some n → (n ≡ start + i) × (i < count)
 in_range start zero i n h = let no : None ≡ Some n = h in absurd cc
 in_range start (suc count) zero n h = let same = some_same start n h in (omega (arith, same), omega arith)
 in_range start (suc count) (suc i) n h = let rest = in_range (start + 1) count i n h in let is = rest.0 in let low = rest.1 in (omega (arith, is), omega (arith, low))
 
-all_below : (start count end : ℕ) → start + count ≤ end → AllByRecursion (λ n. n < end) (range_with_len start count)
+pub all_below : (start count end : ℕ) → start + count ≤ end → AllByRecursion (λ n. n < end) (range_with_len start count)
 all_below start zero end h = tt
 all_below start (suc count) end h = (omega (arith, h), all_below (start + 1) count end (omega (arith, h)))
 

@@ -13,3 +13,11 @@ pub mod LetGo
 pub mod DrawnChunks
 pub mod ClientBooks
 pub mod GotPages
+pub mod OneStanding
+pub mod ClientPages
+pub mod ReportedRuns
+pub mod Addable
+pub mod WhollyReported
+pub mod Among
+pub mod RecordPieces
+pub mod CollectedReports

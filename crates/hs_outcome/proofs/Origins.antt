@@ -1,6 +1,7 @@
 -- From an entry to a page with a piece of its record, and from there to the draw, or to the chunk that the node's agent took.
 use Rattle.std.proofs.Common.{◌≡◌, ◌⊎◌, inl, inr, ℕ, zero, suc, ◌+◌, ◌*◌, ◌<◌, Bool, true, false, ◌&&◌, cond, List, [], ◌∷◌, ◌++◌, length, take, refl, sym, ap, subst, ◌∙◌, Option, Some, None, arith, map, filter, option_map, slice_get, unwrap_or, count_by, leb, ltb, leb-true, ltb-true, eqb-true, eq-eqb, nat_eq, find, mod-lt, zip, eq-zero-or-pos}
 use Rattle.std.specs.List.{AllByRecursion, flat_map, range_with_len, list_all}
+use Rattle.std.specs.Option.{option_map_or}
 use Rattle.std.proofs.lemmas.List.{length-map}
 use Rattle.std.proofs.lemmas.List.FromFn.{length-range_with_len}
 use Rattle.std.proofs.Math.Nat.{div-lt_iff_lt-mul}
@@ -23,6 +24,7 @@ use Rattle.hs_ledger.specs.declared.ledger.Entry.{Entry}
 use Rattle.hs_ledger.specs.Books.{end_of, record_count, is_of, standings_if, standings_at}
 use Rattle.hs_ledger.specs.Fates.{FatedPage, page_fate, fated_by, fated_pages, has_piece_of, is_discarded, record_fate, entry_on, record_entry, book_entries}
 use Rattle.hs_model.specs.Books.{page_standing, book_of}
+use Rattle.hs_model.specs.Laws.{sheets_of}
 use Rattle.hs_model.specs.Standings.{Taken}
 use Rattle.hs_records.specs.Pages.{PlainPage, first_record, pages_of}
 use Rattle.hs_records.specs.Plain.{PlainWorkload}
@@ -32,29 +34,30 @@ use Rattle.hs_sent.specs.Sending.{Sent, ClientSends, sheet_of, client_sends, nod
 use Rattle.hs_sent.specs.Timing.{TimedPage, timed_pages}
 use Rattle.hs_words.specs.Pages.{Sheet}
 use Rattle.hs_lawful.specs.Ends.{took_all, is_left_bare}
-use Rattle.hs_lawful.specs.Extending.{IsOfJournal, RunsAreOfTheJournal, StepsAreNoted}
-use Rattle.hs_lawful.specs.Following.{Chunks, Crumbs, Triggers, Asks, taken, asks_to, is_from, NodeRun, Run, run_start, followed}
+use Rattle.hs_lawful.specs.Extending.{IsOfJournal, RunsAreOfTheJournal}
+use Rattle.hs_lawful.specs.Following.{Chunks, Crumbs, Triggers, Asks, taken, asks_to, is_from, NodeRun, Run, followed}
 use Rattle.hs_lawful.specs.Lawful.{IsLawful}
 use Rattle.hs_lawful.specs.Orders.{FollowingPlaysOut}
+use Rattle.hs_lawful.specs.Taking.{is_by, TakesInOrder, ChunksAreTakenInOrder}
 use Rattle.hs_outcome.specs.Origins.{HasItsClients, WasTaken, Gives, HasItsCause, EachFateHasItsCause}
 use Rattle.hs_outcome.specs.Outcomes.{client_at, client_book, agent_books, outcome_of}
 use Rattle.hs_outcome.specs.Records.{EndsItsTraces}
 use Rattle.hs_outcome.proofs.Entries.{ends_at}
 use Rattle.hs_outcome.proofs.Lists.{and_parts, some_same, all_at, all_each}
-use Rattle.hs_outcome.proofs.Sheets.{IsTaken, TookItsChunks, leads_took, starts_took}
+use Rattle.hs_outcome.proofs.Sheets.{IsTaken, filtered_taken}
 
 -- ---- lists
 
 module _ {X : Type 0} where
-  all_append : (P : X → Type 0) (xs ys : List X) → AllByRecursion P xs → AllByRecursion P ys → AllByRecursion P (xs ++ ys)
+  pub all_append : (P : X → Type 0) (xs ys : List X) → AllByRecursion P xs → AllByRecursion P ys → AllByRecursion P (xs ++ ys)
   all_append P [] ys a b = b
   all_append P (x ∷ xs) ys a b = (a.0, all_append P xs ys a.1 b)
 
-  all_flat : {Y : Type 0} (P : X → Type 0) (f : Y → List X) (ys : List Y) → ((y : Y) → AllByRecursion P (f y)) → AllByRecursion P (flat_map f ys)
+  pub all_flat : {Y : Type 0} (P : X → Type 0) (f : Y → List X) (ys : List Y) → ((y : Y) → AllByRecursion P (f y)) → AllByRecursion P (flat_map f ys)
   all_flat P f [] each = tt
   all_flat P f (y ∷ ys) each = all_append P (f y) (flat_map f ys) (each y) (all_flat P f ys each)
 
-  all_range : (P : X → Type 0) (f : ℕ → List X) (start count : ℕ) → ((n : ℕ) → n < start + count → AllByRecursion P (f n)) → AllByRecursion P (flat_map f (range_with_len start count))
+  pub all_range : (P : X → Type 0) (f : ℕ → List X) (start count : ℕ) → ((n : ℕ) → n < start + count → AllByRecursion P (f n)) → AllByRecursion P (flat_map f (range_with_len start count))
   all_range P f start zero each = tt
   all_range P f start (suc count) each =
       let here : start < start + suc count = omega arith in
@@ -91,19 +94,19 @@ module _ {X : Type 0} where
   found_there p (y ∷ xs) (suc place) x h e = found_case p y xs (p y) refl (found_there p xs place x h e)
 
   -- where an item of joined lists stands
-  record InParts {Y : Type 0} (f : Y → List X) (ys : List Y) (x : X) : Type 0 where
-    part : Y
-    at : ℕ
-    part_there : slice_get ys at ≡ Some part
-    place : ℕ
-    there : slice_get (f part) place ≡ Some x
+  pub record InParts {Y : Type 0} (f : Y → List X) (ys : List Y) (x : X) : Type 0 where
+    pub part : Y
+    pub at : ℕ
+    pub part_there : slice_get ys at ≡ Some part
+    pub place : ℕ
+    pub there : slice_get (f part) place ≡ Some x
 
-  split_get : (xs ys : List X) (place : ℕ) (x : X) → slice_get (xs ++ ys) place ≡ Some x → (slice_get xs place ≡ Some x) ⊎ ((n : ℕ) × (slice_get ys n ≡ Some x))
+  pub split_get : (xs ys : List X) (place : ℕ) (x : X) → slice_get (xs ++ ys) place ≡ Some x → (slice_get xs place ≡ Some x) ⊎ ((n : ℕ) × (slice_get ys n ≡ Some x))
   split_get [] ys place x h = inr (place, h)
   split_get (y ∷ xs) ys zero x h = inl h
   split_get (y ∷ xs) ys (suc place) x h = split_get xs ys place x h
 
-  in_parts : {Y : Type 0} (f : Y → List X) (ys : List Y) (place : ℕ) (x : X) → slice_get (flat_map f ys) place ≡ Some x → InParts f ys x
+  pub in_parts : {Y : Type 0} (f : Y → List X) (ys : List Y) (place : ℕ) (x : X) → slice_get (flat_map f ys) place ≡ Some x → InParts f ys x
   in_parts f [] place x h = let no : None ≡ Some x = h in absurd cc
   in_parts f (y ∷ ys) place x h =
       elim (split_get (f y) (flat_map f ys) place x h) as (λ _. InParts f (y ∷ ys) x) [
@@ -111,27 +114,27 @@ module _ {X : Type 0} where
         | inr later ↦ let rest = in_parts f ys later.0 x later.1 in record { part = rest.part; at = suc rest.at; part_there = rest.part_there; place = rest.place; there = rest.there }
       ]
 
-  get_first : (xs ys : List X) (place : ℕ) (x : X) → slice_get xs place ≡ Some x → slice_get (xs ++ ys) place ≡ Some x
+  pub get_first : (xs ys : List X) (place : ℕ) (x : X) → slice_get xs place ≡ Some x → slice_get (xs ++ ys) place ≡ Some x
   get_first [] ys place x h = let no : None ≡ Some x = h in absurd cc
   get_first (y ∷ xs) ys zero x h = h
   get_first (y ∷ xs) ys (suc place) x h = get_first xs ys place x h
 
-  get_later : (xs ys : List X) (place : ℕ) (x : X) → slice_get ys place ≡ Some x → slice_get (xs ++ ys) (length xs + place) ≡ Some x
+  pub get_later : (xs ys : List X) (place : ℕ) (x : X) → slice_get ys place ≡ Some x → slice_get (xs ++ ys) (length xs + place) ≡ Some x
   get_later [] ys place x h = let same : place ≡ 0 + place = omega arith in ap (slice_get ys) (sym same) ∙ h
   get_later (y ∷ xs) ys place x h = let same : suc (length xs) + place ≡ suc (length xs + place) = omega arith in ap (slice_get (y ∷ (xs ++ ys))) same ∙ get_later xs ys place x h
 
-  in_flat : {Y : Type 0} (f : Y → List X) (ys : List Y) (at : ℕ) (y : Y) (place : ℕ) (x : X) → slice_get ys at ≡ Some y → slice_get (f y) place ≡ Some x → (n : ℕ) × (slice_get (flat_map f ys) n ≡ Some x)
+  pub in_flat : {Y : Type 0} (f : Y → List X) (ys : List Y) (at : ℕ) (y : Y) (place : ℕ) (x : X) → slice_get ys at ≡ Some y → slice_get (f y) place ≡ Some x → (n : ℕ) × (slice_get (flat_map f ys) n ≡ Some x)
   in_flat f [] at y place x h k = let no : None ≡ Some y = h in absurd cc
   in_flat f (z ∷ ys) zero y place x h k = (place, get_first (f z) (flat_map f ys) place x (ap (λ (y : _). slice_get (f y) place) (some_same z y h) ∙ k))
   in_flat f (z ∷ ys) (suc at) y place x h k =
       let rest = in_flat f ys at y place x h k in (length (f z) + rest.0, get_later (f z) (flat_map f ys) rest.0 x rest.1)
 
-  get_there : (xs : List X) (i : ℕ) → i < length xs → (x : X) × (slice_get xs i ≡ Some x)
+  pub get_there : (xs : List X) (i : ℕ) → i < length xs → (x : X) × (slice_get xs i ≡ Some x)
   get_there [] i h = absurd (omega (arith, h))
   get_there (x ∷ xs) zero h = (x, refl)
   get_there (x ∷ xs) (suc i) h = get_there xs i (omega (arith, h))
 
-  within : (xs : List X) (i : ℕ) (x : X) → slice_get xs i ≡ Some x → i < length xs
+  pub within : (xs : List X) (i : ℕ) (x : X) → slice_get xs i ≡ Some x → i < length xs
   within [] i x h = let no : None ≡ Some x = h in absurd cc
   within (y ∷ xs) zero x h = omega arith
   within (y ∷ xs) (suc i) x h = let rest = within xs i x h in omega (arith, rest)
@@ -145,7 +148,7 @@ module _ {X : Type 0} where
   unfilter_rest P y kept true all = all.1
   unfilter_rest P y kept false all = all
 
-  unfilter : (P : X → Type 0) (p : X → Bool) (xs : List X) (i : ℕ) (x : X) → slice_get xs i ≡ Some x → p x ≡ true → AllByRecursion P (filter p xs) → P x
+  pub unfilter : (P : X → Type 0) (p : X → Bool) (xs : List X) (i : ℕ) (x : X) → slice_get xs i ≡ Some x → p x ≡ true → AllByRecursion P (filter p xs) → P x
   unfilter P p [] i x h e all = let no : None ≡ Some x = h in absurd cc
   unfilter P p (y ∷ xs) zero x h e all = unfilter_case P p y x (filter p xs) (p y) refl (some_same y x h) e all
   unfilter P p (y ∷ xs) (suc i) x h e all = unfilter P p xs i x h e (unfilter_rest P y (filter p xs) (p y) all)
@@ -157,16 +160,16 @@ all_mapped P f (x ∷ xs) all = (all.0, all_mapped P f xs all.1)
 -- ---- a fate and its page
 
 -- a page with its fate stands so among a client's pages
-record IsPageOf (fates : ℕ → Draw → Fate) (k : ℕ) (pages : List PlainPage) (draws : List Draw) (fated : FatedPage) : Type 0 where
-  at : ℕ
-  plain : PlainPage
-  draw : Draw
-  page_there : slice_get pages at ≡ Some plain
-  draw_there : slice_get draws at ≡ Some draw
-  note_is : fated.note ≡ note_of plain
-  fate_is : fated.fate ≡ fates (k + at) draw
+pub record IsPageOf (fates : ℕ → Draw → Fate) (k : ℕ) (pages : List PlainPage) (draws : List Draw) (fated : FatedPage) : Type 0 where
+  pub at : ℕ
+  pub plain : PlainPage
+  pub draw : Draw
+  pub page_there : slice_get pages at ≡ Some plain
+  pub draw_there : slice_get draws at ≡ Some draw
+  pub note_is : fated.note ≡ note_of plain
+  pub fate_is : fated.fate ≡ fates (k + at) draw
 
-pages_of_fated : (fates : ℕ → Draw → Fate) (k : ℕ) (pages : List PlainPage) (draws : List Draw) → AllByRecursion (IsPageOf fates k pages draws) (fated_by fates k draws (map note_of pages))
+pub pages_of_fated : (fates : ℕ → Draw → Fate) (k : ℕ) (pages : List PlainPage) (draws : List Draw) → AllByRecursion (IsPageOf fates k pages draws) (fated_by fates k draws (map note_of pages))
 pages_of_fated fates k [] [] = tt
 pages_of_fated fates k [] (draw ∷ draws) = tt
 pages_of_fated fates k (page ∷ pages) [] = tt
@@ -219,13 +222,13 @@ one_of first others = either (found_or (first ∷ others) first)
     either (inr none) = subst (λ (o : Option Fate). IsOneOf (first ∷ others) (unwrap_or o first)) (sym none) (record { place = 0; there = refl })
 
 -- a page with a piece of the record gives the entry its fate
-record FromPage (client : ClientId) (n : ℕ) (P : FatedPage → Type 0) (entry : Entry) : Type 0 where
-  fated : FatedPage
-  has : P fated
-  id_is : entry.id ≡ record { client = client; number = n }
-  fate_is : entry.fate ≡ fated.fate
+pub record FromPage (client : ClientId) (n : ℕ) (P : FatedPage → Type 0) (entry : Entry) : Type 0 where
+  pub fated : FatedPage
+  pub has : P fated
+  pub id_is : entry.id ≡ record { client = client; number = n }
+  pub fate_is : entry.fate ≡ fated.fate
 
-from_page : (client : ClientId) (n : ℕ) (P : FatedPage → Type 0) (pages : List FatedPage) → AllByRecursion P pages → AllByRecursion (FromPage client n P) (entry_on client n pages)
+pub from_page : (client : ClientId) (n : ℕ) (P : FatedPage → Type 0) (pages : List FatedPage) → AllByRecursion P pages → AllByRecursion (FromPage client n P) (entry_on client n pages)
 from_page client n P [] all = tt
 from_page client n P (page ∷ pages) all =
     let one = one_of page.fate (map (λ (other : FatedPage). other.fate) pages) in
@@ -242,13 +245,13 @@ both_case : {X : Type 0} (P : X → Type 0) (p : X → Bool) (x : X) (kept : Lis
 both_case P p x kept true e h all = ((h, e), all)
 both_case P p x kept false e h all = all
 
-both_filter : {X : Type 0} (P : X → Type 0) (p : X → Bool) (xs : List X) → AllByRecursion P xs → AllByRecursion (λ x. P x × (p x ≡ true)) (filter p xs)
+pub both_filter : {X : Type 0} (P : X → Type 0) (p : X → Bool) (xs : List X) → AllByRecursion P xs → AllByRecursion (λ x. P x × (p x ≡ true)) (filter p xs)
 both_filter P p [] all = tt
 both_filter P p (x ∷ xs) all = both_case P p x (filter p xs) (p x) refl all.0 (both_filter P p xs all.1)
 
 -- ---- a chunk that was taken gives its standing
 
-same_client : (a b : ClientId) → a.node ≡ b.node → a.number ≡ b.number → a ≡ b
+pub same_client : (a b : ClientId) → a.node ≡ b.node → a.number ≡ b.number → a ≡ b
 same_client a b e f = ap (λ (n : ℕ). record { node = n; number = a.number }) e ∙ ap (λ (n : ℕ). record { node = b.node; number = n }) f
 
 is_of_parts : (client : ClientId) (page : ℕ) (standing : Standing) → is_of client page standing ≡ true → (standing.client ≡ client) × (standing.page ≡ page)
@@ -257,7 +260,7 @@ is_of_parts client page standing h =
     let inner = and_parts (nat_eq standing.client.node client.node) (nat_eq standing.client.number client.number) outer.0 in
     (same_client standing.client client (eqb-true standing.client.node client.node inner.0) (eqb-true standing.client.number client.number inner.1), eqb-true standing.page page outer.1)
 
-both_true : (a b : Bool) → a ≡ true → b ≡ true → (a && b) ≡ true
+pub both_true : (a b : Bool) → a ≡ true → b ≡ true → (a && b) ≡ true
 both_true true b e f = f
 both_true false b e f = e
 
@@ -287,23 +290,23 @@ if_case true standings place standing h = (refl, h)
 if_case false standings place standing h = let no : None ≡ Some standing = h in absurd cc
 
 module _ (plays : FollowingPlaysOut) (runs : RunsAreOfTheJournal) (W : PlainWorkload) (J : PlainJournal) where
-  abbrev run : Run
+  abbrev pub run : Run
   run = followed W J
 
-  abbrev nodes_are : List ℕ
+  abbrev pub nodes_are : List ℕ
   nodes_are = map (λ (node : NodeRun). node.node) run.nodes
 
-  numbers : nodes_are ≡ range_with_len 0 W.settings.nodes
+  pub numbers : nodes_are ≡ range_with_len 0 W.settings.nodes
   numbers = (runs W J run (plays W J).leads).numbers
 
-  number_is : (i : ℕ) (node : NodeRun) → slice_get run.nodes i ≡ Some node → node.node ≡ i
+  pub number_is : (i : ℕ) (node : NodeRun) → slice_get run.nodes i ≡ Some node → node.node ≡ i
   number_is i node h =
       let found : slice_get (range_with_len 0 W.settings.nodes) i ≡ Some node.node =
       ap (λ ns. slice_get ns i) (sym numbers) ∙ slice_get-map (λ (node : NodeRun). node.node) run.nodes i ∙ ap (option_map (λ (node : NodeRun). node.node)) h
       in
       let is = in_range 0 W.settings.nodes i node.node found in omega (arith, is)
 
-  count_nodes : length run.nodes ≡ W.settings.nodes
+  pub count_nodes : length run.nodes ≡ W.settings.nodes
   count_nodes = sym (length-map run.nodes (λ (node : NodeRun). node.node)) ∙ ap length numbers ∙ length-range_with_len 0 W.settings.nodes
 
   abbrev book : NodeRun → PlainAgentBook
@@ -337,13 +340,13 @@ module _ (plays : FollowingPlaysOut) (runs : RunsAreOfTheJournal) (W : PlainWork
       }
 
   -- a page that was taken by its node's agent
-  record IsThere (client : ClientId) (page : ℕ) : Type 0 where
-    node : NodeRun
-    here : slice_get run.nodes client.node ≡ Some node
-    sheet : Sheet
-    taken_there : IsTaken node.state.taken sheet
-    client_is : sheet.header.client ≡ client
-    page_is : sheet.header.page ≡ page
+  pub record IsThere (client : ClientId) (page : ℕ) : Type 0 where
+    pub node : NodeRun
+    pub here : slice_get run.nodes client.node ≡ Some node
+    pub sheet : Sheet
+    pub taken_there : IsTaken node.state.taken sheet
+    pub client_is : sheet.header.client ≡ client
+    pub page_is : sheet.header.page ≡ page
 
   standing_found : (client : ClientId) (page : ℕ) → IsThere client page → Found (is_of client page) (standings_at (agent_books run) client.node)
   standing_found client page t =
@@ -374,7 +377,7 @@ module _ (plays : FollowingPlaysOut) (runs : RunsAreOfTheJournal) (W : PlainWork
         fate_is = ap (λ (o : Option Standing). unwrap_or (option_map (λ (standing : Standing). standing.fate) o) Live) f.is ∙ ap (λ (s : Standing). s.fate) a.is;
       }
 
-  gives : (client : ClientId) (page : ℕ) (draw : Draw) → ((buffer stamp : ℕ) → draw ≡ Got buffer stamp → IsThere client page) → Gives run client page draw (page_fate (agent_books run) client page draw)
+  pub gives : (client : ClientId) (page : ℕ) (draw : Draw) → ((buffer stamp : ℕ) → draw ≡ Got buffer stamp → IsThere client page) → Gives run client page draw (page_fate (agent_books run) client page draw)
   gives client page (Empty stamp) there = refl
   gives client page (Got buffer stamp) there = was_taken client page (standing_found client page (there buffer stamp refl))
 
@@ -396,7 +399,7 @@ drawn_at client k (p ∷ timed) (e ∷ draws) (suc at) page draw h d =
     drawn_at client (k + 1) timed draws at page draw h d
     ∙ ap (λ (n : ℕ). Some (record { client = client; number = n; page = page.page; started = page.started; sent = page.sent; draw = draw })) more
 
-take_length : {X : Type 0} (xs : List X) → take (length xs) xs ≡ xs
+pub take_length : {X : Type 0} (xs : List X) → take (length xs) xs ≡ xs
 take_length [] = refl
 take_length (x ∷ xs) = ap (λ rest. x ∷ rest) (take_length xs)
 
@@ -412,13 +415,13 @@ bare_client log start (first ∷ sends) h (suc i) s there =
     let more : start + suc i ≡ start + 1 + i = omega arith in
     ap (λ (n : ℕ). took_all log n s) more ∙ bare_client log (start + 1) sends both.1 i s there
 
-module _ (plays : FollowingPlaysOut) (runs : RunsAreOfTheJournal) (noted : StepsAreNoted) (timed : TimedPagesAreThePages) (W : PlainWorkload) (J : PlainJournal) (ends : EndsItsTraces W) (laid : HasItsClients W) (lawful : IsLawful W J) where
-  abbrev all_run : Run
+module _ (plays : FollowingPlaysOut) (runs : RunsAreOfTheJournal) (order : ChunksAreTakenInOrder) (timed : TimedPagesAreThePages) (W : PlainWorkload) (J : PlainJournal) (ends : EndsItsTraces W) (laid : HasItsClients W) (lawful : IsLawful W J) where
+  abbrev pub all_run : Run
   all_run = followed W J
 
   -- of a client whose node is there
   module _ (place : ℕ) (below : place < length W.clients) where
-    abbrev client : ClientId
+    abbrev pub client : ClientId
     client = client_at W.settings.clients place
 
     some_clients : 0 < W.settings.clients
@@ -431,22 +434,22 @@ module _ (plays : FollowingPlaysOut) (runs : RunsAreOfTheJournal) (noted : Steps
             let all = laid in absurd (omega (arith, below, all, zeroed, nothing))
         either (inr some) = some
 
-    node_below : client.node < W.settings.nodes
+    pub node_below : client.node < W.settings.nodes
     node_below = let all = laid in (div-lt_iff_lt-mul {k = W.settings.clients} {x = place} {y = W.settings.nodes} some_clients).1 (omega (arith, below, all))
 
     number_below : client.number < W.settings.clients
     number_below = mod-lt place some_clients
 
-    back : place_of W.settings.clients client.node client.number ≡ place
+    pub back : place_of W.settings.clients client.node client.number ≡ place
     back = div-add-mod' place W.settings.clients
 
-    abbrev node_there : (node : NodeRun) × (slice_get all_run.nodes client.node ≡ Some node)
+    abbrev pub node_there : (node : NodeRun) × (slice_get all_run.nodes client.node ≡ Some node)
     node_there = let count = count_nodes plays runs W J in let low = node_below in get_there all_run.nodes client.node (omega (arith, count, low))
 
-    abbrev own_sends : ClientSends
+    abbrev pub own_sends : ClientSends
     own_sends = client_sends W J client.node client.number
 
-    sends_there : slice_get (node_there.0).sends client.number ≡ Some own_sends
+    pub sends_there : slice_get (node_there.0).sends client.number ≡ Some own_sends
     sends_there =
         let o = all_at (IsOfJournal W J) all_run.nodes client.node node_there.0 (runs W J all_run (plays W J).leads).each node_there.1 in
         let number = number_is plays runs W J client.node node_there.0 node_there.1 in
@@ -456,7 +459,7 @@ module _ (plays : FollowingPlaysOut) (runs : RunsAreOfTheJournal) (noted : Steps
         ∙ ap (option_map (client_sends W J client.node)) (range_at 0 W.settings.clients client.number number_below)
         ∙ ap (λ (n : ℕ). Some (client_sends W J client.node n)) here
 
-    all_taken : taken (Chunks client.number) (node_there.0).state.log ≡ length own_sends.chunks
+    pub all_taken : taken (Chunks client.number) (node_there.0).state.log ≡ length own_sends.chunks
     all_taken =
         let node = node_there.0 in
         let left = all_at (λ (n : NodeRun). is_left_bare all_run n ≡ true) all_run.nodes client.node node (passed (is_left_bare all_run) all_run.nodes lawful.L10) node_there.1 in
@@ -486,14 +489,25 @@ module _ (plays : FollowingPlaysOut) (runs : RunsAreOfTheJournal) (noted : Steps
         passed p [] h = tt
         passed p (x ∷ xs) h = let both = and_parts (p x) (list_all p xs) h in (both.0, passed p xs both.1)
 
+    abbrev items : List (Sent Sheet) → List Sheet
+    items sent = map (λ (item : Sent Sheet). item.item) sent
+
+    -- of the client all chunks that it sent were taken, in their order
+    pub all_there : filter (is_by client.number) (sheets_of (node_there.0).state.taken) ≡ items own_sends.chunks
+    all_there =
+        let node = node_there.0 in
+        all_at TakesInOrder all_run.nodes client.node node (order W J all_run (plays W J).leads) node_there.1 client.number
+        ∙ ap (λ (o : Option ClientSends). take (taken (Chunks client.number) node.state.log) (option_map_or (λ (s : ClientSends). items s.chunks) o [])) sends_there
+        ∙ ap (λ (n : ℕ). take n (items own_sends.chunks)) (all_taken ∙ sym (length-map own_sends.chunks (λ (item : Sent Sheet). item.item)))
+        ∙ take_length (items own_sends.chunks)
+
     chunks_taken : AllByRecursion (λ (item : Sent Sheet). IsTaken (node_there.0).state.taken item.item) own_sends.chunks
     chunks_taken =
-        let took = all_at TookItsChunks all_run.nodes client.node node_there.0
-        (leads_took noted W.settings (run_start W J) all_run (starts_took W J (range_with_len 0 W.settings.nodes)) (plays W J).leads) node_there.1 client.number own_sends sends_there in
-        subst (AllByRecursion (λ (item : Sent Sheet). IsTaken (node_there.0).state.taken item.item)) (ap (λ (n : ℕ). take n own_sends.chunks) all_taken ∙ take_length own_sends.chunks) took
+        all_mapped (IsTaken (node_there.0).state.taken) (λ (item : Sent Sheet). item.item) own_sends.chunks
+        (subst (AllByRecursion (IsTaken (node_there.0).state.taken)) all_there (filtered_taken (is_by client.number) (node_there.0).state.taken))
 
     -- a page that got a buffer
-    there : (at : ℕ) (plain : PlainPage) (draw : Draw) → slice_get (pages_of W.settings.size (operations_at W place)) at ≡ Some plain → slice_get (draws_at J place) at ≡ Some draw → has_buffer draw ≡ true
+    pub there : (at : ℕ) (plain : PlainPage) (draw : Draw) → slice_get (pages_of W.settings.size (operations_at W place)) at ≡ Some plain → slice_get (draws_at J place) at ≡ Some draw → has_buffer draw ≡ true
         → IsThere plays runs W J client at
     there at plain draw h d got =
         let pages = timed_pages W.settings.size (operations_at W place) in
@@ -566,5 +580,5 @@ module _ (plays : FollowingPlaysOut) (runs : RunsAreOfTheJournal) (noted : Steps
       (all_range (HasItsCause W J) (λ place. book_entries (client_at W.settings.clients place) (fated_pages (agent_books all_run) (client_book W J place))) 0 (length W.clients)
       (λ place below. let low : place < length W.clients = omega (arith, below) in client_caused place low))
 
-pub each_fate_has_its_cause : FollowingPlaysOut → RunsAreOfTheJournal → StepsAreNoted → TimedPagesAreThePages → EachFateHasItsCause
-each_fate_has_its_cause plays runs noted timed W J ends laid lawful = all_caused plays runs noted timed W J ends laid lawful
+pub each_fate_has_its_cause : FollowingPlaysOut → RunsAreOfTheJournal → ChunksAreTakenInOrder → TimedPagesAreThePages → EachFateHasItsCause
+each_fate_has_its_cause plays runs order timed W J ends laid lawful = all_caused plays runs order timed W J ends laid lawful

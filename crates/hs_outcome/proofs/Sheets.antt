@@ -1,26 +1,19 @@
 -- The pages of the chunks that an agent took stay as they are, in the order of arrival; a chunk more adds its page.
-use Rattle.std.proofs.Common.{◌≡◌, inl, inr, ℕ, zero, suc, ◌+◌, Bool, true, false, cond, List, [], ◌∷◌, ◌++◌, length, set, take, refl, sym, ap, subst, ◌∙◌, Option, Some, None, arith, map, option_map, slice_get, append-nil, eqb-true}
+use Rattle.std.proofs.Common.{◌≡◌, ℕ, zero, suc, Bool, true, false, cond, List, [], ◌∷◌, ◌++◌, set, refl, sym, ap, subst, ◌∙◌, Option, Some, None, map, filter, option_map, slice_get, append-nil}
 use Rattle.std.specs.List.{AllByRecursion}
-use Rattle.std.specs.Option.{option_and_then}
 use Rattle.std.proofs.lemmas.List.{map-append}
-use Rattle.std.proofs.lemmas.List.Sums.{sum_by-cons, sum_by-append}
 use Rattle.hs_base.specs.declared.told.Group.{Group}
 use Rattle.hs_base.specs.declared.ids.NodeId.{NodeId}
 use Rattle.hs_journal.specs.declared.journal.Step.{Step}
-use Rattle.hs_journal.specs.declared.journal.Step.TheVariants as steps
-use Rattle.hs_journal.specs.Views.{PlainJournal}
-use Rattle.hs_records.specs.Plain.{PlainSettings, PlainWorkload}
+use Rattle.hs_records.specs.Plain.{PlainSettings}
 use Rattle.hs_words.specs.Pages.{Sheet}
-use Rattle.hs_sent.specs.Sending.{Sent, ClientSends}
 use Rattle.hs_model.specs.Standings.{ChunkStanding, Indexed, Pinned, Evicted, Abandoned, Taken, is_among, moved_from, moved}
 use Rattle.hs_model.specs.State.{AgentState}
 use Rattle.hs_model.specs.Stepping.{Chunk, Crumbed, Triggered, Asked, Turn, Event, Took, Gave, take_input, after_event}
 use Rattle.hs_model.specs.Turning.{reported_standing}
-use Rattle.hs_lawful.specs.Extending.{StepsAreNoted}
 use Rattle.hs_coord.specs.Following.{Message, Messages}
-use Rattle.hs_lawful.specs.Following.{Chunks, taken, takes, NodeRun, Run, next_of, event_of, perform, step_of, step_node, node_start, hear, message_of}
-use Rattle.hs_lawful.specs.Orders.{Performs, Leads, Stays, Goes}
-use Rattle.hs_outcome.proofs.Lists.{some_same}
+use Rattle.hs_lawful.specs.Following.{taken, NodeRun, Run, event_of, perform, step_of, hear, message_of}
+use Rattle.hs_outcome.proofs.Lists.{some_same, all_each}
 use Rattle.hs_outcome.proofs.Moves.{IsOver, chunk_keeps, crumb_keeps, trigger_keeps, ask_keeps, turn_keeps, answer_keeps}
 
 abbrev pub sheets : List Taken → List Sheet
@@ -95,7 +88,6 @@ module _ (settings : PlainSettings) (node : ℕ) (state : AgentState) where
 
 -- ---- what was taken is there
 
--- a page is that of a chunk that was taken
 pub record IsTaken (taken : List Taken) (sheet : Sheet) : Type 0 where
   pub place : ℕ
   pub there : slice_get (sheets taken) place ≡ Some sheet
@@ -105,28 +97,16 @@ get_front [] ys i x h = let no : None ≡ Some x = h in absurd cc
 get_front (y ∷ xs) ys zero x h = h
 get_front (y ∷ xs) ys (suc i) x h = get_front xs ys i x h
 
-get_last : {X : Type 0} (xs : List X) (x : X) → slice_get (xs ++ x ∷ []) (length xs) ≡ Some x
-get_last [] x = refl
-get_last (y ∷ xs) x = get_last xs x
+taken_case : (chunk : Taken) (taken : List Taken) (kept : List Sheet) (b : Bool) → AllByRecursion (IsTaken taken) kept → AllByRecursion (IsTaken (chunk ∷ taken)) (cond b (chunk.sheet ∷ kept) kept)
+taken_case chunk taken kept true all = (record { place = 0; there = refl }, all_each (IsTaken taken) (IsTaken (chunk ∷ taken)) kept (λ sheet t. record { place = suc t.place; there = t.there }) all)
+taken_case chunk taken kept false all = all_each (IsTaken taken) (IsTaken (chunk ∷ taken)) kept (λ sheet t. record { place = suc t.place; there = t.there }) all
 
-stays_taken : (before after : List Taken) → HasFront (sheets before) (sheets after) → (sheet : Sheet) → IsTaken before sheet → IsTaken after sheet
-stays_taken before after f sheet t = record { place = t.place; there = ap (λ (all : List Sheet). slice_get all t.place) f.is ∙ get_front (sheets before) f.more t.place sheet t.there }
+-- some of the pages
+pub filtered_taken : (test : Sheet → Bool) (taken : List Taken) → AllByRecursion (IsTaken taken) (filter test (sheets taken))
+filtered_taken test [] = tt
+filtered_taken test (chunk ∷ taken) = taken_case chunk taken (filter test (sheets taken)) (test chunk.sheet) (filtered_taken test taken)
 
-abbrev AllTaken : List Taken → List (Sent Sheet) → Type 0
-AllTaken taken items = AllByRecursion (λ (item : Sent Sheet). IsTaken taken item.item) items
-
-all_stay : (before after : List Taken) → HasFront (sheets before) (sheets after) → (items : List (Sent Sheet)) → AllTaken before items → AllTaken after items
-all_stay before after f [] all = tt
-all_stay before after f (item ∷ items) all = (stays_taken before after f item.item all.0, all_stay before after f items all.1)
-
--- of each client the chunks that were counted were taken
-abbrev pub TookItsChunks : NodeRun → Type 0
-TookItsChunks run = (client : ℕ) (sends : ClientSends) → slice_get run.sends client ≡ Some sends → AllTaken run.state.taken (take (taken (Chunks client) run.state.log) sends.chunks)
-
-take_next : (items : List (Sent Sheet)) (n : ℕ) (item : Sent Sheet) (P : Sent Sheet → Type 0) → slice_get items n ≡ Some item → AllByRecursion P (take n items) → P item → AllByRecursion P (take (suc n) items)
-take_next [] n item P h all p = let no : None ≡ Some item = h in absurd cc
-take_next (i ∷ items) zero item P h all p = (subst P (sym (some_same i item h)) p, tt)
-take_next (i ∷ items) (suc n) item P h all p = (all.0, take_next items n item P h all.1 p)
+-- ---- one step
 
 pub record IsStep (settings : PlainSettings) (heard : Messages) (run stepped : NodeRun) : Type 0 where
   pub step : Step
@@ -153,83 +133,6 @@ pub step_left : (settings : PlainSettings) (heard : Messages) (run stepped : Nod
 step_left settings heard run stepped [] e h = let no : None ≡ Some stepped = h in absurd cc
 step_left settings heard run stepped (step ∷ rest) e h = step_event settings heard run stepped step rest e (event_of run heard step) refl h
 
-module _ (noted : StepsAreNoted) (settings : PlainSettings) (heard : Messages) (run stepped : NodeRun) (h : step_node settings heard run ≡ Some stepped) where
-  -- what was counted before and behind a step
-  counted : (s : IsStep settings heard run stepped) (client : ℕ) → taken (Chunks client) stepped.state.log ≡ taken (Chunks client) run.state.log + cond (takes (Chunks client) s.step) 1 0
-  counted s client =
-      let n = noted settings heard run stepped h in
-      let whole = ap (taken (Chunks client)) n.log in
-      let now = sum_by-append (λ (step : Step). cond (takes (Chunks client) step) 1 0) stepped.state.log stepped.left in
-      let was = sum_by-append (λ (step : Step). cond (takes (Chunks client) step) 1 0) run.state.log run.left in
-      let first = sum_by-cons (λ (step : Step). cond (takes (Chunks client) step) 1 0) s.step s.rest in
-      let left = ap (taken (Chunks client)) s.left in
-      let rest : taken (Chunks client) stepped.left ≡ taken (Chunks client) s.rest = ap (λ (r : NodeRun). taken (Chunks client) r.left) s.is in
-      omega (arith, whole, now, was, first, left, rest)
-
-  front_of : (s : IsStep settings heard run stepped) → HasFront (sheets run.state.taken) (sheets stepped.state.taken)
-  front_of s = subst (λ (r : NodeRun). HasFront (sheets run.state.taken) (sheets r.state.taken)) (sym s.is) (event_front settings run.node run.state s.event)
-
-  record IsItem (client : ℕ) (sends : ClientSends) (event : Event) : Type 0 where
-    item : Sent Sheet
-    there : slice_get sends.chunks (taken (Chunks client) run.state.log) ≡ Some item
-    is : event ≡ Took (Chunk client item.item)
-
-  item_case : (client : ℕ) (sends : ClientSends) (event : Event) (o : Option (Sent Sheet)) → slice_get sends.chunks (taken (Chunks client) run.state.log) ≡ o
-      → option_map (λ sheet. Took (Chunk client sheet)) (option_map (λ (item : Sent Sheet). item.item) o) ≡ Some event → IsItem client sends event
-  item_case client sends event None e m = let no : None ≡ Some event = m in absurd cc
-  item_case client sends event (Some item) e m = record { item = item; there = e; is = sym (some_same (Took (Chunk client item.item)) event m) }
-
-  item_of : (client : ℕ) (sends : ClientSends) (event : Event) → slice_get run.sends client ≡ Some sends → event_of run heard (steps.Chunk client) ≡ Some event → IsItem client sends event
-  item_of client sends event e m =
-      item_case client sends event (slice_get sends.chunks (taken (Chunks client) run.state.log)) refl
-      (sym (ap (option_and_then (λ (s : ClientSends). option_map (λ sheet. Took (Chunk client sheet)) (next_of (Chunks client) run.state s.chunks))) e) ∙ m)
-
-  -- the chunk of an event is the last that was taken
-  last_taken : (client : ℕ) (sheet : Sheet) → IsTaken (after_event settings run.node run.state (Took (Chunk client sheet))).taken sheet
-  last_taken client sheet =
-      record {
-        place = length (sheets run.state.taken);
-        there =
-            ap (λ (all : List Sheet). slice_get all (length (sheets run.state.taken))) (chunk_added settings run.node run.state client sheet)
-            ∙ get_last (sheets run.state.taken) sheet;
-      }
-
-  own_step : (step : Step) (client : ℕ) → takes (Chunks client) step ≡ true → step ≡ steps.Chunk client
-  own_step (steps.Chunk other) client e = ap steps.Chunk (eqb-true other client e)
-  own_step (steps.Crumb other) client e = let no : false ≡ true = e in absurd cc
-  own_step (steps.Trigger other) client e = let no : false ≡ true = e in absurd cc
-  own_step steps.Ask client e = let no : false ≡ true = e in absurd cc
-  own_step steps.Turn client e = let no : false ≡ true = e in absurd cc
-  own_step (steps.Given stamp) client e = let no : false ≡ true = e in absurd cc
-  own_step (steps.Missed stamp) client e = let no : false ≡ true = e in absurd cc
-  own_step steps.Unread client e = let no : false ≡ true = e in absurd cc
-
-  client_case : (s : IsStep settings heard run stepped) (client : ℕ) (sends : ClientSends) (b : Bool) → takes (Chunks client) s.step ≡ b → slice_get run.sends client ≡ Some sends
-      → AllTaken run.state.taken (take (taken (Chunks client) run.state.log) sends.chunks) → AllTaken stepped.state.taken (take (taken (Chunks client) run.state.log + cond b 1 0) sends.chunks)
-  client_case s client sends true e there all =
-      let met : event_of run heard (steps.Chunk client) ≡ Some s.event = ap (event_of run heard) (sym (own_step s.step client e)) ∙ s.met in
-      let i = item_of client sends s.event there met in
-      let last : IsTaken stepped.state.taken i.item.item =
-      subst (λ (r : NodeRun). IsTaken r.state.taken i.item.item) (sym s.is)
-      (subst (λ (event : Event). IsTaken (after_event settings run.node run.state event).taken i.item.item) (sym i.is) (last_taken client i.item.item))
-      in
-      let more : suc (taken (Chunks client) run.state.log) ≡ taken (Chunks client) run.state.log + 1 = omega arith in
-      subst (λ (n : ℕ). AllTaken stepped.state.taken (take n sends.chunks)) more
-      (take_next sends.chunks (taken (Chunks client) run.state.log) i.item (λ (item : Sent Sheet). IsTaken stepped.state.taken item.item) i.there
-      (all_stay run.state.taken stepped.state.taken (front_of s) (take (taken (Chunks client) run.state.log) sends.chunks) all) last)
-  client_case s client sends false e there all =
-      let same : taken (Chunks client) run.state.log ≡ taken (Chunks client) run.state.log + 0 = omega arith in
-      subst (λ (n : ℕ). AllTaken stepped.state.taken (take n sends.chunks)) same
-      (all_stay run.state.taken stepped.state.taken (front_of s) (take (taken (Chunks client) run.state.log) sends.chunks) all)
-
-  step_took : TookItsChunks run → TookItsChunks stepped
-  step_took t client sends there =
-      let s = step_left settings heard run stepped run.left refl h in
-      let n = noted settings heard run stepped h in
-      let was : slice_get run.sends client ≡ Some sends = ap (λ (all : List ClientSends). slice_get all client) (sym n.sends) ∙ there in
-      subst (λ (n : ℕ). AllTaken stepped.state.taken (take n sends.chunks)) (sym (counted s client))
-      (client_case s client sends (takes (Chunks client) s.step) refl was (t client sends was))
-
 -- ---- all steps
 
 pub all_set : {X : Type 0} (P : X → Type 0) (xs : List X) (i : ℕ) (x : X) → AllByRecursion P xs → P x → AllByRecursion P (set xs i x)
@@ -249,18 +152,3 @@ hear_nodes run next (node ∷ rest) h = either (message_of run.nodes run.heard n
     either : (o : Option Message) → option_map (λ (m : Message). record run { left = rest; heard = run.heard ++ m ∷ [] }) o ≡ Some next → next.nodes ≡ run.nodes
     either None h = let no : None ≡ Some next = h in absurd cc
     either (Some m) h = ap (λ (r : Run). r.nodes) (sym (some_same (record run { left = rest; heard = run.heard ++ m ∷ [] }) next h))
-
-module _ (noted : StepsAreNoted) (settings : PlainSettings) where
-  performs_took : (run next : Run) → AllByRecursion TookItsChunks run.nodes → Performs settings run next → AllByRecursion TookItsChunks next.nodes
-  performs_took run next all (inl s) =
-      subst (λ (r : Run). AllByRecursion TookItsChunks r.nodes) (sym s.result)
-      (all_set TookItsChunks run.nodes s.place s.stepped all (step_took noted settings run.heard s.node s.stepped s.ready (all_get TookItsChunks run.nodes s.place s.node all s.stands)))
-  performs_took run next all (inr k) = subst (AllByRecursion TookItsChunks) (sym (hear_nodes run next run.left k)) all
-
-  pub leads_took : (run last : Run) → AllByRecursion TookItsChunks run.nodes → Leads settings run last → AllByRecursion TookItsChunks last.nodes
-  leads_took run last all (Stays r) = all
-  leads_took run last all (Goes r next l p leads) = leads_took next last (performs_took run next all p) leads
-
-pub starts_took : (W : PlainWorkload) (J : PlainJournal) (nodes : List ℕ) → AllByRecursion TookItsChunks (map (node_start W J) nodes)
-starts_took W J [] = tt
-starts_took W J (node ∷ nodes) = ((λ client sends there. tt), starts_took W J nodes)

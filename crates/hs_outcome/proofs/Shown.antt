@@ -23,10 +23,10 @@ use Rattle.hs_outcome.proofs.Lists.{all_each, all_filter, filter_passes}
 -- ---- each name is that of a record
 
 -- the record of a name is there, and of its trace
-record IsKnown (W : PlainWorkload) (name : Named) : Type 0 where
-  known : Record
-  there : record_of W name.id ≡ Some known
-  traced : known.trace ≡ name.trace
+pub record IsKnown (W : PlainWorkload) (name : Named) : Type 0 where
+  pub known : Record
+  pub there : record_of W name.id ≡ Some known
+  pub traced : known.trace ≡ name.trace
 
 module _ {X : Type 0} where
   all_append : (P : X → Type 0) (xs ys : List X) → AllByRecursion P xs → AllByRecursion P ys → AllByRecursion P (xs ++ ys)
@@ -37,7 +37,7 @@ module _ {X : Type 0} where
   all_flat P f start zero each = tt
   all_flat P f start (suc count) each = all_append P (f start) (flat_map f (range_with_len (start + 1) count)) (each start) (all_flat P f (start + 1) count each)
 
-all_mapped : {X Y : Type 0} (P : Y → Type 0) (f : X → Y) (xs : List X) → AllByRecursion P (map f xs) → AllByRecursion (λ x. P (f x)) xs
+pub all_mapped : {X Y : Type 0} (P : Y → Type 0) (f : X → Y) (xs : List X) → AllByRecursion P (map f xs) → AllByRecursion (λ x. P (f x)) xs
 all_mapped P f [] all = tt
 all_mapped P f (x ∷ xs) all = (all.0, all_mapped P f xs all.1)
 
@@ -70,7 +70,7 @@ module _ (W : PlainWorkload) (place : ℕ) where
       known_from 0 (records_of (operations_at W place))
       (λ i r h. let same : 0 + i ≡ i = omega arith in ap (λ (n : ℕ). record_of W (record { client = here; number = n })) same ∙ found_here i r h)
 
-all_known : (W : PlainWorkload) → AllByRecursion (IsKnown W) (all_records W)
+pub all_known : (W : PlainWorkload) → AllByRecursion (IsKnown W) (all_records W)
 all_known W = all_flat (IsKnown W) (client_records W) 0 (length W.clients) (client_known W)
 
 -- ---- names in order
@@ -223,7 +223,7 @@ ids_named : (entries : List Entry) → ids_of (map name_of entries) ≡ entry_id
 ids_named [] = refl
 ids_named (entry ∷ entries) = ap (λ rest. entry.id ∷ rest) (ids_named entries)
 
-same_trace : (a b : TraceId) → nat_eq a.0 b.0 ≡ true → a ≡ b
+pub same_trace : (a b : TraceId) → nat_eq a.0 b.0 ≡ true → a ≡ b
 same_trace a b h = ap (λ (n : ℕ). record { 0 = n }) (eqb-true a.0 b.0 h)
 
 -- an entry of this trace whose record is there

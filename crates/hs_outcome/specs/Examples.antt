@@ -1,16 +1,19 @@
 -- The fates and the reports of small workloads under their lockstep journals.
-use Rattle.std.specs.Prelude.{◌≡◌, ℕ, List, [], ◌∷◌, map, length, refl}
+use Rattle.std.specs.Prelude.{◌≡◌, ℕ, List, [], ◌∷◌, ◌++◌, map, length, None, refl}
 use Rattle.hs_base.specs.declared.told.Fate.{Fate}
 use Rattle.hs_base.specs.declared.told.Fate.TheVariants.{Null, Live, Reported, Evicted, Abandoned}
 use Rattle.hs_collect.specs.Collected.{Placed}
+use Rattle.hs_journal.specs.declared.journal.Draw.TheVariants.{Got}
 use Rattle.hs_journal.specs.Views.{PlainJournal}
 use Rattle.hs_ledger.specs.declared.ledger.Entry.{Entry}
 use Rattle.hs_records.specs.Plain.{PlainWorkload}
-use Rattle.hs_sent.specs.Samples.{t}
+use Rattle.hs_sent.specs.Samples.{t, settings, workload, fire, segment}
 use Rattle.hs_outcome.specs.Outcomes.{outcome_of, rising_traces}
 use Rattle.hs_outcome.specs.Reports.{Report, reports_of}
 use Rattle.hs_lawful.specs.Journals
-use Rattle.hs_lawful.specs.Workloads.{nothing, one_point, three_points, three_traces, touched_again, trigger_first, evicted_then_claimed, two_ids, one_token, short_of_pins, four_nodes, no_pins, refused_trigger, golden, twice}
+use Rattle.hs_lawful.specs.Lawful.{first_unlawful}
+use Rattle.hs_lawful.specs.Samples.{alone, chunk, trigger, turn}
+use Rattle.hs_lawful.specs.Workloads.{nothing, one_rule, one_point, three_points, three_traces, touched_again, trigger_first, evicted_then_claimed, two_ids, one_token, short_of_pins, four_nodes, no_pins, refused_trigger, golden, twice}
 
 abbrev fates : PlainWorkload → PlainJournal → List Fate
 fates W J = map (λ (entry : Entry). entry.fate) (outcome_of W J).entries
@@ -68,6 +71,20 @@ all_abandoned = refl
 -- the trace of the trigger that was not admitted has no report
 no_report : (fates refused_trigger Journals.of_refused_trigger ≡ reported 1 ∷ Live ∷ []) × (map (λ (r : Report). r.trace) (reports_of refused_trigger Journals.of_refused_trigger) ≡ t 1 ∷ [])
 no_report = (refl, refl)
+
+-- a trace that has no record has no report, although a trigger claimed it
+abbrev no_record_of_it : PlainWorkload
+no_record_of_it = workload (settings 4 4 8 4 16 one_rule) ((segment 1 1 ++ fire 2 1 9 ∷ []) ∷ [])
+
+abbrev of_no_record : PlainJournal
+of_no_record = alone (Got 0 0 ∷ []) (chunk ∷ trigger ∷ turn ∷ []) (0 ∷ [])
+
+claimed_without_a_record : (first_unlawful no_record_of_it of_no_record ≡ None) × ((outcome_of no_record_of_it of_no_record).claimed ≡ t 9 ∷ []) × (reports_of no_record_of_it of_no_record ≡ [])
+claimed_without_a_record = (refl, refl, refl)
+
+-- a trace that several nodes claimed has one report
+claimed_on_three_nodes : (outcome_of four_nodes Journals.of_four_nodes).claimed ≡ t 1 ∷ []
+claimed_on_three_nodes = refl
 
 each_trace_once : rising_traces (t 7 ∷ t 2 ∷ t 7 ∷ t 3 ∷ []) ≡ t 2 ∷ t 3 ∷ t 7 ∷ []
 each_trace_once = refl

@@ -6,6 +6,8 @@ pub mod Causes
 pub mod Origins
 pub mod Nulls
 pub mod ClientBooks
+pub mod Books
 pub mod Versions
 pub mod Examples
 pub mod TextExamples
+pub mod CollectedReports

@@ -5,17 +5,22 @@ ghost use Rattle.hs_outcome.specs.Causes.{AgentsKeepTheirModel, EvictedOnlyWhere
 ghost use Rattle.hs_outcome.specs.Origins.{EachFateHasItsCause, TakenPagesWereDrawn};
 ghost use Rattle.hs_outcome.specs.Nulls.{EmptyDrawsFoundNothing};
 ghost use Rattle.hs_outcome.specs.ClientBooks.{BooksOfClientsFit, StandingsAreOfGotPages};
+ghost use Rattle.hs_outcome.specs.Books.{EachGotPageHasOneStanding, BooksFitTogether};
 ghost use Rattle.hs_outcome.specs.Versions.{VersionsHaveOneOutcome};
+ghost use Rattle.hs_outcome.specs.CollectedReports.{TakenPagesAreOfClients, ReportedPagesAreOfClients, ReportedRecordsHaveAllPages, ReportedPagesCanBeCollected, CollectedRecordsAreWhole};
 
+use hs_collect::runs_decide_the_records;
 use hs_lawful::laws::{
-    agents_come_by_events, following_plays_out, gives_are_noted, runs_are_of_the_journal,
-    steps_are_noted,
+    agents_come_by_events, chunks_are_taken_in_order, following_plays_out, gives_are_noted,
+    runs_are_of_the_journal, taken_pages_rise,
 };
 use hs_model::laws::{
-    chunks_stand_by_their_claim, claims_hold_for_good, events_go_on, limits_hold,
-    lists_have_their_chunks, nothing_claimed_is_evicted, traces_are_claimed_once,
+    chunks_stand_by_their_claim, claims_hold_for_good, clients_pages_rise, events_go_on,
+    limits_hold, lists_have_their_chunks, nothing_claimed_is_evicted, traces_are_claimed_once,
 };
-use hs_records::pages_carry_the_records;
+use hs_records::{
+    pages_carry_the_records, pages_hold_the_pieces, pieces_are_counted, pieces_join_to_the_payload,
+};
 use hs_sent::laws::timed_pages_are_the_pages;
 
 /// A ledger has the records of the workload, each once and in their order.
@@ -79,7 +84,7 @@ pub fn each_fate_has_its_cause()
 {
     following_plays_out();
     runs_are_of_the_journal();
-    steps_are_noted();
+    chunks_are_taken_in_order();
     timed_pages_are_the_pages();
 }
 
@@ -133,4 +138,83 @@ pub fn standings_are_of_got_pages()
     following_plays_out();
     runs_are_of_the_journal();
     taken_pages_were_drawn();
+}
+
+/// Each page for which a client got a buffer has one standing at its node.
+pub fn each_got_page_has_one_standing()
+    ensures { EachGotPageHasOneStanding }
+{
+    following_plays_out();
+    runs_are_of_the_journal();
+    chunks_are_taken_in_order();
+    timed_pages_are_the_pages();
+}
+
+/// The books of a lawful journal fit together: a ledger can be made of them.
+pub fn books_fit()
+    ensures { BooksFitTogether }
+{
+    books_of_clients_fit();
+    standings_are_of_got_pages();
+    each_got_page_has_one_standing();
+}
+
+/// What agents take, and so what they report, are pages of their clients.
+pub fn reported_pages_are_of_clients()
+    ensures taken { TakenPagesAreOfClients }
+    ensures reported { ReportedPagesAreOfClients }
+{
+    following_plays_out();
+    runs_are_of_the_journal();
+    timed_pages_are_the_pages();
+    taken_pages_were_drawn();
+}
+
+/// Each page with a piece of a record that was reported is among the reported pages.
+pub fn reported_records_have_all_pages()
+    ensures { ReportedRecordsHaveAllPages }
+{
+    following_plays_out();
+    runs_are_of_the_journal();
+    chunks_are_taken_in_order();
+    timed_pages_are_the_pages();
+    agents_keep_their_model();
+    taken_pages_were_drawn();
+    pages_carry_the_records();
+}
+
+/// The reported pages can be added to a collector, in any order that keeps that of the pages of each client and trace.
+pub fn reported_pages_can_be_collected()
+    ensures { ReportedPagesCanBeCollected }
+{
+    following_plays_out();
+    runs_are_of_the_journal();
+    timed_pages_are_the_pages();
+    taken_pages_were_drawn();
+    taken_pages_rise();
+    clients_pages_rise();
+    agents_come_by_events();
+    pages_carry_the_records();
+    pages_hold_the_pieces();
+    runs_decide_the_records();
+}
+
+/// What is collected of a trace, without the parts of records that were lost, are the records of its report.
+pub fn collected_records_are_whole()
+    ensures { CollectedRecordsAreWhole }
+{
+    each_record_has_one_entry();
+    reported_records_have_all_pages();
+    following_plays_out();
+    runs_are_of_the_journal();
+    timed_pages_are_the_pages();
+    taken_pages_were_drawn();
+    taken_pages_rise();
+    clients_pages_rise();
+    agents_come_by_events();
+    pages_carry_the_records();
+    pages_hold_the_pieces();
+    pieces_join_to_the_payload();
+    pieces_are_counted();
+    runs_decide_the_records();
 }

@@ -2,3 +2,4 @@ pub mod Cuts
 pub mod PageNumbers
 pub mod PieceNumbers
 pub mod Runs
+pub mod PagePieces

@@ -13,7 +13,7 @@ use Rattle.hs_records.proofs.PieceNumbers.{records_from, Goes, GoesFrom, behind,
 
 -- ---- lists
 
-all-parted : {X : Type 0} (P : X → Type 0) (n : ℕ) (xs : List X) → AllByRecursion P xs → AllByRecursion P (take n xs) × AllByRecursion P (drop n xs)
+pub all-parted : {X : Type 0} (P : X → Type 0) (n : ℕ) (xs : List X) → AllByRecursion P xs → AllByRecursion P (take n xs) × AllByRecursion P (drop n xs)
 all-parted P zero xs each = (tt, each)
 all-parted P (suc n) [] each = (tt, tt)
 all-parted P (suc n) (x ∷ xs) each = let rest = all-parted P n xs each.1 in ((each.0, rest.0), rest.1)

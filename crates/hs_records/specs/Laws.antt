@@ -1,10 +1,12 @@
 -- What holds of pieces and pages. All pieces of a payload but the last are full. The pages of a client carry the pieces
 -- of its records: each page begins with the next record, or goes on with the last one of the page before.
-use Rattle.std.specs.Prelude.{◌≡◌, ◌⊎◌, ℕ, ◌+◌, ◌<◌, ◌≤◌, List, [], ◌∷◌, ◌++◌, length, Option, Some, option_map, slice_get}
-use Rattle.std.specs.List.{AllByRecursion}
+use Rattle.std.specs.Prelude.{◌≡◌, ◌⊎◌, ℕ, ◌+◌, ◌<◌, ◌≤◌, false, List, [], ◌∷◌, ◌++◌, length, replicate, Option, Some, option_map, slice_get, refl}
+use Rattle.std.specs.List.{AllByRecursion, flat_map}
 use Rattle.hs_base.specs.declared.ids.TraceId.{TraceId}
-use Rattle.hs_records.specs.Records.{Record, Piece}
-use Rattle.hs_records.specs.Pages.{PlainPage, first_record, cost_of, page_room}
+use Rattle.hs_base.specs.declared.limits.TheConstants.{MIN_SIZE}
+use Rattle.hs_records.specs.Plain.{Operation, Begin, Point, End}
+use Rattle.hs_records.specs.Records.{AreBracketed, Record, Piece, record_pieces, records_of}
+use Rattle.hs_records.specs.Pages.{PlainPage, first_record, cost_of, page_room, pages_of}
 
 -- ---- pieces
 
@@ -61,6 +63,23 @@ pub record CarryRecords (traces : Traces) (number : ℕ) (pages : List PlainPage
   pub ends : end_from number pages ≡ last
   pub each : AllByRecursion (CarriesRecords traces) pages
 
+-- ---- the pieces on the pages
+
+-- the pieces of these records, of which the first has this number
+abbrev pub pieces_of_records : ℕ → ℕ → List Record → List Piece
+pieces_of_records size number [] = []
+pieces_of_records size number (r ∷ records) = record_pieces size number r.moment r.payload ++ pieces_of_records size (number + 1) records
+
+-- the pieces on pages, one page behind another
+abbrev pub pieces_on : List PlainPage → List Piece
+pieces_on pages = flat_map (λ (page : PlainPage). page.pieces) pages
+
+-- The pages of a client hold the pieces of its records: all of them, each once and in their order.
+abbrev pub PagesHoldThePieces : Type 0
+PagesHoldThePieces =
+    (size : ℕ) (operations : List Operation) → MIN_SIZE ≤ size → AreBracketed false operations
+    → pieces_on (pages_of size operations) ≡ pieces_of_records size 0 (records_of operations)
+
 -- ---- the longest runs
 
 abbrev pub costs : List Piece → ℕ
@@ -90,3 +109,16 @@ IsFull size run (next ∷ runs) = page_room size < costs run + front_cost next
 abbrev pub AreRuns : ℕ → List (List Piece) → Type 0
 AreRuns size [] = Unit {0}
 AreRuns size (run ∷ runs) = IsRun size run × IsFull size run runs × AreRuns size runs
+
+-- ---- examples
+
+-- A record of 31 bytes has pieces on two pages of the least size, and the next record one on the second of them.
+abbrev two_records : List Operation
+two_records = Begin (record { 0 = 1 }) ∷ Point 7 (replicate 31 5) ∷ Point 8 [] ∷ End ∷ []
+
+on_two_pages : pieces_on (pages_of 64 two_records)
+    ≡ record { number = 0; moment = 7; payload = replicate 30 5 } ∷ record { number = 0; moment = 7; payload = 5 ∷ [] } ∷ record { number = 1; moment = 8; payload = [] } ∷ []
+on_two_pages = refl
+
+of_two_records : pieces_of_records 64 0 (records_of two_records) ≡ pieces_on (pages_of 64 two_records)
+of_two_records = refl

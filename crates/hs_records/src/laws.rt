@@ -6,7 +6,7 @@ ghost use Rattle.hs_records.specs.Plain.{Operation};
 ghost use Rattle.hs_records.specs.Records.{AreBracketed, Piece, piece_limit, payload_pieces, piece_count, records_of};
 ghost use Rattle.hs_records.specs.Pages.{pages_of, runs_of};
 ghost use Rattle.hs_base.specs.declared.limits.TheConstants.{MIN_SIZE};
-ghost use Rattle.hs_records.specs.Laws.{AreFullButLast, CarryRecords, AreRuns, joined, traces_of};
+ghost use Rattle.hs_records.specs.Laws.{AreFullButLast, CarryRecords, AreRuns, PagesHoldThePieces, joined, traces_of};
 
 /// The pieces of a payload, one behind another, are the payload.
 pub fn pieces_join_to_the_payload()
@@ -40,4 +40,9 @@ pub fn the_longest_runs_are_the_pages()
 pub fn pages_carry_the_records()
     ensures { (size : ℕ) (operations : List Operation) → MIN_SIZE ≤ size → AreBracketed false operations
         → CarryRecords (traces_of (records_of operations)) 0 (pages_of size operations) (length (records_of operations)) }
+{}
+
+/// The pages of a client's operations hold the pieces of its records: all of them, each once and in their order.
+pub fn pages_hold_the_pieces()
+    ensures { PagesHoldThePieces }
 {}

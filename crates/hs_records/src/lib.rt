@@ -7,7 +7,8 @@ mod laws;
 mod pieces;
 
 pub use laws::{
-    pages_carry_the_records, payloads_are_cut_from_the_front, pieces_are_counted, pieces_are_full,
-    pieces_join_to_the_payload, the_longest_runs_are_the_pages,
+    pages_carry_the_records, pages_hold_the_pieces, payloads_are_cut_from_the_front,
+    pieces_are_counted, pieces_are_full, pieces_join_to_the_payload,
+    the_longest_runs_are_the_pages,
 };
 pub use pieces::{piece_count, piece_limit};

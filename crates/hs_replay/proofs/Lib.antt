@@ -1,9 +1,2 @@
-pub mod PageFates
-pub mod PlainStandings
-pub mod PlainLedger
-pub mod Playing
-pub mod Cuts
-pub mod Starts
-pub mod Finishes
-pub mod FirstClient
-pub mod OutcomeLemmas
+mod Lists
+mod Booked

@@ -1,11 +1,8 @@
-//! The replay of a workload on one thread, and the text of its outcome.
+//! The replay of a workload on one thread, by the lockstep schedule (`docs/RULES.md`, "Schedules").
 #![tactic(auto)]
 
-mod one_client;
-mod outcome;
-mod player;
-mod replayable;
+mod books;
+mod replaying;
 
-pub use one_client::{Outcome, replay};
-pub use outcome::{Form, write_outcome};
-pub use replayable::can_replay;
+pub use hs_report::{Form, Outcome, write_outcome, write_total};
+pub use replaying::replay;

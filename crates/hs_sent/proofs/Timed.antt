@@ -9,10 +9,10 @@ use Rattle.hs_records.specs.Records.{AreBracketed, NumberedOperation, Segment, n
 use Rattle.hs_sent.specs.Laws.{TimedPagesAreThePages}
 use Rattle.hs_sent.specs.Timing.{TimedPage, is_end, timed, point_numbers, end_numbers}
 
-abbrev page_in : TimedPage → PlainPage
+abbrev pub page_in : TimedPage → PlainPage
 page_in p = p.page
 
-page_each : (points : List ℕ) (end : ℕ) (pages : List PlainPage) → map page_in (timed points end pages) ≡ pages
+pub page_each : (points : List ℕ) (end : ℕ) (pages : List PlainPage) → map page_in (timed points end pages) ≡ pages
 page_each points end [] = refl
 page_each points end (page ∷ pages) = ap (λ pages. page ∷ pages) (page_each points end pages)
 

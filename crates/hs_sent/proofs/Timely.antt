@@ -12,7 +12,7 @@ use Rattle.hs_sent.specs.Timing.{TimedPage, is_end, point_numbers, started_by, t
 
 -- ---- lists of pages in time
 
-earlier : (a b to : ℕ) (pages : List TimedPage) → a ≤ b → IsTimely b to pages → IsTimely a to pages
+pub earlier : (a b to : ℕ) (pages : List TimedPage) → a ≤ b → IsTimely b to pages → IsTimely a to pages
 earlier a b to [] low h = omega (arith, low, h)
 earlier a b to (page ∷ pages) low h = let first = h.0 in (omega (arith, low, first), h.1, h.2, h.3)
 
@@ -34,11 +34,11 @@ module _ (points : List ℕ) where
   at piece = get_or points piece.number 0
 
   -- the points of these pieces rise between two operations
-  abbrev Rise : ℕ → ℕ → List Piece → Type 0
+  abbrev pub Rise : ℕ → ℕ → List Piece → Type 0
   Rise from to [] = from ≤ to
   Rise from to (piece ∷ pieces) = (from ≤ at piece) × Rise (at piece) to pieces
 
-  sooner : (a b to : ℕ) (pieces : List Piece) → a ≤ b → Rise b to pieces → Rise a to pieces
+  pub sooner : (a b to : ℕ) (pieces : List Piece) → a ≤ b → Rise b to pieces → Rise a to pieces
   sooner a b to [] low h = omega (arith, low, h)
   sooner a b to (piece ∷ pieces) low h = let first = h.0 in (omega (arith, low, first), h.1)
 
@@ -47,14 +47,14 @@ module _ (points : List ℕ) where
   dropped (suc n) from to [] h = h
   dropped (suc n) from to (piece ∷ pieces) h = dropped n from to pieces (sooner from (at piece) to pieces h.0 h.1)
 
-  highest : (from to : ℕ) (pieces : List Piece) → Rise from to pieces → from ≤ to
+  pub highest : (from to : ℕ) (pieces : List Piece) → Rise from to pieces → from ≤ to
   highest from to [] h = h
   highest from to (piece ∷ pieces) h = let first = h.0 in let rest = highest (at piece) to pieces h.1 in omega (arith, first, rest)
 
-  abbrev page_with : TraceId → List Piece → PlainPage
+  abbrev pub page_with : TraceId → List Piece → PlainPage
   page_with trace pieces = record { trace = trace; pieces = pieces }
 
-  abbrev HasPieces : PlainPage → Type 0
+  abbrev pub HasPieces : PlainPage → Type 0
   HasPieces page = 1 ≤ length page.pieces
 
   -- a page before others that are in time
@@ -67,7 +67,7 @@ module _ (points : List ℕ) where
       let third = h.2 in
       (omega (arith, is, low), omega (arith, is, first), omega (arith, second, third), (omega arith, h.1, h.2, h.3))
 
-  abbrev runs_then : ℕ → ℕ → TraceId → List Piece → List PlainPage
+  abbrev pub runs_then : ℕ → ℕ → TraceId → List Piece → List PlainPage
   runs_then most size trace pieces = map (page_with trace) (runs_within most size pieces)
 
   run_case : (size end from : ℕ) (trace : TraceId) (piece : Piece) (pieces : List Piece) (n most : ℕ) → Rise from end (piece ∷ pieces) → 1 ≤ length (take n (piece ∷ pieces))
@@ -79,14 +79,14 @@ module _ (points : List ℕ) where
       page_before (at piece) from end (page_with trace (take (suc n) (piece ∷ pieces))) (runs_then most size trace (drop n pieces)) refl h.0 (highest (at piece) end pieces h.1)
       (on (drop n pieces) (dropped n (at piece) end pieces h.1) all)
 
-  runs_timely : (most size end from : ℕ) (trace : TraceId) (pieces : List Piece) → Rise from end pieces → AllByRecursion HasPieces (runs_then most size trace pieces)
+  pub runs_timely : (most size end from : ℕ) (trace : TraceId) (pieces : List Piece) → Rise from end pieces → AllByRecursion HasPieces (runs_then most size trace pieces)
       → IsTimely from (suc end) (timed points end (runs_then most size trace pieces))
   runs_timely zero size end from trace pieces h all = let high = highest from end pieces h in omega (arith, high)
   runs_timely (suc most) size end from trace [] h all = let high : from ≤ end = h in omega (arith, high)
   runs_timely (suc most) size end from trace (piece ∷ pieces) h all =
       run_case size end from trace piece pieces (fits size (piece ∷ pieces)) most h all.0 (λ rest h all. runs_timely most size end (at piece) trace rest h all) all.1
 
-  same_point : (number end size moment r : ℕ) (payloads : List (List ℕ)) (rest : List Piece) → get_or points r 0 ≡ number → Rise number end rest
+  pub same_point : (number end size moment r : ℕ) (payloads : List (List ℕ)) (rest : List Piece) → get_or points r 0 ≡ number → Rise number end rest
       → Rise number end (map (λ bytes. record { number = r; moment = moment; payload = bytes }) payloads ++ rest)
   same_point number end size moment r [] rest is h = h
   same_point number end size moment r (bytes ∷ payloads) rest is h =
@@ -94,41 +94,41 @@ module _ (points : List ℕ) where
 
 -- ---- operations
 
-abbrev points_in : List NumberedOperation → List ℕ
+abbrev pub points_in : List NumberedOperation → List ℕ
 points_in ops = flat_map (λ (op : NumberedOperation). map (λ _. op.number) (record_at op)) ops
 
-abbrev ends_in : List NumberedOperation → List ℕ
+abbrev pub ends_in : List NumberedOperation → List ℕ
 ends_in ops = map (λ (op : NumberedOperation). op.number) (filter (λ (op : NumberedOperation). is_end op.operation) ops)
 
-get_behind : (front rest : List ℕ) (n r : ℕ) → length front ≡ r → get_or (front ++ n ∷ rest) r 0 ≡ n
+pub get_behind : (front rest : List ℕ) (n r : ℕ) → length front ≡ r → get_or (front ++ n ∷ rest) r 0 ≡ n
 get_behind [] rest n zero e = refl
 get_behind [] rest n (suc r) e = absurd (omega (arith, e))
 get_behind (x ∷ front) rest n zero e = absurd (omega (arith, e))
 get_behind (x ∷ front) rest n (suc r) e = get_behind front rest n r (omega (arith, e))
 
 module _ (size : ℕ) (points : List ℕ) where
-  abbrev pages_with : ℕ × Segment → List TimedPage
+  abbrev pub pages_with : ℕ × Segment → List TimedPage
   pages_with s = timed points s.0 (segment_pages size s.1)
 
-  abbrev all_pages : List ℕ → List Segment → List TimedPage
+  abbrev pub all_pages : List ℕ → List Segment → List TimedPage
   all_pages ends segments = flat_map pages_with (zip ends segments)
 
   -- the points of these operations stand behind those before them
-  record Points (r : ℕ) (behind : List ℕ) : Type 0 where
-    front : List ℕ
-    is : points ≡ front ++ behind
-    count : length front ≡ r
+  pub record Points (r : ℕ) (behind : List ℕ) : Type 0 where
+    pub front : List ℕ
+    pub is : points ≡ front ++ behind
+    pub count : length front ≡ r
 
-  abbrev Full : List Segment → Type 0
+  abbrev pub Full : List Segment → Type 0
   Full segments = AllByRecursion (HasPieces points) (flat_map (segment_pages size) segments)
 
   -- within a trace: its end, its pieces up to there, and what comes behind
-  record IsOpen (number r : ℕ) (trace : Option TraceId) (ops : List Operation) : Type 0 where
-    end : ℕ
-    ends : List ℕ
-    ends_are : ends_in (numbered_from number trace ops) ≡ end ∷ ends
-    rises : Rise points number end (pieces_until_end size r ops)
-    later : IsTimely (suc end) (number + length ops) (all_pages ends (segments_from size r ops))
+  pub record IsOpen (number r : ℕ) (trace : Option TraceId) (ops : List Operation) : Type 0 where
+    pub end : ℕ
+    pub ends : List ℕ
+    pub ends_are : ends_in (numbered_from number trace ops) ≡ end ∷ ends
+    pub rises : Rise points number end (pieces_until_end size r ops)
+    pub later : IsTimely (suc end) (number + length ops) (all_pages ends (segments_from size r ops))
 
   -- the same from an operation further back
   back_one : (number r s : ℕ) (trace next : Option TraceId) (op : Operation) (ops : List Operation) → ends_in (numbered_from number trace (op ∷ ops)) ≡ ends_in (numbered_from (number + 1) next ops)
@@ -145,15 +145,15 @@ module _ (size : ℕ) (points : List ℕ) where
             (subst (λ (n : ℕ). IsTimely (suc o.end) n (all_pages o.ends (segments_from size s ops))) same o.later);
       }
 
-  abbrev IsClosed : ℕ → ℕ → List Operation → Type 0
+  abbrev pub IsClosed : ℕ → ℕ → List Operation → Type 0
   IsClosed number r ops = IsTimely number (number + length ops) (all_pages (ends_in (numbered_from number None ops)) (segments_from size r ops))
 
-  full_parts : (xs ys : List PlainPage) → AllByRecursion (HasPieces points) (xs ++ ys) → AllByRecursion (HasPieces points) xs × AllByRecursion (HasPieces points) ys
+  pub full_parts : (xs ys : List PlainPage) → AllByRecursion (HasPieces points) (xs ++ ys) → AllByRecursion (HasPieces points) xs × AllByRecursion (HasPieces points) ys
   full_parts [] ys all = (tt, all)
   full_parts (x ∷ xs) ys all = let rest = full_parts xs ys all.1 in ((all.0, rest.0), rest.1)
 
   mutual
-    closed : (number r : ℕ) (ops : List Operation) → AreBracketed false ops → Points r (points_in (numbered_from number None ops)) → Full (segments_from size r ops) → IsClosed number r ops
+    pub closed : (number r : ℕ) (ops : List Operation) → AreBracketed false ops → Points r (points_in (numbered_from number None ops)) → Full (segments_from size r ops) → IsClosed number r ops
     closed number r [] h p full = omega arith
     closed number r (Begin trace ∷ ops) h p full =
         let pieces = pieces_until_end size r ops in
@@ -178,7 +178,7 @@ module _ (size : ℕ) (points : List ℕ) where
         earlier number (number + 1) (number + suc (length ops)) pages low (subst (λ (n : ℕ). IsTimely (number + 1) n pages) same rest)
     closed number r (Sample moment auto value ∷ ops) h p full = let no : false ≡ true = h.0 in absurd cc
 
-    opened : (number r : ℕ) (trace : TraceId) (ops : List Operation) → AreBracketed true ops → Points r (points_in (numbered_from number (Some trace) ops)) → Full (segments_from size r ops) → IsOpen number r (Some trace) ops
+    pub opened : (number r : ℕ) (trace : TraceId) (ops : List Operation) → AreBracketed true ops → Points r (points_in (numbered_from number (Some trace) ops)) → Full (segments_from size r ops) → IsOpen number r (Some trace) ops
     opened number r trace [] h p full = let no : true ≡ false = h in absurd cc
     opened number r trace (Begin next ∷ ops) h p full = let no : true ≡ false = h.0 in absurd cc
     opened number r trace (Point moment payload ∷ ops) h p full =

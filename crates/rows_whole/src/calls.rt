@@ -13,8 +13,43 @@ pub(crate) const EXAMPLE: &str =
     "hindsight 1\nnodes 1\nclients 1\nbuffers 1\nsize 64\nthreshold 1\ntraces 4\npins 4\nstride 8\nclient 0 0\nbegin 0000000000000001\npoint 100 00112233445566778899\npoint 101 00112233445566778899\npoint 102 00112233445566778899\nend\ndone\n";
 
 /// What the example's replay writes.
-pub(crate) const EXAMPLE_OUTPUT: &str =
-    "ledger 3\n0 0 0 0000000000000001 live\n0 0 1 0000000000000001 live\n0 0 2 0000000000000001 null 1\ntotal 3 live 2 reported 0 null 1 evicted 0 abandoned 0\ndone\n";
+pub(crate) const EXAMPLE_OUTPUT: &str = "journal 1 1 1
+draws 0 0
+got 0 0
+empty 1
+log 0
+chunk 0
+turn
+coordinator
+end
+reports 0
+ledger 3
+0 0 0 0000000000000001 live
+0 0 1 0000000000000001 live
+0 0 2 0000000000000001 null 1
+total 3 live 2 reported 0 null 1 evicted 0 abandoned 0
+done
+";
+
+/// The same with `--json`.
+pub(crate) const EXAMPLE_JSON: &str = "journal 1 1 1
+draws 0 0
+got 0 0
+empty 1
+log 0
+chunk 0
+turn
+coordinator
+end
+reports 0
+[]
+ledger 3
+0 0 0 0000000000000001 live
+0 0 1 0000000000000001 live
+0 0 2 0000000000000001 null 1
+total 3 live 2 reported 0 null 1 evicted 0 abandoned 0
+done
+";
 
 /// How a source and a sink behave: the most bytes of a call, and the numbers of the calls that fail.
 #[derive(Clone, Copy)]
@@ -44,15 +79,17 @@ pub(crate) fn called<R: Threads + Sync + AllocGlobal>(
     Ok((status.number(), sink.bytes().to_vec(alloc)?))
 }
 
+/// Streams that do not fail.
+pub(crate) const WHOLE: Streams<'static> = Streams {
+    most: 1 << 20,
+    read_fails: &[],
+    write_fails: &[],
+};
+
 /// The same of the word `replay` over streams that do not fail.
 pub(crate) fn replayed<R: Threads + Sync + AllocGlobal>(
     rt: &R,
     input: &[u8],
 ) -> Result<(u8, Vec<u8>), Fail> {
-    let streams = Streams {
-        most: 1 << 20,
-        read_fails: &[],
-        write_fails: &[],
-    };
-    called(rt, &["replay"], input, &streams)
+    called(rt, &["replay"], input, &WHOLE)
 }

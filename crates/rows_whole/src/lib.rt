@@ -5,11 +5,15 @@
 #[cfg(test)]
 mod calls;
 #[cfg(test)]
+mod drills;
+#[cfg(test)]
 mod faults;
 #[cfg(test)]
-mod outcome;
+mod json;
 #[cfg(test)]
 mod outputs;
+#[cfg(test)]
+mod realistic;
 #[cfg(test)]
 mod refusals;
 #[cfg(test)]

@@ -66,15 +66,6 @@ const HEADS: [(&str, &str); 11] = [
     ),
 ];
 
-/// Workloads that the replay cannot run yet: two clients, a crumb, a threshold and a limit of traces below the
-/// buffers.
-const BEYOND: [&str; 4] = [
-    "hindsight 1\nnodes 1\nclients 2\nbuffers 1\nsize 64\nthreshold 1\ntraces 1\npins 0\nstride 1\nclient 0 0\nclient 0 1\ndone\n",
-    "hindsight 1\nnodes 1\nclients 1\nbuffers 1\nsize 64\nthreshold 1\ntraces 1\npins 0\nstride 1\nclient 0 0\nbegin 0000000000000001\ncrumb 0\nend\ndone\n",
-    "hindsight 1\nnodes 1\nclients 1\nbuffers 2\nsize 64\nthreshold 1\ntraces 2\npins 0\nstride 1\nclient 0 0\ndone\n",
-    "hindsight 1\nnodes 1\nclients 1\nbuffers 2\nsize 64\nthreshold 2\ntraces 1\npins 0\nstride 1\nclient 0 0\ndone\n",
-];
-
 fn assert_refused<R: Threads + Sync + AllocGlobal + Abort>(
     rt: &R,
     input: &str,
@@ -101,19 +92,6 @@ fn each_reason(rt: HostRuntime) -> Result<(), Fail> {
 fn bad_heads(rt: HostRuntime) -> Result<(), Fail> {
     for (input, want) in HEADS {
         assert_refused(&rt, input, want)?;
-    }
-    Ok(())
-}
-
-#[test]
-fn workloads_beyond_the_replay(rt: HostRuntime) -> Result<(), Fail> {
-    for input in BEYOND {
-        let (status, written) = replayed(&rt, input.as_bytes())?;
-        assert_eq!(rt; status, 3);
-        assert_eq!(rt;
-            written.as_slice(),
-            b"refused workload beyond replay\n".as_slice()
-        );
     }
     Ok(())
 }

@@ -21,9 +21,35 @@ fn workload(alloc: Global) -> Result<String, AllocError> {
 }
 
 /// A page of 64 bytes has four of them. 1,024 pages have a buffer, and the pages behind them found the pool empty at the
-/// draw of their number.
-fn ledger(alloc: Global) -> Result<String, AllocError> {
-    let mut text = String::from_str(alloc, "ledger 262142\n")?;
+/// draw of their number. A round has 64 operations and sends the pages behind which it starts one: 15, then 16 each time, and
+/// the last of the 1,024 in the round with the number 64. Of 4,096 rounds each has a turn.
+fn output(alloc: Global) -> Result<String, AllocError> {
+    let mut text = String::from_str(alloc, "journal 1 1 1\ndraws 0 0\n")?;
+    for page in 0..POINTS.div_ceil(4) {
+        let line = if page < 1024 {
+            format!(in alloc; "got {page} {page}\n")?
+        } else {
+            format!(in alloc; "empty {page}\n")?
+        };
+        text.push_str(line.as_str())?;
+    }
+    text.push_str("log 0\n")?;
+    for round in 0..4096u32 {
+        let chunks = if round == 0 {
+            15
+        } else if round < 64 {
+            16
+        } else if round == 64 {
+            1
+        } else {
+            0
+        };
+        for _chunk in 0..chunks {
+            text.push_str("chunk 0\n")?;
+        }
+        text.push_str("turn\n")?;
+    }
+    text.push_str("coordinator\nend\nreports 0\nledger 262142\n")?;
     for point in 0..POINTS {
         let page = point / 4;
         let line = if page < 1024 {
@@ -43,7 +69,7 @@ fn most_operations_are_replayed(rt: HostRuntime) -> Result<(), Fail> {
     let input = workload(rt.alloc())?;
     let (status, written) = replayed(&rt, input.as_bytes())?;
     assert_eq!(rt; status, 0);
-    let wanted = ledger(rt.alloc())?;
+    let wanted = output(rt.alloc())?;
     assert!(rt; written.as_slice() == wanted.as_bytes());
     Ok(())
 }

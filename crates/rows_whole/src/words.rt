@@ -1,6 +1,6 @@
 //! The words of a call: which lists are commands, and what each command writes.
 
-use crate::calls::{EXAMPLE, EXAMPLE_OUTPUT, Streams, called};
+use crate::calls::{EXAMPLE, EXAMPLE_OUTPUT, Streams, WHOLE, called};
 use hs_workload::read_workload;
 use std::test::Fail;
 
@@ -12,26 +12,35 @@ const WIDE: &str =
     "hindsight 2\nnodes 1\nclients 1\nbuffers 1\nsize 64\nthreshold 1\ntraces 4\npins 4\nstride 8\nclient 0 0\nbegin 00000000000000000000000000000001\npoint 100 00112233445566778899\npoint 101 00112233445566778899\npoint 102 00112233445566778899\nend\ndone\n";
 
 /// What the replay of the example with version 2 writes.
-const WIDE_OUTPUT: &str =
-    "ledger 3\n0 0 0 00000000000000000000000000000001 live\n0 0 1 00000000000000000000000000000001 live\n0 0 2 00000000000000000000000000000001 null 1\ntotal 3 live 2 reported 0 null 1 evicted 0 abandoned 0\ndone\n";
-
-const WHOLE: Streams<'static> = Streams {
-    most: 1 << 20,
-    read_fails: &[],
-    write_fails: &[],
-};
+const WIDE_OUTPUT: &str = "journal 1 1 1
+draws 0 0
+got 0 0
+empty 1
+log 0
+chunk 0
+turn
+coordinator
+end
+reports 0
+ledger 3
+0 0 0 00000000000000000000000000000001 live
+0 0 1 00000000000000000000000000000001 live
+0 0 2 00000000000000000000000000000001 null 1
+total 3 live 2 reported 0 null 1 evicted 0 abandoned 0
+done
+";
 
 /// Each command with too few, too many and wrong words, flags where none may stand, and commands that are not built.
-const NO_COMMANDS: [&[&str]; 40] = [
+const NO_COMMANDS: [&[&str]; 47] = [
     &[],
     &[""],
     &["Replay"],
     &["replay "],
     &["replay", "now"],
     &["replay", "7", "3"],
-    &["replay", "--json"],
-    &["--json", "replay"],
     &["replay", "--json", "--json"],
+    &["replay", "--json", "now"],
+    &["replay", "--json", "--watch"],
     &["replay", "--json=true"],
     &["replay", "--", "--json"],
     &["replay", "--watch"],
@@ -58,7 +67,14 @@ const NO_COMMANDS: [&[&str]; 40] = [
     &["make", "x", "3"],
     &["make", "", "3"],
     &["run"],
-    &["drill", "7", "3"],
+    &["run", "--json"],
+    &["drill"],
+    &["drill", "7"],
+    &["drill", "7", "3", "1"],
+    &["drill", "7", "3", "--json"],
+    &["drill", "7", "0"],
+    &["drill", "7", "10001"],
+    &["drill", "7", "+1"],
     &["check"],
     &["compare", "1", "1"],
     &["7", "make", "3"],

@@ -3,10 +3,10 @@ use Rattle.hs_cli.specs.Messages.{usage_text}
 use Rattle.hs_cli.proofs.EndingLemmas.{worded, finished_usage}
 use Rattle.hs_cli.proofs.top.call.Goals as goal
 
-pub returns-in-Ok-Some : goal.returns-in-Ok-Some
-returns-in-Ok-Some g c =
-    worded c.in-Ok-Some.command _ _ _ _ _ _ _ _ (map (λ word. string_bytes word) c.args.words.now) (sym c.in-Ok-Some.ensures.is ∙ c.in-Ok-Some.field-0-is) c.run.result c.run.ensures
+pub returns-in-Ok-Some-clause-ends : goal.returns-in-Ok-Some-clause-ends
+returns-in-Ok-Some-clause-ends g c =
+    worded c.in-Ok-Some.command _ _ _ _ _ _ _ _ (map (λ word. string_bytes word) c.args.words.now) (sym c.in-Ok-Some.ensures.is ∙ c.in-Ok-Some.field-0-is) c.run.result c.run.ensures.ends
 
-pub returns-in-Ok-None : goal.returns-in-Ok-None
-returns-in-Ok-None g c =
+pub returns-in-Ok-None-clause-ends : goal.returns-in-Ok-None-clause-ends
+returns-in-Ok-None-clause-ends g c =
     finished_usage (map (λ word. string_bytes word) c.args.words.now) _ _ _ _ _ _ c.finish.result usage_text (sym c.in-Ok-None.ensures.is ∙ c.in-Ok-None.field-0-is, refl, refl) c.finish.ensures

@@ -2,4 +2,4 @@ use Rattle.hs_cli.proofs.Completion.{completed}
 use Rattle.hs_cli.proofs.top.hindsight.Goals as goal
 
 pub returns-clause-complete : goal.returns-clause-complete
-returns-clause-complete g c command W is will due steady still = completed _ _ _ _ _ _ _ _ _ c.one_workload_a_text.ensures.once command W is will due steady still c.call.result c.call.ensures
+returns-clause-complete g c command W is will steady still = completed _ _ _ _ _ _ _ _ _ command W is will steady still c.call.result c.call.ensures.ends

@@ -12,4 +12,5 @@ returns-clause-does c =
     let s = c.self.inside in
     let new : Live = live_of (record { writer = s.writer; autos = s.autos; crumbs = c.send.new.self; triggers = s.triggers }) in
     subst (λ (old : Live). Does (LeaveCrumb c.args.node) Done old new) c.self.view_is
-    (crumb_done c.args.node c.in-Some.trace (live_of s) c.send.new.self (sym c.trace.ensures ∙ c.in-Some.is) c.send.ensures.sent)
+    (crumb_done (record { numbered = c.one_operation_more.ensures.numbered; crumbs = c.one_operation_more.ensures.crumbs; triggers = c.one_operation_more.ensures.triggers })
+    c.args.node c.in-Some.trace (live_of s) c.send.new.self (sym c.trace.ensures ∙ c.in-Some.is) c.send.ensures.sent)

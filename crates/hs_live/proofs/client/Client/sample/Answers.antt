@@ -25,7 +25,8 @@ returns-in-Quiet-clause-does c =
     let autos = lent items now place c.sample.new.self in
     let new : Live = live_of (record { writer = s.writer; autos = record { items = autos; room = s.autos.room }; crumbs = s.crumbs; triggers = s.triggers }) in
     subst (λ (old : Live). Does (Sample c.args.moment place c.args.value) Done old new) c.self.view_is
-    (sample_done c.args.moment place c.args.value c.args.trigger c.in-Some.lead (live_of s) x c.sample.new.self Quiet autos s.triggers (sym c.trace.ensures ∙ c.in-Some.is) f.found f.fires
+    (sample_done (record { numbered = c.one_operation_more.ensures.numbered; crumbs = c.one_operation_more.ensures.crumbs; triggers = c.one_operation_more.ensures.triggers })
+    c.args.moment place c.args.value c.args.trigger c.in-Some.lead (live_of s) x c.sample.new.self Quiet autos s.triggers (sym c.trace.ensures ∙ c.in-Some.is) f.found f.fires
     c.in-Quiet.ensures.answer c.sample.ensures.after c.sample.ensures.rule (lent_is items now place c.sample.new.self c.as_mut_slice-autos.ensures.value) (sym (append-nil (sent s.triggers))))
 
 pub returns-in-Quiet-clause-rules : goal.returns-in-Quiet-clause-rules
@@ -51,7 +52,8 @@ returns-in-Fired-clause-does c =
     let autos = lent items now place c.sample.new.self in
     let new : Live = live_of (record { writer = s.writer; autos = record { items = autos; room = s.autos.room }; crumbs = s.crumbs; triggers = c.send.new.self }) in
     subst (λ (old : Live). Does (Sample c.args.moment place c.args.value) Done old new) c.self.view_is
-    (sample_done c.args.moment place c.args.value c.args.trigger c.in-Some.lead (live_of s) x c.sample.new.self (Fired c.in-Fired.laterals) autos c.send.new.self (sym c.trace.ensures ∙ c.in-Some.is) f.found f.fires
+    (sample_done (record { numbered = c.one_operation_more.ensures.numbered; crumbs = c.one_operation_more.ensures.crumbs; triggers = c.one_operation_more.ensures.triggers })
+    c.args.moment place c.args.value c.args.trigger c.in-Some.lead (live_of s) x c.sample.new.self (Fired c.in-Fired.laterals) autos c.send.new.self (sym c.trace.ensures ∙ c.in-Some.is) f.found f.fires
     c.in-Fired.ensures.answer c.sample.ensures.after c.sample.ensures.rule (lent_is items now place c.sample.new.self c.as_mut_slice-autos.ensures.value) c.send.ensures.sent)
 
 pub returns-in-Fired-clause-rules : goal.returns-in-Fired-clause-rules

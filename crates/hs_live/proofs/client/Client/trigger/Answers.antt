@@ -12,4 +12,5 @@ returns-clause-does c =
     let s = c.self.inside in
     let new : Live = live_of (record { writer = s.writer; autos = s.autos; crumbs = s.crumbs; triggers = c.send.new.self }) in
     subst (λ (old : Live). Does (Fire c.args.trigger) Done old new) c.self.view_is
-    (trigger_done c.args.trigger (live_of s) c.send.new.self c.send.ensures.sent)
+    (trigger_done (record { numbered = c.one_operation_more.ensures.numbered; crumbs = c.one_operation_more.ensures.crumbs; triggers = c.one_operation_more.ensures.triggers })
+    c.args.trigger (live_of s) c.send.new.self c.send.ensures.sent)

@@ -1,0 +1,14 @@
+pub mod Nodes
+pub mod Following
+pub mod Passes
+pub mod Clauses
+pub mod Behind
+pub mod Offers
+pub mod Pace
+pub mod Answers
+pub mod Pools
+pub mod Spent
+pub mod Unasked
+pub mod DrawPlaces
+pub mod Unread
+pub mod Counted

@@ -1,0 +1,39 @@
+-- Steps and messages, performed one after another.
+use Rattle.std.proofs.Common.{◌≡◌, ℕ, List, [], ◌∷◌, ◌++◌, refl, sym, ap, ◌∙◌, Option, Some, None, append_assoc, append-nil}
+use Rattle.std.specs.Option.{option_and_then}
+use Rattle.hs_base.specs.declared.ids.NodeId.{NodeId}
+use Rattle.hs_base.specs.declared.told.Ask.{Ask}
+use Rattle.hs_coord.specs.Following.{Message, Messages}
+use Rattle.hs_journal.specs.declared.journal.Step.{Step}
+use Rattle.hs_records.specs.Plain.{PlainSettings}
+use Rattle.hs_lawful.specs.Following.{NodeRun, message_of, ask_by, asks_behind}
+use Rattle.hs_lockstep.specs.Performing.{after_step, after_steps, after_names, StepByStep}
+
+pub steps_on : (settings : PlainSettings) (heard : Messages) (steps more : List Step) (run : NodeRun)
+    → after_steps settings heard (steps ++ more) run ≡ option_and_then (after_steps settings heard more) (after_steps settings heard steps run)
+steps_on settings heard [] more run = refl
+steps_on settings heard (step ∷ steps) more run = on (after_step settings heard step run) (steps_on settings heard steps more)
+  where
+    on : (o : Option NodeRun) → ((next : NodeRun) → after_steps settings heard (steps ++ more) next ≡ option_and_then (after_steps settings heard more) (after_steps settings heard steps next))
+        → option_and_then (after_steps settings heard (steps ++ more)) o ≡ option_and_then (after_steps settings heard more) (option_and_then (after_steps settings heard steps) o)
+    on None each = refl
+    on (Some next) each = each next
+
+names_on : (runs : List NodeRun) (names more : List NodeId) (heard : Messages) → after_names runs (names ++ more) heard ≡ option_and_then (after_names runs more) (after_names runs names heard)
+names_on runs [] more heard = refl
+names_on runs (name ∷ names) more heard = on (message_of runs heard name) (names_on runs names more)
+  where
+    on : (o : Option Message) → ((heard : Messages) → after_names runs (names ++ more) heard ≡ option_and_then (after_names runs more) (after_names runs names heard))
+        → option_and_then (λ m. after_names runs (names ++ more) (heard ++ m ∷ [])) o ≡ option_and_then (after_names runs more) (option_and_then (λ m. after_names runs names (heard ++ m ∷ [])) o)
+    on None each = refl
+    on (Some m) each = each (heard ++ m ∷ [])
+
+asks_on : (node : ℕ) (before heard : Messages) (m : Message) → asks_behind node before (heard ++ m ∷ []) ≡ asks_behind node before heard ++ ask_by node (before ++ heard) m
+asks_on node before [] m = append-nil (ask_by node before m) ∙ ap (λ (b : Messages). ask_by node b m) (sym (append-nil before))
+asks_on node before (x ∷ heard) m =
+    ap (λ (rest : List Ask). ask_by node before x ++ rest) (asks_on node (before ++ x ∷ []) heard m)
+    ∙ ap (λ (b : Messages). ask_by node before x ++ (asks_behind node (before ++ x ∷ []) heard ++ ask_by node b m)) (append_assoc before (x ∷ []) heard)
+    ∙ sym (append_assoc (ask_by node before x) (asks_behind node (before ++ x ∷ []) heard) (ask_by node (before ++ x ∷ heard) m))
+
+pub step_by_step : StepByStep
+step_by_step = record { steps = steps_on; names = names_on; asks = λ node heard m. asks_on node [] heard m }

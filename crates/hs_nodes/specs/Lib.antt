@@ -1,0 +1,13 @@
+pub mod Changing
+pub mod Parts
+pub mod Queues
+pub mod Standing
+pub mod Passing
+pub mod Going
+pub mod Left
+pub mod Making
+pub mod Finishing
+pub mod NodeLayout
+pub mod All
+pub mod Hearing
+pub mod Examples

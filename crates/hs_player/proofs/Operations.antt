@@ -1,0 +1,346 @@
+-- A player that has done some operations does one more.
+use Rattle.std.proofs.Common.{◌≡◌, ℕ, ◌+◌, ◌≤◌, Bool, true, false, List, [], ◌∷◌, ◌++◌, length, reverse, Option, Some, None, IsSome, refl, sym, ap, ap₂, ◌∙◌, subst, arith, append_assoc}
+use Rattle.std.proofs.lemmas.List.{append-nil, reverse-append}
+use Rattle.std.specs.Prelude.{is_some}
+use Rattle.hs_base.specs.declared.ids.TraceId.{TraceId}
+use Rattle.hs_base.specs.declared.ids.NodeId.{NodeId}
+use Rattle.hs_base.specs.declared.told.Crumb.{Crumb}
+use Rattle.hs_base.specs.declared.told.Trigger.{Trigger}
+use Rattle.hs_base.specs.declared.settings.AutoRule.{AutoRule}
+use Rattle.hs_records.specs.Plain.{Operation, Begin, Point, End, Fire, Sample}
+use Rattle.hs_records.specs.Plain as plain
+use Rattle.hs_records.specs.Records.{NumberedOperation, Piece, Segment, numbered_of, open_behind, pieces_until_end, piece_count, record_pieces, segments_from, segments_of}
+use Rattle.hs_auto.specs.Firing as firing
+use Rattle.hs_auto.specs.Watching.{Watch, HasSampled}
+use Rattle.hs_client.specs.Core.{Core, Began, after_step}
+use Rattle.hs_client.specs.Calls.{May}
+use Rattle.hs_pool.specs.Pool.{Pool}
+use Rattle.hs_sent.specs.OneMore.{open_after, next_behind, AreWatching, OneMoreOperation, OneMoreCrumb, OneMoreTrigger}
+use Rattle.hs_sent.specs.SoFar.{has_open_page}
+use Rattle.hs_sent.specs.Sending.{crumb_in, sample_in, samples_of, trigger_in}
+use Rattle.hs_workload.specs.LookBack.{operation_pieces}
+use Rattle.hs_workload.specs.Validity.{client_pieces}
+use Rattle.hs_player.specs.Playing.{Unleased, Working}
+use Rattle.hs_player.specs.Writing.{Made, Writing, IsSound, IsWriting, Records, EndsTrace, coming}
+use Rattle.hs_player.specs.Doing.{Gone, HasDone, Does, writing_of}
+use Rattle.hs_player.proofs.Sound.{sound_began, is_some_true}
+use Rattle.hs_player.proofs.Steps.{began_trace}
+
+-- what is known of one operation more
+pub record OneMore : Type 0 where
+  pub numbered : OneMoreOperation
+  pub crumbs : OneMoreCrumb
+  pub triggers : OneMoreTrigger
+
+-- ---- what is read off the operations
+
+open_more : (trace : Option TraceId) (ops : List Operation) (op : Operation) → open_after trace (ops ++ op ∷ []) ≡ open_behind (open_after trace ops) op
+open_more trace [] op = refl
+open_more trace (first ∷ ops) op = open_more (open_behind trace first) ops op
+
+page_more : (page : Bool) (ops : List Operation) (op : Operation) → has_open_page page (ops ++ op ∷ []) ≡ has_open_page (has_open_page page ops) (op ∷ [])
+page_more page [] op = refl
+page_more page (Begin trace ∷ ops) op = page_more false ops op
+page_more page (Point moment payload ∷ ops) op = page_more true ops op
+page_more page (plain.Crumb node ∷ ops) op = page_more page ops op
+page_more page (End ∷ ops) op = page_more false ops op
+page_more page (Fire trigger ∷ ops) op = page_more page ops op
+page_more page (Sample moment auto value ∷ ops) op = page_more page ops op
+
+pub pieces_more : (size : ℕ) (ops : List Operation) (op : Operation) → client_pieces size (ops ++ op ∷ []) ≡ client_pieces size ops + operation_pieces size op
+pieces_more size [] op = omega arith
+pieces_more size (first ∷ ops) op = let rest = pieces_more size ops op in omega (arith, rest)
+
+-- the operation behind these, where this trace is open
+abbrev pub at : List Operation → Option TraceId → Operation → NumberedOperation
+at ops trace op = record { number = length ops; trace = trace; operation = op }
+
+-- ---- one more
+
+abbrev pub Writes : Made → List Unleased → List Operation → List Operation → Working → Type 0
+Writes made gone all rest works =
+    IsWriting made gone (coming made.size works.core.number works.core.trace rest) (segments_from made.size works.core.number rest) (segments_of made.size all) (writing_of works)
+
+pub record DoesNow (made : Made) (ops : List Operation) (gone : Gone) (op : Operation) (old new : Working) : Type 0 where
+  pub writes : (rest : List Operation) → Writes made gone.chunks (ops ++ op ∷ rest) rest new
+  pub size : new.core.size ≡ old.core.size
+  pub calls : new.core.calls ≡ old.core.calls
+  pub counted : new.core.counted ≤ old.core.counted + operation_pieces made.size op
+  pub trace : new.core.trace ≡ open_behind old.core.trace op
+  pub page : is_some new.core.current ≡ has_open_page (is_some old.core.current) (op ∷ [])
+  pub sound : IsSound new.core
+  pub crumbs : new.crumbs ≡ old.crumbs ++ crumb_in old.core.trace op
+  pub triggers : new.triggers ≡ old.triggers ++ trigger_in made.autos (reverse (numbered_of ops)) old.core.trace op
+  pub autos : AreWatching made.autos (at ops old.core.trace op ∷ reverse (numbered_of ops)) new.autos
+
+pub done_now : OneMore → (made : Made) (ops : List Operation) (gone : Gone) (op : Operation) (old new : Working) → HasDone made ops gone old → DoesNow made ops gone op old new → HasDone made (ops ++ op ∷ []) gone new
+done_now laws made ops gone op old new h d =
+    let earlier : reverse (numbered_of (ops ++ op ∷ [])) ≡ next_behind ops op ∷ reverse (numbered_of ops) = ap reverse (laws.numbered ops op) ∙ reverse-append (numbered_of ops) (next_behind ops op ∷ []) in
+    record {
+      writes = λ rest. subst (λ (all : List Operation). Writes made gone.chunks all rest new) (sym (append_assoc ops (op ∷ []) rest)) (d.writes rest);
+      size = d.size ∙ h.size;
+      calls = d.calls ∙ h.calls;
+      counted = omega (arith, d.counted, h.counted, pieces_more made.size ops op);
+      trace = d.trace ∙ ap (λ (trace : Option TraceId). open_behind trace op) h.trace ∙ sym (open_more None ops op);
+      page = d.page ∙ ap (λ (page : Bool). has_open_page page (op ∷ [])) h.page ∙ sym (page_more false ops op);
+      sound = d.sound;
+      crumbs =
+          ap (λ (l : List Crumb). gone.crumbs ++ l) d.crumbs ∙ sym (append_assoc gone.crumbs old.crumbs (crumb_in old.core.trace op))
+          ∙ ap₂ (λ (l : List Crumb) (trace : Option TraceId). l ++ crumb_in trace op) h.crumbs h.trace ∙ sym (laws.crumbs ops op);
+      triggers =
+          ap (λ (l : List Trigger). gone.triggers ++ l) d.triggers ∙ sym (append_assoc gone.triggers old.triggers (trigger_in made.autos (reverse (numbered_of ops)) old.core.trace op))
+          ∙ ap₂ (λ (l : List Trigger) (trace : Option TraceId). l ++ trigger_in made.autos (reverse (numbered_of ops)) trace op) h.triggers h.trace ∙ sym (laws.triggers made.autos ops op);
+      autos =
+          subst (λ (earlier : List NumberedOperation). AreWatching made.autos earlier new.autos) (sym earlier)
+          (subst (λ (trace : Option TraceId). AreWatching made.autos (at ops trace op ∷ reverse (numbered_of ops)) new.autos) h.trace d.autos);
+    }
+
+-- ---- operations that no autotrigger sees, and that leave no crumb and fire nothing
+
+pub record IsUnseen (op : Operation) : Type 0 where
+  pub samples : (auto : ℕ) (trace : Option TraceId) → sample_in auto trace op ≡ []
+
+pub unseen : (made : Made) (ops : List Operation) (op : Operation) (trace : Option TraceId) (autos : List Watch) → IsUnseen op → AreWatching made.autos (reverse (numbered_of ops)) autos
+    → AreWatching made.autos (at ops trace op ∷ reverse (numbered_of ops)) autos
+unseen made ops op trace autos hidden w =
+    record {
+      rules_are = w.rules_are;
+      each = λ auto watch found.
+          subst (λ (l : List firing.Sample). HasSampled watch (l ++ samples_of auto (reverse (numbered_of ops)))) (sym (hidden.samples auto trace)) (w.each auto watch found);
+    }
+
+pub none_more : {A : Type 0} (l more : List A) → more ≡ [] → l ≡ l ++ more
+none_more l more none = sym (ap (λ m. l ++ m) none ∙ append-nil l)
+
+-- ---- begin
+
+begin_unseen : (trace : TraceId) → IsUnseen (Begin trace)
+begin_unseen trace = record { samples = none }
+  where
+    none : (auto : ℕ) (found : Option TraceId) → sample_in auto found (Begin trace) ≡ []
+    none auto None = refl
+    none auto (Some other) = refl
+
+begin_no_crumb : (trace : TraceId) (found : Option TraceId) → crumb_in found (Begin trace) ≡ []
+begin_no_crumb trace None = refl
+begin_no_crumb trace (Some other) = refl
+
+begin_no_trigger : (autos : List AutoRule) (earlier : List NumberedOperation) (trace : TraceId) (found : Option TraceId) → trigger_in autos earlier found (Begin trace) ≡ []
+begin_no_trigger autos earlier trace None = refl
+begin_no_trigger autos earlier trace (Some other) = refl
+
+pub begin_done : OneMore → (trace : TraceId) (old : Working) (core : Core (Unit {0})) → IsSound old.core → May old.core (Began trace) → core ≡ after_step old.core (Began trace) → Does (Begin trace) old (record old { core = core })
+begin_done laws trace old core sound may is =
+    subst (λ (c : Core (Unit {0})). Does (Begin trace) old (record old { core = c })) (sym is)
+    (λ made ops gone h.
+    let new : Working = record old { core = after_step old.core (Began trace) } in
+    let none : old.core.trace ≡ None = may.1 in
+    let no_page : old.core.current ≡ None = sound.closed none in
+    done_now laws made ops gone (Begin trace) old new h
+    (record {
+      writes = λ rest.
+          let size = made.size in
+          let number = old.core.number in
+          let segment : Segment = record { trace = trace; pieces = pieces_until_end size number rest } in
+          let first : IsWriting made gone.chunks [] (segment ∷ segments_from size number rest) (segments_of size (ops ++ Begin trace ∷ rest)) (writing_of old) =
+          subst (λ (found : Option TraceId). IsWriting made gone.chunks (coming size number found (Begin trace ∷ rest)) (segments_from size number (Begin trace ∷ rest)) (segments_of size (ops ++ Begin trace ∷ rest)) (writing_of old)) none (h.writes (Begin trace ∷ rest)) in
+          began_trace made gone.chunks (pieces_until_end size number rest) (segments_from size number rest) (segments_of size (ops ++ Begin trace ∷ rest)) (writing_of old) (writing_of new) trace may refl refl first;
+      size = refl;
+      calls = refl;
+      counted = omega arith;
+      trace = refl;
+      page = ap (λ (c : Option _). is_some c) no_page;
+      sound = sound_began old.core trace sound;
+      crumbs = none_more old.crumbs _ (begin_no_crumb trace old.core.trace);
+      triggers = none_more old.triggers _ (begin_no_trigger made.autos (reverse (numbered_of ops)) trace old.core.trace);
+      autos = unseen made ops (Begin trace) old.core.trace old.autos (begin_unseen trace) h.autos;
+    }))
+
+-- ---- point
+
+pub some_trace : (trace : Option TraceId) → IsSome trace → (t : TraceId) × (trace ≡ Some t)
+some_trace None some = absurd cc
+some_trace (Some t) some = (t, refl)
+
+point_no_crumb : (moment : ℕ) (payload : List ℕ) (found : Option TraceId) → crumb_in found (Point moment payload) ≡ []
+point_no_crumb moment payload None = refl
+point_no_crumb moment payload (Some trace) = refl
+
+point_no_trigger : (autos : List AutoRule) (earlier : List NumberedOperation) (moment : ℕ) (payload : List ℕ) (found : Option TraceId) → trigger_in autos earlier found (Point moment payload) ≡ []
+point_no_trigger autos earlier moment payload None = refl
+point_no_trigger autos earlier moment payload (Some trace) = refl
+
+point_unseen : (moment : ℕ) (payload : List ℕ) → IsUnseen (Point moment payload)
+point_unseen moment payload = record { samples = none }
+  where
+    none : (auto : ℕ) (found : Option TraceId) → sample_in auto found (Point moment payload) ≡ []
+    none auto None = refl
+    none auto (Some other) = refl
+
+-- the same client with another core and other chunks
+abbrev pub with_writing : Working → Writing → Working
+with_writing works w = record works { core = w.core; chunks = w.chunks }
+
+pub point_done : OneMore → (moment : ℕ) (payload : List ℕ) (old : Working) (new : Writing) (pool pool' : Pool) → IsSome old.core.trace
+    → Records (piece_count old.core.size (length payload)) (old.core.number + 1) (record_pieces old.core.size old.core.number moment payload) (writing_of old) new pool pool' → Does (Point moment payload) old (with_writing old new)
+point_done laws moment payload old new pool pool' some r = λ made ops gone h.
+    let size = made.size in
+    let op : Operation = Point moment payload in
+    let t = some_trace old.core.trace some in
+    let same : old.core.size ≡ size = h.size in
+    let now : Working = with_writing old new in
+    done_now laws made ops gone op old now h
+    (record {
+      writes = λ rest.
+          let all = segments_of size (ops ++ op ∷ rest) in
+          let later = segments_from size (old.core.number + 1) rest in
+          let first : IsWriting made gone.chunks (record_pieces size old.core.number moment payload ++ pieces_until_end size (old.core.number + 1) rest) later all (writing_of old) =
+          subst (λ (found : Option TraceId). IsWriting made gone.chunks (coming size old.core.number found (op ∷ rest)) later all (writing_of old)) t.1 (h.writes (op ∷ rest)) in
+          let there : IsWriting made gone.chunks (record_pieces old.core.size old.core.number moment payload ++ pieces_until_end size (old.core.number + 1) rest) later all (writing_of old) =
+          subst (λ (n : ℕ). IsWriting made gone.chunks (record_pieces n old.core.number moment payload ++ pieces_until_end size (old.core.number + 1) rest) later all (writing_of old)) (sym same) first in
+          let behind : IsWriting made gone.chunks (pieces_until_end size (old.core.number + 1) rest) later all new = r.written made gone.chunks (pieces_until_end size (old.core.number + 1) rest) later all there in
+          let numbered : IsWriting made gone.chunks (pieces_until_end size new.core.number rest) (segments_from size new.core.number rest) all new =
+          subst (λ (n : ℕ). IsWriting made gone.chunks (pieces_until_end size n rest) (segments_from size n rest) all new) (sym r.number_is) behind in
+          subst (λ (found : Option TraceId). IsWriting made gone.chunks (coming size new.core.number found rest) (segments_from size new.core.number rest) all new) (sym (r.trace_is ∙ t.1)) numbered;
+      size = r.spends.size_is;
+      calls = r.spends.calls_are;
+      counted = subst (λ (n : ℕ). new.core.counted ≤ old.core.counted + piece_count n (length payload)) same r.spends.counted;
+      trace = r.trace_is;
+      page = is_some_true new.core.current r.page;
+      sound = r.sound;
+      crumbs = none_more old.crumbs _ (point_no_crumb moment payload old.core.trace);
+      triggers = none_more old.triggers _ (point_no_trigger made.autos (reverse (numbered_of ops)) moment payload old.core.trace);
+      autos = unseen made ops op old.core.trace old.autos (point_unseen moment payload) h.autos;
+    })
+
+-- ---- end
+
+end_no_crumb : (found : Option TraceId) → crumb_in found End ≡ []
+end_no_crumb None = refl
+end_no_crumb (Some trace) = refl
+
+end_no_trigger : (autos : List AutoRule) (earlier : List NumberedOperation) (found : Option TraceId) → trigger_in autos earlier found End ≡ []
+end_no_trigger autos earlier None = refl
+end_no_trigger autos earlier (Some trace) = refl
+
+end_unseen : IsUnseen End
+end_unseen = record { samples = none }
+  where
+    none : (auto : ℕ) (found : Option TraceId) → sample_in auto found End ≡ []
+    none auto None = refl
+    none auto (Some other) = refl
+
+pub end_done : OneMore → (old : Working) (new : Writing) → IsSome old.core.trace → EndsTrace (writing_of old) new → Does End old (with_writing old new)
+end_done laws old new some e = λ made ops gone h.
+    let size = made.size in
+    let t = some_trace old.core.trace some in
+    let now : Working = with_writing old new in
+    done_now laws made ops gone End old now h
+    (record {
+      writes = λ rest.
+          let all = segments_of size (ops ++ End ∷ rest) in
+          let later = segments_from size old.core.number rest in
+          let first : IsWriting made gone.chunks [] later all (writing_of old) =
+          subst (λ (found : Option TraceId). IsWriting made gone.chunks (coming size old.core.number found (End ∷ rest)) later all (writing_of old)) t.1 (h.writes (End ∷ rest)) in
+          let behind : IsWriting made gone.chunks [] later all new = e.written made gone.chunks later all first in
+          let numbered : IsWriting made gone.chunks [] (segments_from size new.core.number rest) all new = subst (λ (n : ℕ). IsWriting made gone.chunks [] (segments_from size n rest) all new) (sym e.number_is) behind in
+          subst (λ (found : Option TraceId). IsWriting made gone.chunks (coming size new.core.number found rest) (segments_from size new.core.number rest) all new) (sym e.trace_is) numbered;
+      size = e.spends.size_is;
+      calls = e.spends.calls_are;
+      counted = omega (arith, e.spends.counted);
+      trace = e.trace_is;
+      page = ap (λ (c : Option _). is_some c) e.page;
+      sound = e.sound;
+      crumbs = none_more old.crumbs _ (end_no_crumb old.core.trace);
+      triggers = none_more old.triggers _ (end_no_trigger made.autos (reverse (numbered_of ops)) old.core.trace);
+      autos = unseen made ops End old.core.trace old.autos end_unseen h.autos;
+    })
+
+-- ---- operations that record nothing
+
+-- the core is the same, and nothing comes that was not coming
+pub record IsApart (op : Operation) : Type 0 where
+  pub comes : (size number : ℕ) (found : Option TraceId) (rest : List Operation) → coming size number found (op ∷ rest) ≡ coming size number found rest
+  pub later : (size number : ℕ) (rest : List Operation) → segments_from size number (op ∷ rest) ≡ segments_from size number rest
+
+pub apart_writes : (made : Made) (ops : List Operation) (gone : Gone) (op : Operation) (old : Working) → IsApart op → HasDone made ops gone old → (rest : List Operation)
+    → IsWriting made gone.chunks (coming made.size old.core.number old.core.trace rest) (segments_from made.size old.core.number rest) (segments_of made.size (ops ++ op ∷ rest)) (writing_of old)
+apart_writes made ops gone op old apart h rest =
+    let all = segments_of made.size (ops ++ op ∷ rest) in
+    let first = subst (λ (pieces : List Piece). IsWriting made gone.chunks pieces (segments_from made.size old.core.number (op ∷ rest)) all (writing_of old)) (apart.comes made.size old.core.number old.core.trace rest) (h.writes (op ∷ rest)) in
+    subst (λ (later : List Segment). IsWriting made gone.chunks (coming made.size old.core.number old.core.trace rest) later all (writing_of old)) (apart.later made.size old.core.number rest) first
+
+crumb_apart : (node : NodeId) → IsApart (plain.Crumb node)
+crumb_apart node = record { comes = same; later = λ size number rest. refl }
+  where
+    same : (size number : ℕ) (found : Option TraceId) (rest : List Operation) → coming size number found (plain.Crumb node ∷ rest) ≡ coming size number found rest
+    same size number None rest = refl
+    same size number (Some trace) rest = refl
+
+crumb_no_trigger : (autos : List AutoRule) (earlier : List NumberedOperation) (node : NodeId) (found : Option TraceId) → trigger_in autos earlier found (plain.Crumb node) ≡ []
+crumb_no_trigger autos earlier node None = refl
+crumb_no_trigger autos earlier node (Some trace) = refl
+
+crumb_unseen : (node : NodeId) → IsUnseen (plain.Crumb node)
+crumb_unseen node = record { samples = none }
+  where
+    none : (auto : ℕ) (found : Option TraceId) → sample_in auto found (plain.Crumb node) ≡ []
+    none auto None = refl
+    none auto (Some other) = refl
+
+pub crumb_done : OneMore → (node : NodeId) (trace : TraceId) (old : Working) (crumbs : List Crumb) → old.core.trace ≡ Some trace → crumbs ≡ old.crumbs ++ record { trace = trace; node = node } ∷ []
+    → Does (plain.Crumb node) old (record old { crumbs = crumbs })
+crumb_done laws node trace old crumbs some sends = λ made ops gone h.
+    let op : Operation = plain.Crumb node in
+    done_now laws made ops gone op old (record old { crumbs = crumbs }) h
+    (record {
+      writes = λ rest. apart_writes made ops gone op old (crumb_apart node) h rest;
+      size = refl;
+      calls = refl;
+      counted = omega arith;
+      trace = refl;
+      page = refl;
+      sound = h.sound;
+      crumbs = sends ∙ ap (λ (found : Option TraceId). old.crumbs ++ crumb_in found op) (sym some);
+      triggers = none_more old.triggers _ (crumb_no_trigger made.autos (reverse (numbered_of ops)) node old.core.trace);
+      autos = unseen made ops op old.core.trace old.autos (crumb_unseen node) h.autos;
+    })
+
+fire_apart : (trigger : Trigger) → IsApart (Fire trigger)
+fire_apart trigger = record { comes = same; later = λ size number rest. refl }
+  where
+    same : (size number : ℕ) (found : Option TraceId) (rest : List Operation) → coming size number found (Fire trigger ∷ rest) ≡ coming size number found rest
+    same size number None rest = refl
+    same size number (Some trace) rest = refl
+
+fire_no_crumb : (trigger : Trigger) (found : Option TraceId) → crumb_in found (Fire trigger) ≡ []
+fire_no_crumb trigger None = refl
+fire_no_crumb trigger (Some trace) = refl
+
+trigger_of_fire : (autos : List AutoRule) (earlier : List NumberedOperation) (trigger : Trigger) (found : Option TraceId) → trigger ∷ [] ≡ trigger_in autos earlier found (Fire trigger)
+trigger_of_fire autos earlier trigger None = refl
+trigger_of_fire autos earlier trigger (Some trace) = refl
+
+fire_unseen : (trigger : Trigger) → IsUnseen (Fire trigger)
+fire_unseen trigger = record { samples = none }
+  where
+    none : (auto : ℕ) (found : Option TraceId) → sample_in auto found (Fire trigger) ≡ []
+    none auto None = refl
+    none auto (Some other) = refl
+
+pub trigger_done : OneMore → (trigger : Trigger) (old : Working) (triggers : List Trigger) → triggers ≡ old.triggers ++ trigger ∷ [] → Does (Fire trigger) old (record old { triggers = triggers })
+trigger_done laws trigger old triggers sends = λ made ops gone h.
+    let op : Operation = Fire trigger in
+    done_now laws made ops gone op old (record old { triggers = triggers }) h
+    (record {
+      writes = λ rest. apart_writes made ops gone op old (fire_apart trigger) h rest;
+      size = refl;
+      calls = refl;
+      counted = omega arith;
+      trace = refl;
+      page = refl;
+      sound = h.sound;
+      crumbs = none_more old.crumbs _ (fire_no_crumb trigger old.core.trace);
+      triggers = sends ∙ ap (λ (l : List Trigger). old.triggers ++ l) (trigger_of_fire made.autos (reverse (numbered_of ops)) trigger old.core.trace);
+      autos = unseen made ops op old.core.trace old.autos (fire_unseen trigger) h.autos;
+    })

@@ -1,0 +1,10 @@
+use Rattle.std.proofs.Common.{length}
+use Rattle.hs_player.specs.Inside.{writing_in}
+use Rattle.hs_player.proofs.Cuts.{IsCutTo}
+use Rattle.hs_player.proofs.writer.Writer.point.Given as goal
+
+abbrev pub invariant-loop-rest : goal.invariant-loop-rest
+invariant-loop-rest l = IsCutTo l.moment l.payload l.rest (writing_in l.initial.self) (writing_in l.self) l.initial.pool l.pool
+
+abbrev pub decreases-loop-rest : goal.decreases-loop-rest
+decreases-loop-rest l = length l.rest

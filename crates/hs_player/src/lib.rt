@@ -1,0 +1,11 @@
+//! A client of a replay on one thread: it does the operations of its list, draws buffers from its node's pool, and keeps what it
+//! sends until its agent takes it (`docs/RULES.md`, "What clients send").
+#![tactic(auto)]
+
+mod doing;
+mod laws;
+mod player;
+mod writer;
+
+pub use laws::valid_clients_may_be_played;
+pub use player::Player;

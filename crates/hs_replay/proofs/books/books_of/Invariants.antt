@@ -1,0 +1,19 @@
+use Rattle.std.proofs.Common.{◌≡◌, ℕ, ◌*◌, length, map, take}
+use Rattle.std.specs.List.{range_with_len}
+use Rattle.hs_coord.specs.Kept.{Kept}
+use Rattle.hs_journal.specs.Books.{agent_book_of, client_book_of}
+use Rattle.hs_lawful.specs.Following.{followed}
+use Rattle.hs_outcome.specs.Outcomes.{client_book}
+use Rattle.hs_records.specs.Plain.{PlainWorkload}
+use Rattle.hs_nodes.specs.All.{AllClosed}
+use Rattle.hs_lawful.specs.Following.{NodeRun}
+use Rattle.hs_model.specs.Books.{book_of}
+use Rattle.hs_replay.proofs.books.books_of.Given as goal
+
+abbrev pub invariant-loop-node : goal.invariant-loop-node
+invariant-loop-node l =
+    (goal.iterator-loop-node).can_next l.node-iterator ×
+    (goal.iterator-loop-node).is_finite l.node-iterator ×
+    ((W : PlainWorkload) (coordinator : Kept) (closed : AllClosed W l.fn.nodes.items coordinator)
+    → (map client_book_of l.clients.items ≡ map (client_book W closed.last.journal) (range_with_len 0 (length l.yielded * W.settings.clients)))
+    × (map agent_book_of l.agents.items ≡ map (λ (node : NodeRun). book_of node.node node.state) (take (length l.yielded) (followed W closed.last.journal).nodes)))

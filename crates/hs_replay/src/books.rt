@@ -1,0 +1,35 @@
+//! What clients and agents noted.
+
+ghost use Rattle.std.specs.Prelude.{IfOk};
+ghost use Rattle.hs_coord.specs.Kept.{Kept};
+ghost use Rattle.hs_records.specs.Plain.{PlainWorkload};
+ghost use Rattle.hs_nodes.specs.All.{AllClosed};
+ghost use Rattle.hs_replay.specs.Noted.{AreNoted};
+
+use hs_base::{List, Memory};
+use hs_journal::{AgentBook, ClientBook};
+use hs_lockstep::laws::machines_are_whole;
+use hs_nodes::Node;
+use std::alloc::Global;
+
+/// The books of all clients, in the order of node and number, and those of all agents, in the order of node.
+#[derive(Drop)]
+pub(crate) struct Noted {
+    pub(crate) clients: List<ClientBook>,
+    pub(crate) agents: List<AgentBook>,
+}
+
+/// The books of all nodes, where the schedule has ended.
+pub(crate) fn books_of(alloc: Global, nodes: List<Node>) -> Result<Noted, Memory>
+    requires { (W : PlainWorkload) × (coordinator : Kept) × AllClosed W nodes.items coordinator }
+    ensures { (W : PlainWorkload) (coordinator : Kept) → AllClosed W nodes.items coordinator → IfOk result (λ noted. AreNoted W noted) }
+{
+    machines_are_whole();
+    let mut clients = List::new(alloc);
+    let mut agents = List::new(alloc);
+    for node in nodes.into_vec() {
+        let book = node.finish(&mut clients)?;
+        agents.append(book)?;
+    }
+    Ok(Noted { clients, agents })
+}

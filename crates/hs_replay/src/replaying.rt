@@ -1,0 +1,49 @@
+//! The replay.
+
+ghost use Rattle.std.specs.Prelude.{IfOk};
+ghost use Rattle.hs_lockstep.specs.Lockstep.{lockstep};
+ghost use Rattle.hs_report.specs.Outcomes.{AreBooksOf, IsOutcome};
+ghost use Rattle.hs_workload.specs.Validity.{IsValid};
+ghost use Rattle.hs_workload.specs.Views.{workload_of};
+
+use crate::books::{Noted, books_of};
+use hs_base::{List, Memory};
+use hs_lockstep::laws::{machines_are_whole, schedule_is_lawful};
+use hs_nodes::{close, make_coordinator, make_nodes, rounds};
+use hs_report::{Books, Outcome, gather};
+use hs_workload::Workload;
+use std::alloc::Global;
+
+/// Replays a workload by the lockstep schedule, and answers what it comes to. The one error is want of memory.
+pub fn replay(alloc: Global, workload: &Workload) -> Result<Outcome, Memory>
+    requires { IsValid (workload_of workload.now) }
+    ensures { IfOk result (λ outcome. IsOutcome (workload_of workload.now) (lockstep (workload_of workload.now)) outcome) }
+{
+    let books = play(alloc, workload)?;
+    gather(alloc, books)
+}
+
+/// Plays the schedule to its end, and answers what all noted.
+fn play(alloc: Global, workload: &Workload) -> Result<Books, Memory>
+    requires { IsValid (workload_of workload.now) }
+    ensures { IfOk result (λ books. AreBooksOf (workload_of workload.now) (lockstep (workload_of workload.now)) books) }
+{
+    machines_are_whole();
+    schedule_is_lawful();
+    let mut nodes = make_nodes(alloc, workload)?;
+    let mut coordinator = make_coordinator(alloc, &nodes, workload)?;
+    rounds(&mut coordinator, &mut nodes, workload)?;
+    close(&mut coordinator, &mut nodes, workload)?;
+    let mut told = List::new(alloc);
+    told.append_slice(coordinator.log().as_slice())?;
+    let noted = books_of(alloc, nodes)?;
+    let Noted { clients, agents } = noted;
+    Ok(Books {
+        version: workload.version,
+        nodes: workload.settings.nodes,
+        each: workload.settings.clients,
+        clients,
+        agents,
+        told,
+    })
+}

@@ -1,0 +1,81 @@
+-- Entries that are sorted by trace: those of a trace stand together, in the order that they had.
+use Rattle.std.proofs.Common.{◌≡◌, ℕ, suc, ◌+◌, ◌<◌, ◌≤◌, Bool, true, false, cond, not, ◌||◌, eqb, ltb, leb, List, [], ◌∷◌, ◌++◌, length, get_or, take, drop, sym, ap, ◌∙◌, refl, append-nil, length-drop, arith}
+use Rattle.std.specs.List.{filter, list_any}
+use Rattle.std.specs.List.Sorted.{ties, IsStableByKey, IsPartitionPoint}
+use Rattle.std.specs.Ordering.{nat_cmp, is_lt}
+use Rattle.std.proofs.lemmas.Bool.Decides.{nat_tests}
+use Rattle.std.proofs.lemmas.List.{get_or-take, get_or-drop, length-take, take-append-drop}
+use Rattle.std.proofs.lemmas.List.Elements.{filter-append}
+use Rattle.hs_base.specs.declared.ids.TraceId.{TraceId}
+use Rattle.hs_ledger.specs.declared.ledger.Entry.{Entry}
+use Rattle.hs_outcome.specs.Reports.{is_of}
+use Rattle.hs_report.proofs.Stable.{stable_keeps}
+
+abbrev pub number_of : Entry → ℕ
+number_of entry = entry.trace.0
+
+tie : (trace : TraceId) (x y : Entry) → is_of trace x ≡ true → is_of trace y ≡ true → ties (λ a b. is_lt (nat_cmp a.trace.0 b.trace.0)) x y ≡ true
+tie trace x y p q = grind (arith, nat_tests)
+
+pub same_of_trace : (trace : TraceId) (xs ys : List Entry) → IsStableByKey (λ (entry : Entry). entry.trace.0) nat_cmp xs ys → filter (is_of trace) ys ≡ filter (is_of trace) xs
+same_of_trace trace xs ys stable = stable_keeps (λ (a b : Entry). is_lt (nat_cmp a.trace.0 b.trace.0)) (is_of trace) xs ys (tie trace) stable
+
+-- ---- the entries of a trace
+
+pub filter_whole : {X : Type 0} (test : X → Bool) (xs : List X) → ((k : ℕ) (d : X) → k < length xs → test (get_or xs k d) ≡ true) → filter test xs ≡ xs
+filter_whole test [] all = refl
+filter_whole test (x ∷ xs) all =
+    ap (λ t. cond t (x ∷ filter test xs) (filter test xs)) (all 0 x (omega arith)) ∙ ap (λ t. x ∷ t) (filter_whole test xs (λ k d lt. all (suc k) d (omega arith)))
+
+pub filter_nothing : {X : Type 0} (test : X → Bool) (xs : List X) → ((k : ℕ) (d : X) → k < length xs → test (get_or xs k d) ≡ false) → filter test xs ≡ []
+filter_nothing test [] all = refl
+filter_nothing test (x ∷ xs) all =
+    ap (λ t. cond t (x ∷ filter test xs) (filter test xs)) (all 0 x (omega arith)) ∙ filter_nothing test xs (λ k d lt. all (suc k) d (omega arith))
+
+-- the test of a trace is false below it, and above it
+below : (trace : TraceId) (entry : Entry) → ltb entry.trace.0 trace.0 ≡ true → is_of trace entry ≡ false
+below trace entry p = grind (arith, nat_tests)
+
+above : (trace : TraceId) (entry : Entry) → leb entry.trace.0 trace.0 ≡ false → is_of trace entry ≡ false
+above trace entry p = grind (arith, nat_tests)
+
+here : (trace : TraceId) (entry : Entry) → ltb entry.trace.0 trace.0 ≡ false → leb entry.trace.0 trace.0 ≡ true → is_of trace entry ≡ true
+here trace entry p q = grind (arith, nat_tests)
+
+abbrev pub Splits : (Entry → Bool) → List Entry → ℕ → Type 0
+Splits test xs i = IsPartitionPoint (λ (y : Entry). test y ≡ true) (λ (y : Entry). test y ≡ false) xs i
+
+-- what lies between the place of the first entry that is not below the trace, and that of the first one above it
+pub between : (trace : TraceId) (xs rest : List Entry) (start count : ℕ) → start ≤ length xs → rest ≡ drop start xs → count ≤ length rest
+    → Splits (λ (y : Entry). ltb y.trace.0 trace.0) xs start → Splits (λ (y : Entry). leb y.trace.0 trace.0) rest count → take count rest ≡ filter (is_of trace) xs
+between trace xs rest start count le is least split more =
+    let front : filter (is_of trace) (take start xs) ≡ [] =
+    filter_nothing (is_of trace) (take start xs) (λ k d lt.
+    let inside : k < start = omega (arith, length-take start xs) in
+    below trace (get_or (take start xs) k d) (ap (λ (e : Entry). ltb e.trace.0 trace.0) (get_or-take start xs k d inside) ∙ split.0 k d (omega arith) inside)) in
+    let middle : filter (is_of trace) (take count rest) ≡ take count rest =
+    filter_whole (is_of trace) (take count rest) (λ k d lt.
+    let inside : k < count = omega (arith, length-take count rest) in
+    let same = get_or-take count rest k d inside in
+    let far : get_or rest k d ≡ get_or xs (start + k) d = ap (λ (es : List Entry). get_or es k d) is ∙ get_or-drop start xs k d in
+    here trace (get_or (take count rest) k d)
+    (ap (λ (e : Entry). ltb e.trace.0 trace.0) (same ∙ far) ∙ split.1 (start + k) d (omega arith) (omega (arith, ap length is, length-drop start xs)))
+    (ap (λ (e : Entry). leb e.trace.0 trace.0) same ∙ more.0 k d (omega arith) inside)) in
+    let back : filter (is_of trace) (drop count rest) ≡ [] =
+    filter_nothing (is_of trace) (drop count rest) (λ k d lt.
+    let inside : count + k < length rest = omega (arith, length-drop count rest) in
+    above trace (get_or (drop count rest) k d) (ap (λ (e : Entry). leb e.trace.0 trace.0) (get_or-drop count rest k d) ∙ more.1 (count + k) d (omega arith) inside)) in
+    let both : filter (is_of trace) rest ≡ take count rest =
+    ap (filter (is_of trace)) (sym (take-append-drop count rest)) ∙ filter-append (is_of trace) (take count rest) (drop count rest) ∙ ap (λ t. filter (is_of trace) (take count rest) ++ t) back
+    ∙ append-nil (filter (is_of trace) (take count rest)) ∙ middle in
+    sym both ∙ ap (filter (is_of trace)) is ∙ ap (λ t. t ++ filter (is_of trace) (drop start xs)) (sym front) ∙ sym (filter-append (is_of trace) (take start xs) (drop start xs))
+    ∙ ap (filter (is_of trace)) (take-append-drop start xs)
+
+-- a filter keeps something exactly where something passes
+any_more : {X : Type 0} (test : X → Bool) (x : X) (xs : List X) (t : Bool) → not (eqb (length (filter test xs)) 0) ≡ list_any test xs → not (eqb (length (cond t (x ∷ filter test xs) (filter test xs))) 0) ≡ (t || list_any test xs)
+any_more test x xs true rest = grind arith
+any_more test x xs false rest = rest
+
+pub any_filtered : {X : Type 0} (test : X → Bool) (xs : List X) → not (eqb (length (filter test xs)) 0) ≡ list_any test xs
+any_filtered test [] = refl
+any_filtered test (x ∷ xs) = any_more test x xs (test x) (any_filtered test xs)

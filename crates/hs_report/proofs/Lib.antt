@@ -1,0 +1,17 @@
+pub mod Basics
+pub mod Stable
+pub mod LedgerLines
+pub mod Loops
+pub mod Plain
+pub mod Spelled
+pub mod Claimed
+pub mod ByTrace
+pub mod Ids
+pub mod Sent
+pub mod Reports
+pub mod Runs
+pub mod Adding
+pub mod Shapes
+pub mod Written
+pub mod Journals
+pub mod Fitting

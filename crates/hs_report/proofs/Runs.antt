@@ -1,0 +1,102 @@
+-- Pages that are sorted by trace and client keep the order of the pages of each client and trace.
+use Rattle.std.proofs.Common.{◌≡◌, ℕ, ◌<◌, Bool, true, false, cond, not, ◌&&◌, eqb, List, [], ◌∷◌, length, get_or, set, map, sym, ap, ◌∙◌, refl, subst, arith}
+use Rattle.std.specs.List.{AllByRecursion, All, filter, swap}
+use Rattle.std.specs.List.Sorted.{IsPermutation, IsStableBy, ties}
+use Rattle.std.proofs.lemmas.Bool.Decides.{nat_tests}
+use Rattle.std.proofs.lemmas.List.Elements.{All-from_recursion, recursion_from_All, All-filter}
+use Rattle.std.proofs.lemmas.List.{map-set, get_or-map, length-map}
+use Rattle.std.proofs.lemmas.List.Sorted.{All-permutation, IsPermutation-swap, IsPermutation-keeps, IsPermutation-map}
+use Rattle.hs_base.specs.declared.ids.ClientId.{ClientId}
+use Rattle.hs_base.specs.declared.ids.TraceId.{TraceId}
+use Rattle.hs_collect.specs.Collected.{is_by}
+use Rattle.hs_words.specs.Pages.{Sheet, IsPage, page_bytes}
+use Rattle.hs_report.specs.declared.pages.Reported.{Reported}
+use Rattle.hs_report.specs.Pages.{Sheets, Note, AreNotesOf, Sorted, note_of, noted}
+use Rattle.hs_report.proofs.Stable.{stable_keeps}
+
+-- pages have bytes of their own
+abbrev pub HaveOwnBytes : Type 0
+HaveOwnBytes = (a b : Sheet) → IsPage a → IsPage b → page_bytes a ≡ page_bytes b → a ≡ b
+
+-- whether a note is one of this client and trace
+abbrev of_run : ClientId → TraceId → Note → Bool
+of_run client trace note = eqb note.client.node client.node && eqb note.client.number client.number && eqb note.trace.0 trace.0
+
+-- the pages are decided by their notes
+by_notes : HaveOwnBytes → (xs ys : Sheets) → AllByRecursion IsPage xs → AllByRecursion IsPage ys → map note_of xs ≡ map note_of ys → xs ≡ ys
+by_notes own [] [] p q e = refl
+by_notes own [] (y ∷ ys) p q e = absurd cc
+by_notes own (x ∷ xs) [] p q e = absurd cc
+by_notes own (x ∷ xs) (y ∷ ys) p q e =
+    let first : note_of x ≡ note_of y = cc in
+    let rest : map note_of xs ≡ map note_of ys = cc in
+    let head = own x y p.0 q.0 (ap (λ (n : Note). n.bytes) first) in
+    ap (λ z. z ∷ xs) head ∙ ap (λ zs. y ∷ zs) (by_notes own xs ys p.1 q.1 rest)
+
+-- what is true of elements, by what they are mapped to
+along_more : {X Y : Type 0} (f : X → Y) (x : X) (front rest : List Y) (more : List X) (t : Bool) → front ≡ map f more → cond t (f x ∷ front) front ≡ map f (cond t (x ∷ more) more)
+along_more f x front rest more true is = ap (λ z. f x ∷ z) is
+along_more f x front rest more false is = is
+
+filter_along : {X Y : Type 0} (f : X → Y) (test : Y → Bool) (xs : List X) → filter test (map f xs) ≡ map f (filter (λ x. test (f x)) xs)
+filter_along f test [] = refl
+filter_along f test (x ∷ xs) = along_more f x (filter test (map f xs)) [] (filter (λ y. test (f y)) xs) (test (f x)) (filter_along f test xs)
+
+-- ---- the pages of sorted notes
+
+swap_along : {X Y : Type 0} (f : X → Y) (xs : List X) (i j : ℕ) → i < length xs → j < length xs → map f (swap xs i j) ≡ swap (map f xs) i j
+swap_along f [] i j p q = absurd (omega arith)
+swap_along f (d ∷ ys) i j p q =
+    map-set f (set (d ∷ ys) i (get_or (d ∷ ys) j d)) j (get_or (d ∷ ys) i d) ∙ ap (λ l. set l j (f (get_or (d ∷ ys) i d))) (map-set f (d ∷ ys) i (get_or (d ∷ ys) j d))
+    ∙ ap (λ z. set (set (map f (d ∷ ys)) i z) j (f (get_or (d ∷ ys) i d))) (sym (get_or-map f (d ∷ ys) j d (f d) q)) ∙ ap (λ z. set (set (map f (d ∷ ys)) i (get_or (map f (d ∷ ys)) j (f d))) j z) (sym (get_or-map f (d ∷ ys) i d (f d) p))
+
+-- pages for notes in another order
+record PagesFor (notes : List Note) : Type 0 where
+  pub sheets : Sheets
+  pub valid : All IsPage sheets
+  pub are : notes ≡ map note_of sheets
+
+swapped : (notes : List Note) (i j : ℕ) → i < length notes → j < length notes → PagesFor notes → PagesFor (swap notes i j)
+swapped notes i j p q pages =
+    let n = ap length pages.are ∙ length-map pages.sheets note_of in
+    record {
+      sheets = swap pages.sheets i j;
+      valid = All-permutation IsPage pages.sheets (swap pages.sheets i j) (IsPermutation-swap pages.sheets (swap pages.sheets i j) i j (omega arith) (omega arith) refl) pages.valid;
+      are = ap (λ (ns : List Note). swap ns i j) pages.are ∙ sym (swap_along note_of pages.sheets i j (omega arith) (omega arith));
+    }
+
+pages_for : (sheets : Sheets) (notes : List Note) → AllByRecursion IsPage sheets → IsPermutation (map note_of sheets) notes → PagesFor notes
+pages_for sheets notes valid perm =
+    IsPermutation-keeps (map note_of sheets) PagesFor (record { sheets = sheets; valid = All-from_recursion IsPage sheets valid; are = refl }) swapped notes perm
+
+-- a test that tells no pages of one client and trace apart
+abbrev pub TellsNoRun : (Reported → Reported → Bool) → Type 0
+TellsNoRun lt = (x y : Reported) → x.client ≡ y.client → x.trace ≡ y.trace → lt x y ≡ false
+
+same_run : (lt : Reported → Reported → Bool) (client : ClientId) (trace : TraceId) → TellsNoRun lt → (x y : Reported) → of_run client trace (noted x) ≡ true → of_run client trace (noted y) ≡ true → ties lt x y ≡ true
+same_run lt client trace tells x y p q =
+    let number : x.client.number ≡ y.client.number = grind (arith, nat_tests) in
+    let node : x.client.node ≡ y.client.node = grind (arith, nat_tests) in
+    let of_trace : x.trace.0 ≡ y.trace.0 = grind (arith, nat_tests) in
+    let clients : x.client ≡ y.client = ap (λ n. record { node = n; number = x.client.number }) node ∙ ap (λ n. record { node = y.client.node; number = n }) number in
+    let traces : x.trace ≡ y.trace = ap (λ n. record { 0 = n }) of_trace in
+    ap (λ a. not a && not (lt y x)) (tells x y clients traces) ∙ ap not (tells y x (sym clients) (sym traces))
+
+-- sorted pages keep their runs
+pub runs_kept : (lt : Reported → Reported → Bool) (sheets : Sheets) (pages sorted : List Reported) → AreNotesOf sheets pages → IsPermutation pages sorted → IsStableBy lt pages sorted → HaveOwnBytes → TellsNoRun lt
+    → Sorted sheets sorted
+runs_kept lt sheets pages sorted notes perm stable own tells =
+    let made = pages_for sheets (map noted sorted) notes.valid (subst (λ (ns : List Note). IsPermutation ns (map noted sorted)) notes.are (IsPermutation-map noted pages sorted perm)) in
+    let valid = recursion_from_All IsPage made.sheets made.valid in
+    record {
+      others = made.sheets;
+      notes = record { valid = valid; are = made.are };
+      kept = λ client trace.
+          let test = of_run client trace in
+          by_notes own (filter (is_by client trace) sheets) (filter (is_by client trace) made.sheets)
+          (recursion_from_All IsPage _ (All-filter (is_by client trace) IsPage sheets (All-from_recursion IsPage sheets notes.valid)))
+          (recursion_from_All IsPage _ (All-filter (is_by client trace) IsPage made.sheets made.valid))
+          (sym (filter_along note_of test sheets) ∙ ap (filter test) (sym notes.are) ∙ filter_along noted test pages
+          ∙ ap (map noted) (sym (stable_keeps lt (λ (x : Reported). test (noted x)) pages sorted (same_run lt client trace tells) stable))
+          ∙ sym (filter_along noted test sorted) ∙ ap (filter test) made.are ∙ filter_along note_of test made.sheets);
+    }

@@ -1,0 +1,49 @@
+use Rattle.std.proofs.Common.{◌≤◌, ◌^◌, List, length, map, ap, sym, ◌∙◌, subst, arith}
+use Rattle.hs_journal.specs.Books.{PlainClientBook, PlainAgentBook, agent_book_of}
+use Rattle.hs_ledger.specs.Books.{BooksFit}
+use Rattle.hs_ledger.specs.Fates.{entries_of}
+use Rattle.hs_ledger.specs.Totals.{totals_of}
+use Rattle.hs_outcome.specs.Outcomes.{rising_traces, outcome_of, client_books}
+use Rattle.hs_outcome.specs.Records.{all_records}
+use Rattle.hs_report.specs.Claims.{all_claimed}
+use Rattle.hs_report.specs.Pages.{SpellAll, all_sent}
+use Rattle.hs_report.proofs.Journals.{journal_is, claimed_are, sent_are}
+use Rattle.hs_report.proofs.Shapes.{ends_its_traces}
+use Rattle.hs_report.proofs.gathering.gather.Goals as goal
+
+pub make_ledger-requires : goal.make_ledger-requires
+make_ledger-requires c =
+    let W = c.requires.0 in
+    let J = c.requires.1 in
+    let are = c.requires.2 in
+    let fit = c.books_fit.ensures W J (ends_its_traces W are.valid) are.valid.count are.lawful (c.records_are_few.ensures W are.valid) in
+    subst (λ (clients : List PlainClientBook). BooksFit clients (map agent_book_of c.args.books.agents.items)) (sym are.clients) (subst (λ (agents : List PlainAgentBook). BooksFit (client_books W J) agents) (sym are.agents) fit)
+
+pub collected-requires : goal.collected-requires
+collected-requires c =
+    let W = c.requires.0 in
+    let J = c.requires.1 in
+    let are = c.requires.2 in
+    let few : length (all_records W) ≤ 2 ^ 32 = omega (arith, c.records_are_few.ensures W are.valid) in (
+      (outcome_of W J).reported,
+      record { valid = c.reported_pages_are_pages.ensures W J are.valid; are = ap all_sent c.as_slice-2.ensures ∙ sent_are W J c.args.books are },
+      λ others kept. (c.reported_pages_can_be_collected.ensures W J others (ends_its_traces W are.valid) are.valid.count are.lawful few kept).added,
+    )
+
+pub returns : goal.returns
+returns c = λ W J are.
+    let few : length (all_records W) ≤ 2 ^ 32 = omega (arith, c.records_are_few.ensures W are.valid) in
+    let spelled : SpellAll (outcome_of W J).reported (all_sent c.as_slice-2.result.now) =
+    record { valid = c.reported_pages_are_pages.ensures W J are.valid; are = ap all_sent c.as_slice-2.ensures ∙ sent_are W J c.args.books are } in
+    let has = c.in_ok-collector.ensures (outcome_of W J).reported spelled (λ others kept. (c.reported_pages_can_be_collected.ensures W J others (ends_its_traces W are.valid) are.valid.count are.lawful few kept).added) in
+    let entries = ap (λ (clients : List PlainClientBook). entries_of clients (map agent_book_of c.args.books.agents.items)) are.clients ∙ ap (λ (agents : List PlainAgentBook). entries_of (client_books W J) agents) are.agents in
+    record {
+      version = are.version;
+      journal = c.in_ok-journal.ensures ∙ journal_is c.following_plays_out.ensures c.runs_are_of_the_journal.ensures W J c.args.books are;
+      entries = c.in_ok-ledger.ensures.entries ∙ entries;
+      totals = c.in_ok-ledger.ensures.totals ∙ ap totals_of entries;
+      claimed = c.in_ok-claimed.ensures ∙ ap rising_traces (ap all_claimed c.as_slice.ensures ∙ claimed_are W J c.args.books are);
+      sheets = has.others;
+      kept = has.kept;
+      collected = has.collected;
+    }

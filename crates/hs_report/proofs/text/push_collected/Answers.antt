@@ -1,0 +1,20 @@
+use Rattle.std.proofs.Common.{◌++◌, map, ap, sym, ◌∙◌, append-nil}
+use Rattle.std.proofs.lemmas.Result.{on_ok_weaker}
+use Rattle.hs_collect.specs.Views.{placed_of}
+use Rattle.hs_outcome.specs.CollectedReports.{reported_wholes}
+use Rattle.hs_outcome.specs.OutcomeText.{placed_line}
+use Rattle.hs_text.specs.Text.{text_of}
+use Rattle.hs_report.proofs.Reports.{none_shown}
+use Rattle.hs_report.proofs.text.push_collected.Goals as goal
+
+pub returns-in-Some : goal.returns-in-Some
+returns-in-Some c =
+    on_ok_weaker c.push_records.result
+    (λ written entries records hold. written entries hold.are
+    ∙ ap (λ t. c.args.out.now.items ++ text_of (map placed_line t))
+    (ap (λ t. reported_wholes entries (map placed_of t)) c.as_slice.ensures ∙ hold.show c.args.trace _ (c.in-Some.ensures hold.sheets hold.collected).1))
+    c.push_records.ensures
+
+pub returns-in-None : goal.returns-in-None
+returns-in-None c = λ entries records hold.
+    sym (ap (λ t. c.args.out.now.items ++ text_of (map placed_line t)) (none_shown entries records c.args.fates.now c.args.collector.now c.args.trace hold c.in-None.ensures) ∙ append-nil c.args.out.now.items)

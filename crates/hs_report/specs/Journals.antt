@@ -1,0 +1,16 @@
+-- The journal that books have.
+use Rattle.std.specs.Prelude.{map}
+use Rattle.hs_journal.specs.declared.books.AgentBook.{AgentBook}
+use Rattle.hs_journal.specs.declared.books.ClientBook.{ClientBook}
+use Rattle.hs_journal.specs.Views.{PlainJournal}
+use Rattle.hs_report.specs.declared.outcome.Books.{Books}
+
+abbrev pub journal_by : Books → PlainJournal
+journal_by books =
+    record {
+      nodes = books.nodes;
+      clients = books.each;
+      draws = map (λ (book : ClientBook). book.draws.items) books.clients.items;
+      logs = map (λ (book : AgentBook). book.log.items) books.agents.items;
+      told = books.told.items;
+    }
