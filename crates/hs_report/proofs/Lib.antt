@@ -9,6 +9,7 @@ pub mod ByTrace
 pub mod Ids
 pub mod Sent
 pub mod Reports
+pub mod Ordered
 pub mod Runs
 pub mod Adding
 pub mod Shapes

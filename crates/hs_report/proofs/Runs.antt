@@ -1,7 +1,7 @@
 -- Pages that are sorted by trace and client keep the order of the pages of each client and trace.
 use Rattle.std.proofs.Common.{◌≡◌, ℕ, ◌<◌, Bool, true, false, cond, not, ◌&&◌, eqb, List, [], ◌∷◌, length, get_or, set, map, sym, ap, ◌∙◌, refl, subst, arith}
 use Rattle.std.specs.List.{AllByRecursion, All, filter, swap}
-use Rattle.std.specs.List.Sorted.{IsPermutation, IsStableBy, ties}
+use Rattle.std.specs.List.Sorted.{IsPermutation, IsSortedBy, IsStableBy, ties}
 use Rattle.std.proofs.lemmas.Bool.Decides.{nat_tests}
 use Rattle.std.proofs.lemmas.List.Elements.{All-from_recursion, recursion_from_All, All-filter}
 use Rattle.std.proofs.lemmas.List.{map-set, get_or-map, length-map}
@@ -12,6 +12,7 @@ use Rattle.hs_collect.specs.Collected.{is_by}
 use Rattle.hs_words.specs.Pages.{Sheet, IsPage, page_bytes}
 use Rattle.hs_report.specs.declared.pages.Reported.{Reported}
 use Rattle.hs_report.specs.Pages.{Sheets, Note, AreNotesOf, Sorted, note_of, noted}
+use Rattle.hs_report.proofs.Ordered.{OrdersRuns, pages_sorted}
 use Rattle.hs_report.proofs.Stable.{stable_keeps}
 
 -- pages have bytes of their own
@@ -83,20 +84,24 @@ same_run lt client trace tells x y p q =
     ap (λ a. not a && not (lt y x)) (tells x y clients traces) ∙ ap not (tells y x (sym clients) (sym traces))
 
 -- sorted pages keep their runs
-pub runs_kept : (lt : Reported → Reported → Bool) (sheets : Sheets) (pages sorted : List Reported) → AreNotesOf sheets pages → IsPermutation pages sorted → IsStableBy lt pages sorted → HaveOwnBytes → TellsNoRun lt
-    → Sorted sheets sorted
-runs_kept lt sheets pages sorted notes perm stable own tells =
+pub runs_kept : (lt : Reported → Reported → Bool) (sheets : Sheets) (pages sorted : List Reported) → AreNotesOf sheets pages → IsPermutation pages sorted → IsStableBy lt pages sorted → IsSortedBy lt sorted → HaveOwnBytes
+    → TellsNoRun lt → OrdersRuns lt → Sorted sheets sorted
+runs_kept lt sheets pages sorted notes perm stable up own tells orders =
     let made = pages_for sheets (map noted sorted) notes.valid (subst (λ (ns : List Note). IsPermutation ns (map noted sorted)) notes.are (IsPermutation-map noted pages sorted perm)) in
     let valid = recursion_from_All IsPage made.sheets made.valid in
     record {
       others = made.sheets;
       notes = record { valid = valid; are = made.are };
-      kept = λ client trace.
-          let test = of_run client trace in
-          by_notes own (filter (is_by client trace) sheets) (filter (is_by client trace) made.sheets)
-          (recursion_from_All IsPage _ (All-filter (is_by client trace) IsPage sheets (All-from_recursion IsPage sheets notes.valid)))
-          (recursion_from_All IsPage _ (All-filter (is_by client trace) IsPage made.sheets made.valid))
-          (sym (filter_along note_of test sheets) ∙ ap (filter test) (sym notes.are) ∙ filter_along noted test pages
-          ∙ ap (map noted) (sym (stable_keeps lt (λ (x : Reported). test (noted x)) pages sorted (same_run lt client trace tells) stable))
-          ∙ sym (filter_along noted test sorted) ∙ ap (filter test) made.are ∙ filter_along note_of test made.sheets);
+      order =
+          record {
+            kept = λ client trace.
+                let test = of_run client trace in
+                by_notes own (filter (is_by client trace) sheets) (filter (is_by client trace) made.sheets)
+                (recursion_from_All IsPage _ (All-filter (is_by client trace) IsPage sheets (All-from_recursion IsPage sheets notes.valid)))
+                (recursion_from_All IsPage _ (All-filter (is_by client trace) IsPage made.sheets made.valid))
+                (sym (filter_along note_of test sheets) ∙ ap (filter test) (sym notes.are) ∙ filter_along noted test pages
+                ∙ ap (map noted) (sym (stable_keeps lt (λ (x : Reported). test (noted x)) pages sorted (same_run lt client trace tells) stable))
+                ∙ sym (filter_along noted test sorted) ∙ ap (filter test) made.are ∙ filter_along note_of test made.sheets);
+            ordered = pages_sorted lt sorted made.sheets orders made.are up;
+          };
     }

@@ -33,7 +33,7 @@ hold whole W J outcome fates valid lawful is are =
       sheets = is.sheets;
       collected = is.collected;
       show = λ trace wholes all.
-          ap (λ entries. reported_wholes entries wholes) is.entries ∙ whole W J is.sheets trace wholes (ends_its_traces W valid) valid.count lawful is.kept all
+          ap (λ entries. reported_wholes entries wholes) is.entries ∙ whole W J is.sheets trace wholes (ends_its_traces W valid) valid.count lawful is.order.kept all
           ∙ ap (λ entries. records_by W entries trace) (sym is.entries);
     }
 

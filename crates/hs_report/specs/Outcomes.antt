@@ -1,7 +1,7 @@
--- When books are those of a workload and a journal, and when an outcome is what these come to. The collector has the reported
--- pages, in an order that keeps that of the pages of each client and trace.
+-- When books are those of a workload and a journal, and when an outcome is what these come to. The collector was given
+-- the reported pages by trace and client, those of each client and trace as they were reported.
 use Rattle.std.specs.Prelude.{◌≡◌, List, map}
-use Rattle.hs_collect.specs.Collected.{AreCollected, KeepsRuns}
+use Rattle.hs_collect.specs.Collected.{AreCollected}
 use Rattle.hs_journal.specs.Books.{client_book_of, agent_book_of}
 use Rattle.hs_journal.specs.Views.{PlainJournal, journal_of}
 use Rattle.hs_lawful.specs.Following.{followed}
@@ -13,6 +13,7 @@ use Rattle.hs_words.specs.Pages.{Sheet}
 use Rattle.hs_workload.specs.Validity.{IsValid}
 use Rattle.hs_report.specs.declared.outcome.Books.{Books}
 use Rattle.hs_report.specs.declared.outcome.Outcome.{Outcome}
+use Rattle.hs_report.specs.Pages.{InOrder}
 
 -- These books were noted where the journal came about, which is lawful for the workload.
 pub record AreBooksOf (W : PlainWorkload) (J : PlainJournal) (books : Books) : Type 0 where
@@ -33,5 +34,5 @@ pub record IsOutcome (W : PlainWorkload) (J : PlainJournal) (outcome : Outcome) 
   pub totals : outcome.ledger.totals ≡ totals_of (outcome_of W J).entries
   pub claimed : outcome.claimed.items ≡ (outcome_of W J).claimed
   pub sheets : List Sheet
-  pub kept : KeepsRuns (outcome_of W J).reported sheets
+  pub order : InOrder (outcome_of W J).reported sheets
   pub collected : AreCollected sheets outcome.collector

@@ -44,6 +44,6 @@ returns c = λ W J are.
       totals = c.in_ok-ledger.ensures.totals ∙ ap totals_of entries;
       claimed = c.in_ok-claimed.ensures ∙ ap rising_traces (ap all_claimed c.as_slice.ensures ∙ claimed_are W J c.args.books are);
       sheets = has.others;
-      kept = has.kept;
+      order = has.order;
       collected = has.collected;
     }

@@ -8,5 +8,5 @@ returns c =
     IfOk-weaker c.collect.result _ _
     (λ collector has sheets spelled can.
     let sorted = c.in_ok-sort_pages.ensures sheets (c.in_ok-pages.ensures sheets spelled) in
-    record { others = sorted.others; kept = sorted.kept; collected = has sorted.others (subst (AreNotesOf sorted.others) (sym c.as_slice.ensures.value) sorted.notes) (can sorted.others sorted.kept) })
+    record { others = sorted.others; order = sorted.order; collected = has sorted.others (subst (AreNotesOf sorted.others) (sym c.as_slice.ensures.value) sorted.notes) (can sorted.others sorted.order.kept) })
     c.collect.ensures

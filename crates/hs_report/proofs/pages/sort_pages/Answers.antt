@@ -13,4 +13,6 @@ key_of page = (page.trace, page.client)
 pub returns : goal.returns
 returns c = λ sheets notes.
     let stable = c.in_ok-sort_by_key.ensures.stable key_of (always_returns_same _ _ _ (λ a r q k. search rules)) in
-    runs_kept _ sheets c.args.pages.now.items c.sort_by_key.new.self.items notes c.in_ok-sort_by_key.ensures.permutation stable c.pages_have_bytes_of_their_own.ensures (λ x y p q. grind (arith, nat_tests))
+    let sorted = c.in_ok-sort_by_key.ensures.sorted key_of (always_returns_same _ _ _ (λ a r q k. search rules)) in
+    runs_kept _ sheets c.args.pages.now.items c.sort_by_key.new.self.items notes c.in_ok-sort_by_key.ensures.permutation stable sorted c.pages_have_bytes_of_their_own.ensures (λ x y p q. grind (arith, nat_tests))
+    (λ x y. grind (arith, nat_tests))
