@@ -57,15 +57,15 @@ module _ (buffer : ℕ) where
   waits_back queue back = let both = sum_by-append (λ (b : ℕ). one (eqb b buffer)) queue (back ∷ []) in omega (arith, both)
 
   -- what waits and what was got is what was there and what was given
-  record IsEven (n : ℕ) (events : List Event) : Type 0 where
-    even : waits (queue_after n events) + gots events ≡ gives events + waits (range_with_len 0 n)
-    behind : gives events ≤ gots events
+  pub record IsEven (n : ℕ) (events : List Event) : Type 0 where
+    pub even : waits (queue_after n events) + gots events ≡ gives events + waits (range_with_len 0 n)
+    pub behind : gives events ≤ gots events
 
   given_behind : (b : Bool) (given got : ℕ) → (b ≡ true → given < got) → given ≤ got → one b + given ≤ got
   given_behind true given got less low = let here = less refl in omega (arith, here)
   given_behind false given got less low = omega (arith, low)
 
-  evens : (n : ℕ) (events : List Event) → IsHistoryBack n events → IsEven n events
+  pub evens : (n : ℕ) (events : List Event) → IsHistoryBack n events → IsEven n events
   evens n [] h = record { even = omega arith; behind = omega arith }
   evens n (Got front ∷ events) h =
       let e = evens n events h.0 in
@@ -129,7 +129,7 @@ module _ (buffer : ℕ) where
       omega (arith, first, case)
 
 -- backwards, the counts are the same
-count_back : (p : Event → Bool) (events : List Event) → count_by p (reverse events) ≡ count_by p events
+pub count_back : (p : Event → Bool) (events : List Event) → count_by p (reverse events) ≡ count_by p events
 count_back p events = sum_by-IsPermutation (λ (e : Event). one (p e)) events (reverse events) (IsPermutation-reverse events)
 
 pub no_buffer_is_out_twice : NoBufferIsOutTwice

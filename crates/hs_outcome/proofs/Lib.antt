@@ -8,6 +8,8 @@ pub mod Buffers
 pub mod Sheets
 pub mod Origins
 pub mod Stamps
+pub mod ByStamp
+pub mod PoolCounts
 pub mod Claimed
 pub mod LetGo
 pub mod DrawnChunks
@@ -21,3 +23,5 @@ pub mod WhollyReported
 pub mod Among
 pub mod RecordPieces
 pub mod CollectedReports
+pub mod Named
+pub mod Readable

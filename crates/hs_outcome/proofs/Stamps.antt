@@ -34,16 +34,16 @@ use Rattle.hs_outcome.specs.Records.{EndsItsTraces}
 use Rattle.hs_outcome.proofs.Entries.{shape_counts, same_length, ends_at}
 use Rattle.hs_outcome.proofs.Lists.{and_parts, some_same, all_at, map_flat}
 
-abbrev one : Bool → ℕ
+abbrev pub one : Bool → ℕ
 one b = cond b 1 0
 
 -- ---- counts
 
 module _ {X : Type 0} (p : X → Bool) where
-  count_cons : (x : X) (xs : List X) → count_by p (x ∷ xs) ≡ one (p x) + count_by p xs
+  pub count_cons : (x : X) (xs : List X) → count_by p (x ∷ xs) ≡ one (p x) + count_by p xs
   count_cons x xs = sum_by-cons (λ (x : X). one (p x)) x xs
 
-  count_both : (xs ys : List X) → count_by p (xs ++ ys) ≡ count_by p xs + count_by p ys
+  pub count_both : (xs ys : List X) → count_by p (xs ++ ys) ≡ count_by p xs + count_by p ys
   count_both xs ys = sum_by-append (λ (x : X). one (p x)) xs ys
 
   count_most : (xs : List X) → count_by p xs ≤ length xs
@@ -59,14 +59,14 @@ module _ {X : Type 0} (p : X → Bool) where
   full_case x xs false e h few = absurd (omega (arith, h, few))
 
   -- where the count is the length, each passes
-  count_full : (xs : List X) → count_by p xs ≡ length xs → AllByRecursion (λ x. p x ≡ true) xs
+  pub count_full : (xs : List X) → count_by p xs ≡ length xs → AllByRecursion (λ x. p x ≡ true) xs
   count_full [] h = tt
   count_full (x ∷ xs) h =
       let first = count_cons x xs in
       let case = full_case x xs (p x) refl (sym first ∙ h) (count_most xs) in
       (case.0, count_full xs case.1)
 
-count_true : {X : Type 0} (xs : List X) → count_by (λ (_ : X). true) xs ≡ length xs
+pub count_true : {X : Type 0} (xs : List X) → count_by (λ (_ : X). true) xs ≡ length xs
 count_true [] = refl
 count_true {X = X} (x ∷ xs) = let first = count_cons (λ (_ : X). true) x xs in let rest = count_true xs in omega (arith, first, rest)
 
@@ -75,7 +75,7 @@ count_true {X = X} (x ∷ xs) = let first = count_cons (λ (_ : X). true) x xs i
 abbrev at : ℕ → ℕ → Bool
 at s t = eqb t s
 
-below_case : (x n : ℕ) (a b c : Bool) → ltb x (n + 1) ≡ a → ltb x n ≡ b → eqb x n ≡ c → one a ≡ one b + one c
+pub below_case : (x n : ℕ) (a b c : Bool) → ltb x (n + 1) ≡ a → ltb x n ≡ b → eqb x n ≡ c → one a ≡ one b + one c
 below_case x n true true true e f g = let low = ltb-true x n f in let same = eqb-true x n g in absurd (omega (arith, low, same))
 below_case x n true true false e f g = refl
 below_case x n true false true e f g = refl
@@ -129,10 +129,16 @@ from_numbered p start (suc count) h s low high =
     let both = and_parts (p start) (list_all p (range_with_len (start + 1) count)) h in
     from_case p start s (eq-or-lt_of_le low) both.0 (λ more. from_numbered p (start + 1) count both.1 s (omega (arith, more)) (omega (arith, high)))
 
+-- stamps that are numbered are below their count
+pub numbered_low : (stamps : List ℕ) → are_numbered stamps ≡ true → AllByRecursion (λ s. ltb s (length stamps) ≡ true) stamps
+numbered_low stamps h =
+    count_full (λ s. ltb s (length stamps)) stamps
+    (all_below (length stamps) stamps (λ s low. eqb-true (count_by (at s) stamps) 1 (from_numbered (λ s. nat_eq (count_by (λ t. eqb t s) stamps) 1) 0 (length stamps) h s (omega arith) (omega (arith, low)))))
+
 -- ---- the item of a stamp
 
 module _ {A : Type 0} (stamp : A → ℕ) where
-  abbrev with_stamp : List A → ℕ → List A
+  abbrev pub with_stamp : List A → ℕ → List A
   with_stamp items s = filter (λ (item : A). eqb (stamp item) s) items
 
   -- as many items have a stamp as it is counted
@@ -186,7 +192,7 @@ module _ {A : Type 0} (stamp : A → ℕ) where
       let rest = ones items (start + 1) count (λ s low high. each s (omega (arith, low)) (omega (arith, high))) in
       omega (arith, both, here, rest)
 
-  range_split : (start a b : ℕ) → range_with_len start (a + suc b) ≡ range_with_len start a ++ (start + a) ∷ range_with_len (start + a + 1) b
+  pub range_split : (start a b : ℕ) → range_with_len start (a + suc b) ≡ range_with_len start a ++ (start + a) ∷ range_with_len (start + a + 1) b
   range_split start zero b =
       let same : 0 + suc b ≡ suc b = omega arith in
       let here : start ≡ start + 0 = omega arith in
@@ -197,7 +203,7 @@ module _ {A : Type 0} (stamp : A → ℕ) where
       ap (range_with_len start) same ∙ ap (λ (rest : List ℕ). start ∷ rest) (range_split (start + 1) a b)
       ∙ ap (λ (n : ℕ). start ∷ (range_with_len (start + 1) a ++ n ∷ range_with_len (n + 1) b)) here
 
-  flat_both : (f : ℕ → List A) (xs ys : List ℕ) → flat_map f (xs ++ ys) ≡ flat_map f xs ++ flat_map f ys
+  pub flat_both : (f : ℕ → List A) (xs ys : List ℕ) → flat_map f (xs ++ ys) ≡ flat_map f xs ++ flat_map f ys
   flat_both f [] ys = refl
   flat_both f (x ∷ xs) ys = ap (λ (rest : List A). f x ++ rest) (flat_both f xs ys) ∙ sym (append_assoc (f x) (flat_map f xs) (flat_map f ys))
 
@@ -229,13 +235,18 @@ module _ {A : Type 0} (stamp : A → ℕ) where
 
 -- ---- the stamps of a node
 
-drawn_stamps : (client : ClientId) (k : ℕ) (timed : List TimedPage) (draws : List Draw) → length timed ≡ length draws
-    → map (λ (e : PoolEvent). e.stamp) (map drawn_event (drawn_from client k timed draws)) ≡ draw_stamps draws
-drawn_stamps client k [] [] same = refl
-drawn_stamps client k [] (draw ∷ draws) same = let no : 0 ≡ suc (length draws) = same in absurd (omega (arith, no))
-drawn_stamps client k (page ∷ timed) [] same = let no : suc (length timed) ≡ 0 = same in absurd (omega (arith, no))
-drawn_stamps client k (page ∷ timed) (draw ∷ draws) same =
-    let tails : suc (length timed) ≡ suc (length draws) = same in ap (λ (rest : List ℕ). stamp_of draw ∷ rest) (drawn_stamps client (k + 1) timed draws (omega (arith, tails)))
+-- pages stand beside these draws
+drawn_draws : (client : ClientId) (k : ℕ) (timed : List TimedPage) (draws : List Draw) → length timed ≡ length draws → map (λ (d : DrawnPage). d.draw) (drawn_from client k timed draws) ≡ draws
+drawn_draws client k [] [] same = refl
+drawn_draws client k [] (draw ∷ draws) same = let no : 0 ≡ suc (length draws) = same in absurd (omega (arith, no))
+drawn_draws client k (page ∷ timed) [] same = let no : suc (length timed) ≡ 0 = same in absurd (omega (arith, no))
+drawn_draws client k (page ∷ timed) (draw ∷ draws) same =
+    let tails : suc (length timed) ≡ suc (length draws) = same in ap (λ (rest : List Draw). draw ∷ rest) (drawn_draws client (k + 1) timed draws (omega (arith, tails)))
+
+-- so that is where their stamps are from
+stamps_drawn : (pages : List DrawnPage) → map (λ (e : PoolEvent). e.stamp) (map drawn_event pages) ≡ draw_stamps (map (λ (d : DrawnPage). d.draw) pages)
+stamps_drawn [] = refl
+stamps_drawn (page ∷ pages) = ap (λ (rest : List ℕ). stamp_of page.draw ∷ rest) (stamps_drawn pages)
 
 abbrev missed_stamps : List Step → List ℕ
 missed_stamps log = map (λ (e : PoolEvent). e.stamp) (filter_map missed_event log)
@@ -300,7 +311,7 @@ in_range start zero i n h = let no : None ≡ Some n = h in absurd cc
 in_range start (suc count) zero n h = let same = some_same start n h in omega (arith, same)
 in_range start (suc count) (suc i) n h = let rest = in_range (start + 1) count i n h in omega (arith, rest)
 
-module _ (plays : FollowingPlaysOut) (runs : RunsAreOfTheJournal) (given_noted : GivesAreNoted) (timed : TimedPagesAreThePages) (empties : EmptyOnlyWhereEmpty) (W : PlainWorkload) (J : PlainJournal) (ends : EndsItsTraces W) (lawful : IsLawful W J) where
+module _ (plays : FollowingPlaysOut) (runs : RunsAreOfTheJournal) (given_noted : GivesAreNoted) (timed : TimedPagesAreThePages) (W : PlainWorkload) (J : PlainJournal) (ends : EndsItsTraces W) (lawful : IsLawful W J) where
   abbrev all_run : Run
   all_run = followed W J
 
@@ -308,7 +319,7 @@ module _ (plays : FollowingPlaysOut) (runs : RunsAreOfTheJournal) (given_noted :
     own : IsOfJournal W J run
     own = all_at (IsOfJournal W J) all_run.nodes i run (runs W J all_run (plays W J).leads).each stands
 
-    number_below : run.node < W.settings.nodes
+    pub number_below : run.node < W.settings.nodes
     number_below =
         let found : slice_get (range_with_len 0 W.settings.nodes) i ≡ Some run.node =
         ap (λ ns. slice_get ns i) (sym (runs W J all_run (plays W J).leads).numbers) ∙ slice_get-map (λ (n : NodeRun). n.node) all_run.nodes i ∙ ap (option_map (λ (n : NodeRun). n.node)) stands
@@ -321,24 +332,26 @@ module _ (plays : FollowingPlaysOut) (runs : RunsAreOfTheJournal) (given_noted :
         let through = all_at (λ (n : NodeRun). nat_eq (length n.left) 0 ≡ true) all_run.nodes i run (passed (λ (node : NodeRun). nat_eq (length node.left) 0) all_run.nodes over.0) stands in
         sym (append-nil run.state.log) ∙ ap (λ (left : List Step). run.state.log ++ left) (sym (nil_from_length run.left (eqb-true (length run.left) 0 through))) ∙ own.log
 
-    client_stamps : (number : ℕ) → map (λ (e : PoolEvent). e.stamp) (map drawn_event (client_sends W J run.node number).drawn) ≡ draw_stamps (draws_at J (place_of W.settings.clients run.node number))
-    client_stamps number =
+    client_draws : (number : ℕ) → map (λ (d : DrawnPage). d.draw) (client_sends W J run.node number).drawn ≡ draws_at J (place_of W.settings.clients run.node number)
+    client_draws number =
         let place = place_of W.settings.clients run.node number in
         let ops = operations_at W place in
         let pages = timed W.settings.size ops (ends_at W.clients place ends.ends) in
         let drawn = same_length J.draws W.clients W.settings.size place (shape_counts W J lawful.L1) in
-        drawn_stamps (record { node = run.node; number = number }) 0 (timed_pages W.settings.size ops) (draws_at J place)
+        drawn_draws (record { node = run.node; number = number }) 0 (timed_pages W.settings.size ops) (draws_at J place)
         (sym (length-map (timed_pages W.settings.size ops) (λ (p : TimedPage). p.page)) ∙ ap length pages ∙ sym drawn)
 
-    pages_stamps : map (λ (e : PoolEvent). e.stamp) (map drawn_event (node_pages run)) ≡ flat_map draw_stamps (node_draws W J run.node)
-    pages_stamps =
+    pub pages_draws : map (λ (d : DrawnPage). d.draw) (node_pages run) ≡ flat_map (λ (drawn : List Draw). drawn) (node_draws W J run.node)
+    pages_draws =
         let clients = range_with_len 0 W.settings.clients in
-        ap (λ (sends : List ClientSends). map (λ (e : PoolEvent). e.stamp) (map drawn_event (flat_map (λ (s : ClientSends). s.drawn) sends))) own.sends
-        ∙ ap (λ (drawn : List DrawnPage). map (λ (e : PoolEvent). e.stamp) (map drawn_event drawn)) (flat_map-map (λ (s : ClientSends). s.drawn) (client_sends W J run.node) clients)
-        ∙ ap (map (λ (e : PoolEvent). e.stamp)) (map_flat (λ number. (client_sends W J run.node number).drawn) drawn_event clients)
-        ∙ map_flat (λ number. map drawn_event (client_sends W J run.node number).drawn) (λ (e : PoolEvent). e.stamp) clients
-        ∙ flat_each (λ number. map (λ (e : PoolEvent). e.stamp) (map drawn_event (client_sends W J run.node number).drawn)) (λ number. draw_stamps (draws_at J (place_of W.settings.clients run.node number))) clients client_stamps
-        ∙ sym (flat_map-map draw_stamps (λ number. draws_at J (place_of W.settings.clients run.node number)) clients)
+        ap (λ (sends : List ClientSends). map (λ (d : DrawnPage). d.draw) (flat_map (λ (s : ClientSends). s.drawn) sends)) own.sends
+        ∙ ap (map (λ (d : DrawnPage). d.draw)) (flat_map-map (λ (s : ClientSends). s.drawn) (client_sends W J run.node) clients)
+        ∙ map_flat (λ number. (client_sends W J run.node number).drawn) (λ (d : DrawnPage). d.draw) clients
+        ∙ flat_each (λ number. map (λ (d : DrawnPage). d.draw) (client_sends W J run.node number).drawn) (λ number. draws_at J (place_of W.settings.clients run.node number)) clients client_draws
+        ∙ sym (flat_map-map (λ (drawn : List Draw). drawn) (λ number. draws_at J (place_of W.settings.clients run.node number)) clients)
+
+    pages_stamps : map (λ (e : PoolEvent). e.stamp) (map drawn_event (node_pages run)) ≡ flat_map draw_stamps (node_draws W J run.node)
+    pages_stamps = stamps_drawn (node_pages run) ∙ ap draw_stamps pages_draws ∙ map_flat (λ (drawn : List Draw). drawn) stamp_of (node_draws W J run.node)
 
     gives_stamps : map (λ (e : PoolEvent). e.stamp) (filter_map (given_event run) run.state.given) ≡ filter_map given_stamp run.state.log
     gives_stamps =
@@ -364,11 +377,11 @@ module _ (plays : FollowingPlaysOut) (runs : RunsAreOfTheJournal) (given_noted :
         let h = count_both p (flat_map draw_stamps (node_draws W J run.node)) (log_stamps (log_at J run.node)) in
         omega (arith, whole, a, b, c, d, e, f, g, h)
 
-    same_long : length (pool_events run) ≡ length (node_stamps W J run.node)
+    pub same_long : length (pool_events run) ≡ length (node_stamps W J run.node)
     same_long =
         sym (length-map (pool_events run) (λ (e : PoolEvent). e.stamp)) ∙ sym (count_true event_stamps) ∙ same_counts_of (λ (_ : ℕ). true) ∙ count_true (node_stamps W J run.node)
 
-    numbered : are_numbered (node_stamps W J run.node) ≡ true
+    pub numbered : are_numbered (node_stamps W J run.node) ≡ true
     numbered =
         let here = from_numbered (node_has_stamps W J) 0 W.settings.nodes lawful.L2 run.node (omega arith) (omega (arith, below_too)) in
         (and_parts (are_numbered (node_stamps W J run.node)) (list_all (λ draws. rise (draw_stamps draws)) (node_draws W J run.node))
@@ -383,14 +396,14 @@ module _ (plays : FollowingPlaysOut) (runs : RunsAreOfTheJournal) (given_noted :
         let here = from_numbered (λ s. nat_eq (count_by (λ t. eqb t s) (node_stamps W J run.node)) 1) 0 (length (node_stamps W J run.node)) numbered s (omega arith) (omega (arith, low, long)) in
         same_counts_of (at s) ∙ eqb-true (count_by (λ t. eqb t s) (node_stamps W J run.node)) 1 here
 
-    all_low : AllByRecursion (λ s. ltb s (length (pool_events run)) ≡ true) event_stamps
+    pub all_low : AllByRecursion (λ s. ltb s (length (pool_events run)) ≡ true) event_stamps
     all_low =
         count_full (λ s. ltb s (length (pool_events run))) event_stamps
         (all_below (length (pool_events run)) event_stamps each_once ∙ sym (length-map (pool_events run) (λ (e : PoolEvent). e.stamp)))
 
     -- a draw that found nothing, at its place
-    nothing_found : (k : ℕ) (page : DrawnPage) → slice_get (node_pages run) k ≡ Some page → (stamp : ℕ) → page.draw ≡ draws.Empty stamp → FoundNothing W.settings.buffers run stamp
-    nothing_found k page there stamp empty =
+    nothing_found : (empties : EmptyOnlyWhereEmpty) (k : ℕ) (page : DrawnPage) → slice_get (node_pages run) k ≡ Some page → (stamp : ℕ) → page.draw ≡ draws.Empty stamp → FoundNothing W.settings.buffers run stamp
+    nothing_found empties k page there stamp empty =
         let event : drawn_event page ≡ record { stamp = stamp; event = Empty } = ap (λ (d : Draw). record { stamp = stamp_of d; event = event_drawn d }) empty in
         let among_drawn : slice_get (map drawn_event (node_pages run)) k ≡ Some (record { stamp = stamp; event = Empty }) = slice_get-map drawn_event (node_pages run) k ∙ ap (option_map drawn_event) there ∙ ap Some event in
         let stands_there : slice_get (pool_events run) k ≡ Some (record { stamp = stamp; event = Empty }) =
@@ -417,7 +430,7 @@ module _ (plays : FollowingPlaysOut) (runs : RunsAreOfTheJournal) (given_noted :
         get_first (y ∷ xs) ys zero x h = h
         get_first (y ∷ xs) ys (suc place) x h = get_first xs ys place x h
 
-all_places : {X : Type 0} (P : X → Type 0) (xs : List X) → ((i : ℕ) (x : X) → slice_get xs i ≡ Some x → P x) → AllByRecursion P xs
+pub all_places : {X : Type 0} (P : X → Type 0) (xs : List X) → ((i : ℕ) (x : X) → slice_get xs i ≡ Some x → P x) → AllByRecursion P xs
 all_places P [] each = tt
 all_places P (x ∷ xs) each = (each 0 x refl, all_places P xs (λ i y h. each (suc i) y h))
 
@@ -426,4 +439,4 @@ empty_draws_found_nothing plays runs given_noted timed empties W J ends lawful =
     all_places (NullsFoundNothing W) (followed W J).nodes
     (λ i run stands.
     all_places (λ (page : DrawnPage). (stamp : ℕ) → page.draw ≡ draws.Empty stamp → FoundNothing W.settings.buffers run stamp) (node_pages run)
-    (λ k page there. nothing_found plays runs given_noted timed empties W J ends lawful i run stands k page there))
+    (λ k page there. nothing_found plays runs given_noted timed W J ends lawful i run stands empties k page there))

@@ -11,3 +11,4 @@ pub mod Versions
 pub mod Examples
 pub mod TextExamples
 pub mod CollectedReports
+pub mod Readable

@@ -4,6 +4,7 @@ ghost use Rattle.hs_outcome.specs.Records.{EachRecordHasOneEntry, TotalsCountThe
 ghost use Rattle.hs_outcome.specs.Causes.{AgentsKeepTheirModel, EvictedOnlyWhereOver, GivenWereLetGo, NothingClaimedWasEvicted, NoBufferIsOutTwice, EmptyOnlyWhereEmpty};
 ghost use Rattle.hs_outcome.specs.Origins.{EachFateHasItsCause, TakenPagesWereDrawn};
 ghost use Rattle.hs_outcome.specs.Nulls.{EmptyDrawsFoundNothing};
+ghost use Rattle.hs_outcome.specs.Readable.{JournalsHaveTheShape, LawfulJournalsCanBeRead};
 ghost use Rattle.hs_outcome.specs.ClientBooks.{BooksOfClientsFit, StandingsAreOfGotPages};
 ghost use Rattle.hs_outcome.specs.Books.{EachGotPageHasOneStanding, BooksFitTogether};
 ghost use Rattle.hs_outcome.specs.Versions.{VersionsHaveOneOutcome};
@@ -217,4 +218,19 @@ pub fn collected_records_are_whole()
     pieces_join_to_the_payload();
     pieces_are_counted();
     runs_decide_the_records();
+}
+
+/// A journal whose lists are counted as the first clause asks has the shape of its workload.
+pub fn journals_have_the_shape()
+    ensures { JournalsHaveTheShape }
+{}
+
+/// What is written of a lawful journal reads as that journal: all its numbers are in their ranges.
+pub fn lawful_journals_can_be_read()
+    ensures { LawfulJournalsCanBeRead }
+{
+    following_plays_out();
+    runs_are_of_the_journal();
+    gives_are_noted();
+    timed_pages_are_the_pages();
 }
