@@ -11,13 +11,14 @@ use Rattle.hs_base.specs.declared.limits.TheConstants.{MIN_SIZE, MAX_SIZE, MAX_O
 use Rattle.hs_client.specs.Calls.{sheet_for, written}
 use Rattle.hs_outcome.specs.CollectedReports.{IsClientsPage, ReportedPagesAreOfClients}
 use Rattle.hs_outcome.specs.Outcomes.{outcome_of}
+use Rattle.hs_outcome.specs.Readable.{LawfulJournalsCanBeRead}
 use Rattle.hs_records.specs.Records.{AreBracketed}
 use Rattle.hs_sent.specs.Laws.{PagesFit, TimedPagesAreThePages}
 use Rattle.hs_sent.specs.Timing.{TimedPage, timed_pages}
 use Rattle.hs_words.specs.Chunks.{used_of}
 use Rattle.hs_words.specs.Pages.{Sheet, IsPage, FitsPiece}
 use Rattle.hs_workload.specs.declared.word.Setting.TheVariants as settings
-use Rattle.hs_report.specs.Fitting.{ReportedPagesArePages}
+use Rattle.hs_report.specs.Fitting.{ReportedPagesArePages, JournalsCanBeRead}
 use Rattle.hs_report.proofs.Shapes.{ends_its_traces}
 use Rattle.hs_outcome.specs.Records.{all_records, client_records, named_from}
 use Rattle.hs_records.specs.Pages.{PlainPage, first_record, pages_of}
@@ -229,6 +230,15 @@ pages_counted : (traces : ℕ → Option TraceId) (pages : List PlainPage) → A
 pages_counted traces [] all = lit≤ tt
 pages_counted traces (page ∷ pages) all = omega (arith, length-append page.pieces (pieces_on pages), all.0.some, pages_counted traces pages all.1)
 
+-- that pages carry the records, as a law says
+abbrev pub PagesCarry : Type 0
+PagesCarry = (size : ℕ) (ops : List Operation) → MIN_SIZE ≤ size → AreBracketed false ops → CarryRecords (traces_of (records_of ops)) 0 (pages_of size ops) (length (records_of ops))
+
+few_pages : PagesCarry → PagesHoldThePieces → PiecesCounted → (size : ℕ) (ops : List Operation) → MIN_SIZE ≤ size → AreBracketed false ops → length (pages_of size ops) ≤ client_pieces size ops
+few_pages carry hold counted size ops least brackets =
+    let pages = pages_counted (traces_of (records_of ops)) (pages_of size ops) (carry size ops least brackets).each in
+    omega (arith, pages, ap length (hold size ops least brackets), few_pieces_from counted size 0 None ops)
+
 own_pieces : (pages : List PlainPage) (k : ℕ) (page : PlainPage) → AllByRecursion FitsPart (pieces_on pages) → slice_get pages k ≡ Some page → AllByRecursion FitsPart page.pieces
 own_pieces [] k page all is = absurd cc
 own_pieces (p ∷ pages) zero page all is =
@@ -276,7 +286,7 @@ client_fits W place valid =
 
 -- what lower crates say of the pages of a client
 pub record PagesAreMade : Type 0 where
-  pub carry : (size : ℕ) (ops : List Operation) → MIN_SIZE ≤ size → AreBracketed false ops → CarryRecords (traces_of (records_of ops)) 0 (pages_of size ops) (length (records_of ops))
+  pub carry : PagesCarry
   pub hold : PagesHoldThePieces
   pub counted : PiecesCounted
   pub join : PiecesJoin
@@ -310,15 +320,14 @@ clients_page_fits made W valid sheet of =
     subst (AllByRecursion (FitsWithin size)) (made.timed size ops fits.client.bracketed)
     (all_along (FitsWithin size) (λ (t : TimedPage). FitsWithin size t.page) (λ (t : TimedPage). t.page) (λ t f. f) (timed_pages size ops) (made.fit size ops least)) in
     let used = all_at (FitsWithin size) pages k of.page within of.there client k in
-    let few_pages = pages_counted (traces_of records) pages carry.each in
-    let few_pieces = few_pieces_from made.counted size 0 None ops in
+    let few = few_pages made.carry made.hold made.counted size ops least fits.client.bracketed in
     subst IsPage (sym of.is) (
     record {
       header = record {
         trace = wide W.version of.page.trace.0 named.digits;
         node = omega (arith, of.node, (valid.head settings.Nodes).1);
         client = omega (arith, of.number, (valid.head settings.Clients).1);
-        page = omega (arith, below_length pages k of.page of.there, few_pages, ap length hold, few_pieces, fits.few);
+        page = omega (arith, below_length pages k of.page of.there, few, fits.few);
         first = omega (arith, named.below, few_records size ops, fits.few);
       };
       pieces = all_along FitsPiece FitsPart written fits_piece of.page.pieces parts;
@@ -332,3 +341,21 @@ each_fits made W valid (sheet ∷ sheets) all = (clients_page_fits made W valid 
 
 pub reported_fit : PagesAreMade → ReportedPagesAreOfClients → ReportedPagesArePages
 reported_fit made of W J valid = each_fits made W valid (outcome_of W J).reported (of W J (ends_its_traces W valid))
+
+-- ---- the journal
+
+few_pages_each : PagesCarry → PagesHoldThePieces → PiecesCounted → (version : ℕ) (set : PlainSettings) (size : ℕ) (clients : List (List Operation)) → MIN_SIZE ≤ size → AllByRecursion (IsClient version set) clients
+    → workload_pieces size clients ≤ MAX_OPERATIONS → AllByRecursion (λ (ops : List Operation). length (pages_of size ops) ≤ 2 ^ 32) clients
+few_pages_each carry hold counted version set size [] least all few = tt
+few_pages_each carry hold counted version set size (ops ∷ clients) least all few =
+    (omega (arith, few_pages carry hold counted size ops least all.0.bracketed, few), few_pages_each carry hold counted version set size clients least all.1 (omega (arith, few)))
+
+pub readable : PagesCarry → PagesHoldThePieces → PiecesCounted → LawfulJournalsCanBeRead → JournalsCanBeRead
+readable carry hold counted law W J valid lawful =
+    law W J (ends_its_traces W valid) valid.count
+    (record {
+      nodes = valid.head settings.Nodes;
+      clients = valid.head settings.Clients;
+      buffers = (valid.head settings.Buffers).1;
+      pages = few_pages_each carry hold counted W.version W.settings W.settings.size W.clients (valid.head settings.Size).0 valid.each valid.few;
+    }) lawful

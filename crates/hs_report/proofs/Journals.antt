@@ -19,6 +19,7 @@ use Rattle.hs_model.specs.Books.{book_of, claim_note, bytes_at}
 use Rattle.hs_model.specs.Standings.{Taken}
 use Rattle.hs_model.specs.State.{ClaimedTrace}
 use Rattle.hs_outcome.specs.Outcomes.{client_book, claimed_at, reported_at}
+use Rattle.hs_outcome.specs.Readable.{JournalsHaveTheShape}
 use Rattle.hs_records.specs.Plain.{PlainWorkload}
 use Rattle.hs_sent.specs.Sending.{draws_at}
 use Rattle.hs_words.specs.Pages.{Sheet, page_bytes}
@@ -27,7 +28,6 @@ use Rattle.hs_report.specs.Claims.{claimed_by, all_claimed}
 use Rattle.hs_report.specs.Journals.{journal_by}
 use Rattle.hs_report.specs.Outcomes.{AreBooksOf}
 use Rattle.hs_report.specs.Pages.{sent_by, all_sent}
-use Rattle.hs_report.proofs.Shapes.{shaped}
 use Rattle.hs_report.proofs.Basics.{first_true, second_true, place_at}
 
 -- ---- lists by their places
@@ -83,9 +83,9 @@ journal_same J nodes clients draws logs told a b c d e =
     ∙ ap (λ x. record { nodes = J.nodes; clients = J.clients; draws = J.draws; logs = x; told = told }) d
     ∙ ap (λ x. record { nodes = J.nodes; clients = J.clients; draws = J.draws; logs = J.logs; told = x }) e
 
-pub journal_is : FollowingPlaysOut → RunsAreOfTheJournal → (W : PlainWorkload) (J : PlainJournal) (books : Books) → AreBooksOf W J books → journal_by books ≡ J
-journal_is plays runs W J books are =
-    let shape = shaped W J are.lawful.L1 in
+pub journal_is : FollowingPlaysOut → RunsAreOfTheJournal → JournalsHaveTheShape → (W : PlainWorkload) (J : PlainJournal) (books : Books) → AreBooksOf W J books → journal_by books ≡ J
+journal_is plays runs shapes W J books are =
+    let shape = shapes W J are.lawful.L1 in
     let run = followed W J in
     let of = runs W J run (plays W J).leads in
     let done = first_true (list_all (λ (node : NodeRun). eqb (length node.left) 0) run.nodes) (eqb (length run.left) 0) are.lawful.L8 in

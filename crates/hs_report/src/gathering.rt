@@ -14,7 +14,7 @@ use hs_base::{List, Memory};
 use hs_journal::{AgentBook, ClientBook, Draw, Journal, Step};
 use hs_lawful::laws::{following_plays_out, runs_are_of_the_journal};
 use hs_ledger::make_ledger;
-use hs_outcome::laws::{books_fit, reported_pages_can_be_collected};
+use hs_outcome::laws::{books_fit, journals_have_the_shape, reported_pages_can_be_collected};
 use std::alloc::Global;
 
 /// The draws of all clients, by client.
@@ -64,6 +64,7 @@ pub fn gather(alloc: Global, books: Books) -> Result<Outcome, Memory>
     reported_pages_can_be_collected();
     following_plays_out();
     runs_are_of_the_journal();
+    journals_have_the_shape();
     let version = books.version;
     let ledger = make_ledger(alloc, &books.clients, &books.agents)?;
     let claimed = claimed_traces(alloc, books.agents.as_slice())?;

@@ -15,5 +15,6 @@ mod writing;
 
 pub use gathering::gather;
 pub use hs_outcome::Form;
+pub use laws::journals_can_be_read;
 pub use outcome::{Books, Outcome};
 pub use writing::{write_outcome, write_total};

@@ -16,6 +16,7 @@ ghost use Rattle.hs_workload.specs.Validity.{IsValid};
 
 use crate::as_json::push_json;
 use crate::fates::Fates;
+use crate::laws::journals_can_be_read;
 use crate::ledger::{push_ledger, push_totals};
 use crate::outcome::Outcome;
 use crate::text::push_reports;
@@ -86,6 +87,7 @@ pub fn write_outcome(alloc: Global, outcome: &Outcome, form: Form) -> Result<Byt
         → bytes.items ≡ outcome_text W J form) }
 {
     collected_records_are_whole();
+    journals_can_be_read();
     let version = outcome.version;
     let fates = Fates::make(alloc, outcome.ledger.entries.as_slice())?;
     let traces = reported_traces(alloc, &fates, outcome.claimed.as_slice())?;

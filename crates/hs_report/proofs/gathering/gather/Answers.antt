@@ -39,7 +39,7 @@ returns c = λ W J are.
     let entries = ap (λ (clients : List PlainClientBook). entries_of clients (map agent_book_of c.args.books.agents.items)) are.clients ∙ ap (λ (agents : List PlainAgentBook). entries_of (client_books W J) agents) are.agents in
     record {
       version = are.version;
-      journal = c.in_ok-journal.ensures ∙ journal_is c.following_plays_out.ensures c.runs_are_of_the_journal.ensures W J c.args.books are;
+      journal = c.in_ok-journal.ensures ∙ journal_is c.following_plays_out.ensures c.runs_are_of_the_journal.ensures c.journals_have_the_shape.ensures W J c.args.books are;
       entries = c.in_ok-ledger.ensures.entries ∙ entries;
       totals = c.in_ok-ledger.ensures.totals ∙ ap totals_of entries;
       claimed = c.in_ok-claimed.ensures ∙ ap rising_traces (ap all_claimed c.as_slice.ensures ∙ claimed_are W J c.args.books are);

@@ -4,7 +4,7 @@ use Rattle.hs_outcome.specs.OutcomeText.{reports_text}
 use Rattle.hs_journal.specs.Grammar.{HasItsLists}
 use Rattle.hs_report.specs.Fates.{AreFatesOf, has_entry}
 use Rattle.hs_report.specs.Sources.{report_by}
-use Rattle.hs_report.proofs.Shapes.{shaped, has_its_lists}
+use Rattle.hs_report.proofs.Shapes.{has_its_lists}
 use Rattle.hs_report.proofs.Written.{hold, outcome_written, records_by}
 use Rattle.hs_report.proofs.writing.write_outcome.Goals as goal
 
@@ -12,7 +12,7 @@ pub write_journal-requires : goal.write_journal-requires
 write_journal-requires c =
     let W = c.requires.0 in
     let J = c.requires.1 in
-    subst HasItsLists (sym c.requires.4.journal) (has_its_lists W J c.requires.2 (shaped W J c.requires.3.L1))
+    subst HasItsLists (sym c.requires.4.journal) (has_its_lists J (c.journals_can_be_read.ensures W J c.requires.2 c.requires.3).journal)
 
 pub returns : goal.returns
 returns c = λ W J valid lawful is.
