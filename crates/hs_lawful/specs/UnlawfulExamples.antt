@@ -7,7 +7,7 @@ use Rattle.hs_records.specs.Plain.{PlainWorkload}
 use Rattle.hs_sent.specs.Samples.{settings, workload, segment}
 use Rattle.hs_lawful.specs.Lawful.{first_unlawful}
 use Rattle.hs_lawful.specs.Samples.{journal, alone, chunk, crumb, trigger, ask, turn, given, missed, unread}
-use Rattle.hs_lawful.specs.Workloads.{one_point, three_points, three_traces, trigger_first, four_nodes, side_by_side}
+use Rattle.hs_lawful.specs.Workloads.{one_point, three_points, three_traces, trigger_first, one_token, four_nodes, side_by_side}
 
 -- three pages that were drawn in their order
 abbrev three : List Draw
@@ -88,10 +88,11 @@ no_rounds : (first_unlawful (workload (settings 4 4 8 4 1 []) (segment 1 7 ∷ [
     ≡ Some 9)
 no_rounds = (refl, refl)
 
--- L10: a chunk that nobody took, a message that nobody took
+-- L10: a chunk that nobody took, a message that nobody took, a chunk that is still pinned
 left_over : (first_unlawful one_point (alone (Got 0 0 ∷ []) (turn ∷ []) []) ≡ Some 10)
     × (first_unlawful trigger_first (alone (Got 0 0 ∷ []) (trigger ∷ turn ∷ turn ∷ turn ∷ chunk ∷ turn ∷ given 1 ∷ []) []) ≡ Some 10)
-left_over = (refl, refl)
+    × (first_unlawful one_token (alone three (chunk ∷ chunk ∷ chunk ∷ trigger ∷ trigger ∷ trigger ∷ turn ∷ given 3 ∷ []) (0 ∷ 0 ∷ [])) ≡ Some 10)
+left_over = (refl, refl, refl)
 
 -- L11: a chunk is taken two passes late
 late_chunk : first_unlawful one_point (alone (Got 0 0 ∷ []) (turn ∷ turn ∷ chunk ∷ turn ∷ []) []) ≡ Some 11
