@@ -18,13 +18,14 @@ use Rattle.hs_lawful.specs.Following.{Asks, ask_by, asks_behind, asks_to, is_fro
 use Rattle.hs_lawful.specs.Pace.{said_in, due_of, due_by, has_due, heard_by, asks_enough, asks_in_pace}
 use Rattle.hs_lawful.specs.Passes.{passes_of, taken_in, steps_in}
 use Rattle.hs_lockstep.specs.Clauses.{IsLaidOut}
+use Rattle.hs_lockstep.specs.Known.{Known}
 use Rattle.hs_lockstep.specs.Lockstep.{Machine, machine_start, done_at, draws_in, pages_started, client_goes, pass_steps, agents_take, agents_give, told_of, coordinator_hears, passes, lockstep}
 use Rattle.hs_lockstep.proofs.Followed.{number_is, count_nodes, nodes_of_journal, fits, all_places, within, take_there, give_there, hear_there, draws_are, starts_at, IsDone}
 use Rattle.hs_lockstep.proofs.Items.{passes_from, taken_before, taken_whole, taken_last, asks_taken}
 use Rattle.hs_lockstep.proofs.Lists.{one, some_same, count_cons, count_append, passes_all}
 use Rattle.hs_lockstep.proofs.Offers.{joined, take_front, take_all, steps_within, steps_of_all, done_given, done_taken}
 use Rattle.hs_lockstep.proofs.Passing.{gives}
-use Rattle.hs_lockstep.proofs.Rounds.{Known, Going, PassOf, pass_of, schedule_ends}
+use Rattle.hs_lockstep.proofs.Rounds.{Going, PassOf, pass_of, schedule_ends}
 use Rattle.hs_lockstep.proofs.Walks.{is_node}
 
 -- ---- lists
@@ -191,7 +192,7 @@ module _ (k : Known) (W : PlainWorkload) (laid : IsLaidOut W) where
 
   asks_start : AsksPaced 0 (machine_start W)
   asks_start =
-      let none : (followed W (machine_start W).journal).heard ≡ [] = ap (λ (r : Run). r.heard) (sym (starts_at k.plays k.agree k.rests k.goes_on k.runs k.noted k.unsent W)) in
+      let none : (followed W (machine_start W).journal).heard ≡ [] = ap (λ (r : Run). r.heard) (sym (starts_at k W)) in
       let long = ap length none in
       record {
         marks = λ n. 0;
@@ -216,7 +217,7 @@ module _ (k : Known) (W : PlainWorkload) (laid : IsLaidOut W) where
   asks_client made gone m below g h =
       let new = (client_goes W m gone).journal in
       subst (AsksIn made)
-      (draws_are k.plays k.agree k.rests k.goes_on k.runs k.noted k.unsent W m gone (min (done_at m gone + W.settings.stride) (length (operations_at W gone)))
+      (draws_are k W m gone (min (done_at m gone + W.settings.stride) (length (operations_at W gone)))
       (draws_in W m (gone / W.settings.clients) (pages_started W gone (min (done_at m gone + W.settings.stride) (length (operations_at W gone))) - pages_started W gone (done_at m gone))) g.offers.done)
       (record {
         marks = h.marks;
@@ -245,20 +246,20 @@ module _ (k : Known) (W : PlainWorkload) (laid : IsLaidOut W) where
     given = agents_give W (agents_take W m)
 
     pub given_done : IsDone W given
-    given_done = done_given k.plays k.agree k.rests k.goes_on k.runs k.noted k.unsent k.comes W m g.offers
+    given_done = done_given k W m g.offers
 
     -- the agents let the coordinator be
     heard_given : (followed W given.journal).heard ≡ before.heard
     heard_given =
-        (give_there k.plays k.agree k.rests k.goes_on k.runs k.noted k.unsent W (agents_take W m) (done_taken k.plays k.agree k.rests k.goes_on k.runs k.noted k.unsent k.comes W m g.offers)).heard
-        ∙ (take_there k.plays k.agree k.rests k.goes_on k.runs k.noted k.unsent W m g.offers.done).heard
+        (give_there k W (agents_take W m) (done_taken k W m g.offers)).heard
+        ∙ (take_there k W m g.offers.done).heard
 
     abbrev pub more : Messages
-    more = (hear_there k.plays k.agree k.rests k.goes_on k.runs k.noted k.unsent W given given_done).more
+    more = (hear_there k W given given_done).more
 
     pub heard_now : now.heard ≡ before.heard ++ more
     heard_now =
-        (hear_there k.plays k.agree k.rests k.goes_on k.runs k.noted k.unsent W given given_done).heard ∙ ap (λ (front : Messages). front ++ more) heard_given
+        (hear_there k W given given_done).heard ∙ ap (λ (front : Messages). front ++ more) heard_given
 
     -- what was heard before stands in front
     front_now : (n : ℕ) → n ≤ length before.heard → take n now.heard ≡ take n before.heard
@@ -280,7 +281,7 @@ module _ (k : Known) (W : PlainWorkload) (laid : IsLaidOut W) where
           node_low : i < W.settings.nodes
           node_low =
               let low = within before.nodes i step.node step.stands in
-              let count = count_nodes k.plays k.agree k.rests k.goes_on k.runs k.noted k.unsent W m.journal in
+              let count = count_nodes k W m.journal in
               omega (arith, low, count)
 
       -- behind the passes before, the agent stands as it stood
@@ -314,15 +315,15 @@ module _ (k : Known) (W : PlainWorkload) (laid : IsLaidOut W) where
       -- what the coordinator heard of the node in this pass
       pub heard_more : count_by (is_from (own i)) more ≡ min (length later.state.said - count_by (is_from (own i)) before.heard) MAX_TAKEN
       heard_more =
-          let hears = hear_there k.plays k.agree k.rests k.goes_on k.runs k.noted k.unsent W given given_done in
+          let hears = hear_there k W given given_done in
           let u =
           unmapped (node_behind W given.journal (coordinator_hears W given).journal) (slice_get (followed W given.journal).nodes i) later
           (sym (slice_get-map (node_behind W given.journal (coordinator_hears W given).journal) (followed W given.journal).nodes i) ∙ ap (λ (nodes : List NodeRun). slice_get nodes i) (sym hears.nodes) ∙ stands)
           in
-          let number = number_is k.plays k.agree k.rests k.goes_on k.runs k.noted k.unsent W given.journal i u.0 u.1 in
+          let number = number_is k W given.journal i u.0 u.1 in
           let numbers : map (λ (n : NodeRun). n.node) (followed W given.journal).nodes ≡ range_with_len 0 (length (followed W given.journal).nodes) =
-          (nodes_of_journal k.plays k.agree k.rests k.goes_on k.runs k.noted k.unsent W given.journal).numbers
-          ∙ ap (range_with_len 0) (sym (count_nodes k.plays k.agree k.rests k.goes_on k.runs k.noted k.unsent W given.journal))
+          (nodes_of_journal k W given.journal).numbers
+          ∙ ap (range_with_len 0) (sym (count_nodes k W given.journal))
           in
           let told = told_own (followed W given.journal) (followed W given.journal).nodes 0 i u.0 numbers u.1 in
           hears.senders (own i)
@@ -335,7 +336,7 @@ module _ (k : Known) (W : PlainWorkload) (laid : IsLaidOut W) where
       -- it has heard no more than was said
       heard_few : count_by (is_from (own i)) before.heard ≤ length later.state.said
       heard_few =
-          let most = (fits k.plays k.agree k.rests k.goes_on k.runs k.noted k.unsent W (passes W m).journal).messages (own i) in
+          let most = (fits k W (passes W m).journal).messages (own i) in
           let said = ap (λ o. option_map_or (λ (run : NodeRun). length run.state.said) o 0) stands in
           let all = ap (count_by (is_from (own i))) heard_now in
           let both = count_append (is_from (own i)) before.heard more in
@@ -508,5 +509,5 @@ module _ (k : Known) (W : PlainWorkload) (laid : IsLaidOut W) where
   pub asks_kept : (i : ℕ) (run : NodeRun) → slice_get (followed W (lockstep W)).nodes i ≡ Some run → i < W.settings.nodes → run.state.log ≡ log_at (lockstep W) i → asks_in_pace W.settings (followed W (lockstep W)) run ≡ true
   asks_kept i run stands low log =
       let e = schedule_ends k W laid AsksPaced asks_client (λ made m g h. asks_pass made m g h) asks_start in
-      asks_node e.made (followed W (lockstep W)) e.holds (λ i run stands. number_is k.plays k.agree k.rests k.goes_on k.runs k.noted k.unsent W (lockstep W) i run stands) i run stands
+      asks_node e.made (followed W (lockstep W)) e.holds (λ i run stands. number_is k W (lockstep W) i run stands) i run stands
       (ap (λ (log : List Step). length (passes_of log)) log ∙ e.going.count i low)

@@ -27,6 +27,7 @@ use Rattle.hs_lawful.specs.Pooled.{node_pages}
 use Rattle.hs_lawful.specs.Shape.{step_stamp, log_stamps}
 use Rattle.hs_lawful.specs.Unreads.{round_of}
 use Rattle.hs_lockstep.specs.Clauses.{IsLaidOut}
+use Rattle.hs_lockstep.specs.Known.{Known}
 use Rattle.hs_lockstep.specs.Lockstep.{Machine, machine_start, done_at, next_draws, draws_by, draws_in, pages_started, client_goes, pass_steps, passes, lockstep}
 use Rattle.hs_lockstep.proofs.Followed.{log_of}
 use Rattle.hs_lockstep.proofs.Held.{node_events, IsHeld}
@@ -37,7 +38,7 @@ use Rattle.hs_lockstep.proofs.Lists.{some_same, all_append, all_get, passes_all}
 use Rattle.hs_lockstep.proofs.Offers.{joined, passes_joined}
 use Rattle.hs_lockstep.proofs.Passing.{gives}
 use Rattle.hs_lockstep.proofs.Pools.{range_at}
-use Rattle.hs_lockstep.proofs.Rounds.{Known, Going, PassOf, pass_of, later_at, is_before, none_logged, schedule_ends}
+use Rattle.hs_lockstep.proofs.Rounds.{Going, PassOf, pass_of, later_at, is_before, none_logged, schedule_ends}
 use Rattle.hs_lockstep.proofs.Takes.{before_turn, all_takes}
 
 -- ---- lists
@@ -217,7 +218,7 @@ module _ (k : Known) (W : PlainWorkload) (laid : IsLaidOut W) (least : MIN_SIZE 
       held = all_get (IsHeld W.settings) (followed W old).nodes i run g.keeps.held here.1
 
       log_is : run.state.log ≡ log_at old i
-      log_is = log_of k.plays k.agree k.rests k.goes_on k.runs k.noted k.unsent W m g.offers.done i run here.1
+      log_is = log_of k W m g.offers.done i run here.1
 
       -- all gives so far
       given_low : AllByRecursion (λ t. t < length (node_events run)) (log_stamps (log_at old i))

@@ -13,6 +13,7 @@ use Rattle.hs_sent.specs.Timing.{TimedPage, timed_pages}
 use Rattle.hs_workload.specs.Validity.{IsValid}
 use Rattle.hs_lawful.specs.Following.{NodeRun, followed}
 use Rattle.hs_lockstep.specs.Clauses.{IsRunnable}
+use Rattle.hs_lockstep.specs.Known.{Known}
 use Rattle.hs_lockstep.specs.Lockstep.{Machine}
 use Rattle.hs_lockstep.specs.Parts.{node_at}
 use Rattle.hs_lockstep.proofs.Closing.{drawn_few, size_of, all_of, sizes_are, admitted_few}
@@ -22,10 +23,8 @@ use Rattle.hs_lockstep.proofs.Followed.{within, count_nodes}
 use Rattle.hs_lockstep.proofs.Held.{node_events, IsHeld}
 use Rattle.hs_lockstep.proofs.Holding.{pages_in}
 use Rattle.hs_lockstep.proofs.Keeping.{range_parts, own_sends}
-use Rattle.hs_lockstep.proofs.Progress.{Agents}
-use Rattle.hs_lockstep.proofs.Rounds.{Known}
 use Rattle.hs_lockstep.proofs.Shapes.{ends_at}
-use Rattle.hs_lockstep.proofs.Sizes.{PiecesCounted, all_few}
+use Rattle.hs_lockstep.proofs.Sizes.{all_few}
 use Rattle.hs_lockstep.proofs.Standing.{number_at}
 
 -- one of the terms is no more than the sum
@@ -62,30 +61,30 @@ pages_row f g (suc n) each =
     let rest = pages_row f g n each in
     omega (arith, long, both, last, here, rest)
 
-module _ (k : Known) (a : Agents) (counted : PiecesCounted) (W : PlainWorkload) (runs : IsRunnable W) (valid : IsValid W) where
+module _ (k : Known) (W : PlainWorkload) (runs : IsRunnable W) (valid : IsValid W) where
   abbrev clients : ℕ
   clients = W.settings.clients
 
   abbrev row : ℕ → ℕ
-  row i = sum_to (λ c. size_of k a W runs.laid runs.size runs.weights (place_of clients i c)) clients
+  row i = sum_to (λ c. size_of k W runs.laid runs.size runs.weights (place_of clients i c)) clients
 
-  all_small : all_of k a W runs.laid runs.size runs.weights ≤ 2 * 262144
+  all_small : all_of k W runs.laid runs.size runs.weights ≤ 2 * 262144
   all_small =
-      let few = all_few counted W.settings.size W.clients runs.laid.ends in
+      let few = all_few k.counted W.settings.size W.clients runs.laid.ends in
       let most = valid.few in
       omega (arith, few, most)
 
   row_few : (i : ℕ) → i < W.settings.nodes → row i ≤ 2 * 262144
   row_few i low =
       let one = term_few row W.settings.nodes i low in
-      let all = sizes_are k a W runs.laid runs.size runs.weights in
+      let all = sizes_are k W runs.laid runs.size runs.weights in
       let small = all_small in
       omega (arith, one, all, small)
 
   node_low : (m : Machine) (i : ℕ) (run : NodeRun) → node_at W m.journal i ≡ Some run → i < W.settings.nodes
   node_low m i run stands =
       let there = within (followed W m.journal).nodes i run stands in
-      let count = count_nodes k.plays k.agree k.rests k.goes_on k.runs k.noted k.unsent W m.journal in
+      let count = count_nodes k W m.journal in
       omega (arith, there, count)
 
   -- a client's place is one of those of the workload
@@ -95,22 +94,22 @@ module _ (k : Known) (a : Agents) (counted : PiecesCounted) (W : PlainWorkload) 
       let count = runs.laid.clients in
       omega (arith, there, count)
 
-  drawn_pages_few : (J : PlainJournal) (i c : ℕ) → length (client_sends W J i c).drawn ≤ size_of k a W runs.laid runs.size runs.weights (place_of clients i c)
+  drawn_pages_few : (J : PlainJournal) (i c : ℕ) → length (client_sends W J i c).drawn ≤ size_of k W runs.laid runs.size runs.weights (place_of clients i c)
   drawn_pages_few J i c =
       let place = place_of clients i c in
       let ops = operations_at W place in
       let client : ClientId = record { node = i; number = c } in
       let drawn = drawn_few client 0 (timed_pages W.settings.size ops) (draws_at J place) in
-      let pages = sym (length-map (timed_pages W.settings.size ops) (λ (p : TimedPage). p.page)) ∙ ap length (k.paged W.settings.size ops (ends_at k.plays k.runs k.paged W runs.laid W.clients place runs.laid.ends)) in
+      let pages = sym (length-map (timed_pages W.settings.size ops) (λ (p : TimedPage). p.page)) ∙ ap length (k.paged W.settings.size ops (ends_at k W runs.laid W.clients place runs.laid.ends)) in
       omega (arith, drawn, pages)
 
   -- the events of a pool
   pub stamps_few : (m : Machine) (i : ℕ) (run later : NodeRun) → node_at W m.journal i ≡ Some run → later.sends ≡ run.sends → IsHeld W.settings later → length (node_events later) < 2 ^ 32
   stamps_few m i run later stands same h =
       let events = events_few W.settings later h in
-      let sends = same ∙ own_sends k.plays k.agree k.rests k.goes_on k.runs k.noted k.unsent k.adds k.go_on k.places W m.journal i run stands ∙ ap (node_sends W m.journal) (number_at k W m i run stands) in
+      let sends = same ∙ own_sends k W m.journal i run stands ∙ ap (node_sends W m.journal) (number_at k W m i run stands) in
       let pages = ap (λ (sends : List ClientSends). length (pages_in sends)) sends in
-      let few = pages_row (client_sends W m.journal i) (λ c. size_of k a W runs.laid runs.size runs.weights (place_of clients i c)) clients (drawn_pages_few m.journal i) in
+      let few = pages_row (client_sends W m.journal i) (λ c. size_of k W runs.laid runs.size runs.weights (place_of clients i c)) clients (drawn_pages_few m.journal i) in
       let most = row_few i (node_low m i run stands) in
       omega (arith, events, pages, few, most)
 
@@ -118,7 +117,7 @@ module _ (k : Known) (a : Agents) (counted : PiecesCounted) (W : PlainWorkload) 
   pub groups_few : (m : Machine) (i : ℕ) (run : NodeRun) → node_at W m.journal i ≡ Some run → run.state.admitted + 1 < 2 ^ 32
   groups_few m i run stands =
       let low = node_low m i run stands in
-      let few = admitted_few k a W runs.laid runs.size runs.weights m i low in
+      let few = admitted_few k W runs.laid runs.size runs.weights m i low in
       let is = ap (λ o. option_map_or (λ (run : NodeRun). run.state.admitted) o 0) stands in
       let most = row_few i low in
       omega (arith, few, is, most)

@@ -35,6 +35,7 @@ use Rattle.hs_lawful.specs.Extending.{node_behind, run_behind}
 use Rattle.hs_lawful.specs.Played.{played}
 use Rattle.hs_lawful.specs.Supply.{sent_to, supply}
 use Rattle.hs_lockstep.specs.Clauses.{IsLaidOut, ScheduleIsBare}
+use Rattle.hs_lockstep.specs.Known.{Known}
 use Rattle.hs_lockstep.specs.Lockstep.{Machine, machine_start, done_at, draws_in, pages_started, client_goes, pass_steps, passes, rounds, closing, closing_limit, lockstep}
 use Rattle.hs_lockstep.proofs.Asks.{more, heard_more, heard_now}
 use Rattle.hs_lockstep.proofs.Beside.{get_low, zipped_all}
@@ -46,8 +47,8 @@ use Rattle.hs_lockstep.proofs.Lists.{some_same, all_each, all_get, passes_all, c
 use Rattle.hs_lockstep.proofs.Passing.{gives}
 use Rattle.hs_lockstep.proofs.Pins.{HaveWeights}
 use Rattle.hs_lockstep.proofs.Pools.{range_at}
-use Rattle.hs_lockstep.proofs.Progress.{Agents, IsWorked, pass_works, spoken}
-use Rattle.hs_lockstep.proofs.Rounds.{Known, Going, PassOf, pass_of, later_at, pass_going, all_gone, rounds_end}
+use Rattle.hs_lockstep.proofs.Progress.{IsWorked, pass_works, spoken}
+use Rattle.hs_lockstep.proofs.Rounds.{Going, PassOf, pass_of, later_at, pass_going, all_gone, rounds_end}
 use Rattle.hs_lockstep.proofs.Shapes.{all_covered, ends_at}
 use Rattle.hs_lockstep.proofs.Keeping.{own_sends}
 use Rattle.hs_lockstep.proofs.Working.{of_client, work, load}
@@ -203,7 +204,7 @@ sent_all {A = A} most (item ∷ items) all =
 
 -- ---- through the schedule
 
-module _ (k : Known) (a : Agents) (W : PlainWorkload) (laid : IsLaidOut W) (least : MIN_SIZE ≤ W.settings.size) (weights : HaveWeights W.settings.triggers) where
+module _ (k : Known) (W : PlainWorkload) (laid : IsLaidOut W) (least : MIN_SIZE ≤ W.settings.size) (weights : HaveWeights W.settings.triggers) where
   abbrev nodes : ℕ
   nodes = W.settings.nodes
 
@@ -237,7 +238,7 @@ module _ (k : Known) (a : Agents) (W : PlainWorkload) (laid : IsLaidOut W) (leas
       later : NodeRun
       stands : slice_get before.nodes i ≡ Some node
       there : slice_get now.nodes i ≡ Some later
-      worked : IsWorked k a W laid least weights node later
+      worked : IsWorked k W laid least weights node later
       load_is : load_at before i ≡ load node
       load_now : load_at now i ≡ load later
       work_is : work_at before i ≡ work clients node.state.log
@@ -256,7 +257,7 @@ module _ (k : Known) (a : Agents) (W : PlainWorkload) (laid : IsLaidOut W) (leas
           later = second.0;
           stands = first.1;
           there = second.1;
-          worked = pass_works k a W laid least weights made m g i first.0 second.0 first.1 second.1;
+          worked = pass_works k W laid least weights made m g i first.0 second.0 first.1 second.1;
           load_is = ap (λ o. option_map_or load o 0) first.1;
           load_now = ap (λ o. option_map_or load o 0) second.1;
           work_is = ap (λ o. option_map_or (λ (run : NodeRun). work clients run.state.log) o 0) first.1;
@@ -380,7 +381,7 @@ module _ (k : Known) (a : Agents) (W : PlainWorkload) (laid : IsLaidOut W) (leas
           let v = p.work_now in
           let w = p.heard_is in
           let same = ap (λ (n : NodeRun). length n.state.said) same_node in
-          let most = (fits k.plays k.agree k.rests k.goes_on k.runs k.noted k.unsent W m.journal).messages (record { 0 = i }) in
+          let most = (fits k W m.journal).messages (record { 0 = i }) in
           let said = ap (λ o. option_map_or (λ (run : NodeRun). length run.state.said) o 0) p.stands in
           omega (arith, even, mono, told, e, f, u, v, w, same, most, said, idle)
 
@@ -388,7 +389,7 @@ module _ (k : Known) (a : Agents) (W : PlainWorkload) (laid : IsLaidOut W) (leas
       no_more_asks =
           let none = no_asks clients node.state.log pass nothing_worked in
           let least_taken = asks_taken W m node (range_with_len step.from step.count) in
-          let most = all_get (λ (n : NodeRun). (queue : Queue) → taken queue n.state.log ≤ supply n before.heard queue) before.nodes i node (fits k.plays k.agree k.rests k.goes_on k.runs k.noted k.unsent W m.journal).items step.stands Asks in
+          let most = all_get (λ (n : NodeRun). (queue : Queue) → taken queue n.state.log ≤ supply n before.heard queue) before.nodes i node (fits k W m.journal).items step.stands Asks in
           omega (arith, none, least_taken, most)
 
       client_bare : (c : ℕ) (s : ClientSends) → slice_get node.sends c ≡ Some s → took_all node.state.log c s ≡ true
@@ -411,7 +412,7 @@ module _ (k : Known) (a : Agents) (W : PlainWorkload) (laid : IsLaidOut W) (leas
           let none = none_of_client clients node.state.log pass nothing_worked c few in
           let stamps = range_with_len step.from step.count in
           let most : (queue : Queue) → taken queue node.state.log ≤ supply node before.heard queue =
-          all_get (λ (n : NodeRun). (queue : Queue) → taken queue n.state.log ≤ supply n before.heard queue) before.nodes i node (fits k.plays k.agree k.rests k.goes_on k.runs k.noted k.unsent W m.journal).items step.stands
+          all_get (λ (n : NodeRun). (queue : Queue) → taken queue n.state.log ≤ supply n before.heard queue) before.nodes i node (fits k W m.journal).items step.stands
           in
           let zero_ops : 0 + length (operations_at W place) ≡ length (operations_at W place) = omega arith in
           let chunks_within : IsWithin (length (operations_at W place)) s.chunks =
@@ -487,7 +488,7 @@ module _ (k : Known) (a : Agents) (W : PlainWorkload) (laid : IsLaidOut W) (leas
         (all_places (λ (node : NodeRun). is_left_bare before node ≡ true) before.nodes
         (λ i node stands.
         let short = get_low before.nodes i node stands in
-        let count = count_nodes k.plays k.agree k.rests k.goes_on k.runs k.noted k.unsent W m.journal in
+        let count = count_nodes k W m.journal in
         let low : i < nodes = omega (arith, short, count) in
         node_bare done i low (each i low) node stands))
 
@@ -526,15 +527,15 @@ module _ (k : Known) (a : Agents) (W : PlainWorkload) (laid : IsLaidOut W) (leas
         let client : ClientId = record { node = i; number = c } in
         let chunks = chunks_few (client_sends W m.journal i c).drawn in
         let drawn = drawn_few client 0 (timed_pages W.settings.size ops) (draws_at m.journal place) in
-        let pages = sym (length-map (timed_pages W.settings.size ops) (λ (p : TimedPage). p.page)) ∙ ap length (k.paged W.settings.size ops (ends_at k.plays k.runs k.paged W laid W.clients place laid.ends)) in
+        let pages = sym (length-map (timed_pages W.settings.size ops) (λ (p : TimedPage). p.page)) ∙ ap length (k.paged W.settings.size ops (ends_at k W laid W.clients place laid.ends)) in
         let others = sends_few W.settings.autos [] 0 None ops in
         omega (arith, chunks, drawn, pages, others)
 
     -- where a node's clients stand
     client_at : (i : ℕ) (node : NodeRun) → slice_get run_of.nodes i ≡ Some node → (c : ℕ) → c < clients → slice_get node.sends c ≡ Some (client_sends W m.journal i c)
     client_at i node stands c low =
-        let number = number_is k.plays k.agree k.rests k.goes_on k.runs k.noted k.unsent W m.journal i node stands in
-        let sends = own_sends k.plays k.agree k.rests k.goes_on k.runs k.noted k.unsent k.adds k.go_on k.places W m.journal i node stands ∙ ap (node_sends W m.journal) number in
+        let number = number_is k W m.journal i node stands in
+        let sends = own_sends k W m.journal i node stands ∙ ap (node_sends W m.journal) number in
         let zeroth : 0 + c ≡ c = omega arith in
         ap (λ (all : List ClientSends). slice_get all c) sends ∙ slice_get-map (client_sends W m.journal i) (range_with_len 0 clients) c
         ∙ ap (option_map (client_sends W m.journal i)) (range_at 0 clients c low ∙ ap Some zeroth)
@@ -543,7 +544,7 @@ module _ (k : Known) (a : Agents) (W : PlainWorkload) (laid : IsLaidOut W) (leas
     taken_few i node stands c low =
         let found = client_at i node stands c low in
         let most : (queue : Queue) → taken queue node.state.log ≤ supply node run_of.heard queue =
-        all_get (λ (n : NodeRun). (queue : Queue) → taken queue n.state.log ≤ supply n run_of.heard queue) run_of.nodes i node (fits k.plays k.agree k.rests k.goes_on k.runs k.noted k.unsent W m.journal).items stands
+        all_get (λ (n : NodeRun). (queue : Queue) → taken queue n.state.log ≤ supply n run_of.heard queue) run_of.nodes i node (fits k W m.journal).items stands
         in
         let x = most (Chunks c) in
         let y = most (Crumbs c) in
@@ -558,11 +559,11 @@ module _ (k : Known) (a : Agents) (W : PlainWorkload) (laid : IsLaidOut W) (leas
     pub admitted_few : (i : ℕ) → i < nodes → admitted_at run_of.nodes i ≤ sum_to (λ c. size_of (place_of clients i c)) clients
     admitted_few i low =
         let node = later_at k W laid m i low in
-        let speaks : Speaks W.settings run_of.nodes node.0 = all_get (Speaks W.settings run_of.nodes) run_of.nodes i node.0 (spoken k a W laid least weights m).nodes node.1 in
+        let speaks : Speaks W.settings run_of.nodes node.0 = all_get (Speaks W.settings run_of.nodes) run_of.nodes i node.0 (spoken k W laid least weights m).nodes node.1 in
         let few = speaks.few in
         let is = ap (λ o. option_map_or (λ (run : NodeRun). run.state.admitted) o 0) node.1 in
-        let number = number_is k.plays k.agree k.rests k.goes_on k.runs k.noted k.unsent W m.journal i node.0 node.1 in
-        let sends = own_sends k.plays k.agree k.rests k.goes_on k.runs k.noted k.unsent k.adds k.go_on k.places W m.journal i node.0 node.1 in
+        let number = number_is k W m.journal i node.0 node.1 in
+        let sends = own_sends k W m.journal i node.0 node.1 in
         let long = ap length sends ∙ length-map (range_with_len 0 clients) (client_sends W m.journal node.0.node) ∙ length-range_with_len 0 clients in
         let clients_are = ap (λ (n : ℕ). triggers_in n node.0.state.log) long in
         let all = sum_le (λ c. taken (Triggers c) node.0.state.log) (λ c. size_of (place_of clients i c)) clients (λ c low. let most = taken_few i node.0 node.1 c low in omega (arith, most)) in
@@ -580,9 +581,9 @@ module _ (k : Known) (a : Agents) (W : PlainWorkload) (laid : IsLaidOut W) (leas
         let parts = and_parts (ltb message.told.group.id.number (admitted_at run_of.nodes message.told.group.id.node)) _ known in
         let low = ltb-true message.told.group.id.number (admitted_at run_of.nodes message.told.group.id.node) parts.0 in
         let there = admitted_there run_of.nodes message.told.group.id.node message.told.group.id.number low in
-        let count = count_nodes k.plays k.agree k.rests k.goes_on k.runs k.noted k.unsent W m.journal in
+        let count = count_nodes k W m.journal in
         (omega (arith, there, count), low))
-        (spoken k a W laid least weights m).heard
+        (spoken k W laid least weights m).heard
 
     work_few : (i : ℕ) → i < nodes → work_at run_of i ≤ sum_to (λ c. size_of (place_of clients i c)) clients + all_of
     work_few i low =
@@ -590,7 +591,7 @@ module _ (k : Known) (a : Agents) (W : PlainWorkload) (laid : IsLaidOut W) (leas
         let is = ap (λ o. option_map_or (λ (run : NodeRun). work clients run.state.log) o 0) node.1 in
         let items = sum_le (of_client node.0.state.log) (λ c. size_of (place_of clients i c)) clients (taken_few i node.0 node.1) in
         let asks =
-        all_get (λ (n : NodeRun). (queue : Queue) → taken queue n.state.log ≤ supply n run_of.heard queue) run_of.nodes i node.0 (fits k.plays k.agree k.rests k.goes_on k.runs k.noted k.unsent W m.journal).items node.1 Asks
+        all_get (λ (n : NodeRun). (queue : Queue) → taken queue n.state.log ≤ supply n run_of.heard queue) run_of.nodes i node.0 (fits k W m.journal).items node.1 Asks
         in
         let groups = asks_few (admitted_at run_of.nodes) nodes node.0.node run_of.heard numbered in
         let admitted = sum_le (admitted_at run_of.nodes) (λ i. sum_to (λ c. size_of (place_of clients i c)) clients) nodes admitted_few in
@@ -600,7 +601,7 @@ module _ (k : Known) (a : Agents) (W : PlainWorkload) (laid : IsLaidOut W) (leas
     heard_few : (i : ℕ) → i < nodes → heard_at run_of i ≤ load_at run_of i
     heard_few i low =
         let node = later_at k W laid m i low in
-        let most = (fits k.plays k.agree k.rests k.goes_on k.runs k.noted k.unsent W m.journal).messages (record { 0 = i }) in
+        let most = (fits k W m.journal).messages (record { 0 = i }) in
         let said = ap (λ o. option_map_or (λ (run : NodeRun). length run.state.said) o 0) node.1 in
         let is = ap (λ o. option_map_or load o 0) node.1 in
         omega (arith, most, said, is)
@@ -631,7 +632,7 @@ module _ (k : Known) (a : Agents) (W : PlainWorkload) (laid : IsLaidOut W) (leas
       λ place low.
       let none : 0 ≤ place = omega arith in
       let is = g.still place none low in
-      let cover = all_covered k.plays k.runs k.paged W laid place low in
+      let cover = all_covered k W laid place low in
       let more = mul-le-mul_right W.settings.stride enough in
       omega (arith, is, cover, more)
       in
@@ -647,7 +648,7 @@ module _ (k : Known) (a : Agents) (W : PlainWorkload) (laid : IsLaidOut W) (leas
 
   even_start : Even 0 (machine_start W)
   even_start =
-      subst (Worked 0) (starts_at k.plays k.agree k.rests k.goes_on k.runs k.noted k.unsent W)
+      subst (Worked 0) (starts_at k W)
       (record { enough = let loads = sum_le (load_at (run_start W (machine_start W).journal)) (λ i. 0) nodes (λ i low. none_at i (slice_get (run_start W (machine_start W).journal).nodes i) refl) in let none = sum_const 0 nodes in let zeroes : nodes * 0 ≡ 0 = omega arith in omega (arith, loads, none, zeroes) })
     where
       none_at : (i : ℕ) (o : Option NodeRun) → slice_get (run_start W (machine_start W).journal).nodes i ≡ o → option_map_or load o 0 ≤ 0
@@ -663,7 +664,7 @@ module _ (k : Known) (a : Agents) (W : PlainWorkload) (laid : IsLaidOut W) (leas
   even_client made gone m below g w =
       let new = (client_goes W m gone).journal in
       subst (Worked 0)
-      (draws_are k.plays k.agree k.rests k.goes_on k.runs k.noted k.unsent W m gone (min (done_at m gone + W.settings.stride) (length (operations_at W gone)))
+      (draws_are k W m gone (min (done_at m gone + W.settings.stride) (length (operations_at W gone)))
       (draws_in W m (gone / W.settings.clients) (pages_started W gone (min (done_at m gone + W.settings.stride) (length (operations_at W gone))) - pages_started W gone (done_at m gone))) g.offers.done)
       (let loads = sum_le (load_at (run_behind W m.journal new (followed W m.journal))) (load_at (followed W m.journal)) nodes (λ i low. let same = load_same i in omega (arith, same)) in
       let works = sum_le (work_at (followed W m.journal)) (work_at (run_behind W m.journal new (followed W m.journal))) nodes (λ i low. let same = work_same i in omega (arith, same)) in
@@ -690,5 +691,5 @@ module _ (k : Known) (a : Agents) (W : PlainWorkload) (laid : IsLaidOut W) (leas
       let e = rounds_end k W laid Even even_client (λ made m g w. pass_even made m g 0 w) even_start in
       closing_bare (closing_limit W) 0 e.made (rounds (rounds_of W) W (machine_start W)) e.enough e.going e.holds (omega arith)
 
-pub schedule_is_bare : Known → Agents → ScheduleIsBare
-schedule_is_bare k a W runs = bare_all k a W runs.laid runs.size runs.weights
+pub schedule_is_bare : Known → ScheduleIsBare
+schedule_is_bare k W runs = bare_all k W runs.laid runs.size runs.weights

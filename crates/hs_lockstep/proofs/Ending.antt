@@ -4,19 +4,17 @@ use Rattle.std.proofs.Math.Nat.{div-lt_iff_lt-mul, suc-mul, mul-le-mul_left, mul
 use Rattle.std.specs.List.{sum_by}
 use Rattle.hs_records.specs.Pages.{pages_of}
 use Rattle.hs_records.specs.Plain.{Operation, PlainWorkload}
-use Rattle.hs_sent.specs.Laws.{TimedPagesAreThePages}
 use Rattle.hs_sent.specs.Sending.{operations_at}
 use Rattle.hs_lawful.specs.Ends.{is_bare, rounds_for, rounds_of}
-use Rattle.hs_lawful.specs.Extending.{RunsAreOfTheJournal}
-use Rattle.hs_lawful.specs.Orders.{FollowingPlaysOut}
 use Rattle.hs_lawful.specs.Played.{played}
 use Rattle.hs_workload.specs.Validity.{IsValid}
 use Rattle.hs_workload.specs.declared.word.Setting.TheVariants as settings
 use Rattle.hs_lockstep.specs.Clauses.{IsLaidOut, ValidWorkloadsRun, ScheduleIsBare}
 use Rattle.hs_lockstep.specs.Ending.{HasRounds, RoundsEnd, behind_rounds, passed, ClosingEnds}
+use Rattle.hs_lockstep.specs.Known.{Known, PiecesCounted}
 use Rattle.hs_lockstep.specs.Lockstep.{Machine, machine_start, done_at, round, rounds, closing, closing_limit}
 use Rattle.hs_lockstep.proofs.Shapes.{begins, rounds_go, all_covered}
-use Rattle.hs_lockstep.proofs.Sizes.{PiecesCounted, all_few, client_few}
+use Rattle.hs_lockstep.proofs.Sizes.{all_few, client_few}
 
 -- ---- rounds
 
@@ -48,9 +46,9 @@ rounds_small counted W laid valid =
 
 -- ---- so many rounds
 
-module _ (plays : FollowingPlaysOut) (runs : RunsAreOfTheJournal) (paged : TimedPagesAreThePages) (W : PlainWorkload) (laid : IsLaidOut W) (small : rounds_of W ≤ 262144) (n : ℕ) where
+module _ (k : Known) (W : PlainWorkload) (laid : IsLaidOut W) (small : rounds_of W ≤ 262144) (n : ℕ) where
   done_is : (place : ℕ) → place < length W.clients → done_at (rounds n W (machine_start W)) place ≡ min ((0 + n) * W.settings.stride) (length (operations_at W place))
-  done_is place low = (rounds_go plays runs paged W laid n 0 (machine_start W) (begins plays runs paged W laid)).done place low
+  done_is place low = (rounds_go k W laid n 0 (machine_start W) (begins k W laid)).done place low
 
   same_product : (0 + n) * W.settings.stride ≡ n * W.settings.stride
   same_product = let e : 0 + n ≡ n = omega arith in ap (λ (k : ℕ). k * W.settings.stride) e
@@ -69,14 +67,14 @@ module _ (plays : FollowingPlaysOut) (runs : RunsAreOfTheJournal) (paged : Timed
         behind = λ enough place low.
             let is = done_is place low in
             let same = same_product in
-            let cover = all_covered plays runs paged W laid place low in
+            let cover = all_covered k W laid place low in
             let more = mul-le-mul_right W.settings.stride enough in
             omega (arith, is, same, cover, more);
         few = omega (arith, small);
       }
 
-pub rounds_end : FollowingPlaysOut → RunsAreOfTheJournal → TimedPagesAreThePages → PiecesCounted → ValidWorkloadsRun → RoundsEnd
-rounds_end plays runs paged counted run W valid n = has_rounds plays runs paged W (run W valid).laid (rounds_small counted W (run W valid).laid valid) n
+pub rounds_end : Known → ValidWorkloadsRun → RoundsEnd
+rounds_end k run W valid n = has_rounds k W (run W valid).laid (rounds_small k.counted W (run W valid).laid valid) n
 
 -- ---- closing
 

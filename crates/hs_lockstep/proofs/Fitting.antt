@@ -11,6 +11,7 @@ use Rattle.hs_workload.specs.Validity.{IsValid}
 use Rattle.hs_lawful.specs.Following.{NodeRun, asks_to, event_of, followed}
 use Rattle.hs_lockstep.specs.Clauses.{IsRunnable, ValidWorkloadsRun}
 use Rattle.hs_lockstep.specs.Conditions.{MayTake, IsFit, MachinesFit}
+use Rattle.hs_lockstep.specs.Known.{Known}
 use Rattle.hs_lockstep.specs.Lockstep.{Machine, with_steps, client_goes}
 use Rattle.hs_lockstep.specs.Parts.{node_at, heard_in, ClientsGoSo, AgentsGiveSo}
 use Rattle.hs_lockstep.specs.Performing.{after_steps}
@@ -27,19 +28,17 @@ use Rattle.hs_lockstep.proofs.Keeping.{own_sends}
 use Rattle.hs_lockstep.proofs.Lists.{all_each, some_same}
 use Rattle.hs_lockstep.proofs.Performed.{bare, bare_is, performed_walk, steps_keep}
 use Rattle.hs_lockstep.proofs.Pools.{history_there}
-use Rattle.hs_lockstep.proofs.Progress.{Agents, spoken}
-use Rattle.hs_lockstep.proofs.Rounds.{Known}
-use Rattle.hs_lockstep.proofs.Sizes.{PiecesCounted}
+use Rattle.hs_lockstep.proofs.Progress.{spoken}
 use Rattle.hs_lockstep.proofs.Standing.{held_at, number_at, through_at}
 use Rattle.hs_lockstep.proofs.Taking.{done, behind, all_came, comes_to}
 use Rattle.hs_lockstep.proofs.Walks.{Walked, IsThrough, Stands}
 
-module _ (k : Known) (a : Agents) (counted : PiecesCounted) (W : PlainWorkload) (runs : IsRunnable W) (valid : IsValid W) where
+module _ (k : Known) (W : PlainWorkload) (runs : IsRunnable W) (valid : IsValid W) where
   -- asks are of declared trigger ids
   asks_declared : (m : Machine) (node : ℕ) → AllByRecursion (λ (ask : Ask). is_declared W.settings.triggers ask.group.trigger ≡ true) (asks_to node (heard_in W m.journal))
   asks_declared m node =
       let run = followed W m.journal in
-      let known = (spoken k a W runs.laid runs.size runs.weights m).heard in
+      let known = (spoken k W runs.laid runs.size runs.weights m).heard in
       all_each (λ (ask : Ask). is_known W.settings run.nodes ask.group ≡ true) (λ (ask : Ask). is_declared W.settings.triggers ask.group.trigger ≡ true) (asks_to node run.heard)
       (λ ask h. (and_parts (ltb ask.group.id.number (admitted_at run.nodes ask.group.id.node)) (is_declared W.settings.triggers ask.group.trigger) h).1)
       (asks_known (is_known W.settings run.nodes) node [] run.heard tt known)
@@ -50,7 +49,7 @@ module _ (k : Known) (a : Agents) (counted : PiecesCounted) (W : PlainWorkload) 
 
     sends_are : run.sends ≡ node_sends W m.journal i
     sends_are =
-        own_sends k.plays k.agree k.rests k.goes_on k.runs k.noted k.unsent k.adds k.go_on k.places W m.journal i run stands ∙ ap (node_sends W m.journal) (number_at k W m i run stands)
+        own_sends k W m.journal i run stands ∙ ap (node_sends W m.journal) (number_at k W m i run stands)
 
     -- the steps for this node, and none for the others
     abbrev only : List Step → NodeRun → List Step
@@ -65,11 +64,11 @@ module _ (k : Known) (a : Agents) (counted : PiecesCounted) (W : PlainWorkload) 
     alone steps middle came j node at = go (nat_eq node.node i) refl
       where
         left : (gone steps node).left ≡ only steps node
-        left = left_is k.plays k.agree k.rests k.goes_on k.runs k.noted k.unsent W m (only steps) (done k W m r) j node at
+        left = left_is k W m (only steps) (done k W m r) j node at
 
         standing : bare (gone steps node) ≡ node
         standing =
-            ap (λ (sends : List ClientSends). record node { sends = sends; left = [] }) (sym (own_sends k.plays k.agree k.rests k.goes_on k.runs k.noted k.unsent k.adds k.go_on k.places W m.journal j node at))
+            ap (λ (sends : List ClientSends). record node { sends = sends; left = [] }) (sym (own_sends k W m.journal j node at))
             ∙ bare_is node (through_at k W m r j node at)
 
         go : (here : Bool) → nat_eq node.node i ≡ here → Walked W.settings (heard_in W m.journal) IsThrough (gone steps node)
@@ -87,7 +86,7 @@ module _ (k : Known) (a : Agents) (counted : PiecesCounted) (W : PlainWorkload) 
         let own : f run ≡ steps = ap (λ (here : Bool). cond here steps []) (eq-eqb run.node i (number_at k W m i run stands)) in
         let same : c.later ≡ middle = some_same c.later middle (sym c.came ∙ ap (λ (left : List Step). after_steps W.settings (heard_in W m.journal) left run) own ∙ came) in
         subst (λ (n : NodeRun). n.state.admitted + 1 < 2 ^ 32) same
-        (groups_few k a counted W runs valid (with_steps m (map f (followed W m.journal).nodes)) i c.later c.there)
+        (groups_few k W runs valid (with_steps m (map f (followed W m.journal).nodes)) i c.later c.there)
 
     takes : (front : List Step) (step : Step) (middle : NodeRun) (input : Input) → after_steps W.settings (heard_in W m.journal) front run ≡ Some middle → event_of middle (heard_in W m.journal) step ≡ Some (Took input)
         → MayTake W.settings i middle.state input
@@ -102,23 +101,23 @@ module _ (k : Known) (a : Agents) (counted : PiecesCounted) (W : PlainWorkload) 
     pub is_fit : IsFit W m i run
     is_fit =
         let long = history_long W.settings run held in
-        let few = stamps_few k a counted W runs valid m i run run stands refl held in
+        let few = stamps_few k W runs valid m i run run stands refl held in
         record { history = history_there W run held.holds; stamps = omega (arith, long, few); takes = takes }
 
-pub machines_fit : Known → Agents → PiecesCounted → ValidWorkloadsRun → MachinesFit
-machines_fit k a counted run W valid m r i node stands = is_fit k a counted W (run W valid) valid m r i node stands
+pub machines_fit : Known → ValidWorkloadsRun → MachinesFit
+machines_fit k run W valid m r i node stands = is_fit k W (run W valid) valid m r i node stands
 
-pub agents_give_so : Known → Agents → PiecesCounted → ValidWorkloadsRun → AgentsGiveSo
-agents_give_so k a counted run W valid m r i node stands = agent_gives k W m r (stamps_few k a counted W (run W valid) valid m) i node stands
+pub agents_give_so : Known → ValidWorkloadsRun → AgentsGiveSo
+agents_give_so k run W valid m r i node stands = agent_gives k W m r (stamps_few k W (run W valid) valid m) i node stands
 
-pub clients_go_so : Known → Agents → PiecesCounted → ValidWorkloadsRun → ClientsGoSo
-clients_go_so k a counted run W valid m r i number node low stands =
+pub clients_go_so : Known → ValidWorkloadsRun → ClientsGoSo
+clients_go_so k run W valid m r i number node low stands =
     let place = place_of W.settings.clients i number in
     let new = client_goes W m place in
-    let reached = reaching.Goes m place (place_low k a counted W (run W valid) valid m i number node low stands) r in
+    let reached = reaching.Goes m place (place_low k W (run W valid) valid m i number node low stands) r in
     client_goes_so k W (run W valid).laid m r i number node low stands
     (λ later at.
     let held = held_at k W new reached i later at in
     let long = history_long W.settings later held in
-    let few = stamps_few k a counted W (run W valid) valid new i later later at refl held in
+    let few = stamps_few k W (run W valid) valid new i later later at refl held in
     omega (arith, long, few))

@@ -16,14 +16,15 @@ use Rattle.hs_journal.specs.Views.{PlainJournal}
 use Rattle.hs_records.specs.Plain.{PlainWorkload}
 use Rattle.hs_sent.specs.Sending.{draws_at, operations_at}
 use Rattle.hs_lawful.specs.Ends.{is_followed}
-use Rattle.hs_lawful.specs.Extending.{HasMore, GoesOn, node_behind, run_behind, JournalsGoOn, IsOfJournal, NodesAreOfJournal, RunsAreOfTheJournal, StepsAreNoted}
+use Rattle.hs_lawful.specs.Extending.{HasMore, GoesOn, node_behind, run_behind, IsOfJournal, NodesAreOfJournal}
 use Rattle.hs_lawful.specs.Following.{Queue, takes, taken, is_from, NodeRun, Run, log_at, node_start, run_start, followed, is_done}
-use Rattle.hs_lawful.specs.Orders.{Leads, Stays, FollowingPlaysOut, OrdersAgree, DoneIsAtRest}
+use Rattle.hs_lawful.specs.Orders.{Leads, Stays}
 use Rattle.hs_lawful.specs.Passes.{is_offer}
 use Rattle.hs_lawful.specs.Played.{played}
 use Rattle.hs_lawful.specs.Pooled.{pool_events}
-use Rattle.hs_lawful.specs.Supply.{supply, said_at, TakesWhatIsThere, NothingIsTakenUnsent}
+use Rattle.hs_lawful.specs.Supply.{supply, said_at, TakesWhatIsThere}
 use Rattle.hs_lockstep.specs.Clauses.{ScheduleIsFollowed}
+use Rattle.hs_lockstep.specs.Known.{Known}
 use Rattle.hs_lockstep.specs.Lockstep.{Machine, machine_start, done_at, draws_in, pages_started, with_draws, client_goes, pass_steps, give_steps, with_steps, agents_take, agents_give, told_of, coordinator_hears, passes, lockstep}
 use Rattle.hs_lockstep.proofs.Lists.{some_same, all_each, all_get, all_append, length_extended, extended_at, extended_more, passes_all, count_append}
 use Rattle.hs_lockstep.proofs.Machines.{clients_keep, end_keeps, machine_end}
@@ -91,14 +92,14 @@ pub record IsDone (W : PlainWorkload) (m : Machine) : Type 0 where
   pub logs : length m.journal.logs ≡ W.settings.nodes
   pub over : IsOver (followed W m.journal)
 
-module _ (plays : FollowingPlaysOut) (agree : OrdersAgree) (rests : DoneIsAtRest) (goes_on : JournalsGoOn) (runs : RunsAreOfTheJournal) (noted : StepsAreNoted) (unsent : NothingIsTakenUnsent) (W : PlainWorkload) where
+module _ (k : Known) (W : PlainWorkload) where
   -- the longer journal is followed to where these steps lead
   pub ends_at : (J K : PlainJournal) → GoesOn J K → (last : Run) → Leads W.settings (run_behind W J K (followed W J)) last → IsOver last → last ≡ followed W K
   ends_at J K goes last leads over =
-      agree W K last
+      k.agree W K last
       (record {
-        leads = leads_on W.settings (run_start W K) (run_behind W J K (followed W J)) last (goes_on W J K goes) leads;
-        rests = rests W.settings last (over_done last over);
+        leads = leads_on W.settings (run_start W K) (run_behind W J K (followed W J)) last (k.goes_on W J K goes) leads;
+        rests = k.rests W.settings last (over_done last over);
       })
 
   -- the longer journal is followed to its end too, from where the shorter one led
@@ -112,10 +113,10 @@ module _ (plays : FollowingPlaysOut) (agree : OrdersAgree) (rests : DoneIsAtRest
       record { over = subst IsOver e over; leads = subst (λ (r : Run). Leads W.settings (run_behind W J K (followed W J)) r) e leads }
 
   pub nodes_of_journal : (J : PlainJournal) → NodesAreOfJournal W J (followed W J)
-  nodes_of_journal J = runs W J (followed W J) (plays W J).leads
+  nodes_of_journal J = k.runs W J (followed W J) (k.plays W J).leads
 
   pub fits : (J : PlainJournal) → TakesWhatIsThere (followed W J)
-  fits J = unsent W J (followed W J) (plays W J).leads
+  fits J = k.unsent W J (followed W J) (k.plays W J).leads
 
   pub count_nodes : (J : PlainJournal) → length (followed W J).nodes ≡ W.settings.nodes
   count_nodes J = sym (length-map (followed W J).nodes (λ (node : NodeRun). node.node)) ∙ ap length (nodes_of_journal J).numbers ∙ length-range_with_len 0 W.settings.nodes
@@ -258,7 +259,7 @@ module _ (plays : FollowingPlaysOut) (agree : OrdersAgree) (rests : DoneIsAtRest
         (mapped_all (Walked W.settings before.heard IsThrough) (node_behind W m.journal (agents_take W m).journal) before.nodes
         (all_places (λ (node : NodeRun). Walked W.settings before.heard IsThrough (node_behind W m.journal (agents_take W m).journal node)) before.nodes
         (λ i node stands.
-        takes_walk noted W.settings before.heard (passed node) (node_behind W m.journal (agents_take W m).journal node) (left_is m passed h i node stands)
+        takes_walk k.noted W.settings before.heard (passed node) (node_behind W m.journal (agents_take W m).journal node) (left_is m passed h i node stands)
         (all_append (λ (step : Step). is_offer step ≡ false) (before_turn W m before node) (steps.Turn ∷ [])
         (all_takes (λ (step : Step). is_offer step ≡ false) (λ client. refl) (λ client. refl) (λ client. refl) refl W m before node) (refl, tt))
         (enough_of i node stands))))
@@ -268,13 +269,13 @@ module _ (plays : FollowingPlaysOut) (agree : OrdersAgree) (rests : DoneIsAtRest
 
     -- ---- they give
 
-    pub give_there : StepsThere m give_steps h (IsEmptied noted W.settings before.heard)
+    pub give_there : StepsThere m give_steps h (IsEmptied k.noted W.settings before.heard)
     give_there =
-        steps_there m give_steps h (IsEmptied noted W.settings before.heard) (λ node e. e.through)
-        (mapped_all (Walked W.settings before.heard (IsEmptied noted W.settings before.heard)) (node_behind W m.journal (agents_give W m).journal) before.nodes
-        (all_places (λ (node : NodeRun). Walked W.settings before.heard (IsEmptied noted W.settings before.heard) (node_behind W m.journal (agents_give W m).journal node)) before.nodes
+        steps_there m give_steps h (IsEmptied k.noted W.settings before.heard) (λ node e. e.through)
+        (mapped_all (Walked W.settings before.heard (IsEmptied k.noted W.settings before.heard)) (node_behind W m.journal (agents_give W m).journal) before.nodes
+        (all_places (λ (node : NodeRun). Walked W.settings before.heard (IsEmptied k.noted W.settings before.heard) (node_behind W m.journal (agents_give W m).journal node)) before.nodes
         (λ i node stands.
-        gives_walk noted W.settings before.heard (range_with_len (length (pool_events node)) (length node.state.hand)) (node_behind W m.journal (agents_give W m).journal node)
+        gives_walk k.noted W.settings before.heard (range_with_len (length (pool_events node)) (length node.state.hand)) (node_behind W m.journal (agents_give W m).journal node)
         (left_is m give_steps h i node stands) (sym (length-range_with_len (length (pool_events node)) (length node.state.hand))))))
 
     pub give_keeps : IsDone W (agents_give W m)
@@ -371,7 +372,7 @@ module _ (plays : FollowingPlaysOut) (agree : OrdersAgree) (rests : DoneIsAtRest
   pub starts_at : run_start W (machine_start W).journal ≡ followed W (machine_start W).journal
   starts_at =
       let J = (machine_start W).journal in
-      agree W J (run_start W J) (record { leads = Stays (run_start W J); rests = rests W.settings (run_start W J) (over_done (run_start W J) starts_over) })
+      k.agree W J (run_start W J) (record { leads = Stays (run_start W J); rests = k.rests W.settings (run_start W J) (over_done (run_start W J) starts_over) })
 
   pub begins : IsDone W (machine_start W)
   begins = record { logs = length-replicate W.settings.nodes []; over = subst IsOver starts_at starts_over }
@@ -382,5 +383,5 @@ module _ (plays : FollowingPlaysOut) (agree : OrdersAgree) (rests : DoneIsAtRest
   pub ends_followed : is_followed (played W (lockstep W)) ≡ true
   ends_followed = over_done (followed W (lockstep W)) ends_done.over
 
-pub schedule_is_followed : FollowingPlaysOut → OrdersAgree → DoneIsAtRest → JournalsGoOn → RunsAreOfTheJournal → StepsAreNoted → NothingIsTakenUnsent → ScheduleIsFollowed
-schedule_is_followed plays agree rests goes_on runs noted unsent W = ends_followed plays agree rests goes_on runs noted unsent W
+pub schedule_is_followed : Known → ScheduleIsFollowed
+schedule_is_followed k W = ends_followed k W

@@ -13,6 +13,7 @@ use Rattle.hs_records.specs.Plain.{PlainSettings, PlainWorkload}
 use Rattle.hs_words.specs.PoolHistory.{Event, Given, IsHistoryBack, MayFollow}
 use Rattle.hs_lawful.specs.Following.{NodeRun, event_of, perform, followed}
 use Rattle.hs_lawful.specs.Pooled.{PoolEvent, by_stamp, pool_events, pool_history}
+use Rattle.hs_lockstep.specs.Known.{Known}
 use Rattle.hs_lockstep.specs.Lockstep.{Machine, give_steps, agents_give}
 use Rattle.hs_lockstep.specs.Parts.{node_at, heard_in, GivesNext, AgentGives}
 use Rattle.hs_lockstep.specs.Performing.{after_steps}
@@ -23,7 +24,6 @@ use Rattle.hs_lockstep.proofs.Held.{node_events, IsHeld, HeldUpTo, pool_is, buff
 use Rattle.hs_lockstep.proofs.Holding.{given_as}
 use Rattle.hs_lockstep.proofs.Lists.{some_same, all_get}
 use Rattle.hs_lockstep.proofs.Performed.{first_step, first_of_steps}
-use Rattle.hs_lockstep.proofs.Rounds.{Known}
 use Rattle.hs_lockstep.proofs.Standing.{held_at}
 use Rattle.hs_lockstep.proofs.StepByStep.{steps_on}
 use Rattle.hs_lockstep.proofs.Taking.{history_is, before, done, behind, CameBy, all_came, comes_to}
@@ -136,14 +136,14 @@ module _ (k : Known) (settings : PlainSettings) (heard : Messages) where
 -- ---- they give
 
 module _ (k : Known) (W : PlainWorkload) (m : Machine) (r : IsReached W m) where
-  gives_there : StepsThere k.plays k.agree k.rests k.goes_on k.runs k.noted k.unsent W m give_steps (done k W m r) (CameBy k W m r give_steps)
+  gives_there : StepsThere k W m give_steps (done k W m r) (CameBy k W m r give_steps)
   gives_there =
       all_came k W m r give_steps
       (λ i node stands.
       let long = length-range_with_len (length (pool_events node)) (length node.state.hand) in
       let w =
       gives_walk k.noted W.settings (before k W m r).heard (range_with_len (length (pool_events node)) (length node.state.hand)) (behind k W m r give_steps node)
-      (left_is k.plays k.agree k.rests k.goes_on k.runs k.noted k.unsent W m give_steps (done k W m r) i node stands) (sym long)
+      (left_is k W m give_steps (done k W m r) i node stands) (sym long)
       in
       record { last = w.last; walks = w.walks; ends = w.ends.through })
 
@@ -212,6 +212,6 @@ module _ (k : Known) (W : PlainWorkload) (m : Machine) (r : IsReached W m) where
           each = give_each;
           emptied =
               (all_get (IsEmptied k.noted W.settings (heard_in W m.journal)) (followed W (agents_give W m).journal).nodes i c.later
-              (give_there k.plays k.agree k.rests k.goes_on k.runs k.noted k.unsent W m (done k W m r)).each c.there).hand;
+              (give_there k W m (done k W m r)).each c.there).hand;
           heard = gives_there.heard;
         }

@@ -16,6 +16,7 @@ use Rattle.hs_lawful.specs.Extending.{node_behind, run_behind}
 use Rattle.hs_lawful.specs.Following.{NodeRun, Run, log_at, followed}
 use Rattle.hs_lawful.specs.Pooled.{PoolEvent, event_drawn, pool_history}
 use Rattle.hs_lockstep.specs.Clauses.{IsLaidOut}
+use Rattle.hs_lockstep.specs.Known.{Known}
 use Rattle.hs_lockstep.specs.Lockstep.{Machine, done_at, next_draws, draws_by, draws_in, client_goes}
 use Rattle.hs_lockstep.specs.Parts.{node_at, next_done, next_pages, next_drawn, sending, ClientGoes}
 use Rattle.hs_lockstep.specs.Reaching.{IsReached}
@@ -26,7 +27,6 @@ use Rattle.hs_lockstep.proofs.Growing.{events_back, history_of}
 use Rattle.hs_lockstep.proofs.Held.{IsHeld}
 use Rattle.hs_lockstep.proofs.Holding.{Holds, events_in}
 use Rattle.hs_lockstep.proofs.Keeping.{set_here, set_other, same_sends, OneMore, one_more, own_sends, next_of_node}
-use Rattle.hs_lockstep.proofs.Rounds.{Known}
 use Rattle.hs_lockstep.proofs.Shapes.{drawn_count, done_here, done_other, started_few}
 use Rattle.hs_lockstep.proofs.Standing.{kept, held_at, through_at, number_at, standing, whole}
 use Rattle.hs_lockstep.proofs.Taking.{history_is}
@@ -72,7 +72,7 @@ module _ (k : Known) (W : PlainWorkload) (laid : IsLaidOut W) (m : Machine) (r :
 
   runs_are : run_behind W m.journal new.journal (followed W m.journal) ≡ followed W new.journal
   runs_are =
-      draws_are k.plays k.agree k.rests k.goes_on k.runs k.noted k.unsent W m place (next_done W m place) (draws_in W m (place / W.settings.clients) (next_pages W m place)) (kept k W m r).done
+      draws_are k W m place (next_done W m place) (draws_in W m (place / W.settings.clients) (next_pages W m place)) (kept k W m r).done
 
   node_now : (j : ℕ) → node_at W new.journal j ≡ option_map (node_behind W m.journal new.journal) (node_at W m.journal j)
   node_now j = ap (λ (run : Run). slice_get run.nodes j) (sym runs_are) ∙ slice_get-map (node_behind W m.journal new.journal) (followed W m.journal).nodes j
@@ -105,7 +105,7 @@ module _ (k : Known) (W : PlainWorkload) (laid : IsLaidOut W) (m : Machine) (r :
           same_sends W m.journal new.journal node.node
           (λ other below. draws_other (place_of W.settings.clients node.node other) (λ e. other_place j other ne below (e ∙ ap (λ (n : ℕ). place_of W.settings.clients n other) at)))
           in
-          let own = own_sends k.plays k.agree k.rests k.goes_on k.runs k.noted k.unsent k.adds k.go_on k.places W m.journal j node e in
+          let own = own_sends k W m.journal j node e in
           ap (option_map (node_behind W m.journal new.journal)) e
           ∙ ap (λ (left : List Step). Some (record node { sends = node_sends W new.journal node.node; left = left })) (left_none j node e)
           ∙ ap (λ (sends : List ClientSends). Some (record node { sends = sends })) (same ∙ sym own)
@@ -127,7 +127,7 @@ module _ (k : Known) (W : PlainWorkload) (laid : IsLaidOut W) (m : Machine) (r :
 
   sends_are : run.sends ≡ more.a ++ more.s ∷ more.b
   sends_are =
-      own_sends k.plays k.agree k.rests k.goes_on k.runs k.noted k.unsent k.adds k.go_on k.places W m.journal i run stands
+      own_sends k W m.journal i run stands
       ∙ ap (node_sends W m.journal) (number_at k W m i run stands)
       ∙ more.was
 
@@ -146,8 +146,8 @@ module _ (k : Known) (W : PlainWorkload) (laid : IsLaidOut W) (m : Machine) (r :
   enough =
       let s = standing k W laid m r in
       let was = s.drawn.drawn place place_low in
-      let most = started_few k.plays k.runs k.paged W laid place (next_done W m place) in
-      let few = started_few k.plays k.runs k.paged W laid place (done_at m place) in
+      let most = started_few k W laid place (next_done W m place) in
+      let few = started_few k W laid place (done_at m place) in
       let all = more.all (omega (arith, was, few)) in
       omega (arith, was, most, all)
 
@@ -179,9 +179,9 @@ module _ (k : Known) (W : PlainWorkload) (laid : IsLaidOut W) (m : Machine) (r :
         let mapped = length-map (next_drawn W m place run) event_drawn in
         let count = drawn_count (next_pages W m place) (length (pool_history run)) (queue_after W.settings.buffers (reverse (pool_history run))) in
         record {
-          done = done_here k.plays k.runs k.paged W laid m place s.drawn place_low;
+          done = done_here k W laid m place s.drawn place_low;
           draws = draws_here;
-          others_done = λ other ne. done_other k.plays k.runs k.paged W laid m place other ne;
+          others_done = λ other ne. done_other k W laid m place other ne;
           others_draws = draws_other;
           node = node_here;
           history = history_now;

@@ -11,6 +11,7 @@ use Rattle.hs_sent.specs.Sending.{ClientSends, node_sends}
 use Rattle.hs_lawful.specs.Extending.{node_behind, run_behind}
 use Rattle.hs_lawful.specs.Following.{NodeRun, Run, log_at, step_of, message_of, hear, followed}
 use Rattle.hs_lawful.specs.Orders.{Leads, Stays, Goes}
+use Rattle.hs_lockstep.specs.Known.{Known}
 use Rattle.hs_lockstep.specs.Lockstep.{Machine, coordinator_hears}
 use Rattle.hs_lockstep.specs.Parts.{CoordinatorHears, CoordinatorHearsSo}
 use Rattle.hs_lockstep.specs.Performing.{after_names}
@@ -19,7 +20,6 @@ use Rattle.hs_lockstep.proofs.Followed.{dropped_all, behind_left, hear_there}
 use Rattle.hs_lockstep.proofs.Groups.{unmapped}
 use Rattle.hs_lockstep.proofs.Keeping.{own_sends}
 use Rattle.hs_lockstep.proofs.Lists.{all_get}
-use Rattle.hs_lockstep.proofs.Rounds.{Known}
 use Rattle.hs_lockstep.proofs.Standing.{kept, through_at}
 
 -- ---- messages
@@ -57,7 +57,7 @@ module _ (k : Known) (W : PlainWorkload) (m : Machine) (r : IsReached W m) where
       let through = through_at k W m r i node stands in
       ap (λ (left : List Step). record node { sends = node_sends W J node.node; left = left ++ drop (length (log_at J node.node)) (log_at J node.node) }) through
       ∙ ap (λ (left : List Step). record node { sends = node_sends W J node.node; left = left }) (dropped_all (log_at J node.node) ∙ sym through)
-      ∙ ap (λ (sends : List ClientSends). record node { sends = sends }) (sym (own_sends k.plays k.agree k.rests k.goes_on k.runs k.noted k.unsent k.adds k.go_on k.places W J i node stands))
+      ∙ ap (λ (sends : List ClientSends). record node { sends = sends }) (sym (own_sends k W J i node stands))
 
   nodes_same : map (node_behind W J K) (followed W J).nodes ≡ (followed W J).nodes
   nodes_same = map_same (node_behind W J K) (followed W J).nodes node_same
@@ -65,8 +65,8 @@ module _ (k : Known) (W : PlainWorkload) (m : Machine) (r : IsReached W m) where
   pub hears_so : CoordinatorHears W m (coordinator_hears W m)
   hears_so =
       let done = (kept k W m r).done in
-      let h = hear_there k.plays k.agree k.rests k.goes_on k.runs k.noted k.unsent W m done in
-      let left = behind_left k.plays k.agree k.rests k.goes_on k.runs k.noted k.unsent W m done in
+      let h = hear_there k W m done in
+      let left = behind_left k W m done in
       let through : AllByRecursion (λ (node : NodeRun). node.left ≡ []) (map (node_behind W J K) (followed W J).nodes) = subst (AllByRecursion (λ (node : NodeRun). node.left ≡ [])) (sym nodes_same) done.over.nodes in
       record {
         heard =

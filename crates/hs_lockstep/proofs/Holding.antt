@@ -18,7 +18,7 @@ use Rattle.hs_lawful.specs.Following.{Chunks, taken, takes}
 use Rattle.hs_lawful.specs.Pooled.{PoolEvent, drawn_event, buffer_of, missed_event, has_buffer}
 use Rattle.hs_lawful.specs.Shape.{step_stamp, log_stamps, rise_above, rise}
 use Rattle.hs_lockstep.proofs.Growing.{stamps_of, IsPooled, IsOut, IsAnswered, answered, given_kept, given_answers, given_stays}
-use Rattle.hs_lockstep.proofs.Lists.{one, some_same, all_append, get_at, count_cons, count_append}
+use Rattle.hs_lockstep.proofs.Lists.{one, some_same, all_append, all_front, get_at, count_cons, count_append}
 
 -- ---- what happened at the pool
 
@@ -172,10 +172,6 @@ mapped_at : {X Y : Type 0} (P : Y → Type 0) (f : X → Y) (xs : List X) (i : �
 mapped_at P f [] i x all h = let no : None ≡ Some x = h in absurd cc
 mapped_at P f (y ∷ xs) zero x all h = subst (λ z. P (f z)) (some_same y x h) all.0
 mapped_at P f (y ∷ xs) (suc i) x all h = mapped_at P f xs i x all.1 h
-
-all_front : {X : Type 0} (P : X → Type 0) (xs ys : List X) → AllByRecursion P (xs ++ ys) → AllByRecursion P xs
-all_front P [] ys all = tt
-all_front P (x ∷ xs) ys all = (all.0, all_front P xs ys all.1)
 
 -- what holds of all events holds of that of a page
 pub at_page : (P : PoolEvent → Type 0) (sends : List ClientSends) (more : List PoolEvent) (client k : ℕ) (s : ClientSends) (d : DrawnPage) → AllByRecursion P (map drawn_event (pages_in sends) ++ more)

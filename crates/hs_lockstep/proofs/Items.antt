@@ -27,13 +27,14 @@ use Rattle.hs_lawful.specs.Following.{Queue, Chunks, Crumbs, Triggers, Asks, tak
 use Rattle.hs_lawful.specs.Pace.{inner_passes, takes_enough, client_in_pace, items_in_pace}
 use Rattle.hs_lawful.specs.Passes.{passes_of, taken_in}
 use Rattle.hs_lockstep.specs.Clauses.{IsLaidOut}
+use Rattle.hs_lockstep.specs.Known.{Known}
 use Rattle.hs_lockstep.specs.Lockstep.{Machine, machine_start, done_at, draws_in, pages_started, client_goes, takes_from, takes_of, takes_all, pass_steps, passes, lockstep}
 use Rattle.hs_lockstep.proofs.Drawing.{chunks_more}
 use Rattle.hs_lockstep.proofs.Keeping.{more_pages, set_here, set_other}
 use Rattle.hs_lockstep.proofs.Lists.{one, some_same, count_cons, count_append}
 use Rattle.hs_lockstep.proofs.Offers.{joined, joined_both, passes_joined, take_front, take_all}
 use Rattle.hs_lockstep.proofs.Passing.{gives}
-use Rattle.hs_lockstep.proofs.Rounds.{Known, Going, PassOf, pass_of, later_at, not_before, none_logged, schedule_ends}
+use Rattle.hs_lockstep.proofs.Rounds.{Going, PassOf, pass_of, later_at, not_before, none_logged, schedule_ends}
 use Rattle.hs_lockstep.proofs.Shapes.{ends_at}
 use Rattle.hs_lockstep.proofs.Pools.{range_at}
 use Rattle.hs_lockstep.proofs.Machines.{machine_end}
@@ -306,7 +307,7 @@ module _ (k : Known) (W : PlainWorkload) (laid : IsLaidOut W) (least : MIN_SIZE 
   pages_at place = timed_pages W.settings.size (operations_at W place)
 
   pub timely_at : (place : ℕ) → IsTimely 0 (length (operations_at W place)) (pages_at place)
-  timely_at place = k.timely W.settings.size (operations_at W place) least (ends_at k.plays k.runs k.paged W laid W.clients place laid.ends)
+  timely_at place = k.timely W.settings.size (operations_at W place) least (ends_at k W laid W.clients place laid.ends)
 
   pub record PacedAt (J : PlainJournal) (i client : ℕ) : Type 0 where
     pub chunks : IsPaced (Chunks client) every (passes_of (log_at J i)) (client_sends W J i client).chunks

@@ -12,19 +12,18 @@ use Rattle.hs_journal.specs.declared.journal.Draw.{Draw}
 use Rattle.hs_journal.specs.declared.journal.Step.{Step}
 use Rattle.hs_journal.specs.declared.journal.Step.TheVariants as steps
 use Rattle.hs_journal.specs.Views.{PlainJournal}
-use Rattle.hs_model.specs.Laws.{ListsHaveTheirChunks, EventsGoOn, sheets_of, EventsAddThis}
+use Rattle.hs_model.specs.Laws.{sheets_of}
 use Rattle.hs_records.specs.Plain.{Operation, PlainWorkload}
 use Rattle.hs_sent.specs.Drawn.{DrawnPage, stamp_of, drawn_from, drawn_pages}
 use Rattle.hs_sent.specs.Sending.{ClientSends, sent_chunks, sends_of, client_sends, node_sends, operations_at, draws_at, place_of}
 use Rattle.hs_sent.specs.Timing.{TimedPage, timed_pages}
 use Rattle.hs_words.specs.PoolHistory.{queue_after}
-use Rattle.hs_lawful.specs.Extending.{node_behind, JournalsGoOn, IsOfJournal, RunsAreOfTheJournal, StepsAreNoted}
+use Rattle.hs_lawful.specs.Extending.{node_behind, IsOfJournal}
 use Rattle.hs_lawful.specs.Following.{NodeRun, Run, node_start, followed}
-use Rattle.hs_lawful.specs.Orders.{FollowingPlaysOut, OrdersAgree, DoneIsAtRest}
 use Rattle.hs_lawful.specs.Passes.{is_offer}
 use Rattle.hs_lawful.specs.Pooled.{drawn_event, pool_events, pool_history}
 use Rattle.hs_lawful.specs.Shape.{rise}
-use Rattle.hs_lawful.specs.Supply.{NothingIsTakenUnsent}
+use Rattle.hs_lockstep.specs.Known.{Known}
 use Rattle.hs_lockstep.specs.Lockstep.{Machine, machine_start, done_at, next_draws, draws_by, draws_in, pages_started, client_goes, pass_steps, give_steps, agents_take, agents_give, coordinator_hears, passes}
 use Rattle.hs_lockstep.proofs.Drawing.{grown, draws_keep}
 use Rattle.hs_lockstep.proofs.Followed.{IsDone, all_places, mapped_all, number_is, draws_are, passed, enough_of, left_is, steps_there, StepsThere, take_keeps, give_keeps, hear_there, hear_keeps, client_keeps, begins, starts_at, nodes_of_journal}
@@ -210,228 +209,226 @@ next_of_node W count node h =
 
 -- ---- the whole schedule
 
-module _ (plays : FollowingPlaysOut) (agree : OrdersAgree) (rests : DoneIsAtRest) (goes_on : JournalsGoOn) (runs : RunsAreOfTheJournal) (noted : StepsAreNoted) (unsent : NothingIsTakenUnsent) (adds : EventsAddThis) (go_on : EventsGoOn)
-    (places : ListsHaveTheirChunks) (W : PlainWorkload)
-  where
-    abbrev Held : NodeRun → Type 0
-    Held = IsHeld W.settings
+module _ (k : Known) (W : PlainWorkload) where
+  abbrev Held : NodeRun → Type 0
+  Held = IsHeld W.settings
 
-    pub record Keeps (m : Machine) : Type 0 where
-      pub done : IsDone W m
-      pub held : AllByRecursion Held (followed W m.journal).nodes
+  pub record Keeps (m : Machine) : Type 0 where
+    pub done : IsDone W m
+    pub held : AllByRecursion Held (followed W m.journal).nodes
 
-    pub own_sends : (J : PlainJournal) (i : ℕ) (node : NodeRun) → slice_get (followed W J).nodes i ≡ Some node → node.sends ≡ node_sends W J node.node
-    own_sends J i node stands = (all_get (IsOfJournal W J) (followed W J).nodes i node (nodes_of_journal plays agree rests goes_on runs noted unsent W J).each stands).sends
+  pub own_sends : (J : PlainJournal) (i : ℕ) (node : NodeRun) → slice_get (followed W J).nodes i ≡ Some node → node.sends ≡ node_sends W J node.node
+  own_sends J i node stands = (all_get (IsOfJournal W J) (followed W J).nodes i node (nodes_of_journal k W J).each stands).sends
 
-    -- a node of which the clients send the same
-    behind_held : (J K : PlainJournal) (i : ℕ) (node : NodeRun) → slice_get (followed W J).nodes i ≡ Some node → node_sends W K node.node ≡ node_sends W J node.node → Held node → Held (node_behind W J K node)
-    behind_held J K i node stands same h =
-        record {
-          comes = h.comes;
-          holds = subst (λ (sends : List ClientSends). Holds W.settings.buffers sends (sheets_of node.state.taken) node.state.given node.state.log) (own_sends J i node stands ∙ sym same) h.holds;
-        }
+  -- a node of which the clients send the same
+  behind_held : (J K : PlainJournal) (i : ℕ) (node : NodeRun) → slice_get (followed W J).nodes i ≡ Some node → node_sends W K node.node ≡ node_sends W J node.node → Held node → Held (node_behind W J K node)
+  behind_held J K i node stands same h =
+      record {
+        comes = h.comes;
+        holds = subst (λ (sends : List ClientSends). Holds W.settings.buffers sends (sheets_of node.state.taken) node.state.given node.state.log) (own_sends J i node stands ∙ sym same) h.holds;
+      }
 
-    -- ---- a client draws
+  -- ---- a client draws
 
-    module _ (m : Machine) (place : ℕ) (h : Keeps m) where
-      abbrev count : ℕ
-      count = pages_started W place (min (done_at m place + W.settings.stride) (length (operations_at W place))) - pages_started W place (done_at m place)
+  module _ (m : Machine) (place : ℕ) (h : Keeps m) where
+    abbrev count : ℕ
+    count = pages_started W place (min (done_at m place + W.settings.stride) (length (operations_at W place))) - pages_started W place (done_at m place)
 
-      abbrev drew : List Draw
-      drew = draws_in W m (place / W.settings.clients) count
+    abbrev drew : List Draw
+    drew = draws_in W m (place / W.settings.clients) count
 
-      abbrev old : PlainJournal
-      old = m.journal
+    abbrev old : PlainJournal
+    old = m.journal
 
-      abbrev new : PlainJournal
-      new = (client_goes W m place).journal
+    abbrev new : PlainJournal
+    new = (client_goes W m place).journal
 
-      module _ (i : ℕ) (node : NodeRun) (stands : slice_get (followed W old).nodes i ≡ Some node) where
-        abbrev base : ℕ
-        base = node.node * W.settings.clients
+    module _ (i : ℕ) (node : NodeRun) (stands : slice_get (followed W old).nodes i ≡ Some node) where
+      abbrev base : ℕ
+      base = node.node * W.settings.clients
 
-        held_here : Held node
-        held_here = all_get Held (followed W old).nodes i node h.held stands
+      held_here : Held node
+      held_here = all_get Held (followed W old).nodes i node h.held stands
 
-        others_same : (other : ℕ) → place ≢ other → draws_at new other ≡ draws_at old other
-        others_same other ne = set_other m.journal.draws place other (draws_at old place ++ drew) [] ne
+      others_same : (other : ℕ) → place ≢ other → draws_at new other ≡ draws_at old other
+      others_same other ne = set_other m.journal.draws place other (draws_at old place ++ drew) [] ne
 
-        -- the client is none of the node's
-        elsewhere : ((number : ℕ) → number < W.settings.clients → place ≢ base + number) → Held (node_behind W old new node)
-        elsewhere away = behind_held old new i node stands (same_sends W old new node.node (λ number low. others_same (base + number) (away number low))) held_here
+      -- the client is none of the node's
+      elsewhere : ((number : ℕ) → number < W.settings.clients → place ≢ base + number) → Held (node_behind W old new node)
+      elsewhere away = behind_held old new i node stands (same_sends W old new node.node (λ number low. others_same (base + number) (away number low))) held_here
 
-        -- there is no such client
-        nowhere : length m.journal.draws ≤ place → Held (node_behind W old new node)
-        nowhere past =
-            behind_held old new i node stands
-            (same_sends W old new node.node (λ number low. ap (λ (all : List (List Draw)). unwrap_or (slice_get all (base + number)) []) (set_past m.journal.draws place (draws_at old place ++ drew) past))) held_here
+      -- there is no such client
+      nowhere : length m.journal.draws ≤ place → Held (node_behind W old new node)
+      nowhere past =
+          behind_held old new i node stands
+          (same_sends W old new node.node (λ number low. ap (λ (all : List (List Draw)). unwrap_or (slice_get all (base + number)) []) (set_past m.journal.draws place (draws_at old place ++ drew) past))) held_here
 
-        -- it is one of the node's
-        here : (number : ℕ) → place ≡ base + number → number < W.settings.clients → place < length m.journal.draws → Held (node_behind W old new node)
-        here number is low there =
-            let own_place : place / W.settings.clients ≡ i =
-            ap (λ (p : ℕ). p / W.settings.clients) is ∙ div-mul-add node.node W.settings.clients number low ∙ number_is plays agree rests goes_on runs noted unsent W old i node stands
-            in
-            let drawn_more : draws_at new (base + number) ≡ draws_at old (base + number) ++ drew =
-            subst (λ (p : ℕ). draws_at new p ≡ draws_at old p ++ drew) is (set_here m.journal.draws place (draws_at old place ++ drew) [] there)
-            in
-            let o = one_more W old new node.node number drew low (λ other ne. others_same (base + other) (λ e. ne (omega (arith, e, is)))) drawn_more in
-            let sends_are : node.sends ≡ o.a ++ o.s ∷ o.b = own_sends old i node stands ∙ o.was in
-            let sheets = sheets_of node.state.taken in
-            let holds : Holds W.settings.buffers (o.a ++ o.s ∷ o.b) sheets node.state.given node.state.log =
-            subst (λ (sends : List ClientSends). Holds W.settings.buffers sends sheets node.state.given node.state.log) sends_are held_here.holds
-            in
-            let next : drew ≡ next_draws count (length (events_in (o.a ++ o.s ∷ o.b) sheets node.state.given)) (queue_after W.settings.buffers (events_back (events_in (o.a ++ o.s ∷ o.b) sheets node.state.given))) =
-            ap (λ (n : ℕ). option_map_or (draws_by W count) (slice_get (followed W old).nodes n) []) own_place
-            ∙ ap (λ o. option_map_or (draws_by W count) o []) stands
-            ∙ next_of_node W count node held_here.holds
-            ∙ ap
-            (λ (sends : List ClientSends).
-            next_draws count (length (events_in sends sheets node.state.given)) (queue_after W.settings.buffers (events_back (events_in sends sheets node.state.given)))) sends_are
-            in
-            let kept = draws_keep W.settings.buffers o.a o.b sheets node.state.given node.state.log o.client o.own o.rest count o.s holds in
-            record {
-              comes = held_here.comes;
-              holds =
-                  subst (λ (sends : List ClientSends). Holds W.settings.buffers sends sheets node.state.given node.state.log) (sym o.now)
-                  (subst (λ (drew : List Draw). Holds W.settings.buffers (o.a ++ grown o.s (drawn_from o.client (length o.s.drawn) o.rest drew) ∷ o.b) sheets node.state.given node.state.log) (sym next) kept);
-            }
-
-        client_case : (low high there : Bool) → leb base place ≡ low → ltb place (base + W.settings.clients) ≡ high → ltb place (length m.journal.draws) ≡ there → Held (node_behind W old new node)
-        client_case true true true x y z =
-            let least = leb-true base place x in
-            let most = ltb-true place (base + W.settings.clients) y in
-            here (place - base) (omega (arith, least)) (omega (arith, least, most)) (ltb-true place (length m.journal.draws) z)
-        client_case low high false x y z = nowhere (ltb-false place (length m.journal.draws) z)
-        client_case true false there x y z = let past = ltb-false place (base + W.settings.clients) y in elsewhere (λ number low e. omega (arith, past, low, e))
-        client_case false high there x y z = elsewhere (λ number low e. let not_below = below base place x in omega (arith, not_below, e))
-          where
-            below : (a b : ℕ) → leb a b ≡ false → b < a
-            below a b x = leb-false a b x
-
-        client_node : Held (node_behind W old new node)
-        client_node = client_case (leb base place) (ltb place (base + W.settings.clients)) (ltb place (length m.journal.draws)) refl refl refl
-
-      pub client_keeps_held : Keeps (client_goes W m place)
-      client_keeps_held =
-          record {
-            done = client_keeps plays agree rests goes_on runs noted unsent W m place h.done;
-            held =
-                subst (λ (r : Run). AllByRecursion Held r.nodes)
-                (draws_are plays agree rests goes_on runs noted unsent W m place (min (done_at m place + W.settings.stride) (length (operations_at W place))) drew h.done)
-                (mapped_all Held (node_behind W old new) (followed W old).nodes (all_places (λ (node : NodeRun). Held (node_behind W old new node)) (followed W old).nodes client_node));
-          }
-
-    -- ---- a pass
-
-    module _ (m : Machine) (h : Keeps m) where
-      abbrev run_of : Run
-      run_of = followed W m.journal
-
-      abbrev ThroughHeld : NodeRun → Type 0
-      ThroughHeld r = IsThrough r × Held r
-
-      take_holds : StepsThere plays agree rests goes_on runs noted unsent W m (passed plays agree rests goes_on runs noted unsent W m h.done) h.done ThroughHeld
-      take_holds =
-          steps_there plays agree rests goes_on runs noted unsent W m (pass_steps W m run_of) h.done ThroughHeld (λ node e. e.0)
-          (mapped_all (Walked W.settings run_of.heard ThroughHeld) (node_behind W m.journal (agents_take W m).journal) run_of.nodes
-          (all_places (λ (node : NodeRun). Walked W.settings run_of.heard ThroughHeld (node_behind W m.journal (agents_take W m).journal node)) run_of.nodes
-          (λ i node stands.
-          takes_keep noted W.settings run_of.heard Held (λ run step rest event left quiet met p. take_held adds go_on places W.settings run_of.heard run step rest event quiet met p) (pass_steps W m run_of node)
-          (node_behind W m.journal (agents_take W m).journal node) (left_is plays agree rests goes_on runs noted unsent W m (pass_steps W m run_of) h.done i node stands)
-          (all_append (λ (step : Step). is_offer step ≡ false) (before_turn W m run_of node) (steps.Turn ∷ [])
-          (all_takes (λ (step : Step). is_offer step ≡ false) (λ client. refl) (λ client. refl) (λ client. refl) refl W m run_of node) (refl, tt))
-          (enough_of plays agree rests goes_on runs noted unsent W m h.done i node stands)
-          (behind_held m.journal (agents_take W m).journal i node stands refl (all_get Held run_of.nodes i node h.held stands)))))
-
-      pub take_keeps_held : Keeps (agents_take W m)
-      take_keeps_held =
-          record {
-            done = take_keeps plays agree rests goes_on runs noted unsent W m h.done;
-            held = all_each ThroughHeld Held (followed W (agents_take W m).journal).nodes (λ node e. e.1) take_holds.each;
-          }
-
-      abbrev EmptiedHeld : NodeRun → Type 0
-      EmptiedHeld r = IsEmptied noted W.settings run_of.heard r × Held r
-
-      give_node : (i : ℕ) (node : NodeRun) → slice_get run_of.nodes i ≡ Some node → Walked W.settings run_of.heard EmptiedHeld (node_behind W m.journal (agents_give W m).journal node)
-      give_node i node stands =
-          let behind = node_behind W m.journal (agents_give W m).journal node in
-          let held = behind_held m.journal (agents_give W m).journal i node stands refl (all_get Held run_of.nodes i node h.held stands) in
-          let events : length (node_events behind) ≡ length (pool_events node) =
-          ap (λ (sends : List ClientSends). length (events_in sends (sheets_of node.state.taken) node.state.given)) (sym (own_sends m.journal i node stands))
-          ∙ ap length (sym (pool_is node (all_get Held run_of.nodes i node h.held stands).holds.missed))
+      -- it is one of the node's
+      here : (number : ℕ) → place ≡ base + number → number < W.settings.clients → place < length m.journal.draws → Held (node_behind W old new node)
+      here number is low there =
+          let own_place : place / W.settings.clients ≡ i =
+          ap (λ (p : ℕ). p / W.settings.clients) is ∙ div-mul-add node.node W.settings.clients number low ∙ number_is k W old i node stands
           in
-          let w =
-          gives_keep noted W.settings run_of.heard (HeldUpTo adds go_on places W.settings) (give_held adds go_on places W.settings) (length node.state.hand) (length (pool_events node)) behind
-          (left_is plays agree rests goes_on runs noted unsent W m give_steps h.done i node stands) refl (record { held = held; events = events })
+          let drawn_more : draws_at new (base + number) ≡ draws_at old (base + number) ++ drew =
+          subst (λ (p : ℕ). draws_at new p ≡ draws_at old p ++ drew) is (set_here m.journal.draws place (draws_at old place ++ drew) [] there)
           in
-          record { last = w.last; walks = w.walks; ends = (w.ends.0, w.ends.1.held) }
-
-      give_holds : StepsThere plays agree rests goes_on runs noted unsent W m give_steps h.done EmptiedHeld
-      give_holds =
-          steps_there plays agree rests goes_on runs noted unsent W m give_steps h.done EmptiedHeld (λ node e. e.0.through)
-          (mapped_all (Walked W.settings run_of.heard EmptiedHeld) (node_behind W m.journal (agents_give W m).journal) run_of.nodes
-          (all_places (λ (node : NodeRun). Walked W.settings run_of.heard EmptiedHeld (node_behind W m.journal (agents_give W m).journal node)) run_of.nodes give_node))
-
-      pub give_keeps_held : Keeps (agents_give W m)
-      give_keeps_held =
+          let o = one_more W old new node.node number drew low (λ other ne. others_same (base + other) (λ e. ne (omega (arith, e, is)))) drawn_more in
+          let sends_are : node.sends ≡ o.a ++ o.s ∷ o.b = own_sends old i node stands ∙ o.was in
+          let sheets = sheets_of node.state.taken in
+          let holds : Holds W.settings.buffers (o.a ++ o.s ∷ o.b) sheets node.state.given node.state.log =
+          subst (λ (sends : List ClientSends). Holds W.settings.buffers sends sheets node.state.given node.state.log) sends_are held_here.holds
+          in
+          let next : drew ≡ next_draws count (length (events_in (o.a ++ o.s ∷ o.b) sheets node.state.given)) (queue_after W.settings.buffers (events_back (events_in (o.a ++ o.s ∷ o.b) sheets node.state.given))) =
+          ap (λ (n : ℕ). option_map_or (draws_by W count) (slice_get (followed W old).nodes n) []) own_place
+          ∙ ap (λ o. option_map_or (draws_by W count) o []) stands
+          ∙ next_of_node W count node held_here.holds
+          ∙ ap
+          (λ (sends : List ClientSends).
+          next_draws count (length (events_in sends sheets node.state.given)) (queue_after W.settings.buffers (events_back (events_in sends sheets node.state.given)))) sends_are
+          in
+          let kept = draws_keep W.settings.buffers o.a o.b sheets node.state.given node.state.log o.client o.own o.rest count o.s holds in
           record {
-            done = give_keeps plays agree rests goes_on runs noted unsent W m h.done;
-            held = all_each EmptiedHeld Held (followed W (agents_give W m).journal).nodes (λ node e. e.1) give_holds.each;
+            comes = held_here.comes;
+            holds =
+                subst (λ (sends : List ClientSends). Holds W.settings.buffers sends sheets node.state.given node.state.log) (sym o.now)
+                (subst (λ (drew : List Draw). Holds W.settings.buffers (o.a ++ grown o.s (drawn_from o.client (length o.s.drawn) o.rest drew) ∷ o.b) sheets node.state.given node.state.log) (sym next) kept);
           }
 
-      pub hear_keeps_held : Keeps (coordinator_hears W m)
-      hear_keeps_held =
-          record {
-            done = hear_keeps plays agree rests goes_on runs noted unsent W m h.done;
-            held =
-                subst (AllByRecursion Held) (sym (hear_there plays agree rests goes_on runs noted unsent W m h.done).nodes)
-                (mapped_all Held (node_behind W m.journal (coordinator_hears W m).journal) run_of.nodes
-                (all_places (λ (node : NodeRun). Held (node_behind W m.journal (coordinator_hears W m).journal node)) run_of.nodes
-                (λ i node stands. behind_held m.journal (coordinator_hears W m).journal i node stands refl (all_get Held run_of.nodes i node h.held stands))));
-          }
+      client_case : (low high there : Bool) → leb base place ≡ low → ltb place (base + W.settings.clients) ≡ high → ltb place (length m.journal.draws) ≡ there → Held (node_behind W old new node)
+      client_case true true true x y z =
+          let least = leb-true base place x in
+          let most = ltb-true place (base + W.settings.clients) y in
+          here (place - base) (omega (arith, least)) (omega (arith, least, most)) (ltb-true place (length m.journal.draws) z)
+      client_case low high false x y z = nowhere (ltb-false place (length m.journal.draws) z)
+      client_case true false there x y z = let past = ltb-false place (base + W.settings.clients) y in elsewhere (λ number low e. omega (arith, past, low, e))
+      client_case false high there x y z = elsewhere (λ number low e. let not_below = below base place x in omega (arith, not_below, e))
+        where
+          below : (a b : ℕ) → leb a b ≡ false → b < a
+          below a b x = leb-false a b x
 
-    pub pass_keeps_held : (m : Machine) → Keeps m → Keeps (passes W m)
-    pass_keeps_held m h = hear_keeps_held (agents_give W (agents_take W m)) (give_keeps_held (agents_take W m) (take_keeps_held m h))
+      client_node : Held (node_behind W old new node)
+      client_node = client_case (leb base place) (ltb place (base + W.settings.clients)) (ltb place (length m.journal.draws)) refl refl refl
 
-    -- ---- the start
-
-    abbrev pub no_draws : List Draw
-    no_draws = []
-
-    pub undrawn : (clients : List (List Operation)) (place : ℕ) → unwrap_or (slice_get (map (λ _. no_draws) clients) place) [] ≡ []
-    undrawn [] place = refl
-    undrawn (ops ∷ clients) zero = refl
-    undrawn (ops ∷ clients) (suc place) = undrawn clients place
-
-    pub no_pages : (client : ClientId) (pages : List TimedPage) → drawn_from client 0 pages [] ≡ []
-    no_pages client [] = refl
-    no_pages client (page ∷ pages) = refl
-
-    pub starts_keep : Keeps (machine_start W)
-    starts_keep =
+    pub client_keeps_held : Keeps (client_goes W m place)
+    client_keeps_held =
         record {
-          done = begins plays agree rests goes_on runs noted unsent W;
+          done = client_keeps k W m place h.done;
           held =
-              subst (λ (r : Run). AllByRecursion Held r.nodes) (starts_at plays agree rests goes_on runs noted unsent W)
-              (mapped_all Held (node_start W (machine_start W).journal) (range_with_len 0 W.settings.nodes)
-              (all_places (λ (node : ℕ). Held (node_start W (machine_start W).journal node)) (range_with_len 0 W.settings.nodes)
-              (λ i node stands.
-              record {
-                comes = refl;
-                holds =
-                    starts_held W.settings.buffers (node_sends W (machine_start W).journal node)
-                    (mapped_all (λ (s : ClientSends). (s.drawn ≡ []) × (s.chunks ≡ sent_chunks s.drawn)) (client_sends W (machine_start W).journal node) (range_with_len 0 W.settings.clients)
-                    (all_places (λ (number : ℕ). ((client_sends W (machine_start W).journal node number).drawn ≡ []) × ((client_sends W (machine_start W).journal node number).chunks ≡ sent_chunks (client_sends W (machine_start W).journal node number).drawn))
-                    (range_with_len 0 W.settings.clients)
-                    (λ j number at. (
-                      ap (drawn_pages W.settings.size (record { node = node; number = number }) (operations_at W (place_of W.settings.clients node number))) (undrawn W.clients (place_of W.settings.clients node number))
-                          ∙ no_pages (record { node = node; number = number }) (timed_pages W.settings.size (operations_at W (place_of W.settings.clients node number))),
-                      refl,
-                    ))));
-              })));
+              subst (λ (r : Run). AllByRecursion Held r.nodes)
+              (draws_are k W m place (min (done_at m place + W.settings.stride) (length (operations_at W place))) drew h.done)
+              (mapped_all Held (node_behind W old new) (followed W old).nodes (all_places (λ (node : NodeRun). Held (node_behind W old new node)) (followed W old).nodes client_node));
         }
 
-    pub ends_keep : Keeps (machine_end W)
-    ends_keep = end_keeps W Keeps (clients_keep W Keeps client_keeps_held) pass_keeps_held starts_keep
+  -- ---- a pass
+
+  module _ (m : Machine) (h : Keeps m) where
+    abbrev run_of : Run
+    run_of = followed W m.journal
+
+    abbrev ThroughHeld : NodeRun → Type 0
+    ThroughHeld r = IsThrough r × Held r
+
+    take_holds : StepsThere k W m (passed k W m h.done) h.done ThroughHeld
+    take_holds =
+        steps_there k W m (pass_steps W m run_of) h.done ThroughHeld (λ node e. e.0)
+        (mapped_all (Walked W.settings run_of.heard ThroughHeld) (node_behind W m.journal (agents_take W m).journal) run_of.nodes
+        (all_places (λ (node : NodeRun). Walked W.settings run_of.heard ThroughHeld (node_behind W m.journal (agents_take W m).journal node)) run_of.nodes
+        (λ i node stands.
+        takes_keep k.noted W.settings run_of.heard Held (λ run step rest event left quiet met p. take_held k.adds k.go_on k.places W.settings run_of.heard run step rest event quiet met p) (pass_steps W m run_of node)
+        (node_behind W m.journal (agents_take W m).journal node) (left_is k W m (pass_steps W m run_of) h.done i node stands)
+        (all_append (λ (step : Step). is_offer step ≡ false) (before_turn W m run_of node) (steps.Turn ∷ [])
+        (all_takes (λ (step : Step). is_offer step ≡ false) (λ client. refl) (λ client. refl) (λ client. refl) refl W m run_of node) (refl, tt))
+        (enough_of k W m h.done i node stands)
+        (behind_held m.journal (agents_take W m).journal i node stands refl (all_get Held run_of.nodes i node h.held stands)))))
+
+    pub take_keeps_held : Keeps (agents_take W m)
+    take_keeps_held =
+        record {
+          done = take_keeps k W m h.done;
+          held = all_each ThroughHeld Held (followed W (agents_take W m).journal).nodes (λ node e. e.1) take_holds.each;
+        }
+
+    abbrev EmptiedHeld : NodeRun → Type 0
+    EmptiedHeld r = IsEmptied k.noted W.settings run_of.heard r × Held r
+
+    give_node : (i : ℕ) (node : NodeRun) → slice_get run_of.nodes i ≡ Some node → Walked W.settings run_of.heard EmptiedHeld (node_behind W m.journal (agents_give W m).journal node)
+    give_node i node stands =
+        let behind = node_behind W m.journal (agents_give W m).journal node in
+        let held = behind_held m.journal (agents_give W m).journal i node stands refl (all_get Held run_of.nodes i node h.held stands) in
+        let events : length (node_events behind) ≡ length (pool_events node) =
+        ap (λ (sends : List ClientSends). length (events_in sends (sheets_of node.state.taken) node.state.given)) (sym (own_sends m.journal i node stands))
+        ∙ ap length (sym (pool_is node (all_get Held run_of.nodes i node h.held stands).holds.missed))
+        in
+        let w =
+        gives_keep k.noted W.settings run_of.heard (HeldUpTo k.adds k.go_on k.places W.settings) (give_held k.adds k.go_on k.places W.settings) (length node.state.hand) (length (pool_events node)) behind
+        (left_is k W m give_steps h.done i node stands) refl (record { held = held; events = events })
+        in
+        record { last = w.last; walks = w.walks; ends = (w.ends.0, w.ends.1.held) }
+
+    give_holds : StepsThere k W m give_steps h.done EmptiedHeld
+    give_holds =
+        steps_there k W m give_steps h.done EmptiedHeld (λ node e. e.0.through)
+        (mapped_all (Walked W.settings run_of.heard EmptiedHeld) (node_behind W m.journal (agents_give W m).journal) run_of.nodes
+        (all_places (λ (node : NodeRun). Walked W.settings run_of.heard EmptiedHeld (node_behind W m.journal (agents_give W m).journal node)) run_of.nodes give_node))
+
+    pub give_keeps_held : Keeps (agents_give W m)
+    give_keeps_held =
+        record {
+          done = give_keeps k W m h.done;
+          held = all_each EmptiedHeld Held (followed W (agents_give W m).journal).nodes (λ node e. e.1) give_holds.each;
+        }
+
+    pub hear_keeps_held : Keeps (coordinator_hears W m)
+    hear_keeps_held =
+        record {
+          done = hear_keeps k W m h.done;
+          held =
+              subst (AllByRecursion Held) (sym (hear_there k W m h.done).nodes)
+              (mapped_all Held (node_behind W m.journal (coordinator_hears W m).journal) run_of.nodes
+              (all_places (λ (node : NodeRun). Held (node_behind W m.journal (coordinator_hears W m).journal node)) run_of.nodes
+              (λ i node stands. behind_held m.journal (coordinator_hears W m).journal i node stands refl (all_get Held run_of.nodes i node h.held stands))));
+        }
+
+  pub pass_keeps_held : (m : Machine) → Keeps m → Keeps (passes W m)
+  pass_keeps_held m h = hear_keeps_held (agents_give W (agents_take W m)) (give_keeps_held (agents_take W m) (take_keeps_held m h))
+
+  -- ---- the start
+
+  abbrev pub no_draws : List Draw
+  no_draws = []
+
+  pub undrawn : (clients : List (List Operation)) (place : ℕ) → unwrap_or (slice_get (map (λ _. no_draws) clients) place) [] ≡ []
+  undrawn [] place = refl
+  undrawn (ops ∷ clients) zero = refl
+  undrawn (ops ∷ clients) (suc place) = undrawn clients place
+
+  pub no_pages : (client : ClientId) (pages : List TimedPage) → drawn_from client 0 pages [] ≡ []
+  no_pages client [] = refl
+  no_pages client (page ∷ pages) = refl
+
+  pub starts_keep : Keeps (machine_start W)
+  starts_keep =
+      record {
+        done = begins k W;
+        held =
+            subst (λ (r : Run). AllByRecursion Held r.nodes) (starts_at k W)
+            (mapped_all Held (node_start W (machine_start W).journal) (range_with_len 0 W.settings.nodes)
+            (all_places (λ (node : ℕ). Held (node_start W (machine_start W).journal node)) (range_with_len 0 W.settings.nodes)
+            (λ i node stands.
+            record {
+              comes = refl;
+              holds =
+                  starts_held W.settings.buffers (node_sends W (machine_start W).journal node)
+                  (mapped_all (λ (s : ClientSends). (s.drawn ≡ []) × (s.chunks ≡ sent_chunks s.drawn)) (client_sends W (machine_start W).journal node) (range_with_len 0 W.settings.clients)
+                  (all_places (λ (number : ℕ). ((client_sends W (machine_start W).journal node number).drawn ≡ []) × ((client_sends W (machine_start W).journal node number).chunks ≡ sent_chunks (client_sends W (machine_start W).journal node number).drawn))
+                  (range_with_len 0 W.settings.clients)
+                  (λ j number at. (
+                    ap (drawn_pages W.settings.size (record { node = node; number = number }) (operations_at W (place_of W.settings.clients node number))) (undrawn W.clients (place_of W.settings.clients node number))
+                        ∙ no_pages (record { node = node; number = number }) (timed_pages W.settings.size (operations_at W (place_of W.settings.clients node number))),
+                    refl,
+                  ))));
+            })));
+      }
+
+  pub ends_keep : Keeps (machine_end W)
+  ends_keep = end_keeps W Keeps (clients_keep W Keeps client_keeps_held) pass_keeps_held starts_keep

@@ -12,15 +12,15 @@ use Rattle.hs_model.specs.State.{AgentState}
 use Rattle.hs_model.specs.Stepping.{Event, after}
 use Rattle.hs_records.specs.Plain.{PlainWorkload}
 use Rattle.hs_sent.specs.Sending.{client_sends, operations_at}
-use Rattle.hs_lawful.specs.Extending.{node_behind, run_behind, JournalsGoOn, IsOfJournal, RunsAreOfTheJournal, StepsAreNoted}
+use Rattle.hs_lawful.specs.Extending.{node_behind, run_behind, IsOfJournal}
 use Rattle.hs_lawful.specs.Following.{NodeRun, log_at, run_start, followed}
-use Rattle.hs_lawful.specs.Laws.{AgentsComeByEvents, ComesByEvents}
-use Rattle.hs_lawful.specs.Orders.{Leads, FollowingPlaysOut, OrdersAgree, DoneIsAtRest}
+use Rattle.hs_lawful.specs.Laws.{ComesByEvents}
+use Rattle.hs_lawful.specs.Orders.{Leads}
 use Rattle.hs_lawful.specs.Passes.{is_unread, put_step, passes_of, steps_in, but_last, last_of, pass_ends, offers_end, has_offers, ends_between}
 use Rattle.hs_lawful.specs.Played.{played, state_behind}
 use Rattle.hs_lawful.specs.Pooled.{pool_events}
-use Rattle.hs_lawful.specs.Supply.{NothingIsTakenUnsent}
 use Rattle.hs_lockstep.specs.Clauses.{ScheduleHasOffers}
+use Rattle.hs_lockstep.specs.Known.{Known}
 use Rattle.hs_lockstep.specs.Lockstep.{Machine, machine_start, done_at, draws_in, pages_started, client_goes, pass_steps, give_steps, agents_take, agents_give, coordinator_hears, passes, lockstep}
 use Rattle.hs_lockstep.proofs.Followed.{IsDone, draws_there, take_there, take_keeps, give_there, give_keeps, hear_there, hear_keeps, client_keeps, begins, count_nodes, log_of, within}
 use Rattle.hs_lockstep.proofs.Lists.{some_same, all_get, get_there, extended_at, length_extended, passes_all}
@@ -138,7 +138,7 @@ module _ (W : PlainWorkload) where
         hands = λ k low. let count = ap (λ (log : List Step). length (passes_of log)) log in old_hands node later l even [] is h k (omega (arith, low, count));
       }
 
-module _ (plays : FollowingPlaysOut) (agree : OrdersAgree) (rests : DoneIsAtRest) (goes_on : JournalsGoOn) (runs : RunsAreOfTheJournal) (noted : StepsAreNoted) (unsent : NothingIsTakenUnsent) (comes : AgentsComeByEvents) (W : PlainWorkload) where
+module _ (k : Known) (W : PlainWorkload) where
   abbrev pub Done : Machine → Type 0
   Done m = IsDone W m
 
@@ -147,7 +147,7 @@ module _ (plays : FollowingPlaysOut) (agree : OrdersAgree) (rests : DoneIsAtRest
     pub hands : (i : ℕ) (node : NodeRun) → slice_get (followed W m.journal).nodes i ≡ Some node → HandsOf W node
 
   pub evens : (J : PlainJournal) → AllByRecursion IsEven (followed W J).nodes
-  evens J = leads_even noted W.settings (run_start W J) (followed W J) (starts_even W J (range_with_len 0 W.settings.nodes)) (plays W J).leads
+  evens J = leads_even k.noted W.settings (run_start W J) (followed W J) (starts_even W J (range_with_len 0 W.settings.nodes)) (k.plays W J).leads
 
   -- from one journal to the next each node comes on
   pub comes_on : (J K : PlainJournal) → Leads W.settings (run_behind W J K (followed W J)) (followed W K) → AllLater (followed W J) (followed W K)
@@ -161,8 +161,8 @@ module _ (plays : FollowingPlaysOut) (agree : OrdersAgree) (rests : DoneIsAtRest
       → (node : NodeRun) × (slice_get (followed W J).nodes i ≡ Some node) × IsLater node later
   earlier J K all i later h =
       let below = within (followed W K).nodes i later h in
-      let one = count_nodes plays agree rests goes_on runs noted unsent W J in
-      let two = count_nodes plays agree rests goes_on runs noted unsent W K in
+      let one = count_nodes k W J in
+      let two = count_nodes k W K in
       let found = get_there (followed W J).nodes i (omega (arith, below, one, two)) in
       let on = all i found.0 found.1 in
       (found.0, found.1, subst (IsLater found.0) (some_same on.0 later (sym on.1 ∙ h)) on.2)
@@ -172,9 +172,9 @@ module _ (plays : FollowingPlaysOut) (agree : OrdersAgree) (rests : DoneIsAtRest
   pub client_offers : (m : Machine) (place : ℕ) → HasOffers m → HasOffers (client_goes W m place)
   client_offers m place h =
       let K = client_goes W m place in
-      let done = client_keeps plays agree rests goes_on runs noted unsent W m place h.done in
+      let done = client_keeps k W m place h.done in
       let there =
-      draws_there plays agree rests goes_on runs noted unsent W m place (min (done_at m place + W.settings.stride) (length (operations_at W place)))
+      draws_there k W m place (min (done_at m place + W.settings.stride) (length (operations_at W place)))
       (draws_in W m (place / W.settings.clients)
       (pages_started W place (min (done_at m place + W.settings.stride) (length (operations_at W place))) - pages_started W place (done_at m place))) h.done
       in
@@ -183,7 +183,7 @@ module _ (plays : FollowingPlaysOut) (agree : OrdersAgree) (rests : DoneIsAtRest
         hands = λ i later stands.
             let e = earlier m.journal K.journal (comes_on m.journal K.journal there.leads) i later stands in
             let even = all_get IsEven (followed W m.journal).nodes i e.0 (evens m.journal) e.1 in
-            same_hands W e.0 later e.2 even (log_of plays agree rests goes_on runs noted unsent W K done i later stands ∙ sym (log_of plays agree rests goes_on runs noted unsent W m h.done i e.0 e.1)) (h.hands i e.0 e.1);
+            same_hands W e.0 later e.2 even (log_of k W K done i later stands ∙ sym (log_of k W m h.done i e.0 e.1)) (h.hands i e.0 e.1);
       }
 
   -- ---- a pass
@@ -199,22 +199,22 @@ module _ (plays : FollowingPlaysOut) (agree : OrdersAgree) (rests : DoneIsAtRest
     heard = coordinator_hears W given
 
     pub done_taken : Done taken
-    done_taken = take_keeps plays agree rests goes_on runs noted unsent W m h.done
+    done_taken = take_keeps k W m h.done
 
     pub done_given : Done given
-    done_given = give_keeps plays agree rests goes_on runs noted unsent W taken done_taken
+    done_given = give_keeps k W taken done_taken
 
     done_heard : Done heard
-    done_heard = hear_keeps plays agree rests goes_on runs noted unsent W given done_given
+    done_heard = hear_keeps k W given done_given
 
     pub on_take : AllLater (followed W m.journal) (followed W taken.journal)
-    on_take = comes_on m.journal taken.journal (take_there plays agree rests goes_on runs noted unsent W m h.done).there.leads
+    on_take = comes_on m.journal taken.journal (take_there k W m h.done).there.leads
 
     pub on_give : AllLater (followed W taken.journal) (followed W given.journal)
-    on_give = comes_on taken.journal given.journal (give_there plays agree rests goes_on runs noted unsent W taken done_taken).there.leads
+    on_give = comes_on taken.journal given.journal (give_there k W taken done_taken).there.leads
 
     pub on_hear : AllLater (followed W given.journal) (followed W heard.journal)
-    on_hear = comes_on given.journal heard.journal (hear_there plays agree rests goes_on runs noted unsent W given done_given).there.leads
+    on_hear = comes_on given.journal heard.journal (hear_there k W given done_given).there.leads
 
     pub on_all : AllLater (followed W m.journal) (followed W heard.journal)
     on_all =
@@ -229,7 +229,7 @@ module _ (plays : FollowingPlaysOut) (agree : OrdersAgree) (rests : DoneIsAtRest
         let second = map give_steps (followed W taken.journal).nodes in
         let below = within (followed W m.journal).nodes i node stands in
         let also = within (followed W taken.journal).nodes i middle there in
-        let count = count_nodes plays agree rests goes_on runs noted unsent W m.journal in
+        let count = count_nodes k W m.journal in
         let logs = h.done.logs in
         let long = length_extended m.journal.logs first in
         let one : i < length m.journal.logs = omega (arith, below, count, logs) in
@@ -249,8 +249,8 @@ module _ (plays : FollowingPlaysOut) (agree : OrdersAgree) (rests : DoneIsAtRest
     -- no hand has a buffer then
     empty_hand : (i : ℕ) (later : NodeRun) → slice_get (followed W heard.journal).nodes i ≡ Some later → later.state.hand ≡ []
     empty_hand i later stands =
-        let g = give_there plays agree rests goes_on runs noted unsent W taken done_taken in
-        let w = hear_there plays agree rests goes_on runs noted unsent W given done_given in
+        let g = give_there k W taken done_taken in
+        let w = hear_there k W given done_given in
         let e = earlier given.journal heard.journal on_hear i later stands in
         let emptied = all_get _ (followed W given.journal).nodes i e.0 g.each e.1 in
         let same : node_behind W given.journal heard.journal e.0 ≡ later =
@@ -267,22 +267,22 @@ module _ (plays : FollowingPlaysOut) (agree : OrdersAgree) (rests : DoneIsAtRest
           hands = λ i later stands.
               let e = earlier m.journal heard.journal on_all i later stands in
               let middle = on_take i e.0 e.1 in
-              let o = all_get (IsOfJournal W m.journal) (followed W m.journal).nodes i e.0 (runs W m.journal (followed W m.journal) (plays W m.journal).leads).each e.1 in
+              let o = all_get (IsOfJournal W m.journal) (followed W m.journal).nodes i e.0 (k.runs W m.journal (followed W m.journal) (k.plays W m.journal).leads).each e.1 in
               let clients = ap length o.sends ∙ length-map (range_with_len 0 W.settings.clients) (client_sends W m.journal e.0.node) ∙ length-range_with_len 0 W.settings.clients in
               let stamps = range_with_len (length (pool_events middle.0)) (length middle.0.state.hand) in
-              let log = log_of plays agree rests goes_on runs noted unsent W heard done_heard i later stands ∙ log_more i e.0 middle.0 e.1 middle.1
-              ∙ ap (λ (front : List Step). front ++ (pass_steps W m (followed W m.journal) e.0 ++ give_steps middle.0)) (sym (log_of plays agree rests goes_on runs noted unsent W m h.done i e.0 e.1)) in
+              let log = log_of k W heard done_heard i later stands ∙ log_more i e.0 middle.0 e.1 middle.1
+              ∙ ap (λ (front : List Step). front ++ (pass_steps W m (followed W m.journal) e.0 ++ give_steps middle.0)) (sym (log_of k W m h.done i e.0 e.1)) in
               pass_hands W e.0 later e.2 (all_get IsEven (followed W m.journal).nodes i e.0 (evens m.journal) e.1) (all_get IsEven (followed W heard.journal).nodes i later (evens heard.journal) stands)
-              (all_get (ComesByEvents W.settings) (followed W heard.journal).nodes i later (comes W heard.journal) stands) (empty_hand i later stands)
+              (all_get (ComesByEvents W.settings) (followed W heard.journal).nodes i later (k.comes W heard.journal) stands) (empty_hand i later stands)
               (pass_steps W m (followed W m.journal) e.0 ++ gives stamps) log (is_one W m (followed W m.journal) e.0 stamps clients) (h.hands i e.0 e.1);
         }
 
   pub starts : HasOffers (machine_start W)
   starts =
       record {
-        done = begins plays agree rests goes_on runs noted unsent W;
+        done = begins k W;
         hands = λ i node stands.
-            let none : node.state.log ≡ [] = log_of plays agree rests goes_on runs noted unsent W (machine_start W) (begins plays agree rests goes_on runs noted unsent W) i node stands ∙ none_at W.settings.nodes i in
+            let none : node.state.log ≡ [] = log_of k W (machine_start W) (begins k W) i node stands ∙ none_at W.settings.nodes i in
             record {
               ends = ap ends_pass none;
               hands = λ k low. let count : length (passes_of node.state.log) ≡ 0 = ap (λ (log : List Step). length (passes_of log)) none in absurd (omega (arith, low, count));
@@ -336,7 +336,7 @@ module _ (plays : FollowingPlaysOut) (agree : OrdersAgree) (rests : DoneIsAtRest
       passes_all (offers_end W.settings) (followed W (lockstep W)).nodes
       (places_all (followed W (lockstep W)).nodes
       (λ i node stands.
-      let log = log_of plays agree rests goes_on runs noted unsent W (machine_end W) ends_offers.done i node stands in
+      let log = log_of k W (machine_end W) ends_offers.done i node stands in
       let read : AllRead (joined (passes_of node.state.log)) = subst AllRead (sym (passes_joined node.state.log ∙ log)) (read_at (lockstep W).logs i (ends_none W).logs) in
       passes_end node (ends_offers.hands i node stands) 0 (passes_of node.state.log) read (omega arith)))
     where
@@ -344,5 +344,5 @@ module _ (plays : FollowingPlaysOut) (agree : OrdersAgree) (rests : DoneIsAtRest
       places_all [] each = tt
       places_all (node ∷ nodes) each = (each 0 node refl, places_all nodes (λ i n h. each (suc i) n h))
 
-pub schedule_has_offers : FollowingPlaysOut → OrdersAgree → DoneIsAtRest → JournalsGoOn → RunsAreOfTheJournal → StepsAreNoted → NothingIsTakenUnsent → AgentsComeByEvents → ScheduleHasOffers
-schedule_has_offers plays agree rests goes_on runs noted unsent comes W = offers_all plays agree rests goes_on runs noted unsent comes W
+pub schedule_has_offers : Known → ScheduleHasOffers
+schedule_has_offers k W = offers_all k W

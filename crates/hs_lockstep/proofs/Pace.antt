@@ -7,6 +7,7 @@ use Rattle.hs_sent.specs.Sending.{node_sends}
 use Rattle.hs_lawful.specs.Following.{NodeRun, followed}
 use Rattle.hs_lawful.specs.Pace.{gives_in_pace, items_in_pace, asks_in_pace}
 use Rattle.hs_lockstep.specs.Clauses.{IsLaidOut, ScheduleHasPace}
+use Rattle.hs_lockstep.specs.Known.{Known}
 use Rattle.hs_lockstep.specs.Lockstep.{lockstep}
 use Rattle.hs_lockstep.proofs.Asks.{asks_kept}
 use Rattle.hs_lockstep.proofs.Beside.{gives_kept}
@@ -15,19 +16,18 @@ use Rattle.hs_lockstep.proofs.Items.{items_kept}
 use Rattle.hs_lockstep.proofs.Keeping.{own_sends}
 use Rattle.hs_lockstep.proofs.Lists.{passes_all}
 use Rattle.hs_lockstep.proofs.Machines.{machine_end}
-use Rattle.hs_lockstep.proofs.Rounds.{Known}
 
 module _ (k : Known) (W : PlainWorkload) (laid : IsLaidOut W) (least : MIN_SIZE ≤ W.settings.size) where
   pace_at : (i : ℕ) (run : NodeRun) → slice_get (followed W (lockstep W)).nodes i ≡ Some run
       → (gives_in_pace W.settings run && items_in_pace W.settings run && asks_in_pace W.settings (followed W (lockstep W)) run) ≡ true
   pace_at i run stands =
       let short = within (followed W (lockstep W)).nodes i run stands in
-      let count = count_nodes k.plays k.agree k.rests k.goes_on k.runs k.noted k.unsent W (lockstep W) in
+      let count = count_nodes k W (lockstep W) in
       let low : i < W.settings.nodes = omega (arith, short, count) in
-      let done = ends_done k.plays k.agree k.rests k.goes_on k.runs k.noted k.unsent W in
-      let log = log_of k.plays k.agree k.rests k.goes_on k.runs k.noted k.unsent W (machine_end W) done i run stands in
-      let number = number_is k.plays k.agree k.rests k.goes_on k.runs k.noted k.unsent W (lockstep W) i run stands in
-      let sends = own_sends k.plays k.agree k.rests k.goes_on k.runs k.noted k.unsent k.adds k.go_on k.places W (lockstep W) i run stands ∙ ap (node_sends W (lockstep W)) number in
+      let done = ends_done k W in
+      let log = log_of k W (machine_end W) done i run stands in
+      let number = number_is k W (lockstep W) i run stands in
+      let sends = own_sends k W (lockstep W) i run stands ∙ ap (node_sends W (lockstep W)) number in
       both_true (both_true (gives_kept k W laid least i run log sends low) (items_kept k W laid least i run stands log sends low)) (asks_kept k W laid i run stands low log)
 
 pub schedule_has_pace : Known → ScheduleHasPace

@@ -10,22 +10,19 @@ use Rattle.std.proofs.lemmas.Option.{slice_get-map}
 use Rattle.hs_base.specs.declared.ids.ClientId.{ClientId}
 use Rattle.hs_journal.specs.declared.journal.Draw.{Draw}
 use Rattle.hs_journal.specs.Views.{PlainJournal}
-use Rattle.hs_model.specs.Laws.{ListsHaveTheirChunks, EventsGoOn, sheets_of, EventsAddThis}
+use Rattle.hs_model.specs.Laws.{sheets_of}
 use Rattle.hs_model.specs.State.{GivenPlace}
 use Rattle.hs_records.specs.Plain.{PlainWorkload}
 use Rattle.hs_sent.specs.Drawn.{DrawnPage, stamp_of, drawn_from}
-use Rattle.hs_sent.specs.Laws.{TimedPagesAreThePages}
 use Rattle.hs_sent.specs.Sending.{ClientSends, client_sends, node_sends, operations_at, draws_at, place_of}
 use Rattle.hs_sent.specs.Timing.{TimedPage, timed_pages}
 use Rattle.hs_words.specs.PoolHistory.{IsPoolHistory, IsHistoryBack}
-use Rattle.hs_lawful.specs.Extending.{JournalsGoOn, RunsAreOfTheJournal, StepsAreNoted}
 use Rattle.hs_lawful.specs.Following.{NodeRun, followed, log_at}
-use Rattle.hs_lawful.specs.Orders.{FollowingPlaysOut, OrdersAgree, DoneIsAtRest}
 use Rattle.hs_lawful.specs.Played.{played}
 use Rattle.hs_lawful.specs.Pooled.{PoolEvent, drawn_event, page_of, given_page, pool_events, pool_history, answers_draw, gives_answer, has_answers}
 use Rattle.hs_lawful.specs.Shape.{log_stamps, node_draws, draw_stamps, node_stamps, are_numbered, rise, node_has_stamps, has_stamps}
-use Rattle.hs_lawful.specs.Supply.{NothingIsTakenUnsent}
 use Rattle.hs_lockstep.specs.Clauses.{IsLaidOut, ScheduleHasStamps, ScheduleHasHistory, ScheduleHasAnswers}
+use Rattle.hs_lockstep.specs.Known.{Known}
 use Rattle.hs_lockstep.specs.Lockstep.{lockstep}
 use Rattle.hs_lockstep.proofs.Followed.{count_nodes, number_is, log_of}
 use Rattle.hs_lockstep.proofs.Growing.{events_back, stamps_of, IsAnswered, answer_passes}
@@ -85,103 +82,100 @@ range_at start zero i h = absurd (omega (arith, h))
 range_at start (suc count) zero h = let here : start ≡ start + 0 = omega arith in ap Some here
 range_at start (suc count) (suc i) h = let there : start + 1 + i ≡ start + suc i = omega arith in range_at (start + 1) count i (omega (arith, h)) ∙ ap Some there
 
-module _ (plays : FollowingPlaysOut) (agree : OrdersAgree) (rests : DoneIsAtRest) (goes_on : JournalsGoOn) (runs : RunsAreOfTheJournal) (noted : StepsAreNoted) (unsent : NothingIsTakenUnsent) (adds : EventsAddThis) (go_on : EventsGoOn)
-    (places : ListsHaveTheirChunks) (W : PlainWorkload)
-  where
-    abbrev J : PlainJournal
-    J = lockstep W
+module _ (k : Known) (W : PlainWorkload) where
+  abbrev J : PlainJournal
+  J = lockstep W
 
-    kept : Keeps plays agree rests goes_on runs noted unsent adds go_on places W (machine_end W)
-    kept = ends_keep plays agree rests goes_on runs noted unsent adds go_on places W
+  kept : Keeps k W (machine_end W)
+  kept = ends_keep k W
 
-    pub history_all : AllByRecursion (λ (run : NodeRun). IsPoolHistory W.settings.buffers (pool_history run)) (followed W J).nodes
-    history_all = all_each (IsHeld W.settings) (λ (run : NodeRun). IsPoolHistory W.settings.buffers (pool_history run)) (followed W J).nodes (λ run h. history_there W run h.holds) kept.held
+  pub history_all : AllByRecursion (λ (run : NodeRun). IsPoolHistory W.settings.buffers (pool_history run)) (followed W J).nodes
+  history_all = all_each (IsHeld W.settings) (λ (run : NodeRun). IsPoolHistory W.settings.buffers (pool_history run)) (followed W J).nodes (λ run h. history_there W run h.holds) kept.held
 
-    pub answers_all : has_answers (played W J) ≡ true
-    answers_all = passes_all gives_answer (followed W J).nodes (all_each (IsHeld W.settings) (λ (run : NodeRun). gives_answer run ≡ true) (followed W J).nodes (λ run h. answers_there W run h.holds) kept.held)
+  pub answers_all : has_answers (played W J) ≡ true
+  answers_all = passes_all gives_answer (followed W J).nodes (all_each (IsHeld W.settings) (λ (run : NodeRun). gives_answer run ≡ true) (followed W J).nodes (λ run h. answers_there W run h.holds) kept.held)
 
-    module _ (timed : TimedPagesAreThePages) (laid : IsLaidOut W) (node : ℕ) (low : node < W.settings.nodes) where
-      here : (run : NodeRun) × (slice_get (followed W J).nodes node ≡ Some run)
-      here = let count = count_nodes plays agree rests goes_on runs noted unsent W J in get_there (followed W J).nodes node (omega (arith, count, low))
+  module _ (laid : IsLaidOut W) (node : ℕ) (low : node < W.settings.nodes) where
+    here : (run : NodeRun) × (slice_get (followed W J).nodes node ≡ Some run)
+    here = let count = count_nodes k W J in get_there (followed W J).nodes node (omega (arith, count, low))
 
-      abbrev run : NodeRun
-      run = here.0
+    abbrev run : NodeRun
+    run = here.0
 
-      number : run.node ≡ node
-      number = number_is plays agree rests goes_on runs noted unsent W J node run here.1
+    number : run.node ≡ node
+    number = number_is k W J node run here.1
 
-      holds : HoldsAt W.settings run
-      holds = (all_get (IsHeld W.settings) (followed W J).nodes node run kept.held here.1).holds
+    holds : HoldsAt W.settings run
+    holds = (all_get (IsHeld W.settings) (followed W J).nodes node run kept.held here.1).holds
 
-      log : log_at J node ≡ run.state.log
-      log = sym (log_of plays agree rests goes_on runs noted unsent W (machine_end W) kept.done node run here.1)
+    log : log_at J node ≡ run.state.log
+    log = sym (log_of k W (machine_end W) kept.done node run here.1)
 
-      sends : run.sends ≡ node_sends W J node
-      sends = own_sends plays agree rests goes_on runs noted unsent adds go_on places W J node run here.1 ∙ ap (node_sends W J) number
+    sends : run.sends ≡ node_sends W J node
+    sends = own_sends k W J node run here.1 ∙ ap (node_sends W J) number
 
-      client_stamps : (client : ℕ) → client < W.settings.clients → map (λ (d : DrawnPage). stamp_of d.draw) (client_sends W J node client).drawn ≡ draw_stamps (draws_at J (place_of W.settings.clients node client))
-      client_stamps client below =
-          let place = place_of W.settings.clients node client in
-          let there = mul-add-lt node W.settings.clients client W.settings.nodes low below in
-          let count = laid.clients in
-          drawn_stamps (record { node = node; number = client }) 0 (timed_pages W.settings.size (operations_at W place)) (draws_at J place) (all_timed plays runs timed W laid place (omega (arith, there, count)))
+    client_stamps : (client : ℕ) → client < W.settings.clients → map (λ (d : DrawnPage). stamp_of d.draw) (client_sends W J node client).drawn ≡ draw_stamps (draws_at J (place_of W.settings.clients node client))
+    client_stamps client below =
+        let place = place_of W.settings.clients node client in
+        let there = mul-add-lt node W.settings.clients client W.settings.nodes low below in
+        let count = laid.clients in
+        drawn_stamps (record { node = node; number = client }) 0 (timed_pages W.settings.size (operations_at W place)) (draws_at J place) (all_timed k W laid place (omega (arith, there, count)))
 
-      -- the stamps of the draws
-      all_stamps : (start count : ℕ) → start + count ≤ W.settings.clients → stamps_of (map drawn_event (pages_in (map (client_sends W J node) (range_with_len start count))))
-          ≡ flat_map draw_stamps (map (λ client. draws_at J (place_of W.settings.clients node client)) (range_with_len start count))
-      all_stamps start zero few = refl
-      all_stamps start (suc count) few =
-          let first = (client_sends W J node start).drawn in
-          let rest = pages_in (map (client_sends W J node) (range_with_len (start + 1) count)) in
-          ap stamps_of (map-append drawn_event first rest)
-          ∙ map-append (λ (e : PoolEvent). e.stamp) (map drawn_event first) (map drawn_event rest)
-          ∙ ap (λ (front : List ℕ). front ++ stamps_of (map drawn_event rest)) (page_stamps first ∙ client_stamps start (omega (arith, few)))
-          ∙ ap (λ (more : List ℕ). draw_stamps (draws_at J (place_of W.settings.clients node start)) ++ more) (all_stamps (start + 1) count (omega (arith, few)))
+    -- the stamps of the draws
+    all_stamps : (start count : ℕ) → start + count ≤ W.settings.clients → stamps_of (map drawn_event (pages_in (map (client_sends W J node) (range_with_len start count))))
+        ≡ flat_map draw_stamps (map (λ client. draws_at J (place_of W.settings.clients node client)) (range_with_len start count))
+    all_stamps start zero few = refl
+    all_stamps start (suc count) few =
+        let first = (client_sends W J node start).drawn in
+        let rest = pages_in (map (client_sends W J node) (range_with_len (start + 1) count)) in
+        ap stamps_of (map-append drawn_event first rest)
+        ∙ map-append (λ (e : PoolEvent). e.stamp) (map drawn_event first) (map drawn_event rest)
+        ∙ ap (λ (front : List ℕ). front ++ stamps_of (map drawn_event rest)) (page_stamps first ∙ client_stamps start (omega (arith, few)))
+        ∙ ap (λ (more : List ℕ). draw_stamps (draws_at J (place_of W.settings.clients node start)) ++ more) (all_stamps (start + 1) count (omega (arith, few)))
 
-      stamps_are : node_stamps W J node ≡ stamps_of (node_events run)
-      stamps_are =
-          let sheets = sheets_of run.state.taken in
-          sym
-          (map-append (λ (e : PoolEvent). e.stamp) (map drawn_event (pages_in run.sends)) (gives_in run.sends sheets run.state.given)
-          ∙ ap (λ (sends : List ClientSends). stamps_of (map drawn_event (pages_in sends)) ++ stamps_of (gives_in run.sends sheets run.state.given)) sends
-          ∙ ap (λ (front : List ℕ). front ++ stamps_of (gives_in run.sends sheets run.state.given)) (all_stamps 0 W.settings.clients (omega arith))
-          ∙ ap (λ (gives : List ℕ). flat_map draw_stamps (node_draws W J node) ++ gives) (gives_stamped W run holds run.state.given holds.answers ∙ sym holds.stamps ∙ ap log_stamps (sym log)))
+    stamps_are : node_stamps W J node ≡ stamps_of (node_events run)
+    stamps_are =
+        let sheets = sheets_of run.state.taken in
+        sym
+        (map-append (λ (e : PoolEvent). e.stamp) (map drawn_event (pages_in run.sends)) (gives_in run.sends sheets run.state.given)
+        ∙ ap (λ (sends : List ClientSends). stamps_of (map drawn_event (pages_in sends)) ++ stamps_of (gives_in run.sends sheets run.state.given)) sends
+        ∙ ap (λ (front : List ℕ). front ++ stamps_of (gives_in run.sends sheets run.state.given)) (all_stamps 0 W.settings.clients (omega arith))
+        ∙ ap (λ (gives : List ℕ). flat_map draw_stamps (node_draws W J node) ++ gives) (gives_stamped W run holds run.state.given holds.answers ∙ sym holds.stamps ∙ ap log_stamps (sym log)))
 
-      numbered : are_numbered (node_stamps W J node) ≡ true
-      numbered =
-          subst (λ (stamps : List ℕ). are_numbered stamps ≡ true) (sym stamps_are)
-          (passes_range (λ s. nat_eq (count_by (λ t. eqb t s) (stamps_of (node_events run))) 1) 0 (length (stamps_of (node_events run)))
-          (λ s below.
-          let long = length-map (node_events run) (λ (e : PoolEvent). e.stamp) in
-          eq-eqb (count_by (λ t. eqb t s) (stamps_of (node_events run))) 1 (holds.pooled.each s (omega (arith, below, long)))))
+    numbered : are_numbered (node_stamps W J node) ≡ true
+    numbered =
+        subst (λ (stamps : List ℕ). are_numbered stamps ≡ true) (sym stamps_are)
+        (passes_range (λ s. nat_eq (count_by (λ t. eqb t s) (stamps_of (node_events run))) 1) 0 (length (stamps_of (node_events run)))
+        (λ s below.
+        let long = length-map (node_events run) (λ (e : PoolEvent). e.stamp) in
+        eq-eqb (count_by (λ t. eqb t s) (stamps_of (node_events run))) 1 (holds.pooled.each s (omega (arith, below, long)))))
 
-      client_there : (client : ℕ) → client < W.settings.clients → slice_get run.sends client ≡ Some (client_sends W J node client)
-      client_there client below =
-          let zeroth : 0 + client ≡ client = omega arith in
-          ap (λ (all : List ClientSends). slice_get all client) sends
-          ∙ slice_get-map (client_sends W J node) (range_with_len 0 W.settings.clients) client
-          ∙ ap (option_map (client_sends W J node)) (range_at 0 W.settings.clients client below ∙ ap Some zeroth)
+    client_there : (client : ℕ) → client < W.settings.clients → slice_get run.sends client ≡ Some (client_sends W J node client)
+    client_there client below =
+        let zeroth : 0 + client ≡ client = omega arith in
+        ap (λ (all : List ClientSends). slice_get all client) sends
+        ∙ slice_get-map (client_sends W J node) (range_with_len 0 W.settings.clients) client
+        ∙ ap (option_map (client_sends W J node)) (range_at 0 W.settings.clients client below ∙ ap Some zeroth)
 
-      draws_rise : list_all (λ draws. rise (draw_stamps draws)) (node_draws W J node) ≡ true
-      draws_rise =
-          tested (λ draws. rise (draw_stamps draws)) (λ client. draws_at J (place_of W.settings.clients node client)) (range_with_len 0 W.settings.clients)
-          ∙ passes_range (λ client. rise (draw_stamps (draws_at J (place_of W.settings.clients node client)))) 0 W.settings.clients
-          (λ client below.
-          let low : client < W.settings.clients = omega (arith, below) in
-          ap rise (sym (client_stamps client low)) ∙ (holds.clients client (client_sends W J node client) (client_there client low)).rises)
+    draws_rise : list_all (λ draws. rise (draw_stamps draws)) (node_draws W J node) ≡ true
+    draws_rise =
+        tested (λ draws. rise (draw_stamps draws)) (λ client. draws_at J (place_of W.settings.clients node client)) (range_with_len 0 W.settings.clients)
+        ∙ passes_range (λ client. rise (draw_stamps (draws_at J (place_of W.settings.clients node client)))) 0 W.settings.clients
+        (λ client below.
+        let low : client < W.settings.clients = omega (arith, below) in
+        ap rise (sym (client_stamps client low)) ∙ (holds.clients client (client_sends W J node client) (client_there client low)).rises)
 
-      stamps_there : node_has_stamps W J node ≡ true
-      stamps_there = both_true (both_true numbered draws_rise) (ap (λ log. rise (log_stamps log)) log ∙ holds.rising)
+    stamps_there : node_has_stamps W J node ≡ true
+    stamps_there = both_true (both_true numbered draws_rise) (ap (λ log. rise (log_stamps log)) log ∙ holds.rising)
 
-    pub stamps_all : TimedPagesAreThePages → IsLaidOut W → has_stamps (played W J) ≡ true
-    stamps_all timed laid = passes_range (node_has_stamps W J) 0 W.settings.nodes (λ node h. stamps_there timed laid node (omega (arith, h)))
+  pub stamps_all : IsLaidOut W → has_stamps (played W J) ≡ true
+  stamps_all laid = passes_range (node_has_stamps W J) 0 W.settings.nodes (λ node h. stamps_there laid node (omega (arith, h)))
 
-pub schedule_has_history : FollowingPlaysOut → OrdersAgree → DoneIsAtRest → JournalsGoOn → RunsAreOfTheJournal → StepsAreNoted → NothingIsTakenUnsent → EventsAddThis → EventsGoOn → ListsHaveTheirChunks → ScheduleHasHistory
-schedule_has_history plays agree rests goes_on runs noted unsent adds go_on places W = history_all plays agree rests goes_on runs noted unsent adds go_on places W
+pub schedule_has_history : Known → ScheduleHasHistory
+schedule_has_history k W = history_all k W
 
-pub schedule_has_answers : FollowingPlaysOut → OrdersAgree → DoneIsAtRest → JournalsGoOn → RunsAreOfTheJournal → StepsAreNoted → NothingIsTakenUnsent → EventsAddThis → EventsGoOn → ListsHaveTheirChunks → ScheduleHasAnswers
-schedule_has_answers plays agree rests goes_on runs noted unsent adds go_on places W = answers_all plays agree rests goes_on runs noted unsent adds go_on places W
+pub schedule_has_answers : Known → ScheduleHasAnswers
+schedule_has_answers k W = answers_all k W
 
-pub schedule_has_stamps : FollowingPlaysOut → OrdersAgree → DoneIsAtRest → JournalsGoOn → RunsAreOfTheJournal → StepsAreNoted → NothingIsTakenUnsent → EventsAddThis → EventsGoOn → ListsHaveTheirChunks → TimedPagesAreThePages
-    → ScheduleHasStamps
-schedule_has_stamps plays agree rests goes_on runs noted unsent adds go_on places timed W laid = stamps_all plays agree rests goes_on runs noted unsent adds go_on places W timed laid
+pub schedule_has_stamps : Known → ScheduleHasStamps
+schedule_has_stamps k W laid = stamps_all k W laid

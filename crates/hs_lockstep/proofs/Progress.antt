@@ -8,17 +8,17 @@ use Rattle.std.proofs.lemmas.Option.{slice_get-map}
 use Rattle.hs_base.specs.declared.limits.TheConstants.{MIN_SIZE}
 use Rattle.hs_journal.specs.declared.journal.Step.{Step}
 use Rattle.hs_journal.specs.declared.journal.Step.TheVariants as steps
-use Rattle.hs_model.specs.Laws.{noted_as, ChunksStandByTheirClaim, EventsAddFew, StepsSayWhatTheyTell, TurnsReport, CanReport}
+use Rattle.hs_model.specs.Laws.{noted_as, CanReport}
 use Rattle.hs_model.specs.State.{AgentState}
 use Rattle.hs_model.specs.Stepping.{Event}
 use Rattle.hs_records.specs.Plain.{PlainWorkload}
-use Rattle.hs_sent.specs.Laws.{PagesFit}
 use Rattle.hs_sent.specs.Sending.{client_sends, node_sends}
 use Rattle.hs_lawful.specs.Extending.{node_behind}
 use Rattle.hs_lawful.specs.Following.{NodeRun, Run, followed, event_of, perform}
 use Rattle.hs_lawful.specs.Passes.{is_offer}
 use Rattle.hs_lawful.specs.Pooled.{pool_events}
 use Rattle.hs_lockstep.specs.Clauses.{IsLaidOut}
+use Rattle.hs_lockstep.specs.Known.{Known}
 use Rattle.hs_lockstep.specs.Lockstep.{Machine, pass_steps, give_steps, agents_take, agents_give, coordinator_hears, passes}
 use Rattle.hs_lockstep.proofs.Followed.{all_places, mapped_all, number_is, enough_of, left_is, steps_there, StepsThere, hear_there, IsDone}
 use Rattle.hs_lockstep.proofs.Groups.{Spoken, all_spoken}
@@ -27,29 +27,21 @@ use Rattle.hs_lockstep.proofs.Keeping.{own_sends}
 use Rattle.hs_lockstep.proofs.Lists.{some_same, all_append, all_get}
 use Rattle.hs_lockstep.proofs.Offers.{done_given, done_taken}
 use Rattle.hs_lockstep.proofs.Pins.{HaveWeights, can_report}
-use Rattle.hs_lockstep.proofs.Rounds.{Known, Going}
+use Rattle.hs_lockstep.proofs.Rounds.{Going}
 use Rattle.hs_lockstep.proofs.Takes.{before_turn, all_takes}
 use Rattle.hs_lockstep.proofs.Walks.{Walked, IsThrough, IsEmptied, takes_keep, gives_keep}
 use Rattle.hs_lockstep.proofs.Working.{work, load, Works, step_works, give_works}
-
--- what more is known of agents
-pub record Agents : Type 0 where
-  pub few : EventsAddFew
-  pub says : StepsSayWhatTheyTell
-  pub reports : TurnsReport
-  pub stands : ChunksStandByTheirClaim
-  pub fit : PagesFit
 
 unmapped : {X Y : Type 0} (f : X → Y) (o : Option X) (y : Y) → option_map f o ≡ Some y → (x : X) × (o ≡ Some x) × (f x ≡ y)
 unmapped f None y h = let never : None ≡ Some y = h in absurd cc
 unmapped f (Some x) y h = (x, refl, some_same (f x) y h)
 
-module _ (k : Known) (a : Agents) (W : PlainWorkload) (laid : IsLaidOut W) (least : MIN_SIZE ≤ W.settings.size) (weights : HaveWeights W.settings.triggers) where
+module _ (k : Known) (W : PlainWorkload) (laid : IsLaidOut W) (least : MIN_SIZE ≤ W.settings.size) (weights : HaveWeights W.settings.triggers) where
   abbrev clients : ℕ
   clients = W.settings.clients
 
   pub spoken : (m : Machine) → Spoken W.settings (followed W m.journal)
-  spoken m = all_spoken a.few k.adds a.says W m.journal (followed W m.journal) (k.plays W m.journal).leads
+  spoken m = all_spoken k.few k.adds k.says W m.journal (followed W m.journal) (k.plays W m.journal).leads
 
   -- how a node stands behind a pass beside how it stood
   pub record IsWorked (node later : NodeRun) : Type 0 where
@@ -73,10 +65,10 @@ module _ (k : Known) (a : Agents) (W : PlainWorkload) (laid : IsLaidOut W) (leas
     can_at : (i : ℕ) (node : NodeRun) → slice_get before.nodes i ≡ Some node → (place : ℕ) (others : List ℕ) → node.state.pinned ≡ place ∷ others → CanReport W.settings node.state
     can_at i node stands =
         let held = all_get (IsHeld W.settings) before.nodes i node g.keeps.held stands in
-        let number = number_is k.plays k.agree k.rests k.goes_on k.runs k.noted k.unsent W m.journal i node stands in
-        let sends = own_sends k.plays k.agree k.rests k.goes_on k.runs k.noted k.unsent k.adds k.go_on k.places W m.journal i node stands ∙ ap (node_sends W m.journal) number in
+        let number = number_is k W m.journal i node stands in
+        let sends = own_sends k W m.journal i node stands ∙ ap (node_sends W m.journal) number in
         let speaks = all_get _ before.nodes i node (spoken m).nodes stands in
-        can_report k.places a.stands a.fit W m.journal least weights i before.nodes node held.comes held.holds sends speaks
+        can_report k.places k.stands k.fit W m.journal least weights i before.nodes node held.comes held.holds sends speaks
 
     record Took (r : NodeRun) : Type 0 where
       node : NodeRun
@@ -86,7 +78,7 @@ module _ (k : Known) (a : Agents) (W : PlainWorkload) (laid : IsLaidOut W) (leas
     record Taking (i : ℕ) (node : NodeRun) (stands : slice_get before.nodes i ≡ Some node) (r : NodeRun) : Type 0 where
       number : r.node ≡ i
       count : length r.state.log + length r.left ≡ length node.state.log + length (pass_steps W m before node)
-      works : Works a.few k.adds a.says a.reports W.settings clients node (can_at i node stands) r
+      works : Works k.few k.adds k.says k.reports W.settings clients node (can_at i node stands) r
 
     taking_keeps : (i : ℕ) (node : NodeRun) (stands : slice_get before.nodes i ≡ Some node) (run : NodeRun) (step : Step) (rest : List Step) (event : Event) → run.left ≡ step ∷ rest → is_offer step ≡ false
         → event_of run before.heard step ≡ Some event → Taking i node stands run → Taking i node stands (perform W.settings rest run event)
@@ -98,7 +90,7 @@ module _ (k : Known) (a : Agents) (W : PlainWorkload) (laid : IsLaidOut W) (leas
         record {
           number = t.number;
           count = omega (arith, log, both, had, count);
-          works = step_works a.few k.adds a.says a.reports W.settings clients node (can_at i node stands) before.heard run step rest event quiet met t.works;
+          works = step_works k.few k.adds k.says k.reports W.settings clients node (can_at i node stands) before.heard run step rest event quiet met t.works;
         }
 
     abbrev ThroughTook : NodeRun → Type 0
@@ -107,14 +99,14 @@ module _ (k : Known) (a : Agents) (W : PlainWorkload) (laid : IsLaidOut W) (leas
     take_node : (i : ℕ) (node : NodeRun) → slice_get before.nodes i ≡ Some node → Walked W.settings before.heard ThroughTook (node_behind W m.journal taken.journal node)
     take_node i node stands =
         let behind = node_behind W m.journal taken.journal node in
-        let number = number_is k.plays k.agree k.rests k.goes_on k.runs k.noted k.unsent W m.journal i node stands in
-        let left = left_is k.plays k.agree k.rests k.goes_on k.runs k.noted k.unsent W m (pass_steps W m before) g.offers.done i node stands in
+        let number = number_is k W m.journal i node stands in
+        let left = left_is k W m (pass_steps W m before) g.offers.done i node stands in
         let long = ap length left in
         let w =
         takes_keep k.noted W.settings before.heard (Taking i node stands) (taking_keeps i node stands) (pass_steps W m before node) behind left
         (all_append (λ (step : Step). is_offer step ≡ false) (before_turn W m before node) (steps.Turn ∷ [])
         (all_takes (λ (step : Step). is_offer step ≡ false) (λ client. refl) (λ client. refl) (λ client. refl) refl W m before node) (refl, tt))
-        (enough_of k.plays k.agree k.rests k.goes_on k.runs k.noted k.unsent W m g.offers.done i node stands)
+        (enough_of k W m g.offers.done i node stands)
         (record {
           number = number;
           count = omega (arith, long);
@@ -147,16 +139,16 @@ module _ (k : Known) (a : Agents) (W : PlainWorkload) (laid : IsLaidOut W) (leas
                 absurd (omega (arith, log, none, count, turn))
             calm_case (inr rest) = rest
 
-    take_works : StepsThere k.plays k.agree k.rests k.goes_on k.runs k.noted k.unsent W m (pass_steps W m before) g.offers.done ThroughTook
+    take_works : StepsThere k W m (pass_steps W m before) g.offers.done ThroughTook
     take_works =
-        steps_there k.plays k.agree k.rests k.goes_on k.runs k.noted k.unsent W m (pass_steps W m before) g.offers.done ThroughTook (λ node e. e.0)
+        steps_there k W m (pass_steps W m before) g.offers.done ThroughTook (λ node e. e.0)
         (mapped_all (Walked W.settings before.heard ThroughTook) (node_behind W m.journal taken.journal) before.nodes
         (all_places (λ (node : NodeRun). Walked W.settings before.heard ThroughTook (node_behind W m.journal taken.journal node)) before.nodes take_node))
 
     -- ---- they give
 
     taken_done : IsDone W taken
-    taken_done = done_taken k.plays k.agree k.rests k.goes_on k.runs k.noted k.unsent k.comes W m g.offers
+    taken_done = done_taken k W m g.offers
 
     abbrev middle : Run
     middle = followed W taken.journal
@@ -180,27 +172,27 @@ module _ (k : Known) (a : Agents) (W : PlainWorkload) (laid : IsLaidOut W) (leas
     give_node : (i : ℕ) (node : NodeRun) → slice_get middle.nodes i ≡ Some node → Walked W.settings middle.heard EmptiedGave (node_behind W taken.journal given.journal node)
     give_node i node stands =
         let behind = node_behind W taken.journal given.journal node in
-        let number = number_is k.plays k.agree k.rests k.goes_on k.runs k.noted k.unsent W taken.journal i node stands in
+        let number = number_is k W taken.journal i node stands in
         let w =
         gives_keep k.noted W.settings middle.heard (Giving i node)
         (λ stamp place hand run rest e p.
-        let one_more = give_works a.few k.adds a.says W.settings clients stamp run rest in
+        let one_more = give_works k.few k.adds k.says W.settings clients stamp run rest in
         let less = one_more.0 in
         let few = p.few in
         record { number = p.number; few = omega (arith, less, few); told = one_more.1 ∙ p.told; same = one_more.2 ∙ p.same })
         (length node.state.hand) (length (pool_events node)) behind
-        (left_is k.plays k.agree k.rests k.goes_on k.runs k.noted k.unsent W taken give_steps taken_done i node stands) refl (record { number = number; few = omega arith; told = refl; same = refl })
+        (left_is k W taken give_steps taken_done i node stands) refl (record { number = number; few = omega arith; told = refl; same = refl })
         in
         record { last = w.last; walks = w.walks; ends = (w.ends.0, record { node = node; stands = ap (slice_get middle.nodes) w.ends.1.number ∙ stands; few = w.ends.1.few; told = w.ends.1.told; same = w.ends.1.same }) }
 
-    gave_works : StepsThere k.plays k.agree k.rests k.goes_on k.runs k.noted k.unsent W taken give_steps taken_done EmptiedGave
+    gave_works : StepsThere k W taken give_steps taken_done EmptiedGave
     gave_works =
-        steps_there k.plays k.agree k.rests k.goes_on k.runs k.noted k.unsent W taken give_steps taken_done EmptiedGave (λ node e. e.0.through)
+        steps_there k W taken give_steps taken_done EmptiedGave (λ node e. e.0.through)
         (mapped_all (Walked W.settings middle.heard EmptiedGave) (node_behind W taken.journal given.journal) middle.nodes
         (all_places (λ (node : NodeRun). Walked W.settings middle.heard EmptiedGave (node_behind W taken.journal given.journal node)) middle.nodes give_node))
 
     given_done : IsDone W given
-    given_done = done_given k.plays k.agree k.rests k.goes_on k.runs k.noted k.unsent k.comes W m g.offers
+    given_done = done_given k W m g.offers
 
     -- ---- a node in a pass
 
@@ -209,13 +201,13 @@ module _ (k : Known) (a : Agents) (W : PlainWorkload) (laid : IsLaidOut W) (leas
         let u =
         unmapped (node_behind W given.journal (coordinator_hears W given).journal) (slice_get (followed W given.journal).nodes i) later
         (sym (slice_get-map (node_behind W given.journal (coordinator_hears W given).journal) (followed W given.journal).nodes i)
-        ∙ ap (λ (nodes : List NodeRun). slice_get nodes i) (sym (hear_there k.plays k.agree k.rests k.goes_on k.runs k.noted k.unsent W given given_done).nodes) ∙ there)
+        ∙ ap (λ (nodes : List NodeRun). slice_get nodes i) (sym (hear_there k W given given_done).nodes) ∙ there)
         in
         let gave = (all_get EmptiedGave (followed W given.journal).nodes i u.0 gave_works.each u.1).1 in
-        let gave_number = number_is k.plays k.agree k.rests k.goes_on k.runs k.noted k.unsent W given.journal i u.0 u.1 in
+        let gave_number = number_is k W given.journal i u.0 u.1 in
         let middle_stands : slice_get middle.nodes i ≡ Some gave.node = ap (slice_get middle.nodes) (sym gave_number) ∙ gave.stands in
         let took = (all_get ThroughTook middle.nodes i gave.node take_works.each middle_stands).1 in
-        let took_number = number_is k.plays k.agree k.rests k.goes_on k.runs k.noted k.unsent W taken.journal i gave.node middle_stands in
+        let took_number = number_is k W taken.journal i gave.node middle_stands in
         let same : took.node ≡ node = some_same took.node node (sym (ap (slice_get before.nodes) (sym took_number) ∙ took.stands) ∙ stands) in
         subst (λ (later : NodeRun). IsWorked node later) u.2
         (subst (λ (node : NodeRun). IsWorked node (node_behind W given.journal (coordinator_hears W given).journal u.0)) same

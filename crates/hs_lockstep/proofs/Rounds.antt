@@ -6,22 +6,20 @@ use Rattle.std.proofs.Math.Nat.{suc-mul, mul-le-mul_right}
 use Rattle.std.proofs.lemmas.List.{length-map}
 use Rattle.std.proofs.lemmas.List.FromFn.{length-range_with_len}
 use Rattle.hs_journal.specs.declared.journal.Step.{Step}
-use Rattle.hs_model.specs.Laws.{ListsHaveTheirChunks, EventsGoOn, EventsAddThis, sheets_of}
+use Rattle.hs_model.specs.Laws.{sheets_of}
 use Rattle.hs_records.specs.Plain.{PlainWorkload}
 use Rattle.hs_sent.specs.Drawn.{DrawnPage, stamp_of}
-use Rattle.hs_sent.specs.Laws.{TimedPagesAreThePages, TimedPagesAreTimely, IsTimely}
+use Rattle.hs_sent.specs.Laws.{IsTimely}
 use Rattle.hs_sent.specs.Sending.{ClientSends, client_sends, node_sends, operations_at}
 use Rattle.hs_sent.specs.Timing.{TimedPage}
 use Rattle.hs_lawful.specs.Ends.{is_bare, rounds_of}
-use Rattle.hs_lawful.specs.Extending.{JournalsGoOn, RunsAreOfTheJournal, StepsAreNoted}
 use Rattle.hs_lawful.specs.Following.{NodeRun, log_at, followed}
-use Rattle.hs_lawful.specs.Laws.{AgentsComeByEvents, ComesByEvents}
-use Rattle.hs_lawful.specs.Orders.{FollowingPlaysOut, OrdersAgree, DoneIsAtRest}
+use Rattle.hs_lawful.specs.Laws.{ComesByEvents}
 use Rattle.hs_lawful.specs.Passes.{passes_of}
 use Rattle.hs_lawful.specs.Played.{played}
 use Rattle.hs_lawful.specs.Pooled.{PoolEvent, pool_events}
-use Rattle.hs_lawful.specs.Supply.{NothingIsTakenUnsent}
 use Rattle.hs_lockstep.specs.Clauses.{IsLaidOut}
+use Rattle.hs_lockstep.specs.Known.{Known}
 use Rattle.hs_lockstep.specs.Lockstep.{Machine, machine_start, done_at, client_goes, clients_go, pass_steps, agents_take, passes, round, rounds, closing, closing_limit}
 use Rattle.hs_lockstep.proofs.Followed.{count_nodes, number_is, log_of}
 use Rattle.hs_lockstep.proofs.Held.{node_events, IsHeld, pool_is}
@@ -105,32 +103,15 @@ none_logged zero place = refl
 none_logged (suc n) zero = refl
 none_logged (suc n) (suc place) = none_logged n place
 
--- ---- what is known of journals
-
-pub record Known : Type 0 where
-  pub plays : FollowingPlaysOut
-  pub agree : OrdersAgree
-  pub rests : DoneIsAtRest
-  pub goes_on : JournalsGoOn
-  pub runs : RunsAreOfTheJournal
-  pub noted : StepsAreNoted
-  pub unsent : NothingIsTakenUnsent
-  pub comes : AgentsComeByEvents
-  pub adds : EventsAddThis
-  pub go_on : EventsGoOn
-  pub places : ListsHaveTheirChunks
-  pub paged : TimedPagesAreThePages
-  pub timely : TimedPagesAreTimely
-
 module _ (k : Known) (W : PlainWorkload) (laid : IsLaidOut W) where
   abbrev pub Offered : Machine → Type 0
-  Offered m = HasOffers k.plays k.agree k.rests k.goes_on k.runs k.noted k.unsent k.comes W m
+  Offered m = HasOffers k W m
 
   abbrev pub Kept : Machine → Type 0
-  Kept m = Keeps k.plays k.agree k.rests k.goes_on k.runs k.noted k.unsent k.adds k.go_on k.places W m
+  Kept m = Keeps k W m
 
   abbrev pub Drawn : Machine → Type 0
-  Drawn m = HasDrawn k.plays k.runs k.paged W laid m
+  Drawn m = HasDrawn k W laid m
 
   abbrev pub stride : ℕ
   stride = W.settings.stride
@@ -169,27 +150,27 @@ module _ (k : Known) (W : PlainWorkload) (laid : IsLaidOut W) where
   pub client_going : (made gone : ℕ) (m : Machine) → gone < length W.clients → Going made gone m → Going made (gone + 1) (client_goes W m gone)
   client_going made gone m below g =
       record {
-        drawn = client_draws k.plays k.runs k.paged W laid m gone g.drawn (all_within made gone m g) below;
-        offers = client_offers k.plays k.agree k.rests k.goes_on k.runs k.noted k.unsent k.comes W m gone g.offers;
-        keeps = client_keeps_held k.plays k.agree k.rests k.goes_on k.runs k.noted k.unsent k.adds k.go_on k.places W m gone g.keeps;
+        drawn = client_draws k W laid m gone g.drawn (all_within made gone m g) below;
+        offers = client_offers k W m gone g.offers;
+        keeps = client_keeps_held k W m gone g.keeps;
         count = g.count;
         ahead = λ place before low. ahead_case place before low (below_or place gone);
         still = λ place behind low.
             let ne : gone ≢ place = λ e. absurd (omega (arith, e, behind)) in
-            done_other k.plays k.runs k.paged W laid m gone place ne ∙ g.still place (omega (arith, behind)) low;
+            done_other k W laid m gone place ne ∙ g.still place (omega (arith, behind)) low;
         past = λ place low.
             let ne : gone ≢ place = λ e. absurd (omega (arith, e, low, below)) in
-            done_other k.plays k.runs k.paged W laid m gone place ne ∙ g.past place low;
+            done_other k W laid m gone place ne ∙ g.past place low;
       }
     where
       ahead_case : (place : ℕ) → place < gone + 1 → place < length W.clients → (place < gone) ⊎ (gone ≤ place) → done_at (client_goes W m gone) place ≡ reach (made + 1) place
       ahead_case place before low (inl less) =
           let ne : gone ≢ place = λ e. absurd (omega (arith, e, less)) in
-          done_other k.plays k.runs k.paged W laid m gone place ne ∙ g.ahead place less low
+          done_other k W laid m gone place ne ∙ g.ahead place less low
       ahead_case place before low (inr more) =
           let same : gone ≡ place = omega (arith, before, more) in
           subst (λ (p : ℕ). done_at (client_goes W m gone) p ≡ reach (made + 1) p) same
-          (let here = done_here k.plays k.runs k.paged W laid m gone g.drawn below in
+          (let here = done_here k W laid m gone g.drawn below in
           let none : gone ≤ gone = omega arith in
           let was = g.still gone none below in
           let product = one_round made in
@@ -218,25 +199,25 @@ module _ (k : Known) (W : PlainWorkload) (laid : IsLaidOut W) where
 
   pub pass_of : (m : Machine) → Offered m → Kept m → (i : ℕ) (later : NodeRun) → slice_get (followed W (passes W m).journal).nodes i ≡ Some later → PassOf m i later
   pass_of m h kept i later stands =
-      let e = earlier k.plays k.agree k.rests k.goes_on k.runs k.noted k.unsent k.comes W m.journal (passes W m).journal (on_all k.plays k.agree k.rests k.goes_on k.runs k.noted k.unsent k.comes W m h) i later stands in
-      let middle = on_take k.plays k.agree k.rests k.goes_on k.runs k.noted k.unsent k.comes W m h i e.0 e.1 in
-      let number = number_is k.plays k.agree k.rests k.goes_on k.runs k.noted k.unsent W m.journal i e.0 e.1 in
-      let sends = own_sends k.plays k.agree k.rests k.goes_on k.runs k.noted k.unsent k.adds k.go_on k.places W m.journal i e.0 e.1 ∙ ap (node_sends W m.journal) number in
-      let before = log_of k.plays k.agree k.rests k.goes_on k.runs k.noted k.unsent W m h.done i e.0 e.1 in
-      let behind = pass_offers k.plays k.agree k.rests k.goes_on k.runs k.noted k.unsent k.comes W m h in
-      let after = log_of k.plays k.agree k.rests k.goes_on k.runs k.noted k.unsent W (passes W m) behind.done i later stands in
+      let e = earlier k W m.journal (passes W m).journal (on_all k W m h) i later stands in
+      let middle = on_take k W m h i e.0 e.1 in
+      let number = number_is k W m.journal i e.0 e.1 in
+      let sends = own_sends k W m.journal i e.0 e.1 ∙ ap (node_sends W m.journal) number in
+      let before = log_of k W m h.done i e.0 e.1 in
+      let behind = pass_offers k W m h in
+      let after = log_of k W (passes W m) behind.done i later stands in
       let stamps = range_with_len (length (pool_events middle.0)) (length middle.0.state.hand) in
       let pass = pass_steps W m (followed W m.journal) e.0 ++ gives stamps in
       let log : later.state.log ≡ e.0.state.log ++ pass =
-      after ∙ log_more k.plays k.agree k.rests k.goes_on k.runs k.noted k.unsent k.comes W m h i e.0 middle.0 e.1 middle.1 ∙ ap (λ (front : List Step). front ++ pass) (sym before)
+      after ∙ log_more k W m h i e.0 middle.0 e.1 middle.1 ∙ ap (λ (front : List Step). front ++ pass) (sym before)
       in
       let clients = ap length sends ∙ length-map (range_with_len 0 W.settings.clients) (client_sends W m.journal i) ∙ length-range_with_len 0 W.settings.clients in
       let held =
-      (all_get (IsHeld W.settings) (followed W (agents_take W m).journal).nodes i middle.0 (take_keeps_held k.plays k.agree k.rests k.goes_on k.runs k.noted k.unsent k.adds k.go_on k.places W m kept).held middle.1).holds
+      (all_get (IsHeld W.settings) (followed W (agents_take W m).journal).nodes i middle.0 (take_keeps_held k W m kept).held middle.1).holds
       in
       let there : middle.0.sends ≡ node_sends W m.journal i =
-      own_sends k.plays k.agree k.rests k.goes_on k.runs k.noted k.unsent k.adds k.go_on k.places W (agents_take W m).journal i middle.0 middle.1
-      ∙ ap (node_sends W m.journal) (number_is k.plays k.agree k.rests k.goes_on k.runs k.noted k.unsent W (agents_take W m).journal i middle.0 middle.1)
+      own_sends k W (agents_take W m).journal i middle.0 middle.1
+      ∙ ap (node_sends W m.journal) (number_is k W (agents_take W m).journal i middle.0 middle.1)
       in
       let events = ap length (pool_is middle.0 held.missed) in
       record {
@@ -244,8 +225,8 @@ module _ (k : Known) (W : PlainWorkload) (laid : IsLaidOut W) where
         stands = e.1;
         number = number;
         is_later = e.2;
-        even = all_get IsEven (followed W m.journal).nodes i e.0 (evens k.plays k.agree k.rests k.goes_on k.runs k.noted k.unsent k.comes W m.journal) e.1;
-        even_later = all_get IsEven (followed W (passes W m).journal).nodes i later (evens k.plays k.agree k.rests k.goes_on k.runs k.noted k.unsent k.comes W (passes W m).journal) stands;
+        even = all_get IsEven (followed W m.journal).nodes i e.0 (evens k W m.journal) e.1;
+        even_later = all_get IsEven (followed W (passes W m).journal).nodes i later (evens k W (passes W m).journal) stands;
         comes_later = all_get (ComesByEvents W.settings) (followed W (passes W m).journal).nodes i later (k.comes W (passes W m).journal) stands;
         from = length (pool_events middle.0);
         count = length middle.0.state.hand;
@@ -264,14 +245,14 @@ module _ (k : Known) (W : PlainWorkload) (laid : IsLaidOut W) where
 
   -- the node of a number behind a pass
   pub later_at : (m : Machine) (i : ℕ) → i < W.settings.nodes → (later : NodeRun) × (slice_get (followed W m.journal).nodes i ≡ Some later)
-  later_at m i low = let count = count_nodes k.plays k.agree k.rests k.goes_on k.runs k.noted k.unsent W m.journal in get_there (followed W m.journal).nodes i (omega (arith, low, count))
+  later_at m i low = let count = count_nodes k W m.journal in get_there (followed W m.journal).nodes i (omega (arith, low, count))
 
   pub pass_going : (made : ℕ) (m : Machine) → Going made (length W.clients) m → Going (made + 1) 0 (passes W m)
   pass_going made m g =
       record {
-        drawn = pass_drawn k.plays k.runs k.paged W laid m g.drawn;
-        offers = pass_offers k.plays k.agree k.rests k.goes_on k.runs k.noted k.unsent k.comes W m g.offers;
-        keeps = pass_keeps_held k.plays k.agree k.rests k.goes_on k.runs k.noted k.unsent k.adds k.go_on k.places W m g.keeps;
+        drawn = pass_drawn k W laid m g.drawn;
+        offers = pass_offers k W m g.offers;
+        keeps = pass_keeps_held k W m g.keeps;
         count = λ i low.
             let later = later_at (passes W m) i low in
             let p = pass_of m g.offers g.keeps i later.0 later.1 in
@@ -297,7 +278,7 @@ module _ (k : Known) (W : PlainWorkload) (laid : IsLaidOut W) where
         ahead = λ place before low.
             let none : 0 ≤ place = omega arith in
             let is = g.still place none low in
-            let cover = all_covered k.plays k.runs k.paged W laid place low in
+            let cover = all_covered k W laid place low in
             let more = mul-le-mul_right stride enough in
             let product = one_round made in
             omega (arith, is, cover, more, product);
@@ -356,11 +337,11 @@ module _ (k : Known) (W : PlainWorkload) (laid : IsLaidOut W) where
 
       starts_going : Going 0 0 (machine_start W)
       starts_going =
-          let b = begins k.plays k.runs k.paged W laid in
+          let b = begins k W laid in
           record {
             drawn = b.drawn;
-            offers = starts k.plays k.agree k.rests k.goes_on k.runs k.noted k.unsent k.comes W;
-            keeps = starts_keep k.plays k.agree k.rests k.goes_on k.runs k.noted k.unsent k.adds k.go_on k.places W;
+            offers = starts k W;
+            keeps = starts_keep k W;
             count = λ i low. ap (λ (log : List Step). length (passes_of log)) (none_logged W.settings.nodes i);
             ahead = λ place before low. absurd (omega (arith, before));
             still = λ place behind low. b.done place low;

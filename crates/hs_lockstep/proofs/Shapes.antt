@@ -11,16 +11,14 @@ use Rattle.hs_journal.specs.declared.journal.Draw.{Draw}
 use Rattle.hs_records.specs.Pages.{PlainPage, first_record, segment_pages, pages_of}
 use Rattle.hs_records.specs.Plain.{Operation, PlainWorkload}
 use Rattle.hs_records.specs.Records.{AreBracketed, NumberedOperation, Record, Segment, segments_of, numbered_from, open_behind, record_at}
-use Rattle.hs_sent.specs.Laws.{TimedPagesAreThePages}
 use Rattle.hs_sent.specs.Sending.{operations_at, draws_at}
 use Rattle.hs_sent.specs.Timing.{TimedPage, timed, started_by, point_numbers, end_numbers, timed_pages}
 use Rattle.hs_lawful.specs.Ends.{rounds_for, rounds_of}
-use Rattle.hs_lawful.specs.Extending.{RunsAreOfTheJournal}
 use Rattle.hs_lawful.specs.Following.{NodeRun, followed}
-use Rattle.hs_lawful.specs.Orders.{FollowingPlaysOut}
 use Rattle.hs_lawful.specs.Played.{played}
 use Rattle.hs_lawful.specs.Shape.{same_counts, has_shape}
 use Rattle.hs_lockstep.specs.Clauses.{IsLaidOut, ScheduleHasShape}
+use Rattle.hs_lockstep.specs.Known.{Known}
 use Rattle.hs_lockstep.specs.Lockstep.{Machine, machine_start, done_at, next_draws, draws_by, draws_in, pages_started, client_goes, clients_go, pass_steps, give_steps, agents_take, passes, round, rounds, closing_limit, lockstep}
 use Rattle.hs_lockstep.proofs.Lists.{get_there, length_extended}
 use Rattle.hs_lockstep.proofs.Machines.{closing_keeps, machine_end}
@@ -145,7 +143,7 @@ drawn_count zero stamp queue = refl
 drawn_count (suc count) stamp [] = ap suc (drawn_count count (stamp + 1) [])
 drawn_count (suc count) stamp (buffer ∷ queue) = ap suc (drawn_count count (stamp + 1) queue)
 
-module _ (plays : FollowingPlaysOut) (runs : RunsAreOfTheJournal) (timed_are : TimedPagesAreThePages) (W : PlainWorkload) (laid : IsLaidOut W) where
+module _ (k : Known) (W : PlainWorkload) (laid : IsLaidOut W) where
   abbrev pub count : ℕ
   count = length W.clients
 
@@ -180,7 +178,7 @@ module _ (plays : FollowingPlaysOut) (runs : RunsAreOfTheJournal) (timed_are : T
   pub draws_counted : (m : Machine) (place n : ℕ) → place < count → length (draws_in W m (place / W.settings.clients) n) ≡ n
   draws_counted m place n below =
       let low = node_there place below in
-      let all = nodes_counted plays runs W m.journal in
+      let all = nodes_counted k.plays k.runs W m.journal in
       let node = get_there (followed W m.journal).nodes (place / W.settings.clients) (omega (arith, low, all)) in
       ap (λ (o : Option NodeRun). length (option_map_or (draws_by W n) o [])) node.1 ∙ drawn_count n _ _
 
@@ -424,12 +422,12 @@ module _ (plays : FollowingPlaysOut) (runs : RunsAreOfTheJournal) (timed_are : T
       ∙ ap (pages_started W place) (all_done place below)
       ∙ ap length (filter_all (λ (page : TimedPage). ltb page.started (length ops)) (timed_pages W.settings.size ops) (all_started W.settings.size ops))
       ∙ sym (length-map (timed_pages W.settings.size ops) (λ (p : TimedPage). p.page))
-      ∙ ap length (timed_are W.settings.size ops (ends_at W.clients place laid.ends))
+      ∙ ap length (k.paged W.settings.size ops (ends_at W.clients place laid.ends))
 
   pub all_timed : (place : ℕ) → place < count → length (timed_pages W.settings.size (operations_at W place)) ≡ length (draws_at (lockstep W) place)
   all_timed place below =
       let ops = operations_at W place in
-      sym (length-map (timed_pages W.settings.size ops) (λ (p : TimedPage). p.page)) ∙ ap length (timed_are W.settings.size ops (ends_at W.clients place laid.ends)) ∙ sym (all_drawn place below)
+      sym (length-map (timed_pages W.settings.size ops) (λ (p : TimedPage). p.page)) ∙ ap length (k.paged W.settings.size ops (ends_at W.clients place laid.ends)) ∙ sym (all_drawn place below)
 
   counts_same : (draws : List (List Draw)) (clients : List (List Operation)) → length draws ≡ length clients
       → ((place : ℕ) → place < length clients → length (unwrap_or (slice_get draws place) []) ≡ length (pages_of W.settings.size (unwrap_or (slice_get clients place) [])))
@@ -449,5 +447,5 @@ module _ (plays : FollowingPlaysOut) (runs : RunsAreOfTheJournal) (timed_are : T
       (eq-eqb (length (lockstep W).logs) W.settings.nodes ends.drawn.logs))
       (counts_same (lockstep W).draws W.clients ends.drawn.draws all_drawn)
 
-pub schedule_has_shape : FollowingPlaysOut → RunsAreOfTheJournal → TimedPagesAreThePages → ScheduleHasShape
-schedule_has_shape plays runs timed_are W laid = shape_all plays runs timed_are W laid
+pub schedule_has_shape : Known → ScheduleHasShape
+schedule_has_shape k W laid = shape_all k W laid

@@ -5,8 +5,9 @@ use Rattle.std.proofs.lemmas.List.{length-map}
 use Rattle.std.proofs.lemmas.List.Sums.{sum_by-cons}
 use Rattle.hs_records.specs.Pages.{PlainPage, segment_pages, pages_of, runs_within, fits}
 use Rattle.hs_records.specs.Plain.{Operation, Begin, Point, Crumb, End, Fire, Sample}
-use Rattle.hs_records.specs.Records.{AreBracketed, Piece, Segment, payload_pieces, piece_count, pieces_until_end, record_pieces, segments_from}
+use Rattle.hs_records.specs.Records.{AreBracketed, Piece, Segment, payload_pieces, pieces_until_end, record_pieces, segments_from}
 use Rattle.hs_workload.specs.Validity.{client_pieces, workload_pieces}
+use Rattle.hs_lockstep.specs.Known.{PiecesCounted}
 
 runs_few : (most size : ℕ) (pieces : List Piece) → length (runs_within most size pieces) ≤ most
 runs_few zero size pieces = omega arith
@@ -18,9 +19,6 @@ segment_few size segment =
     let same = length-map {B = PlainPage} (runs_within (length segment.pieces) size segment.pieces) (λ pieces. record { trace = segment.trace; pieces = pieces }) in
     let few = runs_few (length segment.pieces) size segment.pieces in
     omega (arith, same, few)
-
-abbrev pub PiecesCounted : Type 0
-PiecesCounted = (size : ℕ) (payload : List ℕ) → length (payload_pieces size payload) ≡ piece_count size (length payload)
 
 module _ (counted : PiecesCounted) (size : ℕ) where
   abbrev pages_from : ℕ → List Operation → ℕ

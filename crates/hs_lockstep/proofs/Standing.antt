@@ -10,6 +10,7 @@ use Rattle.hs_sent.specs.Sending.{node_sends}
 use Rattle.hs_lawful.specs.Following.{NodeRun, Run, is_from, message_of, hear, run_start, followed}
 use Rattle.hs_lawful.specs.Orders.{Performs, Leads, Stays, Goes}
 use Rattle.hs_lockstep.specs.Clauses.{IsLaidOut, ValidWorkloadsRun}
+use Rattle.hs_lockstep.specs.Known.{Known}
 use Rattle.hs_lockstep.specs.Lockstep.{Machine, machine_start, client_goes, clients_go, pass_steps, give_steps, agents_take, agents_give, passes, round, rounds}
 use Rattle.hs_lockstep.specs.Reaching as reaching
 use Rattle.hs_lockstep.specs.Reaching.{IsReached, IsPerformed, IsWhole, MachinesAreWhole, MachinesLeadOn}
@@ -18,7 +19,6 @@ use Rattle.hs_lockstep.proofs.Groups.{unmapped}
 use Rattle.hs_lockstep.proofs.Held.{IsHeld}
 use Rattle.hs_lockstep.proofs.Keeping.{Keeps, own_sends, starts_keep, client_keeps_held, take_keeps_held, give_keeps_held, hear_keeps_held}
 use Rattle.hs_lockstep.proofs.Lists.{all_get, length_extended}
-use Rattle.hs_lockstep.proofs.Rounds.{Known}
 use Rattle.hs_lockstep.proofs.Shapes.{HasDrawn, IsWithin, begins, within_of, client_draws, at_most_all}
 use Rattle.hs_lockstep.proofs.Walks.{IsThrough}
 
@@ -63,14 +63,14 @@ leads_named settings run last (Goes r next l p leads) = leads_named settings nex
 
 module _ (k : Known) (W : PlainWorkload) where
   abbrev pub Kept : Machine → Type 0
-  Kept m = Keeps k.plays k.agree k.rests k.goes_on k.runs k.noted k.unsent k.adds k.go_on k.places W m
+  Kept m = Keeps k W m
 
   pub kept : (m : Machine) → IsReached W m → Kept m
-  kept m reaching.Starts = starts_keep k.plays k.agree k.rests k.goes_on k.runs k.noted k.unsent k.adds k.go_on k.places W
-  kept m (reaching.Goes n place low r) = client_keeps_held k.plays k.agree k.rests k.goes_on k.runs k.noted k.unsent k.adds k.go_on k.places W n place (kept n r)
-  kept m (reaching.Takes n r) = take_keeps_held k.plays k.agree k.rests k.goes_on k.runs k.noted k.unsent k.adds k.go_on k.places W n (kept n r)
-  kept m (reaching.Gives n r) = give_keeps_held k.plays k.agree k.rests k.goes_on k.runs k.noted k.unsent k.adds k.go_on k.places W n (kept n r)
-  kept m (reaching.Hears n r) = hear_keeps_held k.plays k.agree k.rests k.goes_on k.runs k.noted k.unsent k.adds k.go_on k.places W n (kept n r)
+  kept m reaching.Starts = starts_keep k W
+  kept m (reaching.Goes n place low r) = client_keeps_held k W n place (kept n r)
+  kept m (reaching.Takes n r) = take_keeps_held k W n (kept n r)
+  kept m (reaching.Gives n r) = give_keeps_held k W n (kept n r)
+  kept m (reaching.Hears n r) = hear_keeps_held k W n (kept n r)
 
   -- a node of a machine holds what it should
   pub held_at : (m : Machine) → IsReached W m → (i : ℕ) (run : NodeRun) → slice_get (followed W m.journal).nodes i ≡ Some run → IsHeld W.settings run
@@ -80,22 +80,22 @@ module _ (k : Known) (W : PlainWorkload) where
   through_at m r i run at = all_get IsThrough (followed W m.journal).nodes i run (kept m r).done.over.nodes at
 
   pub number_at : (m : Machine) (i : ℕ) (run : NodeRun) → slice_get (followed W m.journal).nodes i ≡ Some run → run.node ≡ i
-  number_at m i run at = number_is k.plays k.agree k.rests k.goes_on k.runs k.noted k.unsent W m.journal i run at
+  number_at m i run at = number_is k W m.journal i run at
 
   module _ (laid : IsLaidOut W) where
     pub record Standing (m : Machine) : Type 0 where
-      pub drawn : HasDrawn k.plays k.runs k.paged W laid m
-      pub within : IsWithin k.plays k.runs k.paged W laid m
+      pub drawn : HasDrawn k W laid m
+      pub within : IsWithin k W laid m
 
     pub standing : (m : Machine) → IsReached W m → Standing m
     standing m reaching.Starts =
-        let b = begins k.plays k.runs k.paged W laid in
-        record { drawn = b.drawn; within = within_of k.plays k.runs k.paged W laid 0 (machine_start W) b }
+        let b = begins k W laid in
+        record { drawn = b.drawn; within = within_of k W laid 0 (machine_start W) b }
     standing m (reaching.Goes n place low r) =
         let s = standing n r in
         record {
-          drawn = client_draws k.plays k.runs k.paged W laid n place s.drawn s.within low;
-          within = at_most_all k.plays k.runs k.paged W laid n place s.drawn s.within low;
+          drawn = client_draws k W laid n place s.drawn s.within low;
+          within = at_most_all k W laid n place s.drawn s.within low;
         }
     standing m (reaching.Takes n r) =
         let s = standing n r in
@@ -150,9 +150,9 @@ module _ (k : Known) (W : PlainWorkload) where
         let number = number_at m i run at in
         record {
           number = number;
-          sends = own_sends k.plays k.agree k.rests k.goes_on k.runs k.noted k.unsent k.adds k.go_on k.places W m.journal i run at ∙ ap (node_sends W m.journal) number;
+          sends = own_sends k W m.journal i run at ∙ ap (node_sends W m.journal) number;
           left = through_at m r i run at;
-          log = log_of k.plays k.agree k.rests k.goes_on k.runs k.noted k.unsent W m (kept m r).done i run at;
+          log = log_of k W m (kept m r).done i run at;
           state = (held_at m r i run at).comes ∙ ap (λ (n : ℕ). after W.settings n run.events) number;
         }
 
@@ -166,7 +166,7 @@ module _ (k : Known) (W : PlainWorkload) where
           done = s.drawn.done;
           draws = s.drawn.draws;
           logs = s.drawn.logs;
-          count = count_nodes k.plays k.agree k.rests k.goes_on k.runs k.noted k.unsent W m.journal;
+          count = count_nodes k W m.journal;
           each = performed_at m r;
           left = left;
           told =

@@ -8,6 +8,7 @@ use Rattle.hs_sent.specs.Sending.{ClientSends, client_sends, node_sends, operati
 use Rattle.hs_sent.specs.Timing.{timed_pages}
 use Rattle.hs_lawful.specs.Following.{NodeRun, followed}
 use Rattle.hs_lawful.specs.Pooled.{pool_history}
+use Rattle.hs_lockstep.specs.Known.{Known}
 use Rattle.hs_lockstep.specs.Lockstep.{machine_start}
 use Rattle.hs_lockstep.specs.Reaching as reaching
 use Rattle.hs_lockstep.specs.Reaching.{MachinesStartSo}
@@ -18,7 +19,6 @@ use Rattle.hs_lockstep.proofs.Followed.{starts_at}
 use Rattle.hs_lockstep.proofs.Giving.{history_long}
 use Rattle.hs_lockstep.proofs.Holding.{pages_in}
 use Rattle.hs_lockstep.proofs.Keeping.{own_sends, undrawn, no_pages}
-use Rattle.hs_lockstep.proofs.Rounds.{Known}
 use Rattle.hs_lockstep.proofs.Standing.{held_at, number_at}
 
 none_of : {X : Type 0} (xs : List X) → length xs ≤ 0 → xs ≡ []
@@ -33,10 +33,10 @@ module _ (k : Known) (W : PlainWorkload) where
   none_drawn i c =
       let client : ClientId = record { node = i; number = c } in
       let place = place_of W.settings.clients i c in
-      let drew = undrawn k.plays k.agree k.rests k.goes_on k.runs k.noted k.unsent k.adds k.go_on k.places W W.clients place in
+      let drew = undrawn k W W.clients place in
       let none =
       ap length
-      (ap (drawn_pages W.settings.size client (operations_at W place)) drew ∙ no_pages k.plays k.agree k.rests k.goes_on k.runs k.noted k.unsent k.adds k.go_on k.places W client (timed_pages W.settings.size (operations_at W place)))
+      (ap (drawn_pages W.settings.size client (operations_at W place)) drew ∙ no_pages k W client (timed_pages W.settings.size (operations_at W place)))
       in
       omega (arith, none)
 
@@ -45,7 +45,7 @@ module _ (k : Known) (W : PlainWorkload) where
       let held = held_at k W (machine_start W) reaching.Starts i run at in
       let long = history_long W.settings run held in
       let few = events_few W.settings run held in
-      let sends = own_sends k.plays k.agree k.rests k.goes_on k.runs k.noted k.unsent k.adds k.go_on k.places W J i run at ∙ ap (node_sends W J) (number_at k W (machine_start W) i run at) in
+      let sends = own_sends k W J i run at ∙ ap (node_sends W J) (number_at k W (machine_start W) i run at) in
       let pages = ap (λ (sends : List ClientSends). length (pages_in sends)) sends in
       let row = pages_row (client_sends W J i) (λ c. 0) W.settings.clients (none_drawn i) in
       let none = sum_const 0 W.settings.clients in
@@ -53,4 +53,4 @@ module _ (k : Known) (W : PlainWorkload) where
       none_of (pool_history run) (omega (arith, long, few, pages, row, none, zeroes))
 
 pub machines_start_so : Known → MachinesStartSo
-machines_start_so k W = record { run = sym (starts_at k.plays k.agree k.rests k.goes_on k.runs k.noted k.unsent W); pools = pools_start k W }
+machines_start_so k W = record { run = sym (starts_at k W); pools = pools_start k W }

@@ -10,6 +10,7 @@ use Rattle.hs_lawful.specs.Extending.{node_behind}
 use Rattle.hs_lawful.specs.Following.{NodeRun, Run, perform, followed}
 use Rattle.hs_lawful.specs.Passes.{is_offer}
 use Rattle.hs_lawful.specs.Pooled.{pool_history}
+use Rattle.hs_lockstep.specs.Known.{Known}
 use Rattle.hs_lockstep.specs.Lockstep.{Machine, pass_steps, with_steps, agents_take}
 use Rattle.hs_lockstep.specs.Parts.{node_at, AgentTakes, AgentsTakeSo}
 use Rattle.hs_lockstep.specs.Performing.{after_steps}
@@ -20,7 +21,6 @@ use Rattle.hs_lockstep.proofs.Held.{node_events, IsHeld, pool_is, take_held, tak
 use Rattle.hs_lockstep.proofs.Keeping.{own_sends}
 use Rattle.hs_lockstep.proofs.Lists.{some_same, all_append, all_get, get_there}
 use Rattle.hs_lockstep.proofs.Performed.{bare, bare_is, first_of_steps, walk_performed, walk_number}
-use Rattle.hs_lockstep.proofs.Rounds.{Known}
 use Rattle.hs_lockstep.proofs.Standing.{kept, held_at, through_at, number_at}
 use Rattle.hs_lockstep.proofs.Takes.{before_turn, all_takes}
 use Rattle.hs_lockstep.proofs.Walks.{Walked, IsThrough, takes_walk}
@@ -81,7 +81,7 @@ module _ (k : Known) (W : PlainWorkload) (m : Machine) (r : IsReached W m) where
   came_by f i node stands w =
       let number : w.last.node ≡ i = walk_number W.settings before.heard (behind f node) w.last w.walks ∙ number_at k W m i node stands in
       let same : bare (behind f node) ≡ node =
-      ap (λ (sends : List ClientSends). record node { sends = sends; left = [] }) (sym (own_sends k.plays k.agree k.rests k.goes_on k.runs k.noted k.unsent k.adds k.go_on k.places W m.journal i node stands))
+      ap (λ (sends : List ClientSends). record node { sends = sends; left = [] }) (sym (own_sends k W m.journal i node stands))
       ∙ bare_is node (through_at k W m r i node stands)
       in
       record {
@@ -93,16 +93,16 @@ module _ (k : Known) (W : PlainWorkload) (m : Machine) (r : IsReached W m) where
               node = node;
               stands = subst (λ (n : ℕ). slice_get before.nodes n ≡ Some node) (sym number) stands;
               came =
-                  sym (ap (λ (left : List Step). after_steps W.settings before.heard left node) (left_is k.plays k.agree k.rests k.goes_on k.runs k.noted k.unsent W m f done i node stands))
+                  sym (ap (λ (left : List Step). after_steps W.settings before.heard left node) (left_is k W m f done i node stands))
                   ∙ sym (ap (after_steps W.settings before.heard (behind f node).left) same)
                   ∙ walk_performed W.settings before.heard (behind f node) w.last w.walks w.ends;
             };
       }
 
   pub all_came : (f : NodeRun → List Step) → ((i : ℕ) (node : NodeRun) → slice_get before.nodes i ≡ Some node → Walked W.settings before.heard IsThrough (behind f node))
-      → StepsThere k.plays k.agree k.rests k.goes_on k.runs k.noted k.unsent W m f done (CameBy f)
+      → StepsThere k W m f done (CameBy f)
   all_came f walk =
-      steps_there k.plays k.agree k.rests k.goes_on k.runs k.noted k.unsent W m f done (CameBy f) (λ node c. c.through)
+      steps_there k W m f done (CameBy f) (λ node c. c.through)
       (mapped_all (Walked W.settings before.heard (CameBy f)) (behind f) before.nodes
       (all_places (λ (node : NodeRun). Walked W.settings before.heard (CameBy f) (behind f node)) before.nodes (λ i node stands. came_by f i node stands (walk i node stands))))
 
@@ -112,12 +112,12 @@ module _ (k : Known) (W : PlainWorkload) (m : Machine) (r : IsReached W m) where
     pub there : node_at W (with_steps m (map f before.nodes)).journal i ≡ Some later
     pub came : after_steps W.settings before.heard (f run) run ≡ Some later
 
-  pub comes_to : (f : NodeRun → List Step) → StepsThere k.plays k.agree k.rests k.goes_on k.runs k.noted k.unsent W m f done (CameBy f) → (i : ℕ) (run : NodeRun) → slice_get before.nodes i ≡ Some run → ComesTo f i run
+  pub comes_to : (f : NodeRun → List Step) → StepsThere k W m f done (CameBy f) → (i : ℕ) (run : NodeRun) → slice_get before.nodes i ≡ Some run → ComesTo f i run
   comes_to f there i run stands =
       let J = (with_steps m (map f before.nodes)).journal in
       let low = within before.nodes i run stands in
-      let was = count_nodes k.plays k.agree k.rests k.goes_on k.runs k.noted k.unsent W m.journal in
-      let now = count_nodes k.plays k.agree k.rests k.goes_on k.runs k.noted k.unsent W J in
+      let was = count_nodes k W m.journal in
+      let now = count_nodes k W J in
       let later = get_there (followed W J).nodes i (omega (arith, low, was, now)) in
       let c = all_get (CameBy f) (followed W J).nodes i later.0 there.each later.1 in
       let number = number_at k W (with_steps m (map f before.nodes)) i later.0 later.1 in
@@ -126,13 +126,13 @@ module _ (k : Known) (W : PlainWorkload) (m : Machine) (r : IsReached W m) where
 
   -- ---- they take
 
-  takes_there : StepsThere k.plays k.agree k.rests k.goes_on k.runs k.noted k.unsent W m (pass_steps W m before) done (CameBy (pass_steps W m before))
+  takes_there : StepsThere k W m (pass_steps W m before) done (CameBy (pass_steps W m before))
   takes_there =
       all_came (pass_steps W m before)
       (λ i node stands.
       takes_walk k.noted W.settings before.heard (pass_steps W m before node) (behind (pass_steps W m before) node)
-      (left_is k.plays k.agree k.rests k.goes_on k.runs k.noted k.unsent W m (pass_steps W m before) done i node stands) (pass_quiet W m before node)
-      (enough_of k.plays k.agree k.rests k.goes_on k.runs k.noted k.unsent W m done i node stands))
+      (left_is k W m (pass_steps W m before) done i node stands) (pass_quiet W m before node)
+      (enough_of k W m done i node stands))
 
   pub agent_takes : (i : ℕ) (run : NodeRun) → node_at W m.journal i ≡ Some run → AgentTakes W m (agents_take W m) i run
   agent_takes i run stands =

@@ -1,5 +1,6 @@
 pub mod Lockstep
 pub mod Laws
+pub mod Known
 pub mod Clauses
 pub mod Performing
 pub mod Reaching

@@ -1,22 +1,20 @@
 -- The lockstep schedule. In a round each client in turn does its next operations, as many as the stride, and then the agents make
 -- a pass each, and then the coordinator. Behind the last round only passes are made, while anything waits. A machine keeps how
 -- far each client is, and the journal up to now; whatever else it needs is read off these two.
-use Rattle.std.specs.Prelude.{ℕ, zero, suc, ◌+◌, ◌-◌, ◌*◌, ◌/◌, true, false, nat_lt, min, List, [], ◌∷◌, ◌++◌, length, map, set, replicate, reverse, fold, filter, count_by, zip, unwrap_or, slice_get, sum_by}
+use Rattle.std.specs.Prelude.{ℕ, zero, suc, ◌+◌, ◌-◌, ◌*◌, ◌/◌, true, false, min, List, [], ◌∷◌, ◌++◌, length, map, set, replicate, fold, count_by, zip, unwrap_or, slice_get, sum_by}
 use Rattle.std.specs.List.{flat_map, range_with_len}
 use Rattle.std.specs.Option.{option_map_or}
 use Rattle.hs_base.specs.declared.ids.NodeId.{NodeId}
 use Rattle.hs_base.specs.declared.limits.TheConstants.{MAX_TAKEN}
 use Rattle.hs_journal.specs.declared.journal.Draw.{Draw}
-use Rattle.hs_journal.specs.declared.journal.Draw.TheVariants as draws
 use Rattle.hs_journal.specs.declared.journal.Step.{Step}
 use Rattle.hs_journal.specs.declared.journal.Step.TheVariants as steps
 use Rattle.hs_journal.specs.Views.{PlainJournal}
 use Rattle.hs_records.specs.Plain.{PlainWorkload}
 use Rattle.hs_records.specs.Pages.{pages_of}
 pub use Rattle.hs_sent.specs.Draws.{next_draws}
-use Rattle.hs_sent.specs.Timing.{TimedPage, timed_pages}
+use Rattle.hs_sent.specs.Draws.{count_started, draws_behind}
 use Rattle.hs_sent.specs.Sending.{ClientSends, operations_at, place_of, sent_within}
-use Rattle.hs_words.specs.PoolHistory.{queue_after}
 use Rattle.hs_lawful.specs.Ends.{is_bare, rounds_of}
 use Rattle.hs_lawful.specs.Following.{Queue, Chunks, Crumbs, Triggers, Asks, taken, asks_to, is_from, NodeRun, Run, followed}
 use Rattle.hs_lawful.specs.Played.{played}
@@ -55,17 +53,14 @@ done_at m place = unwrap_or (slice_get m.done place) 0
 
 -- so many draws at a node
 abbrev pub draws_by : PlainWorkload → ℕ → NodeRun → List Draw
-draws_by W count run =
-    let history = pool_history run in
-    next_draws count (length history) (queue_after W.settings.buffers (reverse history))
+draws_by W count run = draws_behind W.settings.buffers (pool_history run) count
 
 abbrev pub draws_in : PlainWorkload → Machine → ℕ → ℕ → List Draw
 draws_in W m node count = option_map_or (draws_by W count) (slice_get (followed W m.journal).nodes node) []
 
 -- the pages that the first so many operations of a client start
 abbrev pub pages_started : PlainWorkload → ℕ → ℕ → ℕ
-pages_started W place operations =
-    length (filter (λ (page : TimedPage). nat_lt page.started operations) (timed_pages W.settings.size (operations_at W place)))
+pages_started W place operations = count_started W.settings.size (operations_at W place) operations
 
 -- the client at a place has done so many operations, and drew so
 abbrev pub with_draws : Machine → ℕ → ℕ → List Draw → Machine

@@ -6,7 +6,7 @@ use Rattle.std.proofs.Common.{arith}
 use Rattle.hs_journal.specs.declared.journal.Step.{Step}
 use Rattle.hs_journal.specs.declared.journal.Step.TheVariants as steps
 use Rattle.hs_model.specs.State.{start}
-use Rattle.hs_model.specs.Stepping.{Chunk, Crumbed, Triggered}
+use Rattle.hs_model.specs.Stepping.{Crumbed, Triggered}
 use Rattle.hs_words.specs.PoolHistory.{Got, Empty, Given}
 use Rattle.hs_lawful.specs.Ends.{is_bare, rounds_of}
 use Rattle.hs_lawful.specs.Following.{NodeRun, followed}

@@ -6,12 +6,13 @@ use Rattle.hs_coord.specs.Following.{Messages}
 use Rattle.hs_journal.specs.declared.journal.Draw.{Draw}
 use Rattle.hs_journal.specs.Views.{PlainJournal}
 use Rattle.hs_records.specs.Plain.{PlainWorkload}
+use Rattle.hs_sent.specs.Draws.{draws_behind}
 use Rattle.hs_sent.specs.Sending.{draws_at, node_sends, operations_at, place_of}
-use Rattle.hs_words.specs.PoolHistory.{Given, MayFollow, queue_after}
+use Rattle.hs_words.specs.PoolHistory.{Given, MayFollow}
 use Rattle.hs_workload.specs.Validity.{IsValid}
 use Rattle.hs_lawful.specs.Following.{NodeRun, followed}
 use Rattle.hs_lawful.specs.Pooled.{event_drawn, given_buffer, pool_events, pool_history}
-use Rattle.hs_lockstep.specs.Lockstep.{Machine, done_at, next_draws, pages_started, client_goes, pass_steps, give_steps, agents_take, agents_give, told_of, coordinator_hears}
+use Rattle.hs_lockstep.specs.Lockstep.{Machine, done_at, pages_started, client_goes, pass_steps, give_steps, agents_take, agents_give, told_of, coordinator_hears}
 use Rattle.hs_lockstep.specs.Performing.{after_steps, after_names}
 use Rattle.hs_lockstep.specs.Reaching.{IsReached}
 
@@ -34,7 +35,7 @@ next_pages W m place = pages_started W place (next_done W m place) - pages_start
 
 -- what the client at a place draws where its node stands so
 abbrev pub next_drawn : PlainWorkload → Machine → ℕ → NodeRun → List Draw
-next_drawn W m place run = next_draws (next_pages W m place) (length (pool_history run)) (queue_after W.settings.buffers (reverse (pool_history run)))
+next_drawn W m place run = draws_behind W.settings.buffers (pool_history run) (next_pages W m place)
 
 -- a node whose clients send what they send in this journal
 abbrev pub sending : PlainWorkload → PlainJournal → ℕ → NodeRun → NodeRun

@@ -1,6 +1,7 @@
 //! What holds of the lockstep schedule. These functions do nothing: their contracts say it.
 
 ghost use Rattle.hs_lockstep.specs.Laws.{VersionsHaveOneSchedule};
+ghost use Rattle.hs_lockstep.specs.Known.{Known};
 ghost use Rattle.hs_lockstep.specs.Performing.{StepByStep};
 ghost use Rattle.hs_lockstep.specs.Reaching.{MachinesAreWhole, MachinesStartSo, MachinesLeadOn};
 ghost use Rattle.hs_lockstep.specs.Parts.{ClientsGoSo, AgentsTakeSo, AgentsGiveSo, CoordinatorHearsSo};
@@ -18,6 +19,31 @@ use hs_model::laws::{
 };
 use hs_records::pieces_are_counted;
 use hs_sent::laws::{pages_fit, timed_pages_are_the_pages, timed_pages_are_timely};
+
+/// The laws of lower crates on which those of the schedule rest.
+fn known()
+    ensures { Known }
+{
+    following_plays_out();
+    orders_agree();
+    done_is_at_rest();
+    journals_go_on();
+    runs_are_of_the_journal();
+    steps_are_noted();
+    nothing_is_taken_unsent();
+    agents_come_by_events();
+    events_add_this();
+    events_go_on();
+    lists_have_their_chunks();
+    events_add_few();
+    steps_say_what_they_tell();
+    turns_report();
+    chunks_stand_by_their_claim();
+    timed_pages_are_the_pages();
+    timed_pages_are_timely();
+    pages_fit();
+    pieces_are_counted();
+}
 
 /// A workload has one schedule, whichever version it is written in.
 pub fn versions_have_one_schedule()
@@ -44,22 +70,14 @@ pub fn schedule_has_rounds()
 pub fn schedule_is_followed()
     ensures { ScheduleIsFollowed }
 {
-    following_plays_out();
-    orders_agree();
-    done_is_at_rest();
-    journals_go_on();
-    runs_are_of_the_journal();
-    steps_are_noted();
-    nothing_is_taken_unsent();
+    known();
 }
 
 /// The schedule has the shape of its workload.
 pub fn schedule_has_shape()
     ensures { ScheduleHasShape }
 {
-    following_plays_out();
-    runs_are_of_the_journal();
-    timed_pages_are_the_pages();
+    known();
 }
 
 /// Each log of the schedule is a list of whole passes.
@@ -74,106 +92,42 @@ pub fn schedule_has_passes()
 pub fn schedule_has_offers()
     ensures { ScheduleHasOffers }
 {
-    following_plays_out();
-    orders_agree();
-    done_is_at_rest();
-    journals_go_on();
-    runs_are_of_the_journal();
-    steps_are_noted();
-    nothing_is_taken_unsent();
-    agents_come_by_events();
+    known();
 }
 
 /// The stamps of each node number the events of its pool.
 pub fn schedule_has_stamps()
     ensures { ScheduleHasStamps }
 {
-    following_plays_out();
-    orders_agree();
-    done_is_at_rest();
-    journals_go_on();
-    runs_are_of_the_journal();
-    steps_are_noted();
-    nothing_is_taken_unsent();
-    events_add_this();
-    events_go_on();
-    lists_have_their_chunks();
-    timed_pages_are_the_pages();
+    known();
 }
 
 /// The events of each node's pool are a history of it.
 pub fn schedule_has_history()
     ensures { ScheduleHasHistory }
 {
-    following_plays_out();
-    orders_agree();
-    done_is_at_rest();
-    journals_go_on();
-    runs_are_of_the_journal();
-    steps_are_noted();
-    nothing_is_taken_unsent();
-    events_add_this();
-    events_go_on();
-    lists_have_their_chunks();
+    known();
 }
 
 /// Each give of the schedule answers the draw of its chunk.
 pub fn schedule_has_answers()
     ensures { ScheduleHasAnswers }
 {
-    following_plays_out();
-    orders_agree();
-    done_is_at_rest();
-    journals_go_on();
-    runs_are_of_the_journal();
-    steps_are_noted();
-    nothing_is_taken_unsent();
-    events_add_this();
-    events_go_on();
-    lists_have_their_chunks();
+    known();
 }
 
 /// Agents and coordinator of the schedule keep pace with the clients.
 pub fn schedule_has_pace()
     ensures { ScheduleHasPace }
 {
-    following_plays_out();
-    orders_agree();
-    done_is_at_rest();
-    journals_go_on();
-    runs_are_of_the_journal();
-    steps_are_noted();
-    nothing_is_taken_unsent();
-    agents_come_by_events();
-    events_add_this();
-    events_go_on();
-    lists_have_their_chunks();
-    timed_pages_are_the_pages();
-    timed_pages_are_timely();
+    known();
 }
 
 /// Closing ends, and then nothing is left over.
 pub fn schedule_is_bare()
     ensures { ScheduleIsBare }
 {
-    following_plays_out();
-    orders_agree();
-    done_is_at_rest();
-    journals_go_on();
-    runs_are_of_the_journal();
-    steps_are_noted();
-    nothing_is_taken_unsent();
-    agents_come_by_events();
-    events_add_this();
-    events_go_on();
-    lists_have_their_chunks();
-    timed_pages_are_the_pages();
-    timed_pages_are_timely();
-    events_add_few();
-    steps_say_what_they_tell();
-    turns_report();
-    chunks_stand_by_their_claim();
-    pages_fit();
+    known();
 }
 
 /// Valid workloads have all that the laws of the schedule ask for.
@@ -208,19 +162,7 @@ pub fn step_by_step()
 pub fn machines_are_whole()
     ensures { MachinesAreWhole }
 {
-    following_plays_out();
-    orders_agree();
-    done_is_at_rest();
-    journals_go_on();
-    runs_are_of_the_journal();
-    steps_are_noted();
-    nothing_is_taken_unsent();
-    agents_come_by_events();
-    events_add_this();
-    events_go_on();
-    lists_have_their_chunks();
-    timed_pages_are_the_pages();
-    timed_pages_are_timely();
+    known();
     valid_workloads_run();
 }
 
@@ -228,19 +170,7 @@ pub fn machines_are_whole()
 pub fn machines_start_so()
     ensures { MachinesStartSo }
 {
-    following_plays_out();
-    orders_agree();
-    done_is_at_rest();
-    journals_go_on();
-    runs_are_of_the_journal();
-    steps_are_noted();
-    nothing_is_taken_unsent();
-    agents_come_by_events();
-    events_add_this();
-    events_go_on();
-    lists_have_their_chunks();
-    timed_pages_are_the_pages();
-    timed_pages_are_timely();
+    known();
 }
 
 /// All parts of rounds and passes lead from machine to machine.
@@ -252,25 +182,7 @@ pub fn machines_lead_on()
 pub fn clients_go_so()
     ensures { ClientsGoSo }
 {
-    following_plays_out();
-    orders_agree();
-    done_is_at_rest();
-    journals_go_on();
-    runs_are_of_the_journal();
-    steps_are_noted();
-    nothing_is_taken_unsent();
-    agents_come_by_events();
-    events_add_this();
-    events_go_on();
-    lists_have_their_chunks();
-    timed_pages_are_the_pages();
-    timed_pages_are_timely();
-    events_add_few();
-    steps_say_what_they_tell();
-    turns_report();
-    chunks_stand_by_their_claim();
-    pages_fit();
-    pieces_are_counted();
+    known();
     valid_workloads_run();
 }
 
@@ -278,44 +190,14 @@ pub fn clients_go_so()
 pub fn agents_take_so()
     ensures { AgentsTakeSo }
 {
-    following_plays_out();
-    orders_agree();
-    done_is_at_rest();
-    journals_go_on();
-    runs_are_of_the_journal();
-    steps_are_noted();
-    nothing_is_taken_unsent();
-    agents_come_by_events();
-    events_add_this();
-    events_go_on();
-    lists_have_their_chunks();
-    timed_pages_are_the_pages();
-    timed_pages_are_timely();
+    known();
 }
 
 /// What the agents give may be given, step by step.
 pub fn agents_give_so()
     ensures { AgentsGiveSo }
 {
-    following_plays_out();
-    orders_agree();
-    done_is_at_rest();
-    journals_go_on();
-    runs_are_of_the_journal();
-    steps_are_noted();
-    nothing_is_taken_unsent();
-    agents_come_by_events();
-    events_add_this();
-    events_go_on();
-    lists_have_their_chunks();
-    timed_pages_are_the_pages();
-    timed_pages_are_timely();
-    events_add_few();
-    steps_say_what_they_tell();
-    turns_report();
-    chunks_stand_by_their_claim();
-    pages_fit();
-    pieces_are_counted();
+    known();
     valid_workloads_run();
 }
 
@@ -323,44 +205,14 @@ pub fn agents_give_so()
 pub fn coordinator_hears_so()
     ensures { CoordinatorHearsSo }
 {
-    following_plays_out();
-    orders_agree();
-    done_is_at_rest();
-    journals_go_on();
-    runs_are_of_the_journal();
-    steps_are_noted();
-    nothing_is_taken_unsent();
-    agents_come_by_events();
-    events_add_this();
-    events_go_on();
-    lists_have_their_chunks();
-    timed_pages_are_the_pages();
-    timed_pages_are_timely();
+    known();
 }
 
 /// On the way through the schedule all that is taken, told and given fits.
 pub fn machines_fit()
     ensures { MachinesFit }
 {
-    following_plays_out();
-    orders_agree();
-    done_is_at_rest();
-    journals_go_on();
-    runs_are_of_the_journal();
-    steps_are_noted();
-    nothing_is_taken_unsent();
-    agents_come_by_events();
-    events_add_this();
-    events_go_on();
-    lists_have_their_chunks();
-    timed_pages_are_the_pages();
-    timed_pages_are_timely();
-    events_add_few();
-    steps_say_what_they_tell();
-    turns_report();
-    chunks_stand_by_their_claim();
-    pages_fit();
-    pieces_are_counted();
+    known();
     valid_workloads_run();
 }
 
@@ -368,10 +220,7 @@ pub fn machines_fit()
 pub fn rounds_end()
     ensures { RoundsEnd }
 {
-    following_plays_out();
-    runs_are_of_the_journal();
-    timed_pages_are_the_pages();
-    pieces_are_counted();
+    known();
     valid_workloads_run();
 }
 

@@ -2,20 +2,4 @@ use Rattle.hs_lockstep.proofs.Taking.{agents_take_so}
 use Rattle.hs_lockstep.proofs.laws.agents_take_so.Goals as goal
 
 pub returns : goal.returns
-returns c =
-    agents_take_so
-    (record {
-      plays = c.following_plays_out.ensures;
-      agree = c.orders_agree.ensures;
-      rests = c.done_is_at_rest.ensures;
-      goes_on = c.journals_go_on.ensures;
-      runs = c.runs_are_of_the_journal.ensures;
-      noted = c.steps_are_noted.ensures;
-      unsent = c.nothing_is_taken_unsent.ensures;
-      comes = c.agents_come_by_events.ensures;
-      adds = c.events_add_this.ensures;
-      go_on = c.events_go_on.ensures;
-      places = c.lists_have_their_chunks.ensures;
-      paged = c.timed_pages_are_the_pages.ensures;
-      timely = c.timed_pages_are_timely.ensures;
-    })
+returns c = agents_take_so c.known.ensures

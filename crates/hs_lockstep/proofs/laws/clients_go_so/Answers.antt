@@ -2,29 +2,4 @@ use Rattle.hs_lockstep.proofs.Fitting.{clients_go_so}
 use Rattle.hs_lockstep.proofs.laws.clients_go_so.Goals as goal
 
 pub returns : goal.returns
-returns c =
-    clients_go_so
-    (record {
-      plays = c.following_plays_out.ensures;
-      agree = c.orders_agree.ensures;
-      rests = c.done_is_at_rest.ensures;
-      goes_on = c.journals_go_on.ensures;
-      runs = c.runs_are_of_the_journal.ensures;
-      noted = c.steps_are_noted.ensures;
-      unsent = c.nothing_is_taken_unsent.ensures;
-      comes = c.agents_come_by_events.ensures;
-      adds = c.events_add_this.ensures;
-      go_on = c.events_go_on.ensures;
-      places = c.lists_have_their_chunks.ensures;
-      paged = c.timed_pages_are_the_pages.ensures;
-      timely = c.timed_pages_are_timely.ensures;
-    })
-    (record {
-      few = c.events_add_few.ensures;
-      says = c.steps_say_what_they_tell.ensures;
-      reports = c.turns_report.ensures;
-      stands = c.chunks_stand_by_their_claim.ensures;
-      fit = c.pages_fit.ensures;
-    })
-    c.pieces_are_counted.ensures
-    c.valid_workloads_run.ensures
+returns c = clients_go_so c.known.ensures c.valid_workloads_run.ensures

@@ -2,4 +2,4 @@ use Rattle.hs_lockstep.proofs.Shapes.{schedule_has_shape}
 use Rattle.hs_lockstep.proofs.laws.schedule_has_shape.Goals as goal
 
 pub returns : goal.returns
-returns c = schedule_has_shape c.following_plays_out.ensures c.runs_are_of_the_journal.ensures c.timed_pages_are_the_pages.ensures
+returns c = schedule_has_shape c.known.ensures

@@ -2,6 +2,4 @@ use Rattle.hs_lockstep.proofs.Followed.{schedule_is_followed}
 use Rattle.hs_lockstep.proofs.laws.schedule_is_followed.Goals as goal
 
 pub returns : goal.returns
-returns c =
-    schedule_is_followed c.following_plays_out.ensures c.orders_agree.ensures c.done_is_at_rest.ensures c.journals_go_on.ensures c.runs_are_of_the_journal.ensures c.steps_are_noted.ensures
-    c.nothing_is_taken_unsent.ensures
+returns c = schedule_is_followed c.known.ensures
