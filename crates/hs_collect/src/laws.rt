@@ -25,7 +25,6 @@ pub fn runs_decide_the_records()
 
 /// They collect the same, where such an order also keeps that in which the traces were first seen.
 pub fn reordered_pages_collect_the_same()
-    ensures added { (sheets others : Sheets) → IsReordering sheets others → CanBeAdded sheets → CanBeAdded others }
-    ensures same { (sheets others : Sheets) (collection : Collection) → IsReordering sheets others
+    ensures { (sheets others : Sheets) (collection : Collection) → IsReordering sheets others
         → AreCollected sheets collection → AreCollected others collection }
 {}
