@@ -8,7 +8,3 @@ on_err (Err e) p = p
 pub on_ok : {A E : Type 0} {P : Type 0} (r : Result A E) → P → OnOk r P
 on_ok (Ok x) p = p
 on_ok (Err e) p = tt
-
-pub on_ok_then : {A E : Type 0} {P R : Type 0} (r : Result A E) → OnOk r P → (P → R) → OnOk r R
-on_ok_then (Ok x) p f = f p
-on_ok_then (Err e) p f = tt

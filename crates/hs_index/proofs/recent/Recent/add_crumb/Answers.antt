@@ -1,11 +1,12 @@
 use Rattle.std.proofs.Common.{ℕ, List, find, rules, Fits, w32, ◌≡◌, length, None, Some, sym, ap, subst, ◌∙◌, arith}
 use Rattle.std.specs.Prelude.{sum_by}
+use Rattle.std.proofs.lemmas.Result.{on_ok_weaker}
 use Rattle.std.specs.Map.{values_of, lookup, set_value}
 use Rattle.lru.specs.LruCache.{LruCache, promoted}
 use Rattle.hs_base.specs.declared.ids.TraceId.{TraceId}
 use Rattle.hs_index.specs.Index.{Noted, Indexed, same_trace, is_of, noted_of, touch, with_crumb, chunk_count, count_chunks}
 use Rattle.hs_index.specs.Touched.{Touched, listed}
-use Rattle.hs_index.proofs.Outcomes.{on_ok, on_ok_then, on_err}
+use Rattle.hs_index.proofs.Outcomes.{on_ok, on_err}
 use Rattle.hs_index.proofs.Listed.{count-listed, find-missing}
 use Rattle.hs_index.proofs.Touching.{noted-found, noted-missing, touch-missing, touch-found, length-touched, count-touched, count-with_crumb}
 use Rattle.hs_index.proofs.recent.Recent.add_crumb.Goals as goal
@@ -85,7 +86,8 @@ returns-in-Some-clause-count g c =
 
 pub returns-after-insert-clause-count : goal.returns-after-insert-clause-count
 returns-after-insert-clause-count g c =
-    on_ok_then c.match-insert.result (returns-after-insert-clause-ok g c)
+    on_ok_weaker c.match-insert.result
     (λ touched. ap count_chunks touched
     ∙ subst (λ (t : Touched g.row.L.Denot). count_chunks (touch c.args.crumb.trace (with_crumb (noted_of c.args.crumb.trace t.traces) c.args.crumb.node) t.traces) ≡ count_chunks t.traces) c.self.view_is
     (count-with_crumb c.args.crumb.trace c.self.inside.cache.entries c.args.crumb.node c.len.ensures.valid.0))
+    (returns-after-insert-clause-ok g c)
