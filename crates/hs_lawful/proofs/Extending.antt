@@ -12,15 +12,15 @@ use Rattle.hs_journal.specs.declared.journal.Draw.{Draw}
 use Rattle.hs_journal.specs.declared.journal.Step.{Step}
 use Rattle.hs_journal.specs.declared.journal.Step.TheVariants as steps
 use Rattle.hs_journal.specs.Views.{PlainJournal}
+use Rattle.hs_model.specs.Laws.{EventsAddThis, noted_as}
 use Rattle.hs_model.specs.Stepping.{Event, Took, Gave, Chunk, Crumbed, Triggered, Asked, Turn, Answered, Given, Missed, Unread, step_of_answer}
-use Rattle.hs_records.specs.Plain.{PlainSettings, PlainWorkload}
+use Rattle.hs_records.specs.Plain.{PlainWorkload}
 use Rattle.hs_sent.specs.Drawn.{DrawnPage, has_buffer, drawn_from}
 use Rattle.hs_sent.specs.Sending.{Sent, ClientSends, operations_at, place_of, sheet_of, sent_chunks, client_sends, node_sends, draws_at}
 use Rattle.hs_sent.specs.Timing.{TimedPage, timed_pages}
 use Rattle.hs_lawful.specs.Following.{Queue, Chunks, Crumbs, Triggers, Asks, taken, asks_to, NodeRun, Run, is_from, next_of, event_of, step_node, message_of, log_at, node_start, run_start, followed}
 use Rattle.hs_lawful.specs.Extending.{HasMore, GoesOn, node_behind, run_behind, JournalsGoOn, IsOfJournal, NodesAreOfJournal, RunsAreOfTheJournal, IsNoted, StepsAreNoted}
 use Rattle.hs_lawful.specs.Orders.{Performs, Leads, Stays, Goes, FollowingPlaysOut}
-use Rattle.hs_lawful.proofs.Logs.{event_step, event_noted}
 use Rattle.hs_lawful.proofs.Steps.{some_same, get_front, mapped_from, step_from, step_to, heard_from, heard_to}
 
 -- ---- lists
@@ -263,18 +263,18 @@ journals_go_on plays W J K goes =
 -- ---- the journal's nodes
 
 -- the step that was next is the one that an event notes
-module _ (settings : PlainSettings) (run : NodeRun) (heard : Messages) (event : Event) where
-  offer_step : (step : Step) (answer : Answered) (hand : List ℕ) → step_of_answer answer ≡ step → option_map (λ _. Gave answer) (slice_get hand 0) ≡ Some event → event_step settings event ≡ step
+module _ (run : NodeRun) (heard : Messages) (event : Event) where
+  offer_step : (step : Step) (answer : Answered) (hand : List ℕ) → step_of_answer answer ≡ step → option_map (λ _. Gave answer) (slice_get hand 0) ≡ Some event → noted_as event ≡ step
   offer_step step answer [] same h = let no : None ≡ Some event = h in absurd cc
-  offer_step step answer (place ∷ hand) same h = ap (event_step settings) (sym (some_same (Gave answer) event h)) ∙ same
+  offer_step step answer (place ∷ hand) same h = ap (noted_as) (sym (some_same (Gave answer) event h)) ∙ same
 
-  item_step : {A : Type 0} (f : A → Event) (step : Step) (queue : Queue) (pick : ClientSends → List (Sent A)) (client : ℕ) → ((a : A) → event_step settings (f a) ≡ step)
-      → (o : Option ClientSends) → option_and_then (λ (sends : ClientSends). option_map f (next_of queue run.state (pick sends))) o ≡ Some event → event_step settings event ≡ step
+  item_step : {A : Type 0} (f : A → Event) (step : Step) (queue : Queue) (pick : ClientSends → List (Sent A)) (client : ℕ) → ((a : A) → noted_as (f a) ≡ step)
+      → (o : Option ClientSends) → option_and_then (λ (sends : ClientSends). option_map f (next_of queue run.state (pick sends))) o ≡ Some event → noted_as event ≡ step
   item_step f step queue pick client same None h = let no : None ≡ Some event = h in absurd cc
   item_step f step queue pick client same (Some sends) h =
-      let m = mapped_from f (next_of queue run.state (pick sends)) event h in ap (event_step settings) m.is ∙ same m.item
+      let m = mapped_from f (next_of queue run.state (pick sends)) event h in ap (noted_as) m.is ∙ same m.item
 
-  pub noted_step : (step : Step) → event_of run heard step ≡ Some event → event_step settings event ≡ step
+  pub noted_step : (step : Step) → event_of run heard step ≡ Some event → noted_as event ≡ step
   noted_step (steps.Chunk client) h =
       item_step (λ sheet. Took (Chunk client sheet)) (steps.Chunk client) (Chunks client) (λ (s : ClientSends). s.chunks) client (λ a. refl) (slice_get run.sends client) h
   noted_step (steps.Crumb client) h =
@@ -282,30 +282,30 @@ module _ (settings : PlainSettings) (run : NodeRun) (heard : Messages) (event : 
   noted_step (steps.Trigger client) h =
       item_step (λ trigger. Took (Triggered client trigger)) (steps.Trigger client) (Triggers client) (λ (s : ClientSends). s.triggers) client (λ a. refl) (slice_get run.sends client) h
   noted_step steps.Ask h =
-      let m = mapped_from (λ ask. Took (Asked ask)) (slice_get (asks_to run.node heard) (taken Asks run.state.log)) event h in ap (event_step settings) m.is
-  noted_step steps.Turn h = ap (event_step settings) (sym (some_same (Took Turn) event h))
+      let m = mapped_from (λ ask. Took (Asked ask)) (slice_get (asks_to run.node heard) (taken Asks run.state.log)) event h in ap (noted_as) m.is
+  noted_step steps.Turn h = ap (noted_as) (sym (some_same (Took Turn) event h))
   noted_step (steps.Given stamp) h = offer_step (steps.Given stamp) (Given stamp) run.state.hand refl h
   noted_step (steps.Missed stamp) h = offer_step (steps.Missed stamp) (Missed stamp) run.state.hand refl h
   noted_step steps.Unread h = offer_step steps.Unread Unread run.state.hand refl h
 
-pub steps_are_noted : StepsAreNoted
-steps_are_noted settings heard run stepped h =
+pub steps_are_noted : EventsAddThis → StepsAreNoted
+steps_are_noted adds settings heard run stepped h =
     let s = step_from settings heard run stepped h in
     subst (IsNoted run) (sym s.is)
     (record {
       log =
-          ap (λ (log : List Step). log ++ s.rest) (event_noted settings run.node run.state s.event)
-          ∙ ap (λ (step : Step). (run.state.log ++ step ∷ []) ++ s.rest) (noted_step settings run heard s.event s.step s.met)
+          ap (λ (log : List Step). log ++ s.rest) ((adds settings run.node run.state).log s.event)
+          ∙ ap (λ (step : Step). (run.state.log ++ step ∷ []) ++ s.rest) (noted_step run heard s.event s.step s.met)
           ∙ append_assoc run.state.log (s.step ∷ []) s.rest
           ∙ ap (λ (left : List Step). run.state.log ++ left) (sym s.left);
       sends = refl;
       node = refl;
     })
 
-module _ (W : PlainWorkload) (J : PlainJournal) where
+module _ (adds : EventsAddThis) (W : PlainWorkload) (J : PlainJournal) where
   step_keeps : (heard : Messages) (run stepped : NodeRun) → IsOfJournal W J run → step_node W.settings heard run ≡ Some stepped → IsOfJournal W J stepped
   step_keeps heard run stepped o h =
-      let n = steps_are_noted W.settings heard run stepped h in
+      let n = steps_are_noted adds W.settings heard run stepped h in
       record { sends = n.sends ∙ o.sends ∙ ap (node_sends W J) (sym n.node); log = n.log ∙ o.log ∙ ap (log_at J) (sym n.node) }
 
   abbrev numbers_of : List NodeRun → List ℕ
@@ -347,6 +347,6 @@ module _ (W : PlainWorkload) (J : PlainJournal) where
   start_numbers [] = refl
   start_numbers (node ∷ nodes) = ap (λ rest. node ∷ rest) (start_numbers nodes)
 
-pub runs_are_of_the_journal : RunsAreOfTheJournal
-runs_are_of_the_journal W J run leads =
-    leads_keeps W J (run_start W J) run (record { each = starts W J (range_with_len 0 W.settings.nodes); numbers = start_numbers W J (range_with_len 0 W.settings.nodes) }) leads
+pub runs_are_of_the_journal : EventsAddThis → RunsAreOfTheJournal
+runs_are_of_the_journal adds W J run leads =
+    leads_keeps adds W J (run_start W J) run (record { each = starts adds W J (range_with_len 0 W.settings.nodes); numbers = start_numbers adds W J (range_with_len 0 W.settings.nodes) }) leads

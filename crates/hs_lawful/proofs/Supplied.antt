@@ -9,7 +9,7 @@ use Rattle.hs_coord.specs.Following.{Message, Messages, message}
 use Rattle.hs_journal.specs.declared.journal.Step.{Step}
 use Rattle.hs_journal.specs.declared.journal.Step.TheVariants as steps
 use Rattle.hs_journal.specs.Views.{PlainJournal}
-use Rattle.hs_model.specs.Laws.{StepsSayWhatTheyTell}
+use Rattle.hs_model.specs.Laws.{EventsAddThis, StepsSayWhatTheyTell}
 use Rattle.hs_model.specs.Stepping.{Event, Took, Chunk, Crumbed, Triggered, Asked}
 use Rattle.hs_records.specs.Plain.{PlainSettings, PlainWorkload}
 use Rattle.hs_sent.specs.Sending.{Sent, ClientSends}
@@ -114,10 +114,10 @@ same_supply a b heard (Crumbs client) e f = ap (λ (sends : List ClientSends). o
 same_supply a b heard (Triggers client) e f = ap (λ (sends : List ClientSends). option_map_or (sent_to (Triggers client)) (slice_get sends client) 0) e
 same_supply a b heard Asks e f = ap (λ (node : ℕ). length (asks_to node heard)) f
 
-step_few : (settings : PlainSettings) (heard : Messages) (run stepped : NodeRun) → Few heard run → step_node settings heard run ≡ Some stepped → Few heard stepped
-step_few settings heard run stepped few h queue =
+step_few : EventsAddThis → (settings : PlainSettings) (heard : Messages) (run stepped : NodeRun) → Few heard run → step_node settings heard run ≡ Some stepped → Few heard stepped
+step_few adds settings heard run stepped few h queue =
     let s = step_from settings heard run stepped h in
-    let noted = steps_are_noted settings heard run stepped h in
+    let noted = steps_are_noted adds settings heard run stepped h in
     let left : stepped.left ≡ s.rest = ap (λ (n : NodeRun). n.left) s.is in
     let whole : taken queue (stepped.state.log ++ stepped.left) ≡ taken queue (run.state.log ++ run.left) = ap (taken queue) noted.log in
     let now = sum_by-append (λ (step : Step). one (takes queue step)) stepped.state.log stepped.left in
@@ -154,7 +154,7 @@ message_case heard from m (Some run) h =
     let told = mapped_from (message from) (slice_get run.state.said (count_by (is_from from) heard)) m h in
     (within run.state.said (count_by (is_from from) heard) told.item told.there, ap (λ (m : Message). m.node) told.is)
 
-module _ (says : StepsSayWhatTheyTell) (settings : PlainSettings) where
+module _ (says : StepsSayWhatTheyTell) (adds : EventsAddThis) (settings : PlainSettings) where
   longer : (heard : Messages) (run stepped : NodeRun) → step_node settings heard run ≡ Some stepped → length run.state.said ≤ length stepped.state.said
   longer heard run stepped h = at_most (length run.state.said) (λ i below. kept i (get_there run.state.said i below))
     where
@@ -183,7 +183,7 @@ module _ (says : StepsSayWhatTheyTell) (settings : PlainSettings) where
       (record {
         items =
             all_set (Few run.heard) run.nodes s.place s.stepped t.items
-            (step_few settings run.heard s.node s.stepped (all_get (Few run.heard) run.nodes s.place s.node t.items s.stands) s.ready);
+            (step_few adds settings run.heard s.node s.stepped (all_get (Few run.heard) run.nodes s.place s.node t.items s.stands) s.ready);
         messages = λ v.
             let few = t.messages v in
             let grows = said_set run.nodes s.place s.node s.stepped v s.stands (longer run.heard s.node s.stepped s.ready) in
@@ -220,7 +220,7 @@ starts_few : (W : PlainWorkload) (J : PlainJournal) (nodes : List ℕ) → AllBy
 starts_few W J [] = tt
 starts_few W J (node ∷ nodes) = ((λ queue. omega arith), starts_few W J nodes)
 
-pub nothing_is_taken_unsent : StepsSayWhatTheyTell → NothingIsTakenUnsent
-nothing_is_taken_unsent says W J run leads =
-    leads_few says W.settings (run_start W J) run
+pub nothing_is_taken_unsent : StepsSayWhatTheyTell → EventsAddThis → NothingIsTakenUnsent
+nothing_is_taken_unsent says adds W J run leads =
+    leads_few says adds W.settings (run_start W J) run
     (record { items = starts_few W J (range_with_len 0 W.settings.nodes); messages = λ v. omega arith }) leads

@@ -234,7 +234,7 @@ module _ (W : PlainWorkload) (J : PlainJournal) where
     step_keeps : (heard : Messages) (run stepped : NodeRun) → Keeps run → step_node W.settings heard run ≡ Some stepped → Keeps stepped
     step_keeps heard run stepped keeps h =
         let s = step_from W.settings heard run stepped h in
-        let noted = steps_are_noted W.settings heard run stepped h in
+        let noted = steps_are_noted adds W.settings heard run stepped h in
         let after = perform W.settings s.rest run s.event in
         let counted = λ (client : ℕ).
         let whole : taken (Chunks client) (after.state.log ++ s.rest) ≡ taken (Chunks client) (run.state.log ++ run.left) =

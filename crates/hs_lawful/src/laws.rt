@@ -57,24 +57,31 @@ pub fn journals_go_on()
 /// The nodes of a run are those of its journal: what was performed of a log and what is left are that log.
 pub fn runs_are_of_the_journal()
     ensures { RunsAreOfTheJournal }
-{}
+{
+    events_add_this();
+}
 
 /// A step is noted in the log of its agent, and leaves what the clients of its node send.
 pub fn steps_are_noted()
     ensures { StepsAreNoted }
-{}
+{
+    events_add_this();
+}
 
 /// No agent has taken more than was sent to it, and the coordinator has heard no more than was said.
 pub fn nothing_is_taken_unsent()
     ensures { NothingIsTakenUnsent }
 {
     steps_say_what_they_tell();
+    events_add_this();
 }
 
 /// The buffers that an agent gave back bear the stamps of the gives in its log.
 pub fn gives_are_noted()
     ensures { GivesAreNoted }
-{}
+{
+    events_add_this();
+}
 
 /// Of each client an agent has taken the first chunks that it sent, in their order.
 pub fn chunks_are_taken_in_order()
