@@ -9,6 +9,7 @@ use Rattle.hs_journal.specs.declared.journal.Draw.{Draw}
 use Rattle.hs_journal.specs.declared.journal.Step.{Step}
 use Rattle.hs_journal.specs.declared.journal.Step.TheVariants as steps
 use Rattle.hs_journal.specs.Views.{PlainJournal}
+use Rattle.hs_model.specs.Laws.{EventsAddThis, brought_by, sheets_of}
 use Rattle.hs_model.specs.Standings.{Taken}
 use Rattle.hs_model.specs.Stepping.{Chunk, Crumbed, Triggered, Asked, Turn, Event, Took, Gave, after_event}
 use Rattle.hs_records.specs.Plain.{PlainWorkload}
@@ -20,7 +21,7 @@ use Rattle.hs_lawful.specs.Following.{Chunks, taken, NodeRun, Run, next_of, even
 use Rattle.hs_lawful.specs.Orders.{Performs, Leads, Stays, Goes, FollowingPlaysOut}
 use Rattle.hs_outcome.specs.Origins.{IsOfDrawnPage, TakenPagesWereDrawn}
 use Rattle.hs_outcome.proofs.Lists.{some_same, all_each}
-use Rattle.hs_outcome.proofs.Sheets.{sheets, step_left, event_adds, added, all_set, all_get, hear_nodes}
+use Rattle.hs_outcome.proofs.Sheets.{step_left, all_set, all_get, hear_nodes}
 
 -- ---- what is sent is of a drawn page
 
@@ -78,7 +79,7 @@ unmapped : {X Y : Type 0} (f : X → Y) (o : Option X) (y : Y) → option_map f 
 unmapped f None y h = let no : None ≡ Some y = h in absurd cc
 unmapped f (Some x) y h = (x, refl, sym (some_same (f x) y h))
 
-module _ (W : PlainWorkload) (J : PlainJournal) where
+module _ (adds : EventsAddThis) (W : PlainWorkload) (J : PlainJournal) where
   of_sent : (run : NodeRun) → run.sends ≡ node_sends W J run.node → (client : ℕ) (s : ClientSends) (n : ℕ) (item : Sent Sheet) → slice_get run.sends client ≡ Some s → slice_get s.chunks n ≡ Some item
       → IsOfDrawnPage run item.item
   of_sent run sends client s n item there h =
@@ -109,36 +110,36 @@ module _ (W : PlainWorkload) (J : PlainJournal) where
 
   record Keeps (run : NodeRun) : Type 0 where
     sends : run.sends ≡ node_sends W J run.node
-    all : AllByRecursion (IsOfDrawnPage run) (sheets run.state.taken)
+    all : AllByRecursion (IsOfDrawnPage run) (sheets_of run.state.taken)
 
   both : (P : Sheet → Type 0) (xs ys : List Sheet) → AllByRecursion P xs → AllByRecursion P ys → AllByRecursion P (xs ++ ys)
   both P [] ys a b = b
   both P (x ∷ xs) ys a b = (a.0, both P xs ys a.1 b)
 
   chunk_event : (run : NodeRun) (heard : Messages) (client : ℕ) (event : Event) → run.sends ≡ node_sends W J run.node → (o : Option ClientSends) → slice_get run.sends client ≡ o
-      → option_and_then (λ (s : ClientSends). option_map (λ sheet. Took (Chunk client sheet)) (next_of (Chunks client) run.state s.chunks)) o ≡ Some event → AllByRecursion (IsOfDrawnPage run) (added event)
+      → option_and_then (λ (s : ClientSends). option_map (λ sheet. Took (Chunk client sheet)) (next_of (Chunks client) run.state s.chunks)) o ≡ Some event → AllByRecursion (IsOfDrawnPage run) (brought_by event)
   chunk_event run heard client event sends None e h = let no : None ≡ Some event = h in absurd cc
   chunk_event run heard client event sends (Some s) e h =
       let t = unmapped (λ sheet. Took (Chunk client sheet)) (next_of (Chunks client) run.state s.chunks) event h in
       let i = unmapped (λ (item : Sent Sheet). item.item) (slice_get s.chunks (taken (Chunks client) run.state.log)) t.0 t.1 in
       let of = of_sent run sends client s (taken (Chunks client) run.state.log) i.0 e i.1 in
-      subst (λ (event : Event). AllByRecursion (IsOfDrawnPage run) (added event)) (sym t.2) (subst (IsOfDrawnPage run) (sym i.2) of, tt)
+      subst (λ (event : Event). AllByRecursion (IsOfDrawnPage run) (brought_by event)) (sym t.2) (subst (IsOfDrawnPage run) (sym i.2) of, tt)
 
-  other_event : {A : Type 0} (run : NodeRun) (f : A → Event) (event : Event) (o : Option A) → ((a : A) → added (f a) ≡ []) → option_map f o ≡ Some event → AllByRecursion (IsOfDrawnPage run) (added event)
+  other_event : {A : Type 0} (run : NodeRun) (f : A → Event) (event : Event) (o : Option A) → ((a : A) → brought_by (f a) ≡ []) → option_map f o ≡ Some event → AllByRecursion (IsOfDrawnPage run) (brought_by event)
   other_event run f event o none h =
-      let t = unmapped f o event h in subst (AllByRecursion (IsOfDrawnPage run)) (sym (ap added t.2 ∙ none t.0)) tt
+      let t = unmapped f o event h in subst (AllByRecursion (IsOfDrawnPage run)) (sym (ap brought_by t.2 ∙ none t.0)) tt
 
-  client_event : {A : Type 0} (run : NodeRun) (f : A → Event) (event : Event) (g : ClientSends → Option A) (o : Option ClientSends) → ((a : A) → added (f a) ≡ []) → option_and_then (λ (s : ClientSends). option_map f (g s)) o ≡ Some event
-      → AllByRecursion (IsOfDrawnPage run) (added event)
+  client_event : {A : Type 0} (run : NodeRun) (f : A → Event) (event : Event) (g : ClientSends → Option A) (o : Option ClientSends) → ((a : A) → brought_by (f a) ≡ []) → option_and_then (λ (s : ClientSends). option_map f (g s)) o ≡ Some event
+      → AllByRecursion (IsOfDrawnPage run) (brought_by event)
   client_event run f event g None none h = let no : None ≡ Some event = h in absurd cc
   client_event run f event g (Some s) none h = other_event run f event (g s) none h
 
-  event_drawn : (run : NodeRun) (heard : Messages) (step : Step) (event : Event) → run.sends ≡ node_sends W J run.node → event_of run heard step ≡ Some event → AllByRecursion (IsOfDrawnPage run) (added event)
+  event_drawn : (run : NodeRun) (heard : Messages) (step : Step) (event : Event) → run.sends ≡ node_sends W J run.node → event_of run heard step ≡ Some event → AllByRecursion (IsOfDrawnPage run) (brought_by event)
   event_drawn run heard (steps.Chunk client) event sends h = chunk_event run heard client event sends (slice_get run.sends client) refl h
   event_drawn run heard (steps.Crumb client) event sends h = client_event run (λ crumb. Took (Crumbed client crumb)) event _ (slice_get run.sends client) (λ a. refl) h
   event_drawn run heard (steps.Trigger client) event sends h = client_event run (λ trigger. Took (Triggered client trigger)) event _ (slice_get run.sends client) (λ a. refl) h
   event_drawn run heard steps.Ask event sends h = other_event run (λ ask. Took (Asked ask)) event _ (λ a. refl) h
-  event_drawn run heard steps.Turn event sends h = subst (λ (e : Event). AllByRecursion (IsOfDrawnPage run) (added e)) (some_same (Took Turn) event h) tt
+  event_drawn run heard steps.Turn event sends h = subst (λ (e : Event). AllByRecursion (IsOfDrawnPage run) (brought_by e)) (some_same (Took Turn) event h) tt
   event_drawn run heard (steps.Given stamp) event sends h = other_event run (λ _. Gave _) event (slice_get run.state.hand 0) (λ a. refl) h
   event_drawn run heard (steps.Missed stamp) event sends h = other_event run (λ _. Gave _) event (slice_get run.state.hand 0) (λ a. refl) h
   event_drawn run heard steps.Unread event sends h = other_event run (λ _. Gave _) event (slice_get run.state.hand 0) (λ a. refl) h
@@ -150,10 +151,10 @@ module _ (W : PlainWorkload) (J : PlainJournal) where
       (record {
         sends = k.sends;
         all =
-            all_each (IsOfDrawnPage run) (IsOfDrawnPage (perform W.settings s.rest run s.event)) (sheets (after_event W.settings run.node run.state s.event).taken)
+            all_each (IsOfDrawnPage run) (IsOfDrawnPage (perform W.settings s.rest run s.event)) (sheets_of (after_event W.settings run.node run.state s.event).taken)
             (λ sheet o. record { page = o.page; there = o.there; got = o.got; is = o.is })
-            (subst (AllByRecursion (IsOfDrawnPage run)) (sym (event_adds W.settings run.node run.state s.event))
-            (both (IsOfDrawnPage run) (sheets run.state.taken) (added s.event) k.all (event_drawn run heard s.step s.event k.sends s.met)));
+            (subst (AllByRecursion (IsOfDrawnPage run)) (sym ((adds W.settings run.node run.state).chunks s.event))
+            (both (IsOfDrawnPage run) (sheets_of run.state.taken) (brought_by s.event) k.all (event_drawn run heard s.step s.event k.sends s.met)));
       })
 
   performs_keeps : (run next : Run) → AllByRecursion Keeps run.nodes → Performs W.settings run next → AllByRecursion Keeps next.nodes
@@ -170,7 +171,7 @@ module _ (W : PlainWorkload) (J : PlainJournal) where
   starts_keep [] = tt
   starts_keep (node ∷ nodes) = (record { sends = refl; all = tt }, starts_keep nodes)
 
-  by_chunk : (run : NodeRun) (taken : List Taken) → AllByRecursion (IsOfDrawnPage run) (sheets taken) → AllByRecursion (λ (chunk : Taken). IsOfDrawnPage run chunk.sheet) taken
+  by_chunk : (run : NodeRun) (taken : List Taken) → AllByRecursion (IsOfDrawnPage run) (sheets_of taken) → AllByRecursion (λ (chunk : Taken). IsOfDrawnPage run chunk.sheet) taken
   by_chunk run [] all = tt
   by_chunk run (chunk ∷ taken) all = (all.0, by_chunk run taken all.1)
 
@@ -178,6 +179,6 @@ module _ (W : PlainWorkload) (J : PlainJournal) where
   kept [] all = tt
   kept (run ∷ nodes) all = (by_chunk run run.state.taken all.0.all, kept nodes all.1)
 
-pub taken_pages_were_drawn : FollowingPlaysOut → TakenPagesWereDrawn
-taken_pages_were_drawn plays W J =
-    kept W J (followed W J).nodes (leads_keeps W J (run_start W J) (followed W J) (starts_keep W J (range_with_len 0 W.settings.nodes)) (plays W J).leads)
+pub taken_pages_were_drawn : EventsAddThis → FollowingPlaysOut → TakenPagesWereDrawn
+taken_pages_were_drawn adds plays W J =
+    kept adds W J (followed W J).nodes (leads_keeps adds W J (run_start W J) (followed W J) (starts_keep adds W J (range_with_len 0 W.settings.nodes)) (plays W J).leads)

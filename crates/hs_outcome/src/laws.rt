@@ -16,8 +16,9 @@ use hs_lawful::laws::{
     runs_are_of_the_journal, taken_pages_rise,
 };
 use hs_model::laws::{
-    chunks_stand_by_their_claim, claims_hold_for_good, clients_pages_rise, events_go_on,
-    limits_hold, lists_have_their_chunks, nothing_claimed_is_evicted, traces_are_claimed_once,
+    chunks_stand_by_their_claim, claims_hold_for_good, clients_pages_rise, events_add_this,
+    events_go_on, limits_hold, lists_have_their_chunks, nothing_claimed_is_evicted,
+    traces_are_claimed_once,
 };
 use hs_records::{
     pages_carry_the_records, pages_hold_the_pieces, pieces_are_counted, pieces_join_to_the_payload,
@@ -112,6 +113,7 @@ pub fn given_were_let_go()
 pub fn nothing_claimed_was_evicted()
     ensures { NothingClaimedWasEvicted }
 {
+    events_add_this();
     events_go_on();
     claims_hold_for_good();
     nothing_claimed_is_evicted();
@@ -122,6 +124,7 @@ pub fn nothing_claimed_was_evicted()
 pub fn taken_pages_were_drawn()
     ensures { TakenPagesWereDrawn }
 {
+    events_add_this();
     following_plays_out();
 }
 
