@@ -1,6 +1,7 @@
 //! The end that gives.
-ghost use Rattle.std.specs.Prelude.{◌≡◌, ℕ, ◌+◌, ◌*◌, ◌%◌, ◌^◌, ◌<◌, ◌≤◌, []};
+ghost use Rattle.std.specs.Prelude.{◌≡◌, ℕ, ◌+◌, ◌*◌, ◌%◌, ◌^◌, ◌<◌, ◌≤◌, [], length};
 ghost use Rattle.hs_words.specs.Chunks.{clear_chunk};
+ghost use Rattle.hs_words.specs.Ends.{answers_in};
 ghost use Rattle.hs_ring.specs.Views.{desk_of, post_of, buffer_held, note_of, having_heard};
 ghost use Rattle.hs_ring.specs.Parts.{Gives, Meets};
 ghost use Rattle.hs_ring.specs.Seats.{IsAt, IsIdle, IsFree, IsGiverSeat, IsSameSeat, IsNext, IsLaying, Publishes, published_after, misses_after, giving_of, drawing_of, name_of};
@@ -130,7 +131,9 @@ impl Giver {
     pub fn give(&mut self, held: Held<Lease>) -> Given<Lease>
         requires pool { held.lease.pool ≡ self.old.pool }
         requires size { held.chunk.size ≡ self.old.size }
-        ensures { Gives self.old held result self.new }
+        ensures given { Gives self.old held result self.new }
+        // Answers with a stamp never come to more than these.
+        ensures few { length (answers_in self.new.turns) ≤ 4294967296 }
     {
         let board = &self.board;
         let given = give_to(
