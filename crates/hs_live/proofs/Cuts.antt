@@ -1,8 +1,21 @@
 -- A client that has recorded some pieces of a payload, and has the rest of it still to record.
-use Rattle.std.proofs.Common.{◌≡◌, ℕ, ◌+◌, ◌<◌, ◌≤◌, List, [], ◌∷◌, ◌++◌, length, map, take, drop, refl, sym, ap, ap₂, ◌∙◌, arith, subst}
+use Rattle.std.proofs.Common.{◌≡◌, ℕ, suc, ◌+◌, ◌-◌, ◌<◌, ◌≤◌, List, [], ◌∷◌, ◌++◌, length, map, take, drop, Bool, Option, IsSome, refl, sym, ap, ap₂, ◌∙◌, arith, subst, append_assoc, length-append}
+use Rattle.std.specs.List.{AllByRecursion}
+use Rattle.std.specs.Option.{option_to_list}
 use Rattle.hs_records.specs.Records.{Piece, Segment, piece_limit, payload_pieces, piece_count, record_pieces}
-use Rattle.hs_live.specs.Writing.{Made, Writing, IsSound, Spends, IsWriting, WritesPieces}
+use Rattle.hs_words.specs.declared.token.Drawn.{Drawn}
+use Rattle.hs_words.specs.declared.token.Drawn.TheVariants as drawn
+use Rattle.hs_words.specs.PoolHistory.{Event, Got, Empty}
+use Rattle.hs_words.specs.Ends.{Answer}
+use Rattle.hs_words.specs.Buffers.{Buffer}
+use Rattle.hs_client.specs.Core.{Core, after_step, closed, supplied}
+use Rattle.hs_link.specs.Contents.{Outgoing, sent}
+use Rattle.hs_ring.specs.Parts.{Leased, Drawing, Draws, after_draw}
+use Rattle.hs_live.specs.Keys.{Key}
+use Rattle.hs_live.specs.Live.{GoesOn}
+use Rattle.hs_live.specs.Writing.{Made, Writing, DrawsOn, IsDraw, IsDrawn, IsSound, Spends, IsWriting, WritesPieces}
 use Rattle.hs_live.proofs.Senders.{goes_trans, goes_same}
+use Rattle.hs_live.proofs.Sound.{one_at_most}
 use Rattle.hs_live.proofs.Steps.{piece_of}
 
 -- what is known of the pieces of a payload
@@ -12,6 +25,30 @@ pub record AreCut : Type 0 where
       → payload_pieces size payload ≡ take (piece_limit size) payload ∷ payload_pieces size (drop (piece_limit size) payload)
   pub counted : (size : ℕ) (payload : List ℕ) → length (payload_pieces size payload) ≡ piece_count size (length payload)
 
+-- answers above a floor are above a lower one, too
+all_above : (low floor : ℕ) (later earlier : List Answer) → low ≤ floor → AllByRecursion (λ (x : Answer). floor ≤ x.stamp) later → AllByRecursion (λ (x : Answer). low ≤ x.stamp) earlier
+    → AllByRecursion (λ (x : Answer). low ≤ x.stamp) (later ++ earlier)
+all_above low floor [] earlier lower h k = k
+all_above low floor (answer ∷ later) earlier lower h k = (omega (arith, lower, h.0), all_above low floor later earlier lower h.1 k)
+
+all_drawn : (later earlier : List Answer) → AllByRecursion IsDrawn later → AllByRecursion IsDrawn earlier → AllByRecursion IsDrawn (later ++ earlier)
+all_drawn [] earlier h k = k
+all_drawn (answer ∷ later) earlier h k = (h.0, all_drawn later earlier h.1 k)
+
+pub draws_trans : (a b c : Drawing) → DrawsOn a b → DrawsOn b c → DrawsOn a c
+draws_trans a b c h l =
+    record {
+      pool = l.pool ∙ h.pool;
+      buffers = l.buffers ∙ h.buffers;
+      size = l.size ∙ h.size;
+      number = l.number ∙ h.number;
+      floor = omega (arith, l.floor, h.floor);
+      added = l.added ++ h.added;
+      since = l.since ∙ ap (λ (answers : List Answer). l.added ++ answers) h.since ∙ sym (append_assoc l.added h.added a.answers);
+      above = all_above a.floor b.floor l.added h.added h.floor l.above h.above;
+      drawn = all_drawn l.added h.added l.drawn h.drawn;
+    }
+
 pub spends_trans : (m n k : ℕ) (a b c : Writing) → m + n ≡ k → Spends m a b → Spends n b c → Spends k a c
 spends_trans m n k a b c sum h l =
     record {
@@ -19,18 +56,35 @@ spends_trans m n k a b c sum h l =
       size = l.size ∙ h.size;
       calls_are = l.calls_are ∙ h.calls_are;
       counted = omega (arith, l.counted, h.counted, sum);
-      drawer =
-          record {
-            pool = l.drawer.pool ∙ h.drawer.pool;
-            buffers = l.drawer.buffers ∙ h.drawer.buffers;
-            size = l.drawer.size ∙ h.drawer.size;
-            number = l.drawer.number ∙ h.drawer.number;
-            floor = omega (arith, l.drawer.floor, h.drawer.floor);
-          };
+      drawer = draws_trans a.drawer b.drawer c.drawer h.drawer l.drawer;
       left = omega (arith, l.left, h.left, sum);
       chunks = goes_trans a.chunks b.chunks c.chunks h.chunks l.chunks;
       items = omega (arith, l.items, h.items, sum);
     }
+
+drew_at : (old new : Drawing) (stamp : ℕ) (event : Event) → IsDraw event → new ≡ after_draw old stamp event → old.floor ≤ stamp → DrawsOn old new
+drew_at old new stamp event draw is above =
+    let floor : new.floor ≡ suc stamp = ap (λ (d : Drawing). d.floor) is in
+    record {
+      pool = ap (λ (d : Drawing). d.pool) is;
+      buffers = ap (λ (d : Drawing). d.buffers) is;
+      size = ap (λ (d : Drawing). d.size) is;
+      number = ap (λ (d : Drawing). d.number) is;
+      floor = omega (arith, floor, above);
+      added = record { stamp = stamp; event = event; draw = 0 } ∷ [];
+      since = ap (λ (d : Drawing). d.answers) is;
+      above = (above, tt);
+      drawn = ((draw, refl), tt);
+    }
+
+-- nothing was drawn
+pub draws_none : (drawer : Drawing) → DrawsOn drawer drawer
+draws_none drawer = record { pool = refl; buffers = refl; size = refl; number = refl; floor = omega arith; added = []; since = refl; above = tt; drawn = tt }
+
+-- a page was drawn for
+pub draws_one : {g : _} (old new : Drawing) (draw : Drawn Leased g) → Draws old draw new → DrawsOn old new
+draws_one old new (drawn.Got held stamp) draws = drew_at old new stamp (Got held.chunk.number) tt draws.0 draws.1
+draws_one old new (drawn.Empty stamp) draws = drew_at old new stamp Empty tt draws.0 draws.1
 
 pub spends_none : (a : Writing) → Spends 0 a a
 spends_none a =
@@ -39,10 +93,43 @@ spends_none a =
       size = refl;
       calls_are = refl;
       counted = omega arith;
-      drawer = record { pool = refl; buffers = refl; size = refl; number = refl; floor = omega arith };
+      drawer = draws_none a.drawer;
       left = omega arith;
       chunks = goes_same a.chunks;
       items = omega arith;
+    }
+
+-- what a supplied page leaves of a core
+record IsSupplied (old new : Core Leased) : Type 0 where
+  owner : new.client ≡ old.client
+  size : new.size ≡ old.size
+  calls_are : new.calls ≡ old.calls
+  counted : new.counted ≡ old.counted + 1
+
+is_supplied : {g : _} (core : Core Leased) (draw : Drawn Leased g) (moment : ℕ) (payload : List ℕ) (more : Bool) → IsSupplied core (after_step core (supplied draw moment payload more))
+is_supplied core (drawn.Got held stamp) moment payload more = record { owner = refl; size = refl; calls_are = refl; counted = refl }
+is_supplied core (drawn.Empty stamp) moment payload more = record { owner = refl; size = refl; calls_are = refl; counted = refl }
+
+left_drawn : {g : _} (old new : Drawing) (draw : Drawn Leased g) → Draws old draw new → new.left ≡ old.left - 1
+left_drawn old new (drawn.Got held stamp) draws = ap (λ (d : Drawing). d.left) draws.0
+left_drawn old new (drawn.Empty stamp) draws = ap (λ (d : Drawing). d.left) draws.0
+
+-- a piece that needed a page
+pub spends_page : {g : _} (old : Writing) (core : Core Leased) (drawer : Drawing) (chunks : Outgoing (Buffer Leased) Key) (handed : Option (Buffer Leased)) (draw : Drawn Leased g) (moment : ℕ) (payload : List ℕ) (more : Bool)
+    → core ≡ after_step (closed old.core) (supplied draw moment payload more) → Draws old.drawer draw drawer → GoesOn old.chunks chunks → sent chunks ≡ sent old.chunks ++ option_to_list handed
+    → Spends 1 old (record { core = core; drawer = drawer; chunks = chunks })
+spends_page old core drawer chunks handed draw moment payload more is draws goes sends =
+    let by = subst (λ (new : Core Leased). IsSupplied (closed old.core) new) (sym is) (is_supplied (closed old.core) draw moment payload more) in
+    let left = left_drawn old.drawer drawer draw draws in
+    record {
+      owner = by.owner;
+      size = by.size;
+      calls_are = by.calls_are;
+      counted = by.counted;
+      drawer = draws_one old.drawer drawer draw draws;
+      left = omega (arith, left);
+      chunks = goes;
+      items = omega (arith, ap length sends, length-append (sent old.chunks) (option_to_list handed), one_at_most handed);
     }
 
 -- ---- a payload of which this rest is still to be recorded
@@ -62,6 +149,7 @@ pub record IsRecorded (moment : ℕ) (payload : List ℕ) (number : ℕ) (now ne
   pub sound : IsSound new
   pub trace : new.core.trace ≡ now.core.trace
   pub number_is : new.core.number ≡ number
+  pub page : IsSome new.core.current
   pub spends : Spends 1 now new
   pub written : WritesPieces (piece_of now.core.number moment payload ∷ []) now new
 
@@ -94,6 +182,7 @@ pub record IsCut (moment : ℕ) (payload : List ℕ) (old new : Writing) : Type 
   pub sound : IsSound new
   pub trace : new.core.trace ≡ old.core.trace
   pub number : new.core.number ≡ old.core.number + 1
+  pub page : IsSome new.core.current
   pub spends : Spends (piece_count old.core.size (length payload)) old new
   pub written : WritesPieces (record_pieces old.core.size old.core.number moment payload) old new
 
@@ -109,6 +198,7 @@ cut_all are limit moment payload rest old now new is limit_is short recorded =
       sound = recorded.sound;
       trace = recorded.trace ∙ is.trace;
       number = recorded.number_is ∙ ap (λ n. n + 1) is.number;
+      page = recorded.page;
       spends = spends_trans is.used 1 (piece_count size (length payload)) old now new all_used is.spends recorded.spends;
       written = λ made pieces later all h.
           let from = is.written made pieces later all h in

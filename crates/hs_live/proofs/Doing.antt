@@ -1,8 +1,9 @@
 -- A client that has done some operations does one more.
-use Rattle.std.proofs.Common.{◌≡◌, ℕ, zero, suc, ◌+◌, List, [], ◌∷◌, ◌++◌, length, reverse, Option, Some, None, IsSome, refl, sym, ap, ap₂, ◌∙◌, subst, append_assoc}
+use Rattle.std.proofs.Common.{◌≡◌, ℕ, zero, suc, ◌+◌, Bool, true, false, List, [], ◌∷◌, ◌++◌, length, reverse, Option, Some, None, IsSome, refl, sym, ap, ap₂, ◌∙◌, subst, append_assoc}
 use Rattle.std.proofs.lemmas.List.{append-nil, reverse-append}
 use Rattle.std.proofs.lemmas.Option.{same_Some}
-use Rattle.std.specs.Prelude.{slice_get}
+use Rattle.std.specs.Prelude.{slice_get, is_some}
+use Rattle.hs_base.specs.declared.ids.ClientId.{ClientId}
 use Rattle.hs_base.specs.declared.ids.TraceId.{TraceId}
 use Rattle.hs_base.specs.declared.ids.NodeId.{NodeId}
 use Rattle.hs_base.specs.declared.told.Crumb.{Crumb}
@@ -13,14 +14,15 @@ use Rattle.hs_records.specs.Plain as plain
 use Rattle.hs_records.specs.Records.{NumberedOperation, Piece, Segment, numbered_of, open_behind, pieces_until_end, record_pieces, segments_from, segments_of}
 use Rattle.hs_auto.specs.Firing as firing
 use Rattle.hs_auto.specs.Watching.{Watch, HasSampled}
-use Rattle.hs_client.specs.Core.{Core, Began, after_step}
-use Rattle.hs_client.specs.Calls.{May}
+use Rattle.hs_client.specs.Core.{Core, Current, Step, Began, after_step, new_core}
+use Rattle.hs_client.specs.Calls.{AreSteps, IsBook, May}
 use Rattle.hs_link.specs.Contents.{Outgoing, sent}
 use Rattle.hs_ring.specs.Parts.{Leased}
+use Rattle.hs_sent.specs.SoFar.{has_open_page}
 use Rattle.hs_sent.specs.Sending.{crumb_in, sample_in, samples_of, trigger_in}
 use Rattle.hs_live.specs.Keys.{Key}
 use Rattle.hs_live.specs.Live.{Live}
-use Rattle.hs_live.specs.Writing.{Made, with_all, IsWriting, WritesPieces, WritesEnd, coming, writing_of}
+use Rattle.hs_live.specs.Writing.{Made, Writing, with_all, IsWriting, WritesPieces, WritesEnd, coming, writing_of}
 use Rattle.hs_live.specs.Done.{HasDone}
 use Rattle.hs_sent.specs.OneMore.{open_after, next_behind, AreWatching, OneMoreOperation, OneMoreCrumb, OneMoreTrigger}
 use Rattle.std.specs.List.{AllByRecursion}
@@ -48,9 +50,19 @@ abbrev Writes : Made → List Operation → List Operation → Live → Type 0
 Writes made all rest client =
     IsWriting made (coming made.size client.core.number client.core.trace rest) (segments_from made.size client.core.number rest) (segments_of made.size all) (writing_of client)
 
+page_more : (page : Bool) (ops : List Operation) (op : Operation) → has_open_page page (ops ++ op ∷ []) ≡ has_open_page (has_open_page page ops) (op ∷ [])
+page_more page [] op = refl
+page_more page (Begin trace ∷ ops) op = page_more false ops op
+page_more page (Point moment payload ∷ ops) op = page_more true ops op
+page_more page (plain.Crumb node ∷ ops) op = page_more page ops op
+page_more page (End ∷ ops) op = page_more false ops op
+page_more page (Fire trigger ∷ ops) op = page_more page ops op
+page_more page (Sample moment auto value ∷ ops) op = page_more page ops op
+
 pub record DoesNow (made : Made) (ops : List Operation) (op : Operation) (old new : Live) : Type 0 where
   pub writes : (rest : List Operation) → Writes made (ops ++ op ∷ rest) rest new
   pub trace : new.core.trace ≡ open_behind old.core.trace op
+  pub page : is_some new.core.current ≡ has_open_page (is_some old.core.current) (op ∷ [])
   pub crumbs : sent new.crumbs ≡ sent old.crumbs ++ crumb_in old.core.trace op
   pub triggers : sent new.triggers ≡ sent old.triggers ++ trigger_in made.autos (reverse (numbered_of ops)) old.core.trace op
   pub autos : AreWatching made.autos (at ops old.core.trace op ∷ reverse (numbered_of ops)) new.autos
@@ -61,6 +73,7 @@ done_now laws made ops op old new h d =
     record {
       writes = λ rest. subst (λ (all : List Operation). Writes made all rest new) (sym (append_assoc ops (op ∷ []) rest)) (d.writes rest);
       trace = d.trace ∙ ap (λ (trace : Option TraceId). open_behind trace op) h.trace ∙ sym (open_more None ops op);
+      page = d.page ∙ ap (λ (page : Bool). has_open_page page (op ∷ [])) h.page ∙ sym (page_more false ops op);
       crumbs = d.crumbs ∙ ap₂ (λ (l : List Crumb) (trace : Option TraceId). l ++ crumb_in trace op) h.crumbs h.trace ∙ sym (laws.crumbs ops op);
       triggers = d.triggers ∙ ap₂ (λ (l : List Trigger) (trace : Option TraceId). l ++ trigger_in made.autos (reverse (numbered_of ops)) trace op) h.triggers h.trace ∙ sym (laws.triggers made.autos ops op);
       autos =
@@ -90,10 +103,22 @@ begin_no_sample trace auto (Some other) = refl
 begin_unseen : (trace : TraceId) → IsUnseen (Begin trace)
 begin_unseen trace = record { samples = begin_no_sample trace }
 
-pub begin_done : OneMore → (made : Made) (ops : List Operation) (trace : TraceId) (old new : Live) → May old.core (Began trace) → new ≡ record old { core = after_step old.core (Began trace) } → HasDone made ops old → HasDone made (ops ++ Begin trace ∷ []) new
-begin_done laws made ops trace old new may is h =
+-- what is known of the steps of a core
+abbrev pub Books : Type 0
+Books = (client : ClientId) (size calls : ℕ) (steps : List (Step Leased)) → AreSteps (new_core client size calls) steps → IsBook (new_core client size calls) steps
+
+-- where no trace is open, the core has no page
+no_page : Books → (made : Made) (pieces : List Piece) (later all : List Segment) (w : Writing) → IsWriting made pieces later all w → w.core.trace ≡ None → w.core.current ≡ None
+no_page books made pieces later all w is none =
+    let s = is.comes in
+    let book = books made.client made.size made.calls is.steps s.may in
+    ap (λ (c : Core Leased). c.current) s.core ∙ book.closed (sym book.trace ∙ ap (λ (c : Core Leased). c.trace) (sym s.core) ∙ none)
+
+pub begin_done : OneMore → Books → (made : Made) (ops : List Operation) (trace : TraceId) (old new : Live) → May old.core (Began trace) → new ≡ record old { core = after_step old.core (Began trace) } → HasDone made ops old → HasDone made (ops ++ Begin trace ∷ []) new
+begin_done laws books made ops trace old new may is h =
     let begun : Live = record old { core = after_step old.core (Began trace) } in
     let none : old.core.trace ≡ None = may.1 in
+    let bare : old.core.current ≡ None = no_page books made _ _ _ (writing_of old) (h.writes []) none in
     let now : DoesNow made ops (Begin trace) old begun =
     record {
       writes = λ rest.
@@ -104,6 +129,7 @@ begin_done laws made ops trace old new may is h =
           subst (λ (found : Option TraceId). IsWriting made (coming size number found (Begin trace ∷ rest)) (segments_from size number (Begin trace ∷ rest)) (segments_of size (ops ++ Begin trace ∷ rest)) (writing_of old)) none (h.writes (Begin trace ∷ rest)) in
           began_trace made (pieces_until_end size number rest) (segments_from size number rest) (segments_of size (ops ++ Begin trace ∷ rest)) (writing_of old) (writing_of begun) trace may refl refl refl first;
       trace = refl;
+      page = ap (λ (current : Option (Current Leased)). is_some current) bare;
       crumbs = sym (ap (λ (l : List Crumb). sent old.crumbs ++ l) (no_crumb old.core.trace) ∙ append-nil (sent old.crumbs));
       triggers = sym (ap (λ (l : List Trigger). sent old.triggers ++ l) (no_trigger old.core.trace) ∙ append-nil (sent old.triggers));
       autos = unseen made ops (Begin trace) old.core.trace old.autos (begin_unseen trace) h.autos;
@@ -118,14 +144,18 @@ begin_done laws made ops trace old new may is h =
     no_trigger None = refl
     no_trigger (Some other) = refl
 
-pub begins : OneMore → (trace : TraceId) (answer : Called) (old new : Live) → BeginsBy old.core answer → new ≡ record old { core = begun trace answer old.core } → Does (Begin trace) answer old new
-begins laws trace called.Done old new may is = λ made ops h. begin_done laws made ops trace old new may is h
-begins laws trace called.Spent old new may is = is
-begins laws trace called.AlreadyOpen old new may is = is
-begins laws trace called.NoTrace old new may is = is
-begins laws trace called.TooWide old new may is = is
+pub begins : OneMore → Books → (trace : TraceId) (answer : Called) (old new : Live) → BeginsBy old.core answer → new ≡ record old { core = begun trace answer old.core } → Does (Begin trace) answer old new
+begins laws books trace called.Done old new may is = λ made ops h. begin_done laws books made ops trace old new may is h
+begins laws books trace called.Spent old new may is = is
+begins laws books trace called.AlreadyOpen old new may is = is
+begins laws books trace called.NoTrace old new may is = is
+begins laws books trace called.TooWide old new may is = is
 
 -- ---- point
+
+pub is_some_true : {A : Type 0} (o : Option A) → IsSome o → is_some o ≡ true
+is_some_true None some = absurd cc
+is_some_true (Some x) some = refl
 
 pub some_trace : (trace : Option TraceId) → IsSome trace → (t : TraceId) × (trace ≡ Some t)
 some_trace None some = absurd cc
@@ -146,9 +176,9 @@ point_no_sample moment payload auto (Some other) = refl
 point_unseen : (moment : ℕ) (payload : List ℕ) → IsUnseen (Point moment payload)
 point_unseen moment payload = record { samples = point_no_sample moment payload }
 
-pub point_done : OneMore → (moment : ℕ) (payload : List ℕ) (old new : Live) → IsSome old.core.trace → new.core.trace ≡ old.core.trace → new.core.number ≡ old.core.number + 1
+pub point_done : OneMore → (moment : ℕ) (payload : List ℕ) (old new : Live) → IsSome old.core.trace → new.core.trace ≡ old.core.trace → new.core.number ≡ old.core.number + 1 → IsSome new.core.current
     → WritesPieces (record_pieces old.core.size old.core.number moment payload) (writing_of old) (writing_of new) → WritesOnly old new → Does (Point moment payload) called.Done old new
-point_done laws moment payload old new some trace number written only = λ made ops h.
+point_done laws moment payload old new some trace number page written only = λ made ops h.
     let size = made.size in
     let op : Operation = Point moment payload in
     let t = some_trace old.core.trace some in
@@ -167,6 +197,7 @@ point_done laws moment payload old new some trace number written only = λ made 
           subst (λ (n : ℕ). IsWriting made (pieces_until_end size n rest) (segments_from size n rest) all (writing_of new)) (sym number) now in
           subst (λ (found : Option TraceId). IsWriting made (coming size new.core.number found rest) (segments_from size new.core.number rest) all (writing_of new)) (sym (trace ∙ t.1)) numbered;
       trace = trace;
+      page = is_some_true new.core.current page;
       crumbs = ap (λ (s : Outgoing Crumb _). sent s) only.crumbs ∙ sym (ap (λ (l : List Crumb). sent old.crumbs ++ l) (no_crumb_of_point moment payload old.core.trace) ∙ append-nil (sent old.crumbs));
       triggers = ap (λ (s : Outgoing Trigger _). sent s) only.triggers ∙ sym (ap (λ (l : List Trigger). sent old.triggers ++ l) (no_trigger_of_point made.autos (reverse (numbered_of ops)) moment payload old.core.trace) ∙ append-nil (sent old.triggers));
       autos =
@@ -191,8 +222,8 @@ end_no_sample auto (Some other) = refl
 end_unseen : IsUnseen (End)
 end_unseen = record { samples = end_no_sample }
 
-pub end_done : OneMore → (old new : Live) → IsSome old.core.trace → new.core.trace ≡ None → new.core.number ≡ old.core.number → WritesEnd (writing_of old) (writing_of new) → WritesOnly old new → Does End called.Done old new
-end_done laws old new some trace number written only = λ made ops h.
+pub end_done : OneMore → (old new : Live) → IsSome old.core.trace → new.core.trace ≡ None → new.core.current ≡ None → new.core.number ≡ old.core.number → WritesEnd (writing_of old) (writing_of new) → WritesOnly old new → Does End called.Done old new
+end_done laws old new some trace page number written only = λ made ops h.
     let size = made.size in
     let t = some_trace old.core.trace some in
     done_now laws made ops End old new h
@@ -206,6 +237,7 @@ end_done laws old new some trace number written only = λ made ops h.
           let numbered : IsWriting made [] (segments_from size new.core.number rest) all (writing_of new) = subst (λ (n : ℕ). IsWriting made [] (segments_from size n rest) all (writing_of new)) (sym number) now in
           subst (λ (found : Option TraceId). IsWriting made (coming size new.core.number found rest) (segments_from size new.core.number rest) all (writing_of new)) (sym trace) numbered;
       trace = trace;
+      page = ap (λ (current : Option (Current Leased)). is_some current) page;
       crumbs = ap (λ (s : Outgoing Crumb _). sent s) only.crumbs ∙ sym (ap (λ (l : List Crumb). sent old.crumbs ++ l) (no_crumb_of_end old.core.trace) ∙ append-nil (sent old.crumbs));
       triggers = ap (λ (s : Outgoing Trigger _). sent s) only.triggers ∙ sym (ap (λ (l : List Trigger). sent old.triggers ++ l) (no_trigger_of_end made.autos (reverse (numbered_of ops)) old.core.trace) ∙ append-nil (sent old.triggers));
       autos =
@@ -213,13 +245,13 @@ end_done laws old new some trace number written only = λ made ops h.
           (unseen made ops End old.core.trace old.autos end_unseen h.autos);
     })
 
-pub ends : OneMore → (answer : Called) (old new : Live) → EndsBy old.core answer → ((answer ≡ called.Done → ⊥) → new ≡ old) → (answer ≡ called.Done → new.core.trace ≡ None) → new.core.number ≡ old.core.number
+pub ends : OneMore → (answer : Called) (old new : Live) → EndsBy old.core answer → ((answer ≡ called.Done → ⊥) → new ≡ old) → (answer ≡ called.Done → new.core.trace ≡ None) → (answer ≡ called.Done → new.core.current ≡ None) → new.core.number ≡ old.core.number
     → (answer ≡ called.Done → WritesEnd (writing_of old) (writing_of new)) → WritesOnly old new → Does End answer old new
-ends laws called.Done old new by refused trace number written only = end_done laws old new by.1 (trace refl) number (written refl) only
-ends laws called.Spent old new by refused trace number written only = refused (λ e. cc)
-ends laws called.AlreadyOpen old new by refused trace number written only = absurd by
-ends laws called.NoTrace old new by refused trace number written only = refused (λ e. cc)
-ends laws called.TooWide old new by refused trace number written only = absurd by
+ends laws called.Done old new by refused trace page number written only = end_done laws old new by.1 (trace refl) (page refl) number (written refl) only
+ends laws called.Spent old new by refused trace page number written only = refused (λ e. cc)
+ends laws called.AlreadyOpen old new by refused trace page number written only = absurd by
+ends laws called.NoTrace old new by refused trace page number written only = refused (λ e. cc)
+ends laws called.TooWide old new by refused trace page number written only = absurd by
 
 -- ---- crumb and trigger
 
@@ -248,6 +280,7 @@ crumb_done laws node trace old crumbs some sends = λ made ops h.
           subst (λ (pieces : List Piece). IsWriting made pieces (segments_from made.size old.core.number rest) (segments_of made.size (ops ++ op ∷ rest)) (writing_of old))
           (coming_crumb made.size old.core.number node old.core.trace rest) (h.writes (op ∷ rest));
       trace = refl;
+      page = refl;
       crumbs = sends ∙ ap (λ (found : Option TraceId). sent old.crumbs ++ crumb_in found op) (sym some);
       triggers = sym (ap (λ (l : List Trigger). sent old.triggers ++ l) (no_trigger_of_crumb made.autos (reverse (numbered_of ops)) node old.core.trace) ∙ append-nil (sent old.triggers));
       autos = unseen made ops op old.core.trace old.autos (crumb_unseen node) h.autos;
@@ -281,6 +314,7 @@ trigger_done laws trigger old triggers sends = λ made ops h.
           subst (λ (pieces : List Piece). IsWriting made pieces (segments_from made.size old.core.number rest) (segments_of made.size (ops ++ op ∷ rest)) (writing_of old))
           (coming_fire made.size old.core.number trigger old.core.trace rest) (h.writes (op ∷ rest));
       trace = refl;
+      page = refl;
       crumbs = sym (ap (λ (l : List Crumb). sent old.crumbs ++ l) (no_crumb_of_fire trigger old.core.trace) ∙ append-nil (sent old.crumbs));
       triggers = sends ∙ ap (λ (l : List Trigger). sent old.triggers ++ l) (trigger_of_fire made.autos (reverse (numbered_of ops)) trigger old.core.trace);
       autos = unseen made ops op old.core.trace old.autos (fire_unseen trigger) h.autos;
@@ -297,6 +331,7 @@ nothing_done old new core autos answers pool size chunks crumbs triggers = λ ma
           let kept = writing_kept made _ _ _ (writing_of old) (writing_of new) core answers pool size chunks (h.writes rest) in
           subst (λ (c : Core Leased). IsWriting made (coming made.size c.number c.trace rest) (segments_from made.size c.number rest) all (writing_of new)) (sym core) kept;
       trace = ap (λ (c : Core Leased). c.trace) core ∙ h.trace;
+      page = ap (λ (c : Core Leased). is_some c.current) core ∙ h.page;
       crumbs = crumbs ∙ h.crumbs;
       triggers = triggers ∙ h.triggers;
       autos = subst (λ (autos : List Watch). AreWatching made.autos (reverse (numbered_of ops)) autos) (sym autos) h.autos;
@@ -331,6 +366,7 @@ new_done client is =
                 subst (λ (c : Core Leased). reverse (with_all (coming size c.number c.trace rest) []) ++ segments_from size c.number rest ≡ segments_of size rest) (sym is.core) refl;
           };
       trace = ap (λ (c : Core Leased). c.trace) is.core;
+      page = ap (λ (c : Core Leased). is_some c.current) is.core;
       crumbs = is.crumbs.nothing;
       triggers = is.triggers.nothing;
       autos = record { rules_are = refl; each = λ auto watch found. all_at (λ (w : Watch). HasSampled w []) client.autos is.autos auto watch found };

@@ -83,7 +83,7 @@ of_met {T} giver giver' receivers receivers' number s s' pool size are h =
 
 -- ---- chunks are seen as buffers
 
-end_buffers : {g : _} (receivers : List (Incoming (Held Leased g) Key)) (number : ℕ) (r : Incoming (Held Leased g) Key) → IsEnd number receivers r → IsEnd number (map incoming receivers) (incoming r)
+pub end_buffers : {g : _} (receivers : List (Incoming (Held Leased g) Key)) (number : ℕ) (r : Incoming (Held Leased g) Key) → IsEnd number receivers r → IsEnd number (map incoming receivers) (incoming r)
 end_buffers receivers number r end = slice_get-map incoming receivers number ∙ ap (option_map incoming) end
 
 pub received_buffers : {g : _} (receivers receivers' : List (Incoming (Held Leased g) Key)) (number : ℕ) (item : Option (Held Leased g)) → ReceivesAt number receivers item receivers'

@@ -109,6 +109,7 @@ sample_done laws moment place value trigger lead old watch watch' answer autos t
           subst (λ (pieces : List Piece). IsWriting made pieces (segments_from made.size old.core.number rest) (segments_of made.size (ops ++ op ∷ rest)) (writing_of old))
           (coming_sample made.size old.core.number moment place value old.core.trace rest) (h.writes (op ∷ rest));
       trace = refl;
+      page = refl;
       crumbs = sym (ap (λ (l : List Crumb). sent old.crumbs ++ l) (no_crumb_of_sample moment place value old.core.trace) ∙ append-nil (sent old.crumbs));
       triggers = sends ∙ ap (λ (l : List Trigger). sent old.triggers ++ l) fired ∙ ap (λ (trace : Option TraceId). sent old.triggers ++ trigger_in made.autos earlier trace op) (sym open_is);
       autos =

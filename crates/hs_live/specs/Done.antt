@@ -1,6 +1,6 @@
 -- What a client has done since it was made, over the list of its operations so far, and what it sent: the crumbs and the
 -- triggers of these operations, and the chunks of all pages that it began, but the one that the next piece may still join.
-use Rattle.std.specs.Prelude.{◌≡◌, List, [], ◌∷◌, ◌++◌, map, reverse, Some, None}
+use Rattle.std.specs.Prelude.{◌≡◌, false, List, [], ◌∷◌, ◌++◌, map, reverse, Some, None, is_some}
 use Rattle.std.specs.Option.{option_to_list}
 use Rattle.hs_records.specs.Plain.{Operation}
 use Rattle.hs_records.specs.Records.{numbered_of, segments_from, segments_of}
@@ -14,6 +14,7 @@ use Rattle.hs_words.specs.Buffers.{Buffer}
 use Rattle.hs_ring.specs.Parts.{Leased}
 use Rattle.hs_sent.specs.Drawn.{drawn_pages}
 use Rattle.hs_sent.specs.OneMore.{open_after, items_of, AreWatching}
+use Rattle.hs_sent.specs.SoFar.{has_open_page}
 use Rattle.hs_sent.specs.Sending.{sent_chunks, sent_crumbs, sent_triggers}
 use Rattle.hs_live.specs.declared.called.Called.{Called}
 use Rattle.hs_live.specs.declared.called.Called.TheVariants as called
@@ -26,6 +27,8 @@ pub record HasDone (made : Made) (ops : List Operation) (client : Live) : Type 0
   pub writes : (rest : List Operation)
       → IsWriting made (coming made.size client.core.number client.core.trace rest) (segments_from made.size client.core.number rest) (segments_of made.size (ops ++ rest)) (writing_of client)
   pub trace : client.core.trace ≡ open_after None ops
+  -- the core has a page exactly where a trace is open that has a point
+  pub page : is_some client.core.current ≡ has_open_page false ops
   pub crumbs : sent client.crumbs ≡ items_of (sent_crumbs ops)
   pub triggers : sent client.triggers ≡ items_of (sent_triggers made.autos ops)
   pub autos : AreWatching made.autos (reverse (numbered_of ops)) client.autos

@@ -1,6 +1,7 @@
 -- How a client's pages come about: by steps of its core, whose draws are those that its drawer answered, and whose full
 -- chunks were sent. What its operations are to record follows from the operations alone, and the steps have recorded it.
 use Rattle.std.specs.Prelude.{◌≡◌, ℕ, ◌+◌, ◌≤◌, List, [], ◌∷◌, ◌++◌, length, reverse, Option, Some, None, IsSome, MatchOption, refl}
+use Rattle.std.specs.List.{AllByRecursion}
 use Rattle.hs_base.specs.declared.ids.TraceId.{TraceId}
 use Rattle.hs_base.specs.declared.ids.ClientId.{ClientId}
 use Rattle.hs_base.specs.declared.settings.AutoRule.{AutoRule}
@@ -110,13 +111,28 @@ coming size number (Some trace) operations = pieces_until_end size number operat
 
 -- ---- what a call takes
 
--- The drawer is the same, and has a floor that did not fall.
-pub record IsSameDrawer (old new : Drawing) : Type 0 where
+-- what a draw may be answered
+abbrev pub IsDraw : Event → Type 0
+IsDraw (Got buffer) = Unit {0}
+IsDraw Empty = Unit {0}
+IsDraw (Given buffer) = ⊥
+IsDraw Missed = ⊥
+
+abbrev pub IsDrawn : Answer → Type 0
+IsDrawn answer = IsDraw answer.event × (answer.draw ≡ 0)
+
+-- The drawer is the same, and has a floor that did not fall. Whatever it was answered since is the answer to a draw, and has a
+-- stamp that is not below the floor of before.
+pub record DrawsOn (old new : Drawing) : Type 0 where
   pub pool : new.pool ≡ old.pool
   pub buffers : new.buffers ≡ old.buffers
   pub size : new.size ≡ old.size
   pub number : new.number ≡ old.number
   pub floor : old.floor ≤ new.floor
+  pub added : List Answer
+  pub since : new.answers ≡ added ++ old.answers
+  pub above : AllByRecursion (λ (a : Answer). old.floor ≤ a.stamp) added
+  pub drawn : AllByRecursion IsDrawn added
 
 -- So many calls of the core were counted. As many draws at most were made, and as many chunks at most were sent.
 pub record Spends (calls : ℕ) (old new : Writing) : Type 0 where
@@ -124,7 +140,7 @@ pub record Spends (calls : ℕ) (old new : Writing) : Type 0 where
   pub size : new.core.size ≡ old.core.size
   pub calls_are : new.core.calls ≡ old.core.calls
   pub counted : new.core.counted ≡ old.core.counted + calls
-  pub drawer : IsSameDrawer old.drawer new.drawer
+  pub drawer : DrawsOn old.drawer new.drawer
   pub left : old.drawer.left ≤ new.drawer.left + calls
   pub chunks : GoesOn old.chunks new.chunks
   pub items : length (sent new.chunks) ≤ length (sent old.chunks) + calls

@@ -20,7 +20,7 @@ use crate::writer::Writer;
 use hs_auto::{Auto, Sampled};
 use hs_base::limits::MAX_PAYLOAD;
 use hs_base::{Crumb, List, NodeId, TraceId, Trigger, TriggerId};
-use hs_client::ClientCore;
+use hs_client::{ClientCore, any_steps_make_the_book};
 use hs_link::{Receiver, Sender};
 use hs_ring::{Drawer, Giver, Lease};
 use hs_sent::laws::one_operation_more;
@@ -76,6 +76,7 @@ impl Client {
         ensures after { self.new ≡ record self.old { core = begun trace result self.old.core } }
         ensures does { Does (Begin trace) result self.old self.new }
     {
+        any_steps_make_the_book::<Lease>();
         one_operation_more();
         self.writer.begin(trace)
     }

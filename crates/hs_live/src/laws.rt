@@ -1,10 +1,16 @@
 //! Laws of clients. Each is the contract of a function that does nothing.
 
 ghost use Rattle.std.specs.Prelude.{false, List};
+ghost use Rattle.hs_base.specs.declared.told.Crumb.{Crumb};
+ghost use Rattle.hs_base.specs.declared.told.Trigger.{Trigger};
+ghost use Rattle.hs_link.specs.Contents.{Outgoing};
 ghost use Rattle.hs_records.specs.Plain.{Operation};
 ghost use Rattle.hs_records.specs.Records.{AreBracketed};
-ghost use Rattle.hs_live.specs.Live.{Live};
-ghost use Rattle.hs_live.specs.Writing.{Made};
+ghost use Rattle.hs_ring.specs.Parts.{Drawing, Leased};
+ghost use Rattle.hs_words.specs.Buffers.{Buffer};
+ghost use Rattle.hs_live.specs.Keys.{Key};
+ghost use Rattle.hs_live.specs.Live.{Live, GoesOn};
+ghost use Rattle.hs_live.specs.Writing.{DrawsOn, Made};
 ghost use Rattle.hs_live.specs.Done.{HasDone, HasSent, HasSentAll};
 
 use hs_client::any_steps_make_the_book;
@@ -25,3 +31,11 @@ pub fn all_was_sent()
     what_was_done_was_sent();
     timed_pages_are_the_pages();
 }
+
+/// An end that went on, and then went on, went on.
+pub fn ends_go_on()
+    ensures chunks { (s t u : Outgoing (Buffer Leased) Key) → GoesOn s t → GoesOn t u → GoesOn s u }
+    ensures crumbs { (s t u : Outgoing Crumb Key) → GoesOn s t → GoesOn t u → GoesOn s u }
+    ensures triggers { (s t u : Outgoing Trigger Key) → GoesOn s t → GoesOn t u → GoesOn s u }
+    ensures drawer { (a b c : Drawing) → DrawsOn a b → DrawsOn b c → DrawsOn a c }
+{}

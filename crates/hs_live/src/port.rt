@@ -1,8 +1,9 @@
 //! The port of a node's agent.
 
-ghost use Rattle.std.specs.Prelude.{◌≡◌, ◌<◌, length, map, IfSome};
-ghost use Rattle.hs_words.specs.Buffers.{buffer_of, buffer_in};
-ghost use Rattle.hs_ring.specs.Parts.{Gives};
+ghost use Rattle.std.specs.Prelude.{◌≡◌, ◌<◌, ◌≤◌, length, map, IfSome};
+ghost use Rattle.hs_words.specs.Buffers.{Buffer, buffer_of, buffer_in};
+ghost use Rattle.hs_words.specs.Ends.{answers_in};
+ghost use Rattle.hs_ring.specs.Parts.{Leased, Gives};
 ghost use Rattle.hs_base.specs.declared.told.Crumb.{Crumb};
 ghost use Rattle.hs_base.specs.declared.told.Trigger.{Trigger};
 ghost use Rattle.hs_link.specs.Contents.{Incoming};
@@ -91,6 +92,7 @@ impl AgentPort {
         requires { client < length self.old.chunks }
         ensures received { ReceivesAt client self.old.chunks (buffer_in result) self.new.chunks }
         ensures fact { IfSome result (λ held. (key : Key) × IsOf self.old.giver client key × IsChunkOf key (buffer_of held)) }
+        ensures end { IfSome result (λ held. (r : Incoming (Buffer Leased) Key) × IsEnd client self.old.chunks r × IsChunkOf r.key (buffer_of held)) }
         ensures only { self.new ≡ record self.old { chunks = self.new.chunks } }
     {
         receive_at(&mut self.chunks, client)
@@ -121,6 +123,7 @@ impl AgentPort {
         requires pool { held.lease.pool ≡ self.old.giver.pool }
         requires size { held.chunk.size ≡ self.old.giver.size }
         ensures given { Gives self.old.giver held result self.new.giver }
+        ensures few { length (answers_in self.new.giver.turns) ≤ 4294967296 }
         ensures only { self.new ≡ record self.old { giver = self.new.giver } }
     {
         self.giver.give(held)

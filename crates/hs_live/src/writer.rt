@@ -71,6 +71,7 @@ impl Writer {
         ensures sound { IsSoundIn self.new }
         ensures trace { self.new.core.trace ≡ self.old.core.trace }
         ensures number { self.new.core.number ≡ self.old.core.number + 1 }
+        ensures page { IsSome self.new.core.current }
         ensures spends { Spends (piece_count self.old.core.size (length payload.now)) (writing_in self.old) (writing_in self.new) }
         ensures written { WritesPieces (record_pieces self.old.core.size self.old.core.number moment payload.now) (writing_in self.old) (writing_in self.new) }
     {
@@ -98,6 +99,7 @@ impl Writer {
         ensures sound { IsSoundIn self.new }
         ensures trace { self.new.core.trace ≡ self.old.core.trace }
         ensures number { self.new.core.number ≡ number_after more self.old.core.number }
+        ensures page { IsSome self.new.core.current }
         ensures spends { Spends 1 (writing_in self.old) (writing_in self.new) }
         ensures written { WritesPieces (record { number = self.old.core.number; moment = moment; payload = payload.now } ∷ []) (writing_in self.old) (writing_in self.new) }
     {
@@ -120,6 +122,7 @@ impl Writer {
         ensures answer { EndsBy self.old.core result }
         ensures refused { (result ≡ Done → ⊥) → self.new ≡ self.old }
         ensures trace { result ≡ Done → self.new.core.trace ≡ None }
+        ensures page { result ≡ Done → self.new.core.current ≡ None }
         ensures number { self.new.core.number ≡ self.old.core.number }
         ensures spends { Spends (counts 1 result) (writing_in self.old) (writing_in self.new) }
         ensures written { result ≡ Done → WritesEnd (writing_in self.old) (writing_in self.new) }

@@ -13,4 +13,4 @@ returns-clause-does c =
     let with : Writer → Live = λ w. live_of (record { writer = w; autos = s.autos; crumbs = s.crumbs; triggers = s.triggers }) in
     subst (λ (old : Live). Does (Begin c.args.trace) c.begin.result old (with c.begin.new.self)) c.self.view_is
     (begins (record { numbered = c.one_operation_more.ensures.numbered; crumbs = c.one_operation_more.ensures.crumbs; triggers = c.one_operation_more.ensures.triggers })
-    c.args.trace c.begin.result (live_of s) (with c.begin.new.self) c.begin.ensures.answer (ap with c.begin.ensures.after))
+    c.any_steps_make_the_book.ensures c.args.trace c.begin.result (live_of s) (with c.begin.new.self) c.begin.ensures.answer (ap with c.begin.ensures.after))

@@ -14,4 +14,4 @@ returns-clause-does c =
     let with : Writer → Live = λ w. live_of (record { writer = w; autos = s.autos; crumbs = s.crumbs; triggers = s.triggers }) in
     subst (λ (old : Live). Does End c.end.result old (with c.end.new.self)) c.self.view_is
     (ends (record { numbered = c.one_operation_more.ensures.numbered; crumbs = c.one_operation_more.ensures.crumbs; triggers = c.one_operation_more.ensures.triggers })
-    c.end.result (live_of s) (with c.end.new.self) e.answer (λ refused. ap with (e.refused refused)) e.trace e.number e.written (record { autos = refl; crumbs = refl; triggers = refl }))
+    c.end.result (live_of s) (with c.end.new.self) e.answer (λ refused. ap with (e.refused refused)) e.trace e.page e.number e.written (record { autos = refl; crumbs = refl; triggers = refl }))

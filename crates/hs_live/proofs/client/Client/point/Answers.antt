@@ -16,4 +16,4 @@ returns-clause-does c =
     let some : IsSome s.writer.core.trace = search rules in
     subst (λ (old : Live). Does (Point c.args.moment c.args.payload.now) Done old (with c.point.new.self)) c.self.view_is
     (point_done (record { numbered = c.one_operation_more.ensures.numbered; crumbs = c.one_operation_more.ensures.crumbs; triggers = c.one_operation_more.ensures.triggers })
-    c.args.moment c.args.payload.now (live_of s) (with c.point.new.self) some p.trace p.number p.written (record { autos = refl; crumbs = refl; triggers = refl }))
+    c.args.moment c.args.payload.now (live_of s) (with c.point.new.self) some p.trace p.number p.page p.written (record { autos = refl; crumbs = refl; triggers = refl }))

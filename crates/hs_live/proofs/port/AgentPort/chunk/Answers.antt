@@ -1,9 +1,9 @@
 use Rattle.std.proofs.Common.{map, sym, ◌∙◌, subst, arith}
 use Rattle.std.proofs.lemmas.Option.{IfSome_then}
 use Rattle.hs_words.specs.Buffers.{buffer_in}
-use Rattle.hs_live.specs.Live.{Port, incoming, ReceivesAt}
+use Rattle.hs_live.specs.Live.{Port, incoming, IsEnd, ReceivesAt}
 use Rattle.hs_live.specs.Calls.{IsOf}
-use Rattle.hs_live.proofs.Ports.{received_buffers, fact_of_buffers, of_received}
+use Rattle.hs_live.proofs.Ports.{received_buffers, end_buffers, fact_of_buffers, of_received}
 use Rattle.hs_live.proofs.port.AgentPort.chunk.Goals as goal
 
 pub invariant_of-self : goal.invariant_of-self
@@ -34,3 +34,9 @@ returns-clause-fact c =
     let s = c.self.inside in
     IfSome_then c.receive_at.result c.receive_at.ensures.fact
     (λ held fact. (fact.0.key, subst (λ (l : Port). IsOf l.giver c.args.client fact.0.key) c.self.view_is (fact_of_buffers s.giver s.chunks.items c.args.client fact.0 c.self.invariant.of_chunks fact.1), fact.2))
+
+pub returns-clause-end : goal.returns-clause-end
+returns-clause-end c =
+    let s = c.self.inside in
+    IfSome_then c.receive_at.result c.receive_at.ensures.fact
+    (λ held fact. (incoming fact.0, subst (λ (l : Port). IsEnd c.args.client l.chunks (incoming fact.0)) c.self.view_is (end_buffers s.chunks.items c.args.client fact.0 fact.1), fact.2))

@@ -7,6 +7,7 @@ use Rattle.hs_live.specs.Live.{outgoing}
 use Rattle.hs_live.specs.Inside.{writing_in}
 use Rattle.hs_live.specs.Writing.{Writing, IsWriting, IsSound}
 use Rattle.hs_words.specs.Buffers.{buffer_in}
+use Rattle.hs_live.proofs.Cuts.{spends_page}
 use Rattle.hs_live.proofs.Sound.{sound_supplied, one_at_most}
 use Rattle.hs_live.proofs.Steps.{piece_of, wrote, needed, drew}
 use Rattle.hs_live.proofs.writer.Writer.piece.Goals as goal
@@ -39,3 +40,10 @@ returns-in-NeedPage-clause-written c = λ made pieces later all is.
     let writing = needed made (piece_of old.core.number c.args.moment payload ∷ pieces) later all (writing_in old) middle (length payload) turned.may turned.after refl chunks is in
     drew made pieces later all middle _ c.draw-drawn.result c.args.moment payload c.args.more c.draw-drawn.ensures c.supply.ensures.may
     c.supply.ensures.after refl (subst (λ number. IsWriting made (piece_of number c.args.moment payload ∷ pieces) later all middle) (sym same) writing)
+
+pub returns-in-NeedPage-clause-spends : goal.returns-in-NeedPage-clause-spends
+returns-in-NeedPage-clause-spends c =
+    let step = supplied c.draw-drawn.result c.args.moment c.args.payload.now c.args.more in
+    let core_is = c.supply.ensures.after ∙ ap (λ core. after_step core step) c.in-NeedPage.ensures.after in
+    spends_page (writing_in c.args.self.now) c.supply.new.self c.draw-drawn.new.self (outgoing c.send_chunk.new.chunks) (buffer_in c.in-NeedPage.full) c.draw-drawn.result c.args.moment c.args.payload.now c.args.more
+    core_is c.draw-drawn.ensures c.send_chunk.ensures.goes c.send_chunk.ensures.sent
