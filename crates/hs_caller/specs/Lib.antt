@@ -1,0 +1,7 @@
+pub mod Calling
+pub mod Counting
+pub mod Performing
+pub mod Standing
+pub mod Making
+pub mod CallerInside
+pub mod Examples
