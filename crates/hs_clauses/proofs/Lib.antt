@@ -1,0 +1,4 @@
+pub mod Counts
+pub mod Filled
+pub mod Ranges
+pub mod Valid

@@ -1,0 +1,27 @@
+//! Counts over the logs of a journal.
+
+ghost use Rattle.std.specs.Prelude.{◌≡◌, count_by};
+ghost use Rattle.hs_journal.specs.Views.{journal_of};
+ghost use Rattle.hs_lawful.specs.Following.{log_at};
+ghost use Rattle.hs_lawful.specs.Passes.{is_turn};
+
+use hs_journal::{Journal, Step};
+
+/// The steps of a node's agent, none where the journal has no such node.
+pub(crate) fn log_of(journal: &Journal, node: usize) -> &[Step]
+    ensures { result.now ≡ log_at (journal_of journal.now) node }
+{
+    match journal.logs.get(node) {
+        Some(log) => log.as_slice(),
+        None => &[],
+    }
+}
+
+/// How many turns these steps have.
+pub(crate) fn count_turns(log: &[Step]) -> usize
+    ensures { result ≡ count_by is_turn log.now }
+{
+    log.iter()
+        .filter(|step| matches!(**step, Step::Turn))
+        .count()
+}

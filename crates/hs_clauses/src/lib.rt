@@ -1,0 +1,13 @@
+//! Deciding the clauses of the lawful journal, each by one pass over what it speaks of (`docs/RULES.md`, "The lawful
+//! journal").
+#![tactic(auto)]
+
+mod counting;
+mod found;
+mod pages;
+mod rounds;
+mod shape;
+
+pub use found::{Found, FoundClient, FoundNode, FoundPage};
+pub use rounds::has_rounds;
+pub use shape::has_shape;
