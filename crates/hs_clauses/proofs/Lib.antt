@@ -1,4 +1,5 @@
 pub mod Counts
 pub mod Filled
+pub mod Numbered
 pub mod Ranges
 pub mod Valid

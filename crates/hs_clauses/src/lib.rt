@@ -5,9 +5,12 @@
 mod counting;
 mod found;
 mod pages;
+mod rising;
 mod rounds;
 mod shape;
+mod stamps;
 
 pub use found::{Found, FoundClient, FoundNode, FoundPage};
 pub use rounds::has_rounds;
 pub use shape::has_shape;
+pub use stamps::has_stamps;
