@@ -1,12 +1,12 @@
 -- A command over a valid workload ends well, where neither the source nor the sink failed.
-use Rattle.std.proofs.Common.{◌≡◌, ℕ, ◌≤◌, List, ◌++◌, length, Option, Some, None, ◌⊎◌, inl, inr, refl, sym, ap, subst, ◌∙◌, arith, append-nil, length-append, true≢false}
+use Rattle.std.proofs.Common.{◌≡◌, ℕ, ◌≤◌, List, ◌++◌, length, Option, Some, None, ◌⊎◌, inl, inr, refl, sym, ap, subst, ◌∙◌, arith, append-nil, length-append}
 use Rattle.hs_base.specs.Outside.{Rose}
 use Rattle.hs_base.specs.declared.limits.TheConstants.{MAX_INPUT}
 use Rattle.hs_records.specs.Plain.{PlainWorkload}
 use Rattle.hs_workload.specs.Validity.{Reads}
 use Rattle.hs_cli.specs.Commands.{command_in}
 use Rattle.hs_cli.specs.Input.{ReadWhole, ReadBeyond}
-use Rattle.hs_cli.specs.Endings.{IsAbout, WillBeAbout, IsRefused, Owes, Ends}
+use Rattle.hs_cli.specs.Endings.{WillBeAbout, IsRefused, Owes, Ends}
 use Rattle.hs_cli.specs.declared.command.Command.{Command}
 use Rattle.hs_cli.specs.declared.command.Command.TheVariants.{Replay, Convert, Make, Drill}
 use Rattle.hs_cli.specs.declared.status.Status.{Status}

@@ -1,5 +1,5 @@
 -- The books of the nodes, one node after another.
-use Rattle.std.proofs.Common.{◌≡◌, ℕ, zero, suc, ◌+◌, ◌*◌, ◌/◌, ◌%◌, ◌<◌, ◌≤◌, Bool, true, false, ◌&&◌, List, [], ◌∷◌, ◌++◌, length, map, take, Option, Some, None, refl, sym, ap, subst, ◌∙◌, arith, slice_get, append_assoc, length-append, get_or, mul-le-mul_right}
+use Rattle.std.proofs.Common.{◌≡◌, ℕ, zero, suc, ◌+◌, ◌*◌, ◌/◌, ◌<◌, ◌≤◌, Bool, true, false, ◌&&◌, List, [], ◌∷◌, ◌++◌, length, map, take, Some, None, refl, sym, ap, subst, ◌∙◌, arith, slice_get, get_or, mul-le-mul_right}
 use Rattle.std.proofs.lemmas.Nat.{div-mul-add}
 use Rattle.std.proofs.Math.Nat.{mul-add-mod_self_right, mod-eq_of_lt}
 use Rattle.std.proofs.lemmas.Bool.{eqb-true}
@@ -15,18 +15,17 @@ use Rattle.hs_journal.specs.Books.{PlainAgentBook, PlainClientBook, agent_book_o
 use Rattle.hs_journal.specs.Views.{PlainJournal}
 use Rattle.hs_journal.specs.declared.books.AgentBook.{AgentBook}
 use Rattle.hs_journal.specs.declared.books.ClientBook.{ClientBook}
-use Rattle.hs_lawful.specs.Ends.{is_bare, is_left_bare}
+use Rattle.hs_lawful.specs.Ends.{is_left_bare}
 use Rattle.hs_lawful.specs.Following.{NodeRun, Run, followed}
-use Rattle.hs_lawful.specs.Played.{played}
 use Rattle.hs_lockstep.specs.Lockstep.{Machine, lockstep}
-use Rattle.hs_lockstep.specs.Parts.{node_at, heard_in}
+use Rattle.hs_lockstep.specs.Parts.{heard_in}
 use Rattle.hs_lockstep.specs.Reaching.{MachinesAreWhole}
 use Rattle.hs_model.specs.Books.{book_of}
 use Rattle.hs_outcome.specs.Outcomes.{client_at, client_book, client_books, agent_books}
 use Rattle.hs_records.specs.Pages.{pages_of}
 use Rattle.hs_records.specs.Plain.{PlainWorkload}
 use Rattle.hs_sent.specs.Sending.{draws_at, operations_at, place_of}
-use Rattle.hs_nodes.specs.All.{AllAt, AllClosed}
+use Rattle.hs_nodes.specs.All.{AllClosed}
 use Rattle.hs_nodes.specs.Finishing.{HasEnded, IsBookAt, client_noted}
 use Rattle.hs_nodes.specs.Parts.{Parts}
 

@@ -6,3 +6,4 @@ pub mod Journals
 pub mod Sources
 pub mod Json
 pub mod Fitting
+pub mod Examples

@@ -1,4 +1,4 @@
-use Rattle.std.proofs.Common.{◌≡◌, ◌∙◌, List, ℕ, Some, None, inl, inr, refl, sym, ap, subst}
+use Rattle.std.proofs.Common.{List, ℕ, refl, sym, subst}
 use Rattle.hs_workload.specs.Views.{workload_of}
 use Rattle.hs_cli.specs.Endings.{IsRefused, Due}
 use Rattle.hs_cli.specs.Messages.{too_long_text}

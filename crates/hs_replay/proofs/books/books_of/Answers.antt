@@ -1,13 +1,11 @@
-use Rattle.std.proofs.Common.{◌≡◌, ◌∙◌, ℕ, suc, ◌+◌, ◌*◌, [], ◌∷◌, ◌++◌, List, length, map, take, sym, ap, subst, arith, length-append, refl}
+use Rattle.std.proofs.Common.{◌≡◌, ◌∙◌, suc, ◌*◌, [], ◌∷◌, ◌++◌, length, map, take, sym, ap, arith, length-append}
 use Rattle.std.proofs.lemmas.Iterator.Adapters.{YieldsList-from_vec}
 use Rattle.std.proofs.lemmas.Iterator.Consumers.{YieldsList-turn, YieldsList-end}
 use Rattle.std.specs.List.{range_with_len}
 use Rattle.hs_journal.specs.Books.{agent_book_of, client_book_of}
-use Rattle.hs_journal.specs.declared.books.AgentBook.{AgentBook}
 use Rattle.hs_lawful.specs.Following.{NodeRun, followed}
 use Rattle.hs_model.specs.Books.{book_of}
 use Rattle.hs_outcome.specs.Outcomes.{client_book}
-use Rattle.hs_nodes.specs.Finishing.{IsBookAt}
 use Rattle.hs_replay.proofs.Booked.{item_there, has_ended, clients_more, agents_more, all_clients, all_agents}
 use Rattle.hs_replay.proofs.books.books_of.Goals as goal
 

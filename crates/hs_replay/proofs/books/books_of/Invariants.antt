@@ -1,4 +1,4 @@
-use Rattle.std.proofs.Common.{◌≡◌, ℕ, ◌*◌, length, map, take}
+use Rattle.std.proofs.Common.{◌≡◌, ◌*◌, length, map, take}
 use Rattle.std.specs.List.{range_with_len}
 use Rattle.hs_coord.specs.Kept.{Kept}
 use Rattle.hs_journal.specs.Books.{agent_book_of, client_book_of}

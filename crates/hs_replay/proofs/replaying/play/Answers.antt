@@ -1,4 +1,4 @@
-use Rattle.std.proofs.Common.{◌≡◌, ◌∙◌, ◌++◌, List, refl, ap}
+use Rattle.std.proofs.Common.{◌∙◌, ◌++◌, List, refl, ap}
 use Rattle.hs_base.specs.declared.ids.NodeId.{NodeId}
 use Rattle.hs_workload.specs.Views.{workload_of}
 use Rattle.hs_replay.proofs.Booked.{told_is}

@@ -1,0 +1,100 @@
+-- A small outcome: one client, whose trigger comes before the one record of its trace, so that the record is reported.
+use Rattle.std.specs.Prelude.{◌≡◌, zero, suc, List, [], ◌∷◌, All, codes, length, map, refl}
+use Rattle.std.proofs.Common.{arith}
+use Rattle.std.specs.Fmt.{digits}
+use Rattle.std.specs.List.{Any}
+use Rattle.hs_base.specs.Listing.{Listing}
+use Rattle.hs_base.specs.declared.ids.RecordId.{RecordId}
+use Rattle.hs_base.specs.declared.ids.TraceId.{TraceId}
+use Rattle.hs_base.specs.declared.told.Fate.TheVariants.{Reported}
+use Rattle.hs_collect.specs.Collected.{Placed, AreWholes, IsWhole, pieces_of}
+use Rattle.hs_journal.specs.declared.journal.Draw.TheVariants.{Got}
+use Rattle.hs_journal.specs.Grammar.{journal_lines}
+use Rattle.hs_lawful.specs.Journals.{of_trigger_first, of_short_of_pins}
+use Rattle.hs_lawful.specs.Samples.{chunk, trigger, turn, given}
+use Rattle.hs_lawful.specs.Workloads.{trigger_first, short_of_pins}
+use Rattle.hs_outcome.specs.Outcomes.{outcome_of}
+use Rattle.hs_outcome.specs.Records.{all_records}
+use Rattle.hs_words.specs.Pages.{Sheet}
+use Rattle.hs_report.specs.declared.outcome.Outcome.{Outcome}
+use Rattle.hs_report.specs.Outcomes.{IsOutcome}
+
+abbrev listing : {A : Type 0} → List A → Listing A
+listing items = record { items = items; room = length items }
+
+abbrev the_trace : TraceId
+the_trace = record { 0 = 1 }
+
+abbrev the_record : RecordId
+the_record = record { client = record { node = 0; number = 0 }; number = 0 }
+
+abbrev the_sheet : Sheet
+the_sheet =
+    record {
+      header = record { trace = the_trace; client = record { node = 0; number = 0 }; page = 0; first = 0 };
+      pieces = record { moment = 2; payload = 0xaa ∷ [] } ∷ [];
+    }
+
+abbrev the_whole : Placed
+the_whole = record { id = the_record; moment = 2; payload = 0xaa ∷ [] }
+
+abbrev of_one_report : Outcome
+of_one_report =
+    record {
+      version = 1;
+      journal = record {
+        nodes = 1;
+        clients = 1;
+        draws = listing (listing (Got 0 0 ∷ []) ∷ []);
+        logs = listing (listing (trigger ∷ turn ∷ turn ∷ turn ∷ chunk ∷ turn ∷ given 1 ∷ []) ∷ []);
+        told = listing (record { 0 = 0 } ∷ []);
+      };
+      ledger = record {
+        entries = listing (record { id = the_record; trace = the_trace; fate = Reported (record { 0 = 1 }) the_trace } ∷ []);
+        totals = record { records = 1; live = 0; reported = 1; null = 0; evicted = 0; abandoned = 0 };
+      };
+      claimed = listing (the_trace ∷ []);
+      collector = (the_trace, the_whole ∷ []) ∷ [];
+    }
+
+-- what holds of the first of one holds of all
+of_one : {A : Type 0} (P : A → Type 0) (x : A) → P x → All P (x ∷ [])
+of_one P x p zero d h = p
+of_one P x p (suc k) d h = absurd (omega arith)
+
+the_records : AreWholes (pieces_of the_trace (the_sheet ∷ [])) (the_whole ∷ [])
+the_records =
+    record {
+      ordered = λ i j d before within. absurd (omega arith);
+      each = of_one (IsWhole (pieces_of the_trace (the_sheet ∷ []))) the_whole (record { moment = refl; payload = refl });
+      all = of_one (λ (piece : Placed). Any (λ (whole : Placed). whole.id ≡ piece.id) (the_whole ∷ [])) the_whole (0, the_whole, omega arith, refl, refl);
+    }
+
+one_report : IsOutcome trigger_first of_trigger_first of_one_report
+one_report =
+    record {
+      version = refl;
+      journal = refl;
+      entries = refl;
+      totals = refl;
+      claimed = refl;
+      sheets = the_sheet ∷ [];
+      order = record { kept = λ client trace. refl; ordered = λ k d least within. absurd (omega arith) };
+      collected = record { seen = refl; each = of_one (λ (entry : TraceId × List Placed). AreWholes (pieces_of entry.0 (the_sheet ∷ [])) entry.1) (the_trace, the_whole ∷ []) the_records };
+    }
+
+-- the text that stands before its report
+text_of_the_journal : journal_lines of_trigger_first
+    ≡ codes "journal 1 1 1" ∷ codes "draws 0 0" ∷ codes "got 0 0" ∷ codes "log 0" ∷ codes "trigger 0" ∷ codes "turn" ∷ codes "turn" ∷ codes "turn" ∷ codes "chunk 0"
+    ∷ codes "turn" ∷ codes "given 1" ∷ codes "coordinator" ∷ codes "told 0" ∷ codes "end" ∷ []
+unfolding digits
+text_of_the_journal = refl
+
+-- ---- what there is room for
+
+records_counted : (length (all_records trigger_first) ≡ 1) × (length (all_records short_of_pins) ≡ 6)
+records_counted = (refl, refl)
+
+-- each of two nodes reported two pages, the one behind the other
+pages_counted : map (λ (sheet : Sheet). sheet.header.client.node) (outcome_of short_of_pins of_short_of_pins).reported ≡ 0 ∷ 0 ∷ 1 ∷ 1 ∷ []
+pages_counted = refl
