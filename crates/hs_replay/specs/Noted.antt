@@ -1,7 +1,12 @@
 -- The books that a replay leaves are those of the schedule's journal.
-use Rattle.std.specs.Prelude.{◌≡◌, map}
+use Rattle.std.specs.Prelude.{◌≡◌, List, [], ◌∷◌, length, map, refl}
+use Rattle.hs_base.specs.Listing.{Listing}
+use Rattle.hs_base.specs.declared.told.Fate.TheVariants.{Live}
+use Rattle.hs_journal.specs.declared.journal.Draw.TheVariants.{Got}
 use Rattle.hs_journal.specs.Books.{agent_book_of, client_book_of}
 use Rattle.hs_lawful.specs.Following.{followed}
+use Rattle.hs_lawful.specs.Samples.{chunk, turn}
+use Rattle.hs_lawful.specs.Workloads.{one_point}
 use Rattle.hs_lockstep.specs.Lockstep.{lockstep}
 use Rattle.hs_outcome.specs.Outcomes.{client_books, agent_books}
 use Rattle.hs_records.specs.Plain.{PlainWorkload}
@@ -10,3 +15,29 @@ use Rattle.hs_replay.specs.declared.books.Noted.{Noted}
 pub record AreNoted (W : PlainWorkload) (noted : Noted) : Type 0 where
   pub clients_are : map client_book_of noted.clients.items ≡ client_books W (lockstep W)
   pub agents_are : map agent_book_of noted.agents.items ≡ agent_books (followed W (lockstep W))
+
+-- ---- worked example
+
+abbrev listing : {A : Type 0} → List A → Listing A
+listing items = record { items = items; room = length items }
+
+-- the one client drew once and has a page with the record of a trace, and the one agent took its chunk, which lives
+abbrev of_one_point : Noted
+of_one_point =
+    record {
+      clients = listing (record {
+        client = record { node = 0; number = 0 };
+        draws = listing (Got 0 0 ∷ []);
+        pages = listing (record { trace = record { 0 = 1 }; first = 0; count = 1 } ∷ []);
+      } ∷ []);
+      agents = listing (record {
+        node = record { 0 = 0 };
+        log = listing (chunk ∷ turn ∷ []);
+        standings = listing (record { client = record { node = 0; number = 0 }; page = 0; fate = Live } ∷ []);
+        claims = listing [];
+        sent = listing [];
+      } ∷ []);
+    }
+
+one_point_noted : AreNoted one_point of_one_point
+one_point_noted = record { clients_are = refl; agents_are = refl }
