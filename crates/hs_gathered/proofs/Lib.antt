@@ -1,0 +1,14 @@
+pub mod Lists
+pub mod Turns
+pub mod PoolOf
+pub mod Rounds
+pub mod History
+pub mod Pooled
+pub mod Meeting
+pub mod Places
+pub mod Unread
+pub mod Grown
+pub mod Queues
+pub mod Workloads
+pub mod Doing
+pub mod Lawful
