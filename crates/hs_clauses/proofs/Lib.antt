@@ -2,4 +2,9 @@ pub mod Counts
 pub mod Filled
 pub mod Numbered
 pub mod Ranges
+pub mod Sorting
 pub mod Valid
+pub mod Queues
+pub mod PassFronts
+pub mod Whole
+pub mod Walked

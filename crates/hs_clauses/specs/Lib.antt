@@ -2,3 +2,4 @@ pub mod Filling
 pub mod Finding
 pub mod Rounds
 pub mod Rising
+pub mod Walking

@@ -5,12 +5,14 @@
 mod counting;
 mod found;
 mod pages;
+mod passes;
 mod rising;
 mod rounds;
 mod shape;
 mod stamps;
 
 pub use found::{Found, FoundClient, FoundNode, FoundPage};
+pub use passes::has_passes;
 pub use rounds::has_rounds;
 pub use shape::has_shape;
 pub use stamps::has_stamps;

@@ -1,0 +1,144 @@
+-- Items put in order by a number: all of the first number, all of the next, and so on. A list that is in order stays as it is.
+use Rattle.std.proofs.Common.{◌≡◌, ℕ, zero, suc, ◌+◌, ◌<◌, ◌≤◌, Bool, true, false, cond, eqb, List, [], ◌∷◌, ◌++◌, refl, sym, ap, ◌∙◌, subst, inl, inr, arith}
+use Rattle.std.specs.Prelude.{filter}
+use Rattle.std.proofs.lemmas.List.{append-nil}
+use Rattle.std.specs.List.{AllByRecursion, range_with_len, flat_map}
+use Rattle.std.proofs.lemmas.Bool.{eqb-true, eq-eqb, ne_eqb, cases_eq, cases_Bool}
+
+-- ---- facts of all items
+
+module _ {A : Type 0} where
+  pub All-weaker : (P Q : A → Type 0) (xs : List A) → ((x : A) → P x → Q x) → AllByRecursion P xs → AllByRecursion Q xs
+  All-weaker P Q [] h all = tt
+  All-weaker P Q (x ∷ xs) h all = (h x all.0, All-weaker P Q xs h all.1)
+
+  pub All-append : (P : A → Type 0) (xs ys : List A) → AllByRecursion P xs → AllByRecursion P ys → AllByRecursion P (xs ++ ys)
+  All-append P [] ys a b = b
+  All-append P (x ∷ xs) ys a b = (a.0, All-append P xs ys a.1 b)
+
+  pub All-front : (P : A → Type 0) (xs ys : List A) → AllByRecursion P (xs ++ ys) → AllByRecursion P xs
+  All-front P [] ys all = tt
+  All-front P (x ∷ xs) ys all = (all.0, All-front P xs ys all.1)
+
+  pub All-back : (P : A → Type 0) (xs ys : List A) → AllByRecursion P (xs ++ ys) → AllByRecursion P ys
+  All-back P [] ys all = all
+  All-back P (x ∷ xs) ys all = All-back P xs ys all.1
+
+  pub filter-append : (p : A → Bool) (xs ys : List A) → filter p (xs ++ ys) ≡ filter p xs ++ filter p ys
+  filter-append p [] ys = refl
+  filter-append p (x ∷ xs) ys = at (p x) (filter-append p xs ys)
+    where
+      at : (b : Bool) → filter p (xs ++ ys) ≡ filter p xs ++ filter p ys → cond b (x ∷ filter p (xs ++ ys)) (filter p (xs ++ ys)) ≡ cond b (x ∷ filter p xs) (filter p xs) ++ filter p ys
+      at true e = ap (λ (l : List A). x ∷ l) e
+      at false e = e
+
+  pub filter_none : (p : A → Bool) (xs : List A) → AllByRecursion (λ x. p x ≡ false) xs → filter p xs ≡ []
+  filter_none p [] all = refl
+  filter_none p (x ∷ xs) all = ap (λ b. cond b (x ∷ filter p xs) (filter p xs)) all.0 ∙ filter_none p xs all.1
+
+  pub filter_whole : (p : A → Bool) (xs : List A) → AllByRecursion (λ x. p x ≡ true) xs → filter p xs ≡ xs
+  filter_whole p [] all = refl
+  filter_whole p (x ∷ xs) all = ap (λ b. cond b (x ∷ filter p xs) (filter p xs)) all.0 ∙ ap (λ (l : List A). x ∷ l) (filter_whole p xs all.1)
+
+  pub filter_same : (p q : A → Bool) → ((x : A) → p x ≡ q x) → (xs : List A) → filter p xs ≡ filter q xs
+  filter_same p q same [] = refl
+  filter_same p q same (x ∷ xs) = ap (λ b. cond b (x ∷ filter p xs) (filter p xs)) (same x) ∙ ap (λ (l : List A). cond (q x) (x ∷ l) l) (filter_same p q same xs)
+
+-- ---- in order
+
+module _ {A : Type 0} (key : A → ℕ) where
+  -- those with one number, and those with the numbers of a range
+  abbrev pub bucket : ℕ → List A → List A
+  bucket s xs = filter (λ x. eqb (key x) s) xs
+
+  abbrev pub buckets : ℕ → ℕ → List A → List A
+  buckets a m xs = flat_map (λ s. filter (λ x. eqb (key x) s) xs) (range_with_len a m)
+
+  abbrev pub Sorted : List A → Type 0
+  Sorted [] = Unit {0}
+  Sorted (x ∷ xs) = AllByRecursion (λ y. key x ≤ key y) xs × Sorted xs
+
+  pub Sorted-append : (b : ℕ) (xs ys : List A) → Sorted xs → AllByRecursion (λ x. key x ≤ b) xs → Sorted ys → AllByRecursion (λ y. b ≤ key y) ys → Sorted (xs ++ ys)
+  Sorted-append b [] ys sx low sy high = sy
+  Sorted-append b (x ∷ xs) ys sx low sy high =
+      let first = low.0 in
+      (All-append (λ y. key x ≤ key y) xs ys sx.0 (All-weaker (λ y. b ≤ key y) (λ y. key x ≤ key y) ys (λ y h. omega (arith, h, first)) high), Sorted-append b xs ys sx.1 low.1 sy high)
+
+  -- what stands before an item has no greater number
+  pub before_is_low : (xs : List A) (y : A) (ys : List A) → Sorted (xs ++ y ∷ ys) → AllByRecursion (λ x. key x ≤ key y) xs
+  before_is_low [] y ys s = tt
+  before_is_low (x ∷ xs) y ys s = ((All-back (λ z. key x ≤ key z) xs (y ∷ ys) s.0).0, before_is_low xs y ys s.1)
+
+  -- ---- buckets of what is in order
+
+  nil_buckets : (a m : ℕ) → buckets a m [] ≡ []
+  nil_buckets a zero = refl
+  nil_buckets a (suc m) = nil_buckets (a + 1) m
+
+  not_in : (s : ℕ) (x : A) (xs : List A) → (key x ≡ s → ⊥) → bucket s (x ∷ xs) ≡ bucket s xs
+  not_in s x xs other = ap (λ b. cond b (x ∷ bucket s xs) (bucket s xs)) (ne_eqb (key x) s other)
+
+  past : (a m : ℕ) (x : A) (ys : List A) → key x < a → buckets a m (x ∷ ys) ≡ buckets a m ys
+  past a zero x ys low = refl
+  past a (suc m) x ys low =
+      ap (λ (l : List A). l ++ buckets (a + 1) m (x ∷ ys)) (not_in a x ys (λ e. omega (arith, e))) ∙ ap (λ (l : List A). bucket a ys ++ l) (past (a + 1) m x ys (omega arith))
+
+  none_here : (a : ℕ) (xs : List A) → AllByRecursion (λ y. a < key y) xs → bucket a xs ≡ []
+  none_here a xs all = filter_none (λ x. eqb (key x) a) xs (All-weaker (λ y. a < key y) (λ y. eqb (key y) a ≡ false) xs (λ y h. ne_eqb (key y) a (λ e. omega (arith, e, h))) all)
+
+  first_stays : (a m : ℕ) (x : A) (ys : List A) → a ≤ key x → key x < a + m → AllByRecursion (λ y. key x ≤ key y) ys → buckets a m (x ∷ ys) ≡ x ∷ buckets a m ys
+  first_stays a zero x ys low high all = absurd (omega arith)
+  first_stays a (suc m) x ys low high all =
+      elim (cases_eq (key x) a) [
+        | inl here ↦
+            ap (λ b. cond b (x ∷ bucket a ys) (bucket a ys) ++ buckets (a + 1) m (x ∷ ys)) (eq-eqb (key x) a here)
+            ∙ ap (λ (l : List A). x ∷ (bucket a ys ++ l)) (past (a + 1) m x ys (omega (arith, here)))
+        | inr other ↦
+            (let none = none_here a ys (All-weaker (λ y. key x ≤ key y) (λ y. a < key y) ys (λ y h. omega (arith, h, other)) all) in
+            ap (λ (l : List A). l ++ buckets (a + 1) m (x ∷ ys)) (not_in a x ys other ∙ none)
+            ∙ first_stays (a + 1) m x ys (omega (arith, other)) (omega arith) all
+            ∙ sym (ap (λ (l : List A). x ∷ (l ++ buckets (a + 1) m ys)) none))
+      ]
+
+  -- what is in order stays as it is
+  pub sorted_stays : (n : ℕ) (xs : List A) → Sorted xs → AllByRecursion (λ x. key x < n) xs → buckets 0 n xs ≡ xs
+  sorted_stays n [] s low = nil_buckets 0 n
+  sorted_stays n (x ∷ xs) s low = let first = low.0 in first_stays 0 n x xs (omega arith) (omega (arith, first)) s.0 ∙ ap (λ (l : List A). x ∷ l) (sorted_stays n xs s.1 low.1)
+
+  -- what has no number of the range adds nothing
+  pub others_add_none : (a m : ℕ) (xs ys : List A) → AllByRecursion (λ y. a + m ≤ key y) ys → buckets a m (xs ++ ys) ≡ buckets a m xs
+  others_add_none a zero xs ys high = refl
+  others_add_none a (suc m) xs ys high =
+      let none = filter_none (λ x. eqb (key x) a) ys (All-weaker (λ y. a + suc m ≤ key y) (λ y. eqb (key y) a ≡ false) ys (λ y h. ne_eqb (key y) a (λ e. omega (arith, e, h))) high) in
+      ap (λ (l : List A). l ++ buckets (a + 1) m (xs ++ ys)) (filter-append (λ x. eqb (key x) a) xs ys ∙ ap (λ (l : List A). bucket a xs ++ l) none ∙ append-nil (bucket a xs))
+      ∙ ap (λ (l : List A). bucket a xs ++ l) (others_add_none (a + 1) m xs ys (All-weaker (λ y. a + suc m ≤ key y) (λ y. (a + 1) + m ≤ key y) ys (λ y h. omega (arith, h)) high))
+
+  -- ---- what is put in order is in order
+
+  all_here : (a : ℕ) (xs : List A) → AllByRecursion (λ x. key x ≡ a) (bucket a xs)
+  all_here a [] = tt
+  all_here a (x ∷ xs) =
+      elim (cases_Bool (eqb (key x) a)) [
+        | inl here ↦ subst (λ b. AllByRecursion (λ y. key y ≡ a) (cond b (x ∷ bucket a xs) (bucket a xs))) (sym here) (eqb-true (key x) a here, all_here a xs)
+        | inr other ↦ subst (λ b. AllByRecursion (λ y. key y ≡ a) (cond b (x ∷ bucket a xs) (bucket a xs))) (sym other) (all_here a xs)
+      ]
+
+  pub same_sorted : (a : ℕ) (xs : List A) → AllByRecursion (λ x. key x ≡ a) xs → Sorted xs
+  same_sorted a [] all = tt
+  same_sorted a (x ∷ xs) all = let first = all.0 in (All-weaker (λ y. key y ≡ a) (λ y. key x ≤ key y) xs (λ y h. omega (arith, h, first)) all.1, same_sorted a xs all.1)
+
+  -- the numbers are those of the range
+  pub buckets_are_within : (a m : ℕ) (xs : List A) → AllByRecursion (λ x. (a ≤ key x) × (key x < a + m)) (buckets a m xs)
+  buckets_are_within a zero xs = tt
+  buckets_are_within a (suc m) xs =
+      All-append (λ x. (a ≤ key x) × (key x < a + suc m)) (bucket a xs) (buckets (a + 1) m xs)
+      (All-weaker (λ x. key x ≡ a) (λ x. (a ≤ key x) × (key x < a + suc m)) (bucket a xs) (λ x h. (omega (arith, h), omega (arith, h))) (all_here a xs))
+      (All-weaker (λ x. (a + 1 ≤ key x) × (key x < (a + 1) + m)) (λ x. (a ≤ key x) × (key x < a + suc m)) (buckets (a + 1) m xs) (λ x h. (omega (arith, h.0), omega (arith, h.1))) (buckets_are_within (a + 1) m xs))
+
+  pub buckets_are_sorted : (a m : ℕ) (xs : List A) → Sorted (buckets a m xs)
+  buckets_are_sorted a zero xs = tt
+  buckets_are_sorted a (suc m) xs =
+      Sorted-append a (bucket a xs) (buckets (a + 1) m xs) (same_sorted a (bucket a xs) (all_here a xs))
+      (All-weaker (λ x. key x ≡ a) (λ x. key x ≤ a) (bucket a xs) (λ x h. omega (arith, h)) (all_here a xs))
+      (buckets_are_sorted (a + 1) m xs)
+      (All-weaker (λ x. (a + 1 ≤ key x) × (key x < (a + 1) + m)) (λ x. a ≤ key x) (buckets (a + 1) m xs) (λ x h. omega (arith, h.0)) (buckets_are_within (a + 1) m xs))
