@@ -3,6 +3,8 @@
 #![tactic(auto)]
 
 #[cfg(test)]
+mod agents;
+#[cfg(test)]
 mod calls;
 #[cfg(test)]
 mod drills;
@@ -11,12 +13,16 @@ mod faults;
 #[cfg(test)]
 mod json;
 #[cfg(test)]
-mod outputs;
+mod pages;
 #[cfg(test)]
 mod realistic;
 #[cfg(test)]
 mod refusals;
 #[cfg(test)]
+mod row;
+#[cfg(test)]
 mod size;
+#[cfg(test)]
+mod together;
 #[cfg(test)]
 mod words;
