@@ -1,9 +1,19 @@
 -- Worked examples of what the contracts of nodes speak of.
-use Rattle.std.specs.Prelude.{◌≡◌, ℕ, ◌+◌, true, false, [], ◌∷◌, refl}
-use Rattle.hs_lawful.specs.Following.{takes}
+use Rattle.std.specs.Prelude.{◌≡◌, ℕ, zero, suc, ◌+◌, ◌≤◌, true, false, [], ◌∷◌, map, length, Option, Some, None, option_map, slice_get, refl}
+use Rattle.std.proofs.Common.{ap, arith}
+use Rattle.hs_base.specs.declared.told.Ask.{Ask}
+use Rattle.hs_base.specs.declared.told.Told.{Told}
+use Rattle.hs_coord.specs.declared.asks.Asks.{Asks}
+use Rattle.hs_lawful.specs.Following.{takes, followed}
+use Rattle.hs_lawful.specs.Journals.{of_trigger_first}
+use Rattle.hs_lawful.specs.Workloads.{trigger_first, short_of_pins}
+use Rattle.hs_lockstep.specs.Lockstep.{machine_start}
 use Rattle.hs_journal.specs.declared.journal.Step.TheVariants as steps
+use Rattle.hs_nodes.specs.All.{clients_gone}
 use Rattle.hs_nodes.specs.Changing.{ChangesAt}
 use Rattle.hs_nodes.specs.declared.queue.Queue.TheVariants as queues
+use Rattle.hs_nodes.specs.Hearing.{with_ask, with_told, asked_by, TellsNext, AreAsked, waiting}
+use Rattle.hs_nodes.specs.Parts.{Parts}
 use Rattle.hs_nodes.specs.Queues.{queue_of, step_from}
 use Rattle.hs_nodes.specs.Standing.{Remain}
 
@@ -28,3 +38,35 @@ own_chunks = (refl, refl, refl)
 
 own_asks : (takes (queue_of queues.Asks) (step_from queues.Asks) ≡ true) × (takes (queue_of queues.Asks) steps.Turn ≡ false)
 own_asks = (refl, refl)
+
+-- the message that waits before the others is told next, and a node without one tells nothing
+tells_first : (told : Told) (node : Parts) → TellsNext (with_told told node) (Some told) node
+tells_first told node = refl
+
+tells_nothing : (node : Parts) → node.said ≡ [] → TellsNext node None node
+tells_nothing node none = (none, refl)
+
+-- an ask that goes to the node 1 alone, when two nodes were passed
+abbrev to_the_second : Ask → Asks
+to_the_second ask = record { ask = ask; to = record { 0 = 2 } }
+
+second_is_asked : (ask : Ask) (a b : Parts) → AreAsked (to_the_second ask) 2 (a ∷ b ∷ []) (a ∷ with_ask ask b ∷ [])
+second_is_asked ask a b = record { count = refl; before = λ n node there low. before n node there; behind = λ n node there high. behind n node there high }
+  where
+    before : (n : ℕ) (node : Parts) → slice_get (a ∷ b ∷ []) n ≡ Some node → slice_get (a ∷ with_ask ask b ∷ []) n ≡ Some (asked_by (to_the_second ask) n node)
+    before zero node there = there
+    before (suc zero) node there = ap (option_map (with_ask ask)) there
+    before (suc (suc n)) node there = let no : None ≡ Some node = there in absurd cc
+
+    behind : (n : ℕ) (node : Parts) → slice_get (a ∷ b ∷ []) n ≡ Some node → 2 ≤ n → slice_get (a ∷ with_ask ask b ∷ []) n ≡ Some node
+    behind zero node there high = absurd (omega arith)
+    behind (suc zero) node there high = absurd (omega arith)
+    behind (suc (suc n)) node there high = let no : None ≡ Some node = there in absurd cc
+
+-- a node told one message, which waits until it is heard
+one_waits : option_map (waiting [] 0) (slice_get (followed trigger_first of_trigger_first).nodes 0) ≡ Some 1
+one_waits = refl
+
+-- of two nodes with a client each the client of the first went, and drew for its three pages
+first_went : map length (clients_gone short_of_pins (machine_start short_of_pins) 1).journal.draws ≡ 3 ∷ 0 ∷ []
+first_went = refl
