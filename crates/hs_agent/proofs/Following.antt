@@ -130,10 +130,6 @@ module _ {L : Type 0} where
                 ∙ ap (λ (s : AgentState). s.log) (sym goes);
           }
 
-pub if_ok-then : {A E : Type 0} {P Q : A → Type 0} (r : Result A E) → ((x : A) → P x → Q x) → IfOk r P → IfOk r Q
-if_ok-then (Ok x) f p = f x p
-if_ok-then (Err e) f p = tt
-
 -- the same shares, with other chunks
 pub stands-then : {L : Type 0} (old new : Kept L) (schedule : Schedule) (point next : Point L) → StandsAt old schedule point → next.settings ≡ point.settings → next.state.shares ≡ point.state.shares → Holds new next → StandsAt new schedule next
 stands-then old new schedule point next stands settings shares holds = record {

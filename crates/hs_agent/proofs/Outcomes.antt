@@ -25,10 +25,6 @@ pub on_ok_both : {A E : Type 0} {P Q R : Type 0} (r : Result A E) → OnOk r P �
 on_ok_both (Ok x) p q f = f p q
 on_ok_both (Err e) p q f = tt
 
-pub on_ok_then : {A E : Type 0} {P R : Type 0} (r : Result A E) → OnOk r P → (P → R) → OnOk r R
-on_ok_then (Ok x) p f = f p
-on_ok_then (Err e) p f = tt
-
 pub not_false : (b : Bool) → false ≡ not b → b ≡ true
 not_false true e = refl
 not_false false e = cc

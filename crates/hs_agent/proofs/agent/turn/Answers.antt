@@ -1,4 +1,5 @@
 use Rattle.std.proofs.Common.{◌≡◌, ℕ, ◌<◌, ◌≤◌, All, List, map, refl, sym, ap, subst, ◌∙◌}
+use Rattle.std.proofs.lemmas.Result.{on_ok_weaker}
 use Rattle.hs_sched.specs.declared.share.Share.{Share}
 use Rattle.hs_sched.specs.Sending.{SendsEach}
 use Rattle.hs_sched.specs.Turns.{Schedule, IsSchedule, after_turn, sent_ids}
@@ -7,7 +8,6 @@ use Rattle.hs_model.specs.Turning as model
 use Rattle.hs_agent.specs.Keeping.{Kept, Point, Holds, with_state}
 use Rattle.hs_agent.specs.Reporting.{SendsNext, costs_of}
 use Rattle.hs_agent.specs.Runs.{StandsAt, schedule_of}
-use Rattle.hs_agent.proofs.Outcomes.{on_ok_then}
 use Rattle.hs_agent.proofs.Turned.{visited-once, costs-within, pins-distinct, shares-turned, sent-paged, holds-turned}
 use Rattle.hs_agent.proofs.agent.turn.Goals as goal
 
@@ -34,7 +34,7 @@ returns g c = λ point stands match.
     let rising = subst (λ (s : Schedule). IsSchedule s) stands.shares stands.is_schedule in
     let sends = subst (λ (s : Schedule). SendsEach SendsNext c.args.holdings.now (sent_ids s (costs_of c.args.holdings.now)) c.turn.new.queues) stands.shares c.turn.ensures.order in
     let held = holds-turned c.args.holdings.now point stands.chunks apart (visited-once c.args.holdings.now point stands.chunks point.state.shares rising.rising) c.turn.new.queues sends in
-    on_ok_then c.report.result c.report.ensures
+    on_ok_weaker c.report.result
     (λ now. record {
       chunks = subst (λ (k : Kept g.row.L.Denot). Holds k (with_state (model.turn point.settings point.state) point)) (sym now) held;
       shares =
@@ -44,3 +44,4 @@ returns g c = λ point stands match.
       is_schedule = c.turn.ensures.schedule;
       nodes = stands.nodes;
     })
+    c.report.ensures

@@ -1,5 +1,6 @@
 use Rattle.std.proofs.Common.{◌≡◌, ◌+◌, ◌≤◌, ◌<◌, true, false, cond, [], ◌∷◌, Some, None, length, map, refl, sym, ap, subst, ◌∙◌, arith}
 use Rattle.std.specs.Option.{option_map}
+use Rattle.std.proofs.lemmas.Result.{on_ok_weaker}
 use Rattle.hs_words.specs.Buffers.{buffer_of}
 use Rattle.hs_pins.specs.Remembered.{Remembered, arrived, comes_back, pin_of}
 use Rattle.hs_pins.specs.PinsLayout.{Remembers}
@@ -9,7 +10,7 @@ use Rattle.hs_agent.specs.Keeping.{Kept}
 use Rattle.hs_agent.specs.KeptLayout.{kept_in}
 use Rattle.hs_agent.specs.LettingGo.{Going, let_go, let_go_all, abandoned_going, abandoned_fate}
 use Rattle.hs_agent.specs.Arriving.{ArrivesAtPins}
-use Rattle.hs_agent.proofs.Outcomes.{on_ok_both, on_ok_then}
+use Rattle.hs_agent.proofs.Outcomes.{on_ok_both}
 use Rattle.hs_agent.proofs.Returning.{length-arrived, arrived-back, none-back, some-back}
 use Rattle.hs_agent.proofs.holdings.Holdings.pin.Goals as goal
 
@@ -59,7 +60,7 @@ returns-in-Ok-Some g c = λ memory known.
     let remembers : Remembers c.self.inside.pins memory = subst (λ p. Remembers p memory) (sym (ap (λ (k : Kept g.row.L.Denot). k.pins) c.self.view_is)) known in
     let now = c.in-Ok-Some.ensures.after memory remembers in
     let yes = some-back memory chunk (buffer_of c.in-Ok-Some.held) (sym (ap (option_map buffer_of) c.in-Ok-Some.field-0-is) ∙ c.in-Ok-Some.ensures.back memory remembers) in
-    on_ok_then c.let_go.result c.let_go.ensures
+    on_ok_weaker c.let_go.result
     (λ gone.
     let pins : c.let_go.new.self.pins ≡ c.arrive.new.self = ap (λ (k : Kept g.row.L.Denot). k.pins) gone in
     record {
@@ -74,3 +75,4 @@ returns-in-Ok-Some g c = λ memory known.
           ∙ ap (λ (k : Kept g.row.L.Denot). let_go (record k { pins = c.let_go.new.self.pins }) (record { buffer = chunk; fate = abandoned_fate c.args.group })) c.self.view_is
           ∙ sym (ap (λ b. let_go_all (record c.args.self.now { pins = c.let_go.new.self.pins }) (cond b (record { buffer = chunk; fate = abandoned_fate c.args.group } ∷ []) (map abandoned_going (drops (arrived memory chunk))))) yes.0);
     })
+    c.let_go.ensures

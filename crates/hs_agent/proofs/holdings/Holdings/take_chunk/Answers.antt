@@ -1,6 +1,7 @@
 use Rattle.std.proofs.Common.{◌≡◌, ◌+◌, ◌<◌, ◌≤◌, ◌^◌, Option, Some, None, length, refl, sym, ap, subst, ◌∙◌, arith}
 use Rattle.std.specs.Option.{option_map, option_map_or, option_and_then, is_some}
 use Rattle.std.proofs.lemmas.List.{length-map}
+use Rattle.std.proofs.lemmas.Result.{on_ok_weaker}
 use Rattle.hs_words.specs.declared.page.Header.{Header}
 use Rattle.hs_words.specs.Pages.{Sheet}
 use Rattle.hs_words.specs.Chunks.{used_of, header_of}
@@ -15,7 +16,7 @@ use Rattle.hs_agent.specs.KeptLayout.{kept_in}
 use Rattle.hs_agent.specs.LettingGo.{let_go_all}
 use Rattle.hs_agent.specs.Arriving.{noted, indexed, ArrivesAtPins}
 use Rattle.hs_agent.specs.Points.{chunk_taken}
-use Rattle.hs_agent.proofs.Outcomes.{none_mapped, some_mapped, on_ok_then, of_some}
+use Rattle.hs_agent.proofs.Outcomes.{none_mapped, some_mapped, of_some}
 use Rattle.hs_agent.proofs.TakingChunks.{holds-taken_free, holds-taken_claimed}
 use Rattle.hs_agent.proofs.holdings.Holdings.take_chunk.Goals as goal
 
@@ -70,11 +71,12 @@ returns-in-Some-owner g c = λ point h sized.
     let own : claim_of h.memory.claims sheet.header.trace ≡ Some claim = ap (λ (x : Header). claim_of h.memory.claims x.trace) (sym same) ∙ found.1 in
     let owner : Some c.in-Some-owner.group ≡ Some claim.group = sym c.in-Some-owner.is ∙ c.owner.ensures h.memory remembers ∙ ap (option_map (λ (x : Claim). x.group)) found.1 in
     let group : c.in-Some-owner.group ≡ claim.group = cc in
-    on_ok_then c.pin.result (c.pin.ensures h.memory (subst (λ p. Remembers p h.memory) (sym pins) h.remembers))
+    on_ok_weaker c.pin.result
     (λ arrives. holds-taken_claimed c.args.self.now point h chunk sheet page.1 size room claim own c.pin.new.self
     (subst (λ (q : Kept g.row.L.Denot). ArrivesAtPins h.memory claim.group (placed_at (length point.state.taken) chunk) q c.pin.new.self) kept
     (subst (λ b. ArrivesAtPins h.memory claim.group b c.note.new.self c.pin.new.self) placed
     (subst (λ x. ArrivesAtPins h.memory x (buffer_of c.in_ok-held.held) c.note.new.self c.pin.new.self) group arrives))))
+    (c.pin.ensures h.memory (subst (λ p. Remembers p h.memory) (sym pins) h.remembers))
 
 pub returns-in-None : goal.returns-in-None
 returns-in-None g c = λ point h sized.
@@ -96,7 +98,8 @@ returns-in-None g c = λ point h sized.
     let remembers : Remembers c.self.inside.pins h.memory = subst (λ p. Remembers p h.memory) (sym inside) h.remembers in
     let missing = none_mapped (λ (claim : Claim). claim.group) (claim_of h.memory.claims c.in-Some.header.trace) c.owner.result (c.owner.ensures h.memory remembers) (ap is_some c.in-None.is) in
     let free : claim_of h.memory.claims sheet.header.trace ≡ None = ap (λ (x : Header). claim_of h.memory.claims x.trace) (sym same) ∙ missing in
-    on_ok_then c.index_chunk.result c.index_chunk.ensures
+    on_ok_weaker c.index_chunk.result
     (λ now. subst (λ (k : Kept g.row.L.Denot). Holds k (chunk_taken chunk point))
     (sym (now ∙ (λ i. indexed (placed i) (kept i))))
     (holds-taken_free c.args.self.now point h chunk sheet page.1 size room free))
+    c.index_chunk.ensures
