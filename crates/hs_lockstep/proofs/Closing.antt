@@ -152,7 +152,7 @@ one_each autos earlier (Some trace) (Sample moment auto value) = rule_case (slic
 abbrev crumbs_of : List NumberedOperation → List (Sent Crumb)
 crumbs_of ops = flat_map (λ (op : NumberedOperation). map (λ (crumb : Crumb). record { number = op.number; item = crumb }) (crumb_in op.trace op.operation)) ops
 
-sends_few : (autos : List AutoRule) (earlier : List NumberedOperation) (number : ℕ) (trace : Option TraceId) (ops : List Operation)
+pub sends_few : (autos : List AutoRule) (earlier : List NumberedOperation) (number : ℕ) (trace : Option TraceId) (ops : List Operation)
     → length (crumbs_of (numbered_from number trace ops)) + length (triggers_behind autos earlier (numbered_from number trace ops)) ≤ length ops
 sends_few autos earlier number trace [] = omega arith
 sends_few autos earlier number trace (op ∷ ops) =

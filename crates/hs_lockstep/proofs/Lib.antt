@@ -43,5 +43,6 @@ pub mod Bounds
 pub mod Fit
 pub mod Fitting
 pub mod Telling
+pub mod RunsFit
 pub mod Starting
 pub mod Ending

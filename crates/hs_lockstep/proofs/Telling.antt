@@ -58,9 +58,9 @@ module _ (settings : PlainSettings) where
   event_brings run heard (steps.Missed stamp) event fit h = other_brings (λ _. Gave (Missed stamp)) (slice_get run.state.hand 0) event (λ x. tt) h
   event_brings run heard steps.Unread event fit h = other_brings (λ _. Gave Unread) (slice_get run.state.hand 0) event (λ x. tt) h
 
-  record Tells (run : NodeRun) : Type 0 where
+  pub record Tells (run : NodeRun) : Type 0 where
     fit : AllByRecursion CrumbsFit run.sends
-    leads : LeadsBelow settings.nodes run.state
+    pub leads : LeadsBelow settings.nodes run.state
 
   module _ (below : CrumbsLeadBelow) where
     step_tells : (heard : Messages) (run next : NodeRun) → step_node settings heard run ≡ Some next → Tells run → Tells next
@@ -75,11 +75,11 @@ module _ (settings : PlainSettings) where
         (all_set Tells run.nodes s.place s.stepped all (step_tells run.heard s.node s.stepped s.ready (all_get Tells run.nodes s.place s.node all s.stands)))
     performs_tells run next (inr heard) all = subst (AllByRecursion Tells) (sym (hear_nodes run next run.left heard)) all
 
-    leads_tell : (run last : Run) → Leads settings run last → AllByRecursion Tells run.nodes → AllByRecursion Tells last.nodes
+    pub leads_tell : (run last : Run) → Leads settings run last → AllByRecursion Tells run.nodes → AllByRecursion Tells last.nodes
     leads_tell run last (Stays r) all = all
     leads_tell run last (Goes r next l p leads) all = leads_tell next last leads (performs_tells r next p all)
 
-starts_tell : (W : PlainWorkload) (valid : IsValid W) (J : PlainJournal) (numbers : List ℕ) → AllByRecursion (Tells W.settings) (map (node_start W J) numbers)
+pub starts_tell : (W : PlainWorkload) (valid : IsValid W) (J : PlainJournal) (numbers : List ℕ) → AllByRecursion (Tells W.settings) (map (node_start W J) numbers)
 starts_tell W valid J [] = tt
 starts_tell W valid J (n ∷ numbers) = (
   record {

@@ -1,6 +1,6 @@
 -- What may be relied on at every machine on its way: each node's pool has a history with far fewer events than there are stamps, and
 -- what clients send, agents tell and the coordinator asks names nodes and trigger ids of the workload.
-use Rattle.std.specs.Prelude.{◌≡◌, ℕ, ◌+◌, ◌<◌, ◌^◌, true, List, length, Some}
+use Rattle.std.specs.Prelude.{◌≡◌, ℕ, ◌+◌, ◌<◌, ◌^◌, true, List, length, slice_get, Some}
 use Rattle.std.specs.List.{AllByRecursion}
 use Rattle.hs_base.specs.Rules.{is_declared}
 use Rattle.hs_journal.specs.declared.journal.Step.{Step}
@@ -10,7 +10,9 @@ use Rattle.hs_model.specs.Stepping.{Input, Chunk, Crumbed, Triggered, Asked, Tur
 use Rattle.hs_records.specs.Plain.{PlainSettings, PlainWorkload}
 use Rattle.hs_words.specs.PoolHistory.{IsPoolHistory}
 use Rattle.hs_workload.specs.Validity.{IsValid}
-use Rattle.hs_lawful.specs.Following.{NodeRun, event_of}
+use Rattle.hs_journal.specs.Views.{PlainJournal}
+use Rattle.hs_lawful.specs.Following.{NodeRun, Run, run_start, event_of}
+use Rattle.hs_lawful.specs.Orders.{Leads}
 use Rattle.hs_lawful.specs.Pooled.{pool_history}
 use Rattle.hs_lockstep.specs.Lockstep.{Machine}
 use Rattle.hs_lockstep.specs.Parts.{node_at, heard_in}
@@ -40,3 +42,16 @@ MachinesFit = (W : PlainWorkload) → IsValid W → (m : Machine) → IsReached 
 abbrev pub MachinesTellWithin : Type 0
 MachinesTellWithin =
     (W : PlainWorkload) → IsValid W → (m : Machine) → IsReached W m → (i : ℕ) (run : NodeRun) → node_at W m.journal i ≡ Some run → AllByRecursion (IsToldBelow W.settings.nodes) run.state.said
+
+-- ---- any journal
+
+-- A node of a run: what is ready may be taken, and what was told leads to nodes that there are.
+pub record Fits (W : PlainWorkload) (run : Run) (i : ℕ) (node : NodeRun) : Type 0 where
+  pub takes : (step : Step) (input : Input) → event_of node run.heard step ≡ Some (Took input) → MayTake W.settings i node.state input
+  pub told : AllByRecursion (IsToldBelow W.settings.nodes) node.state.said
+
+-- In whatever order the steps of whatever journal are performed, each when it is ready.
+abbrev pub RunsFit : Type 0
+RunsFit =
+    (W : PlainWorkload) → IsValid W → (J : PlainJournal) (run : Run) → Leads W.settings (run_start W J) run → (i : ℕ) (node : NodeRun) → slice_get run.nodes i ≡ Some node
+    → Fits W run i node

@@ -5,7 +5,7 @@ ghost use Rattle.hs_lockstep.specs.Known.{Known};
 ghost use Rattle.hs_lockstep.specs.Performing.{StepByStep};
 ghost use Rattle.hs_lockstep.specs.Reaching.{MachinesAreWhole, MachinesStartSo, MachinesLeadOn};
 ghost use Rattle.hs_lockstep.specs.Parts.{ClientsGoSo, AgentsTakeSo, AgentsGiveSo, CoordinatorHearsSo};
-ghost use Rattle.hs_lockstep.specs.Conditions.{MachinesFit, MachinesTellWithin};
+ghost use Rattle.hs_lockstep.specs.Conditions.{MachinesFit, MachinesTellWithin, RunsFit};
 ghost use Rattle.hs_lockstep.specs.Ending.{RoundsEnd, ClosingEnds};
 ghost use Rattle.hs_lockstep.specs.Clauses.{ScheduleHasShape, ScheduleHasStamps, ScheduleHasHistory, ScheduleHasAnswers, ScheduleHasPasses, ScheduleHasOffers, ScheduleIsFollowed, ScheduleHasUnreads, ScheduleHasRounds, ScheduleHasPace, ScheduleIsBare, ScheduleIsLawful, ValidWorkloadsRun};
 
@@ -238,5 +238,14 @@ pub fn machines_tell_within()
     ensures { MachinesTellWithin }
 {
     following_plays_out();
+    crumbs_lead_below();
+}
+
+/// Whatever journal is followed for a valid workload, and in whatever order: what is ready may be taken, and what is told leads
+/// to nodes that there are.
+pub fn runs_fit()
+    ensures { RunsFit }
+{
+    known();
     crumbs_lead_below();
 }
