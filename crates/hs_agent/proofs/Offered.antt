@@ -2,7 +2,7 @@
 use Rattle.std.proofs.Common.{◌≡◌, ◌≢◌, ℕ, ◌+◌, ◌<◌, suc, zero, eq-eqb, Bool, true, false, List, [], ◌∷◌, ◌++◌, length, map, set, Option, Some, None, slice_get, slice_set, refl, sym, ap, subst, ◌∙◌, arith}
 use Rattle.std.specs.List.{AllByRecursion}
 use Rattle.std.specs.Option.{option_map_or, option_and_then, option_to_list}
-use Rattle.std.proofs.lemmas.List.{length-set}
+use Rattle.std.proofs.lemmas.List.{length-map, length-set}
 use Rattle.std.proofs.lemmas.Option.{slice_get_within}
 use Rattle.hs_base.specs.declared.told.Told.{Told}
 use Rattle.hs_journal.specs.declared.journal.Step.{Step}
@@ -273,3 +273,10 @@ module _ {L : Type 0} (old new : Kept L) (point : Point L) (h : Holds old point)
   offers-empty (Err e) empty = tt
   offers-empty (Ok None) empty = sym (in_hand old point h one none) ∙ ap (map place_of) empty.0
   offers-empty (Ok (Some held)) empty = tt
+
+-- ---- how many are in the hand
+
+-- while none is offered the hand is all of the model's hand
+pub hand_counts : {L : Type 0} (kept : Kept L) (point : Point L) → Holds kept point → point.offered ≡ None → length kept.hand ≡ length point.state.hand
+hand_counts kept point h none =
+    sym (length-map kept.hand place_of) ∙ ap (λ (o : Option ℕ). length (option_to_list o ++ map place_of kept.hand)) (sym none) ∙ ap length h.hand

@@ -156,6 +156,13 @@ impl<L: Token> Agent<L> {
         self.holdings.pinned()
     }
 
+    /// How many chunks are in the hand, while none is offered.
+    pub fn in_hand(&self) -> usize
+        ensures { (run : Run L) → Follows self.now run → run.offered ≡ None → result ≡ length (state_of run).hand }
+    {
+        self.holdings.in_hand()
+    }
+
     /// The book of the agent, and the chunks that it has left.
     pub fn finish(self) -> Result<Finished<L>, Memory>
         requires { Knows self (λ run. ((state_of run).pinned ≡ []) × (run.offered ≡ None)) }

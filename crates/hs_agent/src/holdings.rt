@@ -369,6 +369,13 @@ impl<L: Token> Holdings<L> {
         self.pins.chunks()
     }
 
+    /// How many chunks the hand has, without the one that was offered.
+    pub fn in_hand(&self) -> usize
+        ensures { result ≡ length self.now.hand }
+    {
+        self.hand.len()
+    }
+
     /// What is left at the end, with these steps.
     pub fn finish(self, log: List<Step>) -> Result<Finished<L>, Memory>
         requires { HoldsThat self (λ point. (point.offered ≡ None) × ((place : ℕ) → IsInOnePlace point.state place)) }
