@@ -9,7 +9,8 @@ use Rattle.hs_words.specs.PoolHistory.{Event, Got, Empty, queue_after}
 use Rattle.hs_words.specs.PoolAnswers as answers
 use Rattle.hs_pool.specs.Pool.{Pool, IsAfter, Extends, Draws, number_of}
 use Rattle.hs_sent.specs.Draws.{next_draws, draws_behind, event_drawn}
-use Rattle.hs_player.specs.Writing.{OnlyDraws}
+use Rattle.hs_player.specs.Wells.{note_drawn}
+use Rattle.hs_player.specs.Pooled.{OnlyDraws}
 
 drop_none : (m : ℕ) → drop {A = ℕ} m [] ≡ []
 drop_none zero = refl
@@ -76,11 +77,6 @@ draws_more a b c pool middle pool' same first second = λ history is.
     let notes : c ≡ a ++ draws_behind pool.buffers history (m + n) =
     g.1.draws ∙ ap (λ (l : List Draw). l ++ draws_behind middle.buffers history' n) f.1.draws ∙ append_assoc a here (draws_behind middle.buffers history' n) ∙ ap (λ (l : List Draw). a ++ l) joined in
     (m + n, record { draws = notes; after = subst (λ (h : List Event). IsAfter h pool') all g.1.after })
-
--- what is noted of a draw
-abbrev pub note_drawn : {L : Type 0} {g : _} → Drawn L g → Draw
-note_drawn (drawn.Got held stamp) = noted.Got held.chunk.number stamp
-note_drawn (drawn.Empty stamp) = noted.Empty stamp
 
 pub draws_one : {g : _} (a : List Draw) (pool pool' : Pool) (d : Drawn (Unit {0}) g) → Draws pool d pool' → answers.stamp_drawn d ≡ pool.events → Extends pool (answers.event_drawn d) pool'
     → OnlyDraws a pool (a ++ note_drawn d ∷ []) pool'

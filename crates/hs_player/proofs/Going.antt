@@ -8,7 +8,6 @@ use Rattle.std.specs.Option.{option_map}
 use Rattle.hs_base.specs.declared.ids.TraceId.{TraceId}
 use Rattle.hs_base.specs.declared.settings.AutoRule.{AutoRule}
 use Rattle.hs_auto.specs.Watching.{Watch}
-use Rattle.hs_pool.specs.Pool.{Pool}
 use Rattle.hs_records.specs.Plain.{Operation, Begin, Point, End, Fire, Sample, PlainSettings}
 use Rattle.hs_records.specs.Plain as plain
 use Rattle.hs_records.specs.Records.{AreBracketed}
@@ -17,6 +16,7 @@ use Rattle.hs_workload.specs.LookBack.{operation_pieces}
 use Rattle.hs_workload.specs.Validity.{IsOperation, client_pieces}
 use Rattle.hs_base.specs.declared.ids.ClientId.{ClientId}
 use Rattle.hs_player.specs.Playing.{Working}
+use Rattle.hs_player.specs.Wells.{Way}
 use Rattle.hs_player.specs.Writing.{Made, Spends}
 use Rattle.hs_player.specs.Doing.{Gone, HasDone, Does, MayDo}
 use Rattle.hs_player.specs.Places.{IsPlayable, made_for}
@@ -90,25 +90,26 @@ may_do settings client front rest op gone works rules playable rules_are h =
 
 -- ---- so many operations done
 
--- Behind what was done, the player has done these operations, and nothing but draws happened at the pool.
-pub record HasGone (ops : List Operation) (old now : Working) (pool pool' : Pool) : Type 0 where
-  pub does : (made : Made) (front : List Operation) (gone : Gone) → HasDone made front gone old → HasDone made (front ++ ops) gone now
-  pub spends : Spends (client_pieces old.core.size ops) old.core now.core pool pool'
+module _ {P : Type 0} (way : Way P) where
+  -- Behind what was done, the player has done these operations, and only drew from the well.
+  pub record HasGone (ops : List Operation) (old now : Working) (well well' : P) : Type 0 where
+    pub does : (made : Made) (front : List Operation) (gone : Gone) → HasDone made front gone old → HasDone made (front ++ ops) gone now
+    pub spends : Spends way (client_pieces old.core.size ops) old.core now.core well well'
 
-pub gone_none : (works : Working) (pool : Pool) → HasGone [] works works pool pool
-gone_none works pool =
-    record {
-      does = λ made front gone h. subst (λ (l : List Operation). HasDone made l gone works) (sym (append-nil front)) h;
-      spends = spends_none 0 works.core pool;
-    }
+  pub gone_none : (works : Working) (well : P) → HasGone [] works works well well
+  gone_none works well =
+      record {
+        does = λ made front gone h. subst (λ (l : List Operation). HasDone made l gone works) (sym (append-nil front)) h;
+        spends = spends_none way 0 works.core well;
+      }
 
-pub gone_more : (ops : List Operation) (op : Operation) (old now new : Working) (pool middle pool' : Pool) → HasGone ops old now pool middle → Does op now new
-    → Spends (operation_pieces now.core.size op) now.core new.core middle pool' → HasGone (ops ++ op ∷ []) old new pool pool'
-gone_more ops op old now new pool middle pool' is does spends =
-    let size = old.core.size in
-    let here : Spends (operation_pieces size op) now.core new.core middle pool' = subst (λ n. Spends (operation_pieces n op) now.core new.core middle pool') is.spends.size_is spends in
-    let sum : client_pieces size ops + operation_pieces size op ≡ client_pieces size (ops ++ op ∷ []) = sym (pieces_more size ops op) in
-    record {
-      does = λ made front gone h. subst (λ (l : List Operation). HasDone made l gone new) (append_assoc front ops (op ∷ [])) (does made (front ++ ops) gone (is.does made front gone h));
-      spends = spends_more (client_pieces size ops) (operation_pieces size op) (client_pieces size (ops ++ op ∷ [])) old.core now.core new.core pool middle pool' sum is.spends here;
-    }
+  pub gone_more : (ops : List Operation) (op : Operation) (old now new : Working) (well middle well' : P) → HasGone ops old now well middle → Does op now new
+      → Spends way (operation_pieces now.core.size op) now.core new.core middle well' → HasGone (ops ++ op ∷ []) old new well well'
+  gone_more ops op old now new well middle well' is does spends =
+      let size = old.core.size in
+      let here : Spends way (operation_pieces size op) now.core new.core middle well' = subst (λ n. Spends way (operation_pieces n op) now.core new.core middle well') is.spends.size_is spends in
+      let sum : client_pieces size ops + operation_pieces size op ≡ client_pieces size (ops ++ op ∷ []) = sym (pieces_more size ops op) in
+      record {
+        does = λ made front gone h. subst (λ (l : List Operation). HasDone made l gone new) (append_assoc front ops (op ∷ [])) (does made (front ++ ops) gone (is.does made front gone h));
+        spends = spends_more way (client_pieces size ops) (operation_pieces size op) (client_pieces size (ops ++ op ∷ [])) old.core now.core new.core well middle well' sum is.spends here;
+      }

@@ -10,6 +10,7 @@ pub mod Recording
 pub mod Fronts
 pub mod Standing
 pub mod Going
+pub mod Pooling
 pub mod Taking
 pub mod Went
 pub mod Chunks

@@ -14,7 +14,7 @@ use Rattle.hs_auto.specs.Firing as firing
 use Rattle.hs_auto.specs.Watching.{Watch, HasSampled}
 use Rattle.hs_client.specs.Core.{Core, Began, after_step}
 use Rattle.hs_client.specs.Calls.{May}
-use Rattle.hs_pool.specs.Pool.{Pool}
+use Rattle.hs_player.specs.Wells.{Way}
 use Rattle.hs_sent.specs.OneMore.{open_after, next_behind, AreWatching, OneMoreOperation, OneMoreCrumb, OneMoreTrigger}
 use Rattle.hs_sent.specs.SoFar.{has_open_page}
 use Rattle.hs_sent.specs.Sending.{crumb_in, sample_in, samples_of, trigger_in}
@@ -181,9 +181,9 @@ point_unseen moment payload = record { samples = none }
 abbrev pub with_writing : Working → Writing → Working
 with_writing works w = record works { core = w.core; chunks = w.chunks }
 
-pub point_done : OneMore → (moment : ℕ) (payload : List ℕ) (old : Working) (new : Writing) (pool pool' : Pool) → IsSome old.core.trace
-    → Records (piece_count old.core.size (length payload)) (old.core.number + 1) (record_pieces old.core.size old.core.number moment payload) (writing_of old) new pool pool' → Does (Point moment payload) old (with_writing old new)
-point_done laws moment payload old new pool pool' some r = λ made ops gone h.
+pub point_done : OneMore → (moment : ℕ) (payload : List ℕ) (old : Working) (new : Writing) {P : Type 0} (way : Way P) (well well' : P) → IsSome old.core.trace
+    → Records way (piece_count old.core.size (length payload)) (old.core.number + 1) (record_pieces old.core.size old.core.number moment payload) (writing_of old) new well well' → Does (Point moment payload) old (with_writing old new)
+point_done laws moment payload old new way well well' some r = λ made ops gone h.
     let size = made.size in
     let op : Operation = Point moment payload in
     let t = some_trace old.core.trace some in

@@ -11,6 +11,7 @@ use Rattle.hs_words.specs.Buffers.{buffer_of}
 use Rattle.hs_client.specs.Core.{Core, Step, Began, Wrote, Needed, Supplied, Ended_, Refused, after_step, handed, draw_of, number_after, supplied}
 use Rattle.hs_client.specs.Calls.{May, after, next_number, segments_of_steps, with_last, chunks_supplied, draws_supplied, handed_out}
 use Rattle.hs_player.specs.Playing.{Unleased}
+use Rattle.hs_player.specs.Wells.{IsClear}
 use Rattle.hs_player.specs.Writing.{Made, Writing, new_of, buffer_got, ComesBy, with_all, IsWriting}
 
 abbrev pub piece_of : ℕ → ℕ → List ℕ → Piece
@@ -98,12 +99,7 @@ after-size new (Refused ∷ earlier) = after-size new earlier
 pub made_size : (made : Made) (gone : List Unleased) (pieces : List Piece) (later all : List Segment) (w : Writing) → IsWriting made gone pieces later all w → w.core.size ≡ made.size
 made_size made gone pieces later all w is = ap (λ (c : Core (Unit {0})). c.size) is.comes.core ∙ after-size (new_of made) is.steps
 
--- What was drawn is clear, of this size.
-abbrev pub IsClear : {g : _} → ℕ → Drawn (Unit {0}) g → Type 0
-IsClear size (drawn.Got held stamp) = (held.chunk.page ≡ None) × (held.chunk.size ≡ size)
-IsClear size (drawn.Empty stamp) = Unit {0}
-
--- a page that gets a buffer of the pool, or none
+-- a page that gets a buffer of its well, or none
 pub drew : {g : _} (made : Made) (gone : List Unleased) (pieces : List Piece) (later all : List Segment) (old new : Writing) (draw : Drawn (Unit {0}) g) (moment : ℕ) (payload : List ℕ) (more : Bool)
     → IsClear old.core.size draw → May old.core (supplied draw moment payload more) → new.core ≡ after_step old.core (supplied draw moment payload more) → new.chunks ≡ old.chunks
     → IsWriting made gone (piece_of old.core.number moment payload ∷ pieces) later all old → IsWriting made gone pieces later all new

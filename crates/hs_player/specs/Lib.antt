@@ -1,4 +1,6 @@
 pub mod Playing
+pub mod Wells
+pub mod Pooled
 pub mod Writing
 pub mod Doing
 pub mod Places

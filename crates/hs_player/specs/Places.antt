@@ -24,6 +24,7 @@ use Rattle.hs_words.specs.Pages.{Sheet}
 use Rattle.hs_words.specs.PoolHistory.{Event}
 use Rattle.hs_workload.specs.Validity.{IsClient, client_pieces}
 use Rattle.hs_player.specs.Playing.{Playing, Unleased}
+use Rattle.hs_player.specs.Wells.{Way, IsReadyFor, DrawsAll}
 use Rattle.hs_player.specs.Writing.{Made}
 use Rattle.hs_player.specs.Doing.{Gone, HasDone}
 
@@ -121,6 +122,31 @@ Goes stride ops old pool new pool' =
 -- The buffers of the pool are as many as before, and still of this size.
 abbrev pub KeepsPool : Pool → Pool → Type 0
 KeepsPool pool pool' = (pool'.buffers ≡ pool.buffers) × ((size : ℕ) → HasSize size pool → HasSize size pool')
+
+-- The player is somewhere in these operations, with these rules of autotriggers, and what it draws from is ready for whatever they draw.
+pub record IsWithinAt {P : Type 0} (way : Way P) (rules : List AutoRule) (ops : List Operation) (well : P) (player : Playing) : Type 0 where
+  pub settings : PlainSettings
+  pub client : ClientId
+  pub drawn : List Draw
+  pub done : ℕ
+  pub k : ℕ
+  pub l : ℕ
+  pub m : ℕ
+  pub at : IsAt settings client ops drawn done k l m player
+  pub rules_are : rules ≡ settings.autos
+  pub ready : IsReadyFor way well settings.size MAX_OPERATIONS
+
+-- The player has done operations up to this one, and made these draws for the pages that they start.
+pub record WentOn {P : Type 0} (way : Way P) (settings : PlainSettings) (client : ClientId) (ops : List Operation) (drawn : List Draw) (done k l m : ℕ) (well : P) (player : Playing) (well' : P) : Type 0 where
+  pub more : List Draw
+  pub at : IsAt settings client ops (drawn ++ more) done k l m player
+  pub draws : DrawsAll way more well well'
+
+-- Wherever the player was in these operations, it did the next ones, at most so many.
+abbrev pub GoesOn : {P : Type 0} → Way P → (stride : ℕ) → List Operation → Playing → P → Playing → P → Type 0
+GoesOn way stride ops old well new well' =
+    (settings : PlainSettings) (client : ClientId) (drawn : List Draw) (done k l m : ℕ)
+    → IsAt settings client ops drawn done k l m old → WentOn way settings client ops drawn (done_behind stride done ops) k l m well new well'
 
 -- ---- what the agent takes
 

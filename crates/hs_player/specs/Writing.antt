@@ -1,6 +1,6 @@
--- How a player's pages come about: by steps of its core, whose draws are draws of the pool, and whose full chunks wait behind those that
+-- How a player's pages come about: by steps of its core, whose draws are those of its well, and whose full chunks wait behind those that
 -- the agent took. What the operations are to record follows from them alone, and the steps have recorded it.
-use Rattle.std.specs.Prelude.{◌≡◌, ℕ, ◌+◌, ◌≤◌, List, [], ◌∷◌, ◌++◌, map, reverse, Option, Some, None, IsSome}
+use Rattle.std.specs.Prelude.{◌≡◌, ℕ, ◌+◌, ◌≤◌, List, [], ◌∷◌, ◌++◌, length, map, reverse, Option, Some, None, IsSome}
 use Rattle.hs_base.specs.declared.ids.TraceId.{TraceId}
 use Rattle.hs_base.specs.declared.ids.ClientId.{ClientId}
 use Rattle.hs_base.specs.declared.settings.AutoRule.{AutoRule}
@@ -9,13 +9,11 @@ use Rattle.hs_records.specs.Plain.{Operation}
 use Rattle.hs_records.specs.Records.{Piece, Segment, pieces_until_end}
 use Rattle.hs_journal.specs.declared.journal.Draw.{Draw}
 use Rattle.hs_journal.specs.declared.journal.Draw.TheVariants as draws
-use Rattle.hs_words.specs.PoolHistory.{Event}
 use Rattle.hs_words.specs.Chunks.{clear_chunk}
 use Rattle.hs_client.specs.Core.{Core, Step, new_core}
 use Rattle.hs_client.specs.Calls.{AreSteps, after, next_number, segments_of_steps, with_last, chunks_supplied, draws_supplied, handed_out}
-use Rattle.hs_pool.specs.Pool.{Pool, IsAfter, HasSize}
-use Rattle.hs_sent.specs.Draws.{draws_behind, event_drawn}
 use Rattle.hs_player.specs.Playing.{Unleased}
+use Rattle.hs_player.specs.Wells.{Way, IsReadyFor, DrawsAll}
 
 -- what a player was made with
 pub record Made : Type 0 where
@@ -75,26 +73,18 @@ abbrev pub coming : (size number : ℕ) → Option TraceId → List Operation �
 coming size number None operations = []
 coming size number (Some trace) operations = pieces_until_end size number operations
 
--- ---- what is drawn
+-- ---- what is spent
 
--- So many draws more were made behind this history, and nothing else happened at the pool.
-pub record DrewBehind (history : List Event) (count : ℕ) (drawn : List Draw) (pool : Pool) (drawn' : List Draw) (pool' : Pool) : Type 0 where
-  pub draws : drawn' ≡ drawn ++ draws_behind pool.buffers history count
-  pub after : IsAfter (history ++ map event_drawn (draws_behind pool.buffers history count)) pool'
-
--- Nothing but draws happened at the pool, and each is noted.
-abbrev pub OnlyDraws : List Draw → Pool → List Draw → Pool → Type 0
-OnlyDraws drawn pool drawn' pool' = (history : List Event) → IsAfter history pool → (count : ℕ) × DrewBehind history count drawn pool drawn' pool'
-
--- So many calls of the core at most were counted, and as many draws at most were made.
-pub record Spends (calls : ℕ) (old new : Core (Unit {0})) (pool pool' : Pool) : Type 0 where
+-- So many calls of the core at most were counted, and as many draws at most were made, each of which is noted.
+pub record Spends {P : Type 0} (way : Way P) (calls : ℕ) (old new : Core (Unit {0})) (well well' : P) : Type 0 where
   pub size_is : new.size ≡ old.size
   pub calls_are : new.calls ≡ old.calls
   pub counted : new.counted ≤ old.counted + calls
-  pub buffers : pool'.buffers ≡ pool.buffers
-  pub events : pool'.events ≤ pool.events + calls
-  pub sized : (size : ℕ) → HasSize size pool → HasSize size pool'
-  pub draws : OnlyDraws old.draws pool new.draws pool'
+  pub drawn : List Draw
+  pub few : length drawn ≤ calls
+  pub notes : new.draws ≡ old.draws ++ drawn
+  pub draws : DrawsAll way drawn well well'
+  pub ready : (size more : ℕ) → IsReadyFor way well size (more + calls) → IsReadyFor way well' size more
 
 -- One call of the core was counted, and none was drawn.
 pub record CountsOne (old new : Core (Unit {0})) : Type 0 where
@@ -114,12 +104,12 @@ pub record IsSound (core : Core (Unit {0})) : Type 0 where
 -- ---- what recording does
 
 -- These pieces were recorded in the open trace, in so many calls of the core, and the next one is of the record with this number.
-pub record Records (calls number : ℕ) (here : List Piece) (old new : Writing) (pool pool' : Pool) : Type 0 where
+pub record Records {P : Type 0} (way : Way P) (calls number : ℕ) (here : List Piece) (old new : Writing) (well well' : P) : Type 0 where
   pub sound : IsSound new.core
   pub trace_is : new.core.trace ≡ old.core.trace
   pub number_is : new.core.number ≡ number
   pub page : IsSome new.core.current
-  pub spends : Spends calls old.core new.core pool pool'
+  pub spends : Spends way calls old.core new.core well well'
   pub written : WritesPieces here old new
 
 -- The open trace is ended.

@@ -5,18 +5,18 @@ ghost use Rattle.hs_auto.specs.Watching.{Watch};
 ghost use Rattle.hs_base.specs.Rules.{fired_by};
 ghost use Rattle.hs_records.specs.Plain.{Begin, Point, Crumb as LeaveCrumb, End, Fire, Sample};
 ghost use Rattle.hs_records.specs.Records.{piece_count};
-ghost use Rattle.hs_pool.specs.Pool.{HasSize};
 ghost use Rattle.hs_workload.specs.LookBack.{operation_pieces};
 ghost use Rattle.hs_workload.specs.Views.{operation_of};
 ghost use Rattle.hs_player.specs.Writing.{Spends, CountsOne, IsSound};
 ghost use Rattle.hs_player.specs.Doing.{Does, HasNothing, MayDo};
 ghost use Rattle.hs_player.specs.Inside.{working_in};
+ghost use Rattle.hs_player.specs.Wells.{IsReadyFor};
 
+use crate::well::Well;
 use crate::writer::Writer;
 use hs_auto::{Auto, Sampled};
 use hs_base::{AutoRule, Crumb, List, Memory, NodeId, TraceId, Trigger, TriggerId};
 use hs_client::Begun;
-use hs_pool::PlainPool;
 use hs_sent::laws::one_operation_more;
 use hs_workload::Op;
 use std::collections::VecDeque;
@@ -32,25 +32,24 @@ pub(crate) struct Doing {
 
 impl Doing {
     /// Does the next operation.
-    pub(crate) fn step(
+    pub(crate) fn step<W: Well>(
         &mut self,
-        pool: &mut PlainPool,
+        well: &mut W,
         rules: &[AutoRule],
         operation: &Op,
     ) -> Result<(), Memory>
         requires sound { IsSound self.old.writer.core }
         requires may { MayDo rules.now (operation_of operation.now) (working_in self.old) }
-        requires sized { HasSize self.old.writer.core.size pool.old }
-        requires stamps { pool.old.events + operation_pieces self.old.writer.core.size (operation_of operation.now) < 2 ^ 64 }
+        requires ready { IsReadyFor W.way well.old self.old.writer.core.size (operation_pieces self.old.writer.core.size (operation_of operation.now)) }
         ensures done { OnOk result (Does (operation_of operation.now) (working_in self.old) (working_in self.new)) }
-        ensures spends { OnOk result (Spends (operation_pieces self.old.writer.core.size (operation_of operation.now)) self.old.writer.core self.new.writer.core pool.old pool.new) }
+        ensures spends { OnOk result (Spends W.way (operation_pieces self.old.writer.core.size (operation_of operation.now)) self.old.writer.core self.new.writer.core well.old well.new) }
     {
         match operation {
             Op::Begin { trace } => {
                 self.begin(*trace);
                 Ok(())
             }
-            Op::Point { moment, payload } => self.point(pool, *moment, payload.as_slice()),
+            Op::Point { moment, payload } => self.point(well, *moment, payload.as_slice()),
             Op::Crumb { node } => self.crumb(*node),
             Op::End => self.end(),
             Op::Trigger { trigger } => self.trigger(**trigger),
@@ -85,17 +84,16 @@ impl Doing {
     }
 
     /// Records a payload.
-    fn point(&mut self, pool: &mut PlainPool, moment: u64, payload: &[u8]) -> Result<(), Memory>
+    fn point<W: Well>(&mut self, well: &mut W, moment: u64, payload: &[u8]) -> Result<(), Memory>
         requires sound { IsSound self.old.writer.core }
         requires open { IsSome self.old.writer.core.trace }
         requires left { self.old.writer.core.counted + piece_count self.old.writer.core.size (length payload.now) ≤ self.old.writer.core.calls }
-        requires sized { HasSize self.old.writer.core.size pool.old }
-        requires stamps { pool.old.events + piece_count self.old.writer.core.size (length payload.now) < 2 ^ 64 }
+        requires ready { IsReadyFor W.way well.old self.old.writer.core.size (piece_count self.old.writer.core.size (length payload.now)) }
         ensures done { OnOk result (Does (Point moment payload.now) (working_in self.old) (working_in self.new)) }
-        ensures spends { OnOk result (Spends (piece_count self.old.writer.core.size (length payload.now)) self.old.writer.core self.new.writer.core pool.old pool.new) }
+        ensures spends { OnOk result (Spends W.way (piece_count self.old.writer.core.size (length payload.now)) self.old.writer.core self.new.writer.core well.old well.new) }
     {
         one_operation_more();
-        self.writer.point(pool, moment, payload)
+        self.writer.point(well, moment, payload)
     }
 
     /// Leaves a crumb: the open trace goes on at this node.

@@ -5,7 +5,10 @@
 mod doing;
 mod laws;
 mod player;
+mod pooled;
+mod well;
 mod writer;
 
 pub use laws::valid_clients_may_be_played;
 pub use player::Player;
+pub use well::Well;

@@ -8,9 +8,10 @@ ghost use Rattle.hs_words.specs.Buffers.{buffer_in};
 ghost use Rattle.hs_workload.specs.LookBack.{operation_pieces};
 ghost use Rattle.hs_workload.specs.Validity.{client_pieces};
 ghost use Rattle.hs_workload.specs.Views.{operation_of};
-ghost use Rattle.hs_player.specs.Places.{IsPlayable, IsAt, IsWithin, Goes, KeepsPool, TakesChunk, TakesCrumb, TakesTrigger, TellsLeft, TellsBare, IsDone, Notes};
+ghost use Rattle.hs_player.specs.Places.{IsPlayable, IsAt, IsWithin, Goes, KeepsPool, IsWithinAt, GoesOn, TakesChunk, TakesCrumb, TakesTrigger, TellsLeft, TellsBare, IsDone, Notes};
 
 use crate::doing::Doing;
+use crate::well::Well;
 use crate::writer::Writer;
 use hs_auto::Auto;
 use hs_base::{AutoRule, ClientId, Crumb, List, Memory, Settings, Trigger};
@@ -96,6 +97,21 @@ impl Player {
         ensures goes { OnOk result (Goes stride (map operation_of operations.now) self.old pool.old self.new pool.new) }
         ensures pool { OnOk result (KeepsPool pool.old pool.new) }
     {
+        self.go_on(pool, rules, operations, stride)
+    }
+
+    /// Does the next of its operations as `go` does, where the pages that they start draw from a well. The well is ready for
+    /// as many draws as a client can make.
+    pub fn go_on<W: Well>(
+        &mut self,
+        well: &mut W,
+        rules: &[AutoRule],
+        operations: &[Op],
+        stride: u32,
+    ) -> Result<(), Memory>
+        requires { IsWithinAt W.way rules.now (map operation_of operations.now) well.old self.old }
+        ensures { OnOk result (GoesOn W.way stride (map operation_of operations.now) self.old well.old self.new well.new) }
+    {
         any_steps_make_the_book::<()>();
         cores_hand_out_so_far::<()>();
         the_first_crumbs_are_sent();
@@ -103,7 +119,7 @@ impl Player {
         timed_pages_are_timely();
         let end = (self.done + stride as usize).min(operations.len());
         for operation in &operations[self.done..end] {
-            self.doing.step(pool, rules, operation)?;
+            self.doing.step(well, rules, operation)?;
         }
         self.done = end;
         Ok(())

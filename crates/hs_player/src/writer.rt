@@ -6,13 +6,13 @@ ghost use Rattle.hs_base.specs.declared.limits.TheConstants.{FRAME_COST};
 ghost use Rattle.hs_records.specs.Records.{piece_count, record_pieces};
 ghost use Rattle.hs_words.specs.Buffers.{buffer_in, buffer_of};
 ghost use Rattle.hs_client.specs.Core.{number_after};
-ghost use Rattle.hs_pool.specs.Pool.{HasSize};
 ghost use Rattle.hs_player.specs.Writing.{IsSound, Records, EndsTrace};
 ghost use Rattle.hs_player.specs.Inside.{writing_in};
+ghost use Rattle.hs_player.specs.Wells.{IsReadyFor};
 
+use crate::well::Well;
 use hs_base::Memory;
 use hs_client::{ClientCore, Ended, Pointed};
-use hs_pool::PlainPool;
 use hs_records::{payloads_are_cut_from_the_front, piece_limit, pieces_are_counted};
 use hs_words::Held;
 use std::collections::VecDeque;
@@ -26,19 +26,18 @@ pub(crate) struct Writer {
 
 impl Writer {
     /// Records a payload, in as few pieces as fit pages.
-    pub(crate) fn point(
+    pub(crate) fn point<W: Well>(
         &mut self,
-        pool: &mut PlainPool,
+        well: &mut W,
         moment: u64,
         payload: &[u8],
     ) -> Result<(), Memory>
         requires sound { IsSound self.old.core }
         requires open { IsSome self.old.core.trace }
         requires left { self.old.core.counted + piece_count self.old.core.size (length payload.now) ≤ self.old.core.calls }
-        requires sized { HasSize self.old.core.size pool.old }
-        requires stamps { pool.old.events + piece_count self.old.core.size (length payload.now) < 2 ^ 64 }
-        ensures { OnOk result (Records (piece_count self.old.core.size (length payload.now)) (self.old.core.number + 1) (record_pieces self.old.core.size self.old.core.number moment payload.now)
-            (writing_in self.old) (writing_in self.new) pool.old pool.new) }
+        requires ready { IsReadyFor W.way well.old self.old.core.size (piece_count self.old.core.size (length payload.now)) }
+        ensures { OnOk result (Records W.way (piece_count self.old.core.size (length payload.now)) (self.old.core.number + 1) (record_pieces self.old.core.size self.old.core.number moment payload.now)
+            (writing_in self.old) (writing_in self.new) well.old well.new) }
     {
         payloads_are_cut_from_the_front();
         pieces_are_counted();
@@ -46,17 +45,17 @@ impl Writer {
         let mut rest = payload;
         while rest.len() > limit {
             let (full, behind) = rest.split_at(limit);
-            self.piece(pool, moment, full, true)?;
+            self.piece(well, moment, full, true)?;
             rest = behind;
         }
-        self.piece(pool, moment, rest, false)
+        self.piece(well, moment, rest, false)
     }
 
     /// Records a piece, the last of its record unless `more` is true. Where it needs a page, the full chunk of the page
     /// before joins those that wait, and then the new page draws a buffer.
-    fn piece(
+    fn piece<W: Well>(
         &mut self,
-        pool: &mut PlainPool,
+        well: &mut W,
         moment: u64,
         payload: &[u8],
         more: bool,
@@ -64,17 +63,16 @@ impl Writer {
         requires sound { IsSound self.old.core }
         requires open { IsSome self.old.core.trace }
         requires left { self.old.core.counted < self.old.core.calls }
-        requires sized { HasSize self.old.core.size pool.old }
-        requires stamps { pool.old.events + 1 < 2 ^ 64 }
+        requires ready { IsReadyFor W.way well.old self.old.core.size 1 }
         requires narrow { FRAME_COST + length payload.now ≤ self.old.core.size }
-        ensures { OnOk result (Records 1 (number_after more self.old.core.number) (record { number = self.old.core.number; moment = moment; payload = payload.now } ∷ [])
-            (writing_in self.old) (writing_in self.new) pool.old pool.new) }
+        ensures { OnOk result (Records W.way 1 (number_after more self.old.core.number) (record { number = self.old.core.number; moment = moment; payload = payload.now } ∷ [])
+            (writing_in self.old) (writing_in self.new) well.old well.new) }
     {
         match self.core.piece(moment, payload, more) {
             Pointed::Written => Ok(()),
             Pointed::NeedPage(full) => {
                 keep(&mut self.chunks, full)?;
-                let drawn = pool.draw();
+                let drawn = well.next_draw()?;
                 self.core.supply(drawn, moment, payload, more);
                 Ok(())
             }

@@ -4,7 +4,7 @@ use Rattle.hs_player.proofs.Cuts.{IsCutTo}
 use Rattle.hs_player.proofs.writer.Writer.point.Given as goal
 
 abbrev pub invariant-loop-rest : goal.invariant-loop-rest
-invariant-loop-rest l = IsCutTo l.moment l.payload l.rest (writing_in l.initial.self) (writing_in l.self) l.initial.pool l.pool
+invariant-loop-rest g l = IsCutTo g.W.Well.way l.moment l.payload l.rest (writing_in l.initial.self) (writing_in l.self) l.initial.well l.well
 
 abbrev pub decreases-loop-rest : goal.decreases-loop-rest
-decreases-loop-rest l = length l.rest
+decreases-loop-rest g l = length l.rest
