@@ -1,0 +1,172 @@
+-- One operation more: where the player stands when it has gone on, and what was taken then.
+use Rattle.std.proofs.Common.{◌≡◌, ℕ, ◌+◌, ◌<◌, ◌≤◌, false, List, [], ◌++◌, length, map, take, drop, sym, ap, subst, ◌∙◌, arith, append_assoc, length-append}
+use Rattle.std.proofs.lemmas.List.{append-nil, length-map, map-append, length-take-le, take-append-drop}
+use Rattle.std.specs.Prelude.{replicate}
+use Rattle.hs_base.specs.declared.ids.ClientId.{ClientId}
+use Rattle.hs_base.specs.declared.told.Crumb.{Crumb}
+use Rattle.hs_journal.specs.declared.journal.Draw.{Draw}
+use Rattle.hs_player.specs.Places.{IsAt, WentOn, done_behind}
+use Rattle.hs_player.specs.Playing.{Playing, Unleased}
+use Rattle.hs_records.specs.Pages.{pages_of}
+use Rattle.hs_records.specs.Plain.{Operation, PlainSettings}
+use Rattle.hs_records.specs.Records.{AreBracketed}
+use Rattle.hs_sent.specs.Draws.{count_started}
+use Rattle.hs_sent.specs.Drawn.{has_buffer, drawn_from, drawn_pages}
+use Rattle.hs_sent.specs.Laws.{TimedPagesAreThePages, TimedPagesAreTimely}
+use Rattle.hs_sent.specs.Sending.{sends_of, sent_chunks, sent_within}
+use Rattle.hs_sent.specs.SoFar.{FirstChunksAreSent, FirstOperationsSend, pages_within}
+use Rattle.hs_sent.specs.Timing.{TimedPage, timed_pages}
+use Rattle.hs_words.specs.Buffers.{buffer_of}
+use Rattle.hs_given.specs.declared.gathering.Gathering.{Gathering}
+use Rattle.hs_given.specs.declared.script.Script.{Script}
+use Rattle.hs_given.specs.Gathering.{HasChunks, IsSentBy, Where, WereChunks, AreChunks, WereCrumbs, AreCrumbs, WereTriggers, AreTriggers, count_within, starts_within}
+use Rattle.hs_given.specs.Scripts.{script_way}
+use Rattle.hs_given.proofs.Scripted.{size_stays, left_falls, kinds_are}
+use Rattle.hs_given.proofs.Starts.{started_short, starts_more}
+
+-- what is known of what clients send
+pub record Sends : Type 0 where
+  pub paged : TimedPagesAreThePages
+  pub timely : TimedPagesAreTimely
+  pub first : FirstOperationsSend
+  pub chunks : FirstChunksAreSent
+
+module _ (k : Sends) (settings : PlainSettings) (client : ClientId) (ops : List Operation) (draws : List Draw) (n : ℕ) (script : Script) (player : Playing) (g : Gathering)
+    (s : IsSentBy settings client ops draws n script player g) (low : n < length ops) where
+  abbrev size : ℕ
+  size = settings.size
+
+  bracketed : AreBracketed false ops
+  bracketed = s.at.playable.client.bracketed
+
+  -- as many pages are started as the client has in all, at most
+  started_few : (m : ℕ) → count_started size ops m ≤ length draws
+  started_few m =
+      let few = started_short m (timed_pages size ops) in
+      let all = sym (length-map (timed_pages size ops) (λ (p : TimedPage). p.page)) ∙ ap length (k.paged size ops bracketed) in
+      let each = s.each in
+      omega (arith, few, all, each)
+
+  -- what the first operations sent does not change by later draws
+  same_chunks : (more : List Draw) → sent_within n (sends_of settings client ops (s.drawn ++ more)).chunks ≡ sent_within n (sends_of settings client ops s.drawn).chunks
+  same_chunks more =
+      subst (λ (d : List Draw). sent_within n (sends_of settings client ops (s.drawn ++ more)).chunks ≡ sent_within n (sends_of settings client ops d).chunks) (append-nil s.drawn) (at_front more ∙ sym (at_front []))
+    where
+      front : List Operation
+      front = take n ops
+
+      rest : List Operation
+      rest = drop n ops
+
+      whole : front ++ rest ≡ ops
+      whole = take-append-drop n ops
+
+      long : length front ≡ n
+      long = length-take-le n ops (omega (arith, low))
+
+      same_bracketed : AreBracketed false (front ++ rest)
+      same_bracketed = subst (AreBracketed false) (sym whole) bracketed
+
+      drawn_long : length s.drawn ≡ length (pages_of size front)
+      drawn_long = s.at.each ∙ ap (λ m. count_started size ops m) (sym long) ∙ ap (λ (all : List Operation). count_started size all (length front)) (sym whole) ∙ (k.first size front rest s.at.playable.least same_bracketed).started
+
+      at_front : (more : List Draw) → sent_within n (sent_chunks (drawn_pages size client ops (s.drawn ++ more))) ≡ sent_chunks (drawn_from client 0 (pages_within (length front) (timed_pages size (front ++ rest))) s.drawn)
+      at_front more =
+          ap (λ m. sent_within m (sent_chunks (drawn_pages size client ops (s.drawn ++ more)))) (sym long) ∙ ap (λ (all : List Operation). sent_within (length front) (sent_chunks (drawn_pages size client all (s.drawn ++ more)))) (sym whole)
+          ∙ k.chunks size client front rest s.drawn more s.at.playable.least same_bracketed drawn_long
+
+  module _ (script' : Script) (player' : Playing)
+      (went :
+      WentOn script_way settings client ops s.drawn (done_behind 1 n ops) (count_within n (sends_of settings client ops s.drawn).chunks) (count_within n (sends_of settings client ops s.drawn).crumbs)
+      (count_within n (sends_of settings client ops s.drawn).triggers) script player' script') where
+    abbrev drawn : List Draw
+    drawn = s.drawn ++ went.more
+
+    here : done_behind 1 n ops ≡ n + 1
+    here = omega (arith, low)
+
+    pub at_here :
+        IsAt settings client ops drawn (n + 1) (count_within n (sends_of settings client ops drawn).chunks) (count_within n (sends_of settings client ops drawn).crumbs)
+        (count_within n (sends_of settings client ops drawn).triggers) player'
+    at_here =
+        subst (λ c. IsAt settings client ops drawn (n + 1) c (count_within n (sends_of settings client ops drawn).crumbs) (count_within n (sends_of settings client ops drawn).triggers) player') (sym (ap length (same_chunks went.more)))
+        (subst (λ d. IsAt settings client ops drawn d (count_within n (sends_of settings client ops s.drawn).chunks) (count_within n (sends_of settings client ops drawn).crumbs) (count_within n (sends_of settings client ops drawn).triggers) player') here went.at)
+
+    -- ---- the three queues
+
+    abbrev pub first : Where
+    first = record { settings = settings; client = client; ops = ops; drawn = drawn; others = (count_within n (sends_of settings client ops drawn).crumbs, count_within n (sends_of settings client ops drawn).triggers) }
+
+    pub were_chunks : WereChunks first n player' (map buffer_of g.chunks.items) g.found.chunks.items
+    were_chunks = record { at = at_here; holds = subst (λ items. HasChunks size items (map buffer_of g.chunks.items) g.found.chunks.items) (sym (same_chunks went.more)) s.chunks }
+
+    abbrev pub second : Where
+    second = record { settings = settings; client = client; ops = ops; drawn = drawn; others = (count_within (n + 1) (sends_of settings client ops drawn).chunks, count_within n (sends_of settings client ops drawn).triggers) }
+
+    abbrev pub third : Where
+    third = record { settings = settings; client = client; ops = ops; drawn = drawn; others = (count_within (n + 1) (sends_of settings client ops drawn).chunks, count_within (n + 1) (sends_of settings client ops drawn).crumbs) }
+
+    module _ (player1 : Playing) (buffers : List Unleased) (numbers : List ℕ) (chunks : AreChunks first n player1 buffers numbers) where
+      pub were_crumbs : WereCrumbs second n player1 g.crumbs.items g.found.crumbs.items
+      were_crumbs = record { at = chunks.at; holds = s.crumbs }
+
+      module _ (player2 : Playing) (crumbs : List Crumb) (crumb_numbers : List ℕ) (took : AreCrumbs second n player2 crumbs crumb_numbers) where
+        pub were_triggers : WereTriggers third n player2 g.triggers.items g.found.triggers.items
+        were_triggers = record { at = took.at; holds = s.triggers }
+
+    -- ---- the pages that were started
+
+    pub fewer : length script'.left.items ≤ length script.left.items
+    fewer = left_falls went.more script script' went.draws
+
+    drawn_long : length s.drawn + length went.more ≡ count_started size ops (n + 1)
+    drawn_long = sym (length-append s.drawn went.more) ∙ at_here.each
+
+    left_long : length s.drawn + length script.left.items ≡ length draws
+    left_long =
+        let both = length-append (map has_buffer s.drawn) (map has_buffer script.left.items) in
+        let kinds = ap length s.kinds in
+        let x = length-map s.drawn has_buffer in
+        let y = length-map script.left.items has_buffer in
+        let z = length-map draws has_buffer in
+        omega (arith, both, kinds, x, y, z)
+
+    few : length went.more ≤ length script.left.items
+    few = let most = started_few (n + 1) in let a = drawn_long in let b = left_long in omega (arith, most, a, b)
+
+    kinds_left : map has_buffer went.more ++ map has_buffer script'.left.items ≡ map has_buffer script.left.items
+    kinds_left = kinds_are went.more script script' went.draws few
+
+    pub kinds : map has_buffer drawn ++ map has_buffer script'.left.items ≡ map has_buffer draws
+    kinds =
+        ap (λ l. l ++ map has_buffer script'.left.items) (map-append has_buffer s.drawn went.more) ∙ append_assoc (map has_buffer s.drawn) (map has_buffer went.more) (map has_buffer script'.left.items)
+        ∙ ap (λ l. map has_buffer s.drawn ++ l) kinds_left ∙ s.kinds
+
+    pub starts_here : (started : List ℕ) (count : ℕ) → count + length script'.left.items ≡ length script.left.items → started ≡ g.found.started.items ++ replicate count n → started ≡ starts_within (n + 1) (timed_pages size ops)
+    starts_here started count count_is is =
+        let both = length-append (map has_buffer went.more) (map has_buffer script'.left.items) in
+        let kinds = ap length kinds_left in
+        let x = length-map went.more has_buffer in
+        let y = length-map script'.left.items has_buffer in
+        let z = length-map script.left.items has_buffer in
+        let before = s.at.each in
+        let after = drawn_long in
+        let more : count_started size ops (n + 1) ≡ count_started size ops n + count = omega (arith, both, kinds, x, y, z, before, after, count_is) in
+        is ∙ ap (λ (l : List ℕ). l ++ replicate count n) s.started ∙ sym (starts_more n 0 (length ops) (timed_pages size ops) count (k.timely size ops s.at.playable.least bracketed) more)
+
+    -- ---- all of it
+
+    pub sent_by : (player1 : Playing) (g' : Gathering) → AreChunks first n player1 (map buffer_of g'.chunks.items) g'.found.chunks.items → (player2 : Playing) → AreCrumbs second n player2 g'.crumbs.items g'.found.crumbs.items
+        → (player3 : Playing) → AreTriggers third n player3 g'.triggers.items g'.found.triggers.items → g'.found.started.items ≡ starts_within (n + 1) (timed_pages size ops) → IsSentBy settings client ops draws (n + 1) script' player3 g'
+    sent_by player1 g' chunks player2 crumbs player3 triggers starts =
+        record {
+          each = s.each;
+          drawn = drawn;
+          kinds = kinds;
+          size_is = size_stays went.more script script' went.draws ∙ s.size_is;
+          at = triggers.at;
+          chunks = chunks.holds;
+          crumbs = crumbs.holds;
+          triggers = triggers.holds;
+          started = starts;
+        }

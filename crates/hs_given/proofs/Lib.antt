@@ -1,0 +1,7 @@
+pub mod Queues
+pub mod Taking
+pub mod Scripted
+pub mod Starts
+pub mod Going
+pub mod Whole
+pub mod Beginning
