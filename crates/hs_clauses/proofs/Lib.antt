@@ -8,3 +8,5 @@ pub mod Queues
 pub mod PassFronts
 pub mod Whole
 pub mod Walked
+pub mod Knowing
+pub mod Bared

@@ -66,3 +66,11 @@ one_fails p n i less fails =
 
 pub each_holds : (p : ℕ → Bool) (n i : ℕ) → list_all p (range_with_len 0 n) ≡ true → i < n → p i ≡ true
 each_holds p n i all less = true_from_ne_false (p i) (λ fails. true≢false (sym all ∙ one_fails p n i less fails))
+
+-- a test of what stands at a place of a list that no code holds
+module _ {A : Type 0} (f : A → Bool) (whole : Bool) (xs : List A) (i : ℕ) where
+  pub step_more : (x : A) → drop i xs ≡ x ∷ drop (i + 1) xs → f x ≡ true → list_all f (drop i xs) ≡ whole → list_all f (drop (i + 1) xs) ≡ whole
+  step_more x here passes e = sym (ap (λ b. b && list_all f (drop (i + 1) xs)) passes) ∙ sym (ap (list_all f) here) ∙ e
+
+  pub step_fails : (x : A) → drop i xs ≡ x ∷ drop (i + 1) xs → f x ≡ false → list_all f (drop i xs) ≡ whole → false ≡ whole
+  step_fails x here fails e = sym (ap (λ b. b && list_all f (drop (i + 1) xs)) fails) ∙ sym (ap (list_all f) here) ∙ e

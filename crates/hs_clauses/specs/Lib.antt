@@ -3,3 +3,4 @@ pub mod Finding
 pub mod Rounds
 pub mod Rising
 pub mod Walking
+pub mod Sources

@@ -2,6 +2,7 @@
 //! journal").
 #![tactic(auto)]
 
+mod bare;
 mod counting;
 mod found;
 mod pages;
@@ -9,8 +10,10 @@ mod passes;
 mod rising;
 mod rounds;
 mod shape;
+mod sources;
 mod stamps;
 
+pub use bare::is_bare;
 pub use found::{Found, FoundClient, FoundNode, FoundPage};
 pub use passes::has_passes;
 pub use rounds::has_rounds;
