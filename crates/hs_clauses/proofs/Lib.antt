@@ -10,3 +10,4 @@ pub mod Whole
 pub mod Walked
 pub mod Knowing
 pub mod Bared
+pub mod Offered

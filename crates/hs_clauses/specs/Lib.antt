@@ -4,3 +4,4 @@ pub mod Rounds
 pub mod Rising
 pub mod Walking
 pub mod Sources
+pub mod Offering

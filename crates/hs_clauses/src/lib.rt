@@ -5,6 +5,7 @@
 mod bare;
 mod counting;
 mod found;
+mod offers;
 mod pages;
 mod passes;
 mod rising;
@@ -15,6 +16,7 @@ mod stamps;
 
 pub use bare::is_bare;
 pub use found::{Found, FoundClient, FoundNode, FoundPage};
+pub use offers::has_offers;
 pub use passes::has_passes;
 pub use rounds::has_rounds;
 pub use shape::has_shape;
