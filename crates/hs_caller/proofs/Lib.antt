@@ -6,3 +6,6 @@ mod Sending
 mod Meeting
 mod Closing
 mod Beginning
+mod Clients
+mod Connecting
+mod Parting

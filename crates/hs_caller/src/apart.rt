@@ -1,0 +1,55 @@
+//! What the clients of a node leave when all their operations are done.
+
+ghost use Rattle.std.specs.Prelude.{◌≡◌, map, IfOk};
+ghost use Rattle.std.specs.List.{AllByRecursion};
+ghost use Rattle.hs_journal.specs.Books.{client_book_of};
+ghost use Rattle.hs_live.specs.Live.{outgoing};
+ghost use Rattle.hs_caller.specs.Calling.{Calling};
+ghost use Rattle.hs_caller.specs.Nodes.{AreNotes};
+ghost use Rattle.hs_caller.specs.Standing.{IsDone};
+
+use crate::caller::Caller;
+use hs_base::{Crumb, List, Memory, Trigger};
+use hs_journal::ClientBook;
+use hs_link::Sender;
+use hs_live::ClientKey;
+use hs_ring::{Drawer, Lease};
+use hs_words::Held;
+use std::alloc::Global;
+
+/// What clients noted, and their ends, each by the place of its client.
+#[derive(Drop)]
+pub struct Apart {
+    pub books: List<ClientBook>,
+    pub drawers: List<Drawer>,
+    pub chunks: List<Sender<Held<Lease>, ClientKey>>,
+    pub crumbs: List<Sender<Crumb, ClientKey>>,
+    pub triggers: List<Sender<Trigger, ClientKey>>,
+}
+
+/// Takes clients apart that have done all their operations.
+pub fn take_apart(alloc: Global, callers: List<Caller>) -> Result<Apart, Memory>
+    requires { AllByRecursion IsDone callers.items }
+    ensures books { IfOk result (λ apart. AreNotes callers.items (map client_book_of apart.books.items)) }
+    ensures drawers { IfOk result (λ apart. apart.drawers.items ≡ map (λ (c : Calling). c.client.drawer) callers.items) }
+    ensures chunks { IfOk result (λ apart. map outgoing apart.chunks.items ≡ map (λ (c : Calling). c.client.chunks) callers.items) }
+    ensures crumbs { IfOk result (λ apart. apart.crumbs.items ≡ map (λ (c : Calling). c.client.crumbs) callers.items) }
+    ensures triggers { IfOk result (λ apart. apart.triggers.items ≡ map (λ (c : Calling). c.client.triggers) callers.items) }
+{
+    let mut apart = Apart {
+        books: List::new(alloc),
+        drawers: List::new(alloc),
+        chunks: List::new(alloc),
+        crumbs: List::new(alloc),
+        triggers: List::new(alloc),
+    };
+    for caller in callers.into_vec() {
+        let closed = caller.close();
+        apart.books.append(closed.book)?;
+        apart.drawers.append(closed.drawer)?;
+        apart.chunks.append(closed.chunks)?;
+        apart.crumbs.append(closed.crumbs)?;
+        apart.triggers.append(closed.triggers)?;
+    }
+    Ok(apart)
+}
