@@ -11,3 +11,8 @@ pub mod Walked
 pub mod Knowing
 pub mod Bared
 pub mod Offered
+pub mod PoolEvents
+pub mod Replayed
+pub mod Histories
+pub mod NodeEvents
+pub mod Pooling

@@ -108,7 +108,7 @@ clients_match clients a (suc count) few =
     subst (λ k. Match clients (flat_map client_queues (range_with_len a (suc count))) (range_with_len (3 * a) k)) (sym three)
     (takes_chunk clients a low, (takes_crumb clients a low, ((λ step. takes_trigger clients a low step ∙ ap (λ k. eqb (place clients step) k) (sym two)), later)))
 
-range_parts : (start a b : ℕ) → range_with_len start (a + b) ≡ range_with_len start a ++ range_with_len (start + a) b
+pub range_parts : (start a b : ℕ) → range_with_len start (a + b) ≡ range_with_len start a ++ range_with_len (start + a) b
 range_parts start zero b = let none : zero + b ≡ b = omega arith in let same : start ≡ start + 0 = omega arith in ap (range_with_len start) none ∙ ap (λ s. range_with_len s b) same
 range_parts start (suc a) b =
     let more : suc a + b ≡ suc (a + b) = omega arith in

@@ -1,9 +1,10 @@
 -- Items put in order by a number: all of the first number, all of the next, and so on. A list that is in order stays as it is.
-use Rattle.std.proofs.Common.{◌≡◌, ℕ, zero, suc, ◌+◌, ◌<◌, ◌≤◌, Bool, true, false, cond, eqb, List, [], ◌∷◌, ◌++◌, refl, sym, ap, ◌∙◌, subst, inl, inr, arith}
+use Rattle.std.proofs.Common.{◌≡◌, ℕ, zero, suc, ◌+◌, ◌<◌, ◌≤◌, Bool, true, false, cond, eqb, ltb, List, [], ◌∷◌, ◌++◌, length, map, get_or, refl, sym, ap, ◌∙◌, subst, inl, inr, arith}
 use Rattle.std.specs.Prelude.{filter}
-use Rattle.std.proofs.lemmas.List.{append-nil}
+use Rattle.std.specs.List.Sorted.{IsNonDecreasingBy}
+use Rattle.std.proofs.lemmas.List.{append-nil, map-append}
 use Rattle.std.specs.List.{AllByRecursion, range_with_len, flat_map}
-use Rattle.std.proofs.lemmas.Bool.{eqb-true, eq-eqb, ne_eqb, cases_eq, cases_Bool}
+use Rattle.std.proofs.lemmas.Bool.{eqb-true, eq-eqb, ne_eqb, cases_eq, cases_Bool, ltb-true, ltb-false}
 
 -- ---- facts of all items
 
@@ -142,3 +143,57 @@ module _ {A : Type 0} (key : A → ℕ) where
       (All-weaker (λ x. key x ≡ a) (λ x. key x ≤ a) (bucket a xs) (λ x h. omega (arith, h)) (all_here a xs))
       (buckets_are_sorted (a + 1) m xs)
       (All-weaker (λ x. (a + 1 ≤ key x) × (key x < (a + 1) + m)) (λ x. a ≤ key x) (buckets (a + 1) m xs) (λ x h. omega (arith, h.0)) (buckets_are_within (a + 1) m xs))
+
+  -- ---- what is sorted, cut at a number
+
+  beyond : (a m : ℕ) (x : A) (ys : List A) → a + m ≤ key x → buckets a m (x ∷ ys) ≡ buckets a m ys
+  beyond a zero x ys high = refl
+  beyond a (suc m) x ys high =
+      ap (λ (l : List A). l ++ buckets (a + 1) m (x ∷ ys)) (not_in a x ys (λ e. omega (arith, e))) ∙ ap (λ (l : List A). bucket a ys ++ l) (beyond (a + 1) m x ys (omega arith))
+
+  -- what is in order and below a number
+  pub sorted_cut : (n : ℕ) (xs : List A) → Sorted xs → buckets 0 n xs ≡ filter (λ x. ltb (key x) n) xs
+  sorted_cut n [] s = nil_buckets 0 n
+  sorted_cut n (x ∷ xs) s =
+      elim (cases_Bool (ltb (key x) n)) [
+        | inl low ↦
+            first_stays 0 n x xs (omega arith) (omega (arith, ltb-true (key x) n low)) s.0 ∙ ap (λ (l : List A). x ∷ l) (sorted_cut n xs s.1)
+            ∙ sym (ap (λ b. cond b (x ∷ filter (λ y. ltb (key y) n) xs) (filter (λ y. ltb (key y) n) xs)) low)
+        | inr high ↦
+            beyond 0 n x xs (omega (arith, ltb-false (key x) n high)) ∙ sorted_cut n xs s.1
+            ∙ sym (ap (λ b. cond b (x ∷ filter (λ y. ltb (key y) n) xs) (filter (λ y. ltb (key y) n) xs)) high)
+      ]
+
+  same_buckets : (a m : ℕ) (xs ys : List A) → ((s : ℕ) → bucket s xs ≡ bucket s ys) → buckets a m xs ≡ buckets a m ys
+  same_buckets a zero xs ys same = refl
+  same_buckets a (suc m) xs ys same = ap (λ (l : List A). l ++ buckets (a + 1) m xs) (same a) ∙ ap (λ (l : List A). bucket a ys ++ l) (same_buckets (a + 1) m xs ys same)
+
+  all_by_index : (P : A → Type 0) (xs : List A) → ((k : ℕ) (d : A) → k < length xs → P (get_or xs k d)) → AllByRecursion P xs
+  all_by_index P [] h = tt
+  all_by_index P (x ∷ xs) h = (h 0 x (omega arith), all_by_index P xs (λ k d less. h (suc k) d (omega arith)))
+
+  pub sorted_from : (xs : List A) → IsNonDecreasingBy key xs → Sorted xs
+  sorted_from [] rises = tt
+  sorted_from (x ∷ xs) rises =
+      (all_by_index (λ y. key x ≤ key y) xs (λ k d less. rises 0 (suc k) d (omega arith) (omega arith)), sorted_from xs (λ i j d le less. rises (suc i) (suc j) d (omega arith) (omega arith)))
+
+  -- a stable sort puts all in order
+  pub put_in_order : (n : ℕ) (xs ys : List A) → IsNonDecreasingBy key ys → ((s : ℕ) → bucket s ys ≡ bucket s xs) → buckets 0 n xs ≡ filter (λ y. ltb (key y) n) ys
+  put_in_order n xs ys rises same = same_buckets 0 n xs ys (λ s. sym (same s)) ∙ sorted_cut n ys (sorted_from ys rises)
+
+-- numbers of what is mapped
+module _ {A B : Type 0} (f : A → B) (key : B → ℕ) where
+  filter-map : (p : B → Bool) (xs : List A) → filter p (map f xs) ≡ map f (filter (λ x. p (f x)) xs)
+  filter-map p [] = refl
+  filter-map p (x ∷ xs) = at (p (f x)) (filter-map p xs)
+    where
+      at : (b : Bool) → filter p (map f xs) ≡ map f (filter (λ y. p (f y)) xs) → cond b (f x ∷ filter p (map f xs)) (filter p (map f xs)) ≡ map f (cond b (x ∷ filter (λ y. p (f y)) xs) (filter (λ y. p (f y)) xs))
+      at true e = ap (λ (l : List B). f x ∷ l) e
+      at false e = e
+
+  pub buckets-map : (a m : ℕ) (xs : List A) → buckets key a m (map f xs) ≡ map f (buckets (λ x. key (f x)) a m xs)
+  buckets-map a zero xs = refl
+  buckets-map a (suc m) xs =
+      ap (λ (l : List B). l ++ buckets key (a + 1) m (map f xs)) (filter-map (λ y. eqb (key y) a) xs)
+      ∙ ap (λ (l : List B). map f (filter (λ x. eqb (key (f x)) a) xs) ++ l) (buckets-map (a + 1) m xs)
+      ∙ sym (map-append f (filter (λ x. eqb (key (f x)) a) xs) (buckets (λ x. key (f x)) (a + 1) m xs))

@@ -5,3 +5,5 @@ pub mod Rising
 pub mod Walking
 pub mod Sources
 pub mod Offering
+pub mod Happening
+pub mod Replaying

@@ -5,9 +5,13 @@
 mod bare;
 mod counting;
 mod found;
+mod happened;
+mod history;
 mod offers;
+mod ordered;
 mod pages;
 mod passes;
+mod replay;
 mod rising;
 mod rounds;
 mod shape;
@@ -16,6 +20,7 @@ mod stamps;
 
 pub use bare::is_bare;
 pub use found::{Found, FoundClient, FoundNode, FoundPage};
+pub use history::has_history;
 pub use offers::has_offers;
 pub use passes::has_passes;
 pub use rounds::has_rounds;
