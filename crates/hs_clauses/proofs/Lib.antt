@@ -16,3 +16,5 @@ pub mod Replayed
 pub mod Histories
 pub mod NodeEvents
 pub mod Pooling
+pub mod Answered
+pub mod Answering

@@ -6,6 +6,7 @@ use Rattle.std.specs.Option.{option_and_then, option_to_list}
 use Rattle.std.proofs.lemmas.List.{length-map, map-append}
 use Rattle.hs_base.specs.declared.ids.ClientId.{ClientId}
 use Rattle.hs_journal.specs.declared.journal.Draw.{Draw}
+use Rattle.hs_journal.specs.declared.journal.Draw.TheVariants as draws
 use Rattle.hs_journal.specs.declared.journal.Step.{Step}
 use Rattle.hs_journal.specs.declared.journal.Step.TheVariants as steps
 use Rattle.hs_journal.specs.Views.{PlainJournal}
@@ -14,6 +15,7 @@ use Rattle.hs_model.specs.State.{GivenPlace}
 use Rattle.hs_records.specs.Plain.{PlainWorkload}
 use Rattle.hs_sent.specs.Drawn.{DrawnPage, stamp_of, drawn_pages}
 use Rattle.hs_sent.specs.Drawn as sent
+use Rattle.hs_sent.specs.Draws.{event_drawn}
 use Rattle.hs_sent.specs.Sending.{ClientSends, draws_at, place_of, client_sends, node_sends}
 use Rattle.hs_sent.specs.Timing.{TimedPage}
 use Rattle.hs_words.specs.PoolHistory as events
@@ -23,8 +25,9 @@ use Rattle.hs_lawful.specs.Pooled.{PoolEvent, drawn_event, node_pages, page_of, 
 use Rattle.hs_clauses.specs.declared.found.FoundClient.{FoundClient}
 use Rattle.hs_clauses.specs.declared.found.FoundNode.{FoundNode}
 use Rattle.hs_clauses.specs.declared.found.FoundPage.{FoundPage}
+use Rattle.hs_clauses.specs.declared.happened.Timed.{Timed}
 use Rattle.hs_clauses.specs.Finding.{AreFound, IsFoundClient, named, given_name, starts_of}
-use Rattle.hs_clauses.specs.Happening.{event_of_draw, draw_at, drawn_from, event_of_give, give_events, node_events}
+use Rattle.hs_clauses.specs.Happening.{pool_event, timed_draw, timed_miss, timed_give, timed_gives, node_timed, draw_at, drawn_from}
 use Rattle.hs_clauses.proofs.Knowing.{KnownAt}
 
 -- ---- draws
@@ -61,7 +64,7 @@ lists_from W J node a (suc m) (c ∷ clients) all =
 -- ---- gives
 
 module _ (run : NodeRun) where
-  page_draw : (sends : List ClientSends) (client page : ℕ)
+  pub page_draw : (sends : List ClientSends) (client page : ℕ)
       → option_and_then (λ (draws : List Draw). slice_get draws page) (slice_get (drawn_lists sends) client)
       ≡ option_map (λ (d : DrawnPage). d.draw) (option_and_then (λ (s : ClientSends). slice_get s.drawn page) (slice_get sends client))
   page_draw [] client page = refl
@@ -86,15 +89,23 @@ module _ (run : NodeRun) where
       mapped (Some d) = refl
       mapped None = refl
 
-  given_same : (given : GivenPlace) (page : FoundPage) → given_name run given ≡ Some page → given_event run given ≡ event_of_give given.stamp (draw_at (drawn_lists run.sends) page)
-  given_same given page e = ap (option_map (λ buffer. record { stamp = given.stamp; event = events.Given buffer })) (named_buffer (slice_get run.state.taken given.place) page e)
+  -- what a page's draw makes of a give
+  give_is : (stamp : ℕ) (draw : Option Draw) → option_map pool_event (timed_give stamp draw) ≡ option_map (λ buffer. record { stamp = stamp; event = events.Given buffer }) (option_and_then buffer_of draw)
+  give_is stamp (Some (draws.Got buffer drawn)) = refl
+  give_is stamp (Some (draws.Empty drawn)) = refl
+  give_is stamp None = refl
 
-  listed : {A : Type 0} (o : Option A) (rest : List A) → option_to_list o ++ rest ≡ cons_option o rest
+  given_same : (given : GivenPlace) (page : FoundPage) → given_name run given ≡ Some page → given_event run given ≡ option_map pool_event (timed_give given.stamp (draw_at (drawn_lists run.sends) page))
+  given_same given page e =
+      ap (option_map (λ buffer. record { stamp = given.stamp; event = events.Given buffer })) (named_buffer (slice_get run.state.taken given.place) page e)
+      ∙ sym (give_is given.stamp (draw_at (drawn_lists run.sends) page))
+
+  listed : (o : Option Timed) (rest : List Timed) → map pool_event (option_to_list o ++ rest) ≡ cons_option (option_map pool_event o) (map pool_event rest)
   listed (Some x) rest = refl
   listed None rest = refl
 
   gives_are : (log : List Step) (given : List GivenPlace) (pages : List FoundPage) → map (λ (g : GivenPlace). g.stamp) given ≡ filter_map given_stamp log → map (given_name run) given ≡ map (λ page. Some page) pages
-      → give_events (drawn_lists run.sends) log pages ≡ filter_map (given_event run) given
+      → map pool_event (timed_gives (drawn_lists run.sends) log pages) ≡ filter_map (given_event run) given
   gives_are [] [] pages noted names = refl
   gives_are [] (g ∷ given) pages noted names = let none : length (g ∷ given) ≡ 0 = sym (length-map (g ∷ given) (λ (g : GivenPlace). g.stamp)) ∙ ap length noted in absurd (omega (arith, none))
   gives_are (steps.Given stamp ∷ log) [] pages noted names = let none = ap length noted in absurd (omega (arith, none))
@@ -104,37 +115,54 @@ module _ (run : NodeRun) where
       let rest : map (λ (x : GivenPlace). x.stamp) given ≡ filter_map given_stamp log = cc in
       let name : given_name run g ≡ Some page = cc in
       let others : map (given_name run) given ≡ map (λ page. Some page) pages = cc in
-      listed (event_of_give stamp (draw_at (drawn_lists run.sends) page)) (give_events (drawn_lists run.sends) log pages)
-      ∙ ap (cons_option (event_of_give stamp (draw_at (drawn_lists run.sends) page))) (gives_are log given pages rest others)
-      ∙ ap (λ (s : ℕ). cons_option (event_of_give s (draw_at (drawn_lists run.sends) page)) (filter_map (given_event run) given)) (sym stamps)
+      listed (timed_give stamp (draw_at (drawn_lists run.sends) page)) (timed_gives (drawn_lists run.sends) log pages)
+      ∙ ap (cons_option (option_map pool_event (timed_give stamp (draw_at (drawn_lists run.sends) page)))) (gives_are log given pages rest others)
+      ∙ ap (λ (s : ℕ). cons_option (option_map pool_event (timed_give s (draw_at (drawn_lists run.sends) page))) (filter_map (given_event run) given)) (sym stamps)
       ∙ ap (λ (o : Option PoolEvent). cons_option o (filter_map (given_event run) given)) (sym (given_same g page name))
   gives_are (steps.Chunk c ∷ log) (g ∷ given) pages noted names = gives_are log (g ∷ given) pages noted names
-  gives_are (steps.Crumb c ∷ log) (g ∷ given) pages noted names = gives_are log (g ∷ given) pages noted names
-  gives_are (steps.Trigger c ∷ log) (g ∷ given) pages noted names = gives_are log (g ∷ given) pages noted names
-  gives_are (steps.Ask ∷ log) (g ∷ given) pages noted names = gives_are log (g ∷ given) pages noted names
-  gives_are (steps.Turn ∷ log) (g ∷ given) pages noted names = gives_are log (g ∷ given) pages noted names
-  gives_are (steps.Missed s ∷ log) (g ∷ given) pages noted names = gives_are log (g ∷ given) pages noted names
-  gives_are (steps.Unread ∷ log) (g ∷ given) pages noted names = gives_are log (g ∷ given) pages noted names
   gives_are (steps.Chunk c ∷ log) [] pages noted names = gives_are log [] pages noted names
+  gives_are (steps.Crumb c ∷ log) (g ∷ given) pages noted names = gives_are log (g ∷ given) pages noted names
   gives_are (steps.Crumb c ∷ log) [] pages noted names = gives_are log [] pages noted names
+  gives_are (steps.Trigger c ∷ log) (g ∷ given) pages noted names = gives_are log (g ∷ given) pages noted names
   gives_are (steps.Trigger c ∷ log) [] pages noted names = gives_are log [] pages noted names
+  gives_are (steps.Ask ∷ log) (g ∷ given) pages noted names = gives_are log (g ∷ given) pages noted names
   gives_are (steps.Ask ∷ log) [] pages noted names = gives_are log [] pages noted names
+  gives_are (steps.Turn ∷ log) (g ∷ given) pages noted names = gives_are log (g ∷ given) pages noted names
   gives_are (steps.Turn ∷ log) [] pages noted names = gives_are log [] pages noted names
+  gives_are (steps.Missed s ∷ log) (g ∷ given) pages noted names = gives_are log (g ∷ given) pages noted names
   gives_are (steps.Missed s ∷ log) [] pages noted names = gives_are log [] pages noted names
+  gives_are (steps.Unread ∷ log) (g ∷ given) pages noted names = gives_are log (g ∷ given) pages noted names
   gives_are (steps.Unread ∷ log) [] pages noted names = gives_are log [] pages noted names
 
-  -- ---- draws as events
+  -- ---- draws and misses as events
 
-  drawn_are : (sends : List ClientSends) → flat_map (map event_of_draw) (drawn_lists sends) ≡ map drawn_event (flat_map (λ (s : ClientSends). s.drawn) sends)
+  drawn_is : (draw : Draw) → pool_event (timed_draw draw) ≡ record { stamp = stamp_of draw; event = event_drawn draw }
+  drawn_is (draws.Got buffer stamp) = refl
+  drawn_is (draws.Empty stamp) = refl
+
+  drawn_are : (sends : List ClientSends) → map pool_event (flat_map (map timed_draw) (drawn_lists sends)) ≡ map drawn_event (flat_map (λ (s : ClientSends). s.drawn) sends)
   drawn_are [] = refl
   drawn_are (s ∷ sends) =
-      ap (λ (l : List PoolEvent). l ++ flat_map (map event_of_draw) (drawn_lists sends)) (mapped s.drawn)
+      map-append pool_event (map timed_draw (map (λ (d : DrawnPage). d.draw) s.drawn)) (flat_map (map timed_draw) (drawn_lists sends))
+      ∙ ap (λ (l : List PoolEvent). l ++ map pool_event (flat_map (map timed_draw) (drawn_lists sends))) (mapped s.drawn drawn_is)
       ∙ ap (λ (l : List PoolEvent). map drawn_event s.drawn ++ l) (drawn_are sends)
       ∙ sym (map-append drawn_event s.drawn (flat_map (λ (s : ClientSends). s.drawn) sends))
     where
-      mapped : (pages : List DrawnPage) → map event_of_draw (map (λ (d : DrawnPage). d.draw) pages) ≡ map drawn_event pages
-      mapped [] = refl
-      mapped (d ∷ pages) = ap (λ (l : List PoolEvent). drawn_event d ∷ l) (mapped pages)
+      mapped : (pages : List DrawnPage) → ((draw : Draw) → pool_event (timed_draw draw) ≡ record { stamp = stamp_of draw; event = event_drawn draw })
+          → map pool_event (map timed_draw (map (λ (d : DrawnPage). d.draw) pages)) ≡ map drawn_event pages
+      mapped [] is = refl
+      mapped (d ∷ pages) is = ap (λ (e : PoolEvent). e ∷ map pool_event (map timed_draw (map (λ (d : DrawnPage). d.draw) pages))) (is d.draw) ∙ ap (λ (l : List PoolEvent). drawn_event d ∷ l) (mapped pages is)
+
+  missed_are : (log : List Step) → map pool_event (filter_map timed_miss log) ≡ filter_map missed_event log
+  missed_are [] = refl
+  missed_are (steps.Missed s ∷ log) = ap (λ (l : List PoolEvent). record { stamp = s; event = events.Missed } ∷ l) (missed_are log)
+  missed_are (steps.Chunk c ∷ log) = missed_are log
+  missed_are (steps.Crumb c ∷ log) = missed_are log
+  missed_are (steps.Trigger c ∷ log) = missed_are log
+  missed_are (steps.Ask ∷ log) = missed_are log
+  missed_are (steps.Turn ∷ log) = missed_are log
+  missed_are (steps.Given s ∷ log) = missed_are log
+  missed_are (steps.Unread ∷ log) = missed_are log
 
 -- ---- a followed node
 
@@ -146,10 +174,15 @@ lists_are W J i f k =
     ∙ sym (ap drawn_lists k.sends)
 
 pub events_are : (W : PlainWorkload) (J : PlainJournal) (i : ℕ) (f : FoundNode) (k : KnownAt W J i f) → map (λ (g : GivenPlace). g.stamp) k.run.state.given ≡ filter_map given_stamp k.run.state.log
-    → node_events (drawn_from J (i * W.settings.clients) f.clients.items) (log_at J i) f.gives.items ≡ pool_events k.run
+    → map pool_event (node_timed (drawn_from J (i * W.settings.clients) f.clients.items) (log_at J i) f.gives.items) ≡ pool_events k.run
 events_are W J i f k noted =
     let run = k.run in
-    ap (λ (l : List (List Draw)). node_events l (log_at J i) f.gives.items) (lists_are W J i f k)
-    ∙ sym (ap (λ (l : List Step). node_events (drawn_lists run.sends) l f.gives.items) k.log)
-    ∙ ap (λ (l : List PoolEvent). flat_map (map event_of_draw) (drawn_lists run.sends) ++ l ++ filter_map missed_event run.state.log) (gives_are run run.state.log run.state.given f.gives.items noted k.is.gives)
-    ∙ ap (λ (l : List PoolEvent). l ++ filter_map (given_event run) run.state.given ++ filter_map missed_event run.state.log) (drawn_are run run.sends)
+    let lists = drawn_lists run.sends in
+    let log = run.state.log in
+    ap (λ (l : List (List Draw)). map pool_event (node_timed l (log_at J i) f.gives.items)) (lists_are W J i f k)
+    ∙ sym (ap (λ (l : List Step). map pool_event (node_timed lists l f.gives.items)) k.log)
+    ∙ map-append pool_event (flat_map (map timed_draw) lists ++ timed_gives lists log f.gives.items) (filter_map timed_miss log)
+    ∙ ap (λ (l : List PoolEvent). l ++ map pool_event (filter_map timed_miss log)) (map-append pool_event (flat_map (map timed_draw) lists) (timed_gives lists log f.gives.items))
+    ∙ ap (λ (l : List PoolEvent). map pool_event (flat_map (map timed_draw) lists) ++ map pool_event (timed_gives lists log f.gives.items) ++ l) (missed_are run log)
+    ∙ ap (λ (l : List PoolEvent). map pool_event (flat_map (map timed_draw) lists) ++ l ++ filter_map missed_event log) (gives_are run log run.state.given f.gives.items noted k.is.gives)
+    ∙ ap (λ (l : List PoolEvent). l ++ filter_map (given_event run) run.state.given ++ filter_map missed_event log) (drawn_are run run.sends)

@@ -2,7 +2,7 @@
 use Rattle.std.proofs.Common.{◌≡◌, ℕ, zero, suc, ◌+◌, ◌<◌, ◌≤◌, Bool, true, false, cond, eqb, ltb, List, [], ◌∷◌, length, get_or, set, take, refl, sym, ap, ◌∙◌, inl, inr, arith}
 use Rattle.std.specs.Prelude.{count_by}
 use Rattle.std.specs.List.{range_with_len, list_all}
-use Rattle.std.proofs.lemmas.Bool.{eqb-true, eq-eqb, ne_eqb, cases_eq, false_from_ne_true, true≢false, lt-ltb, le-ltb}
+use Rattle.std.proofs.lemmas.Bool.{eqb-true, eq-eqb, ne_eqb, cases_eq, cases_lt, false_from_ne_true, true≢false, lt-ltb, le-ltb}
 use Rattle.std.proofs.lemmas.Bool.Decides.{nat_tests}
 use Rattle.std.proofs.lemmas.List.{get_or-set_same, get_or-set_other}
 use Rattle.std.proofs.lemmas.List.Sums.{count_by_more_yes, count_by_more_no, sum_by-cons, sum_by-take-le, count_by-le-length}
@@ -119,3 +119,30 @@ marked xs seen i less many low new counts s below =
 pub at_most_one : (b : Bool) → one_if b ≤ 1
 at_most_one true = omega arith
 at_most_one false = omega arith
+
+-- ---- no number comes twice
+
+beside : (x n s : ℕ) → n ≤ s → one_if (ltb x n) + one_if (eqb x s) ≤ 1
+beside x n s high = grind (arith, nat_tests)
+
+apart : (n s : ℕ) (xs : List ℕ) → n ≤ s → count_by (λ t. ltb t n) xs + count_by (λ t. eqb t s) xs ≤ length xs
+apart n s [] high = omega arith
+apart n s (x ∷ xs) high =
+    let a = counted (λ t. ltb t n) x xs in
+    let b = counted (λ t. eqb t s) x xs in
+    let one = beside x n s high in
+    let rest = apart n s xs high in
+    omega (arith, a, b, one, rest)
+
+pub numbered_once : (xs : List ℕ) → are_numbered xs ≡ true → (s : ℕ) → count_by (λ t. eqb t s) xs ≤ 1
+numbered_once xs all s =
+    let count : ℕ → ℕ = λ s. count_by (λ t. eqb t s) xs in
+    let each : (s : ℕ) → s < length xs → count s ≡ 1 = λ s below. eqb-true (count s) 1 (each_holds (λ s. eqb (count_by (λ t. eqb t s) xs) 1) (length xs) s all below) in
+    elim (cases_lt s (length xs)) [
+      | inl below ↦ (let e = each s below in omega (arith, e))
+      | inr high ↦
+          (let whole = all_ones count (length xs) each in
+          let same = total_is (length xs) xs in
+          let few = apart (length xs) s xs high in
+          omega (arith, whole, same, few))
+    ]

@@ -11,7 +11,7 @@ use Rattle.hs_lawful.specs.Orders.{FollowingPlaysOut}
 use Rattle.hs_lawful.specs.Pooled.{PoolEvent, by_stamp, is_history, pool_history, pool_events}
 use Rattle.hs_clauses.specs.declared.found.FoundNode.{FoundNode}
 use Rattle.hs_clauses.specs.declared.happened.Timed.{Timed}
-use Rattle.hs_clauses.specs.Happening.{pool_event, drawn_from, node_events}
+use Rattle.hs_clauses.specs.Happening.{pool_event, drawn_from, node_timed}
 use Rattle.hs_clauses.proofs.Knowing.{KnownAt}
 use Rattle.hs_clauses.proofs.NodeEvents.{events_are}
 use Rattle.hs_clauses.proofs.Valid.{all_at}
@@ -21,10 +21,10 @@ module _ (W : PlainWorkload) (J : PlainJournal) (gives : GivesAreNoted) (plays :
   noted = all_at GivesAsNoted (followed W J).nodes i k.run (gives W J (followed W J) (plays W J).leads) k.at
 
   -- what was told are the events of the pool
-  pub told_events : (timed : List Timed) → map pool_event timed ≡ node_events (drawn_from J (i * W.settings.clients) f.clients.items) (log_at J i) f.gives.items → map pool_event timed ≡ pool_events k.run
-  told_events timed told = told ∙ events_are W J i f k noted
+  pub told_events : (timed : List Timed) → timed ≡ node_timed (drawn_from J (i * W.settings.clients) f.clients.items) (log_at J i) f.gives.items → map pool_event timed ≡ pool_events k.run
+  told_events timed told = ap (map pool_event) told ∙ events_are W J i f k noted
 
-  pub history_told : (timed : List Timed) → map pool_event timed ≡ node_events (drawn_from J (i * W.settings.clients) f.clients.items) (log_at J i) f.gives.items
+  pub history_told : (timed : List Timed) → timed ≡ node_timed (drawn_from J (i * W.settings.clients) f.clients.items) (log_at J i) f.gives.items
       → (result : Bool) → result ≡ is_history W.settings.buffers (map (λ (e : PoolEvent). e.event) (by_stamp (λ (e : PoolEvent). e.stamp) (length timed) (map pool_event timed)))
       → result ≡ is_history W.settings.buffers (pool_history k.run)
   history_told timed told result answer =

@@ -1,14 +1,13 @@
 -- The events of a pool as the code has them, and what the gives of a log are, each beside the page that was in its buffer.
-use Rattle.std.specs.Prelude.{ℕ, ◌+◌, Bool, true, nat_lt, List, [], ◌∷◌, ◌++◌, length, map, take, filter, filter_map, Option, option_map, slice_get, if◌then◌else◌}
+use Rattle.std.specs.Prelude.{ℕ, ◌+◌, Bool, true, nat_lt, List, [], ◌∷◌, ◌++◌, length, map, take, filter, filter_map, Option, Some, None, slice_get, if◌then◌else◌}
 use Rattle.std.specs.List.{flat_map}
 use Rattle.std.specs.Option.{option_and_then, option_to_list}
 use Rattle.hs_journal.specs.declared.journal.Draw.{Draw}
+use Rattle.hs_journal.specs.declared.journal.Draw.TheVariants as draws
 use Rattle.hs_journal.specs.declared.journal.Step.{Step}
 use Rattle.hs_journal.specs.declared.journal.Step.TheVariants as steps
 use Rattle.hs_journal.specs.Views.{PlainJournal}
-use Rattle.hs_lawful.specs.Pooled.{PoolEvent, buffer_of, missed_event, may_follow}
-use Rattle.hs_sent.specs.Drawn.{stamp_of}
-use Rattle.hs_sent.specs.Draws.{event_drawn}
+use Rattle.hs_lawful.specs.Pooled.{PoolEvent, may_follow}
 use Rattle.hs_sent.specs.Sending.{draws_at}
 use Rattle.hs_words.specs.PoolHistory.{Event}
 use Rattle.hs_words.specs.PoolHistory as events
@@ -21,14 +20,21 @@ use Rattle.hs_clauses.specs.declared.happened.Timed.{Timed}
 abbrev pub event_of : Happening → Event
 event_of (happenings.Got buffer) = events.Got buffer
 event_of happenings.Empty = events.Empty
-event_of (happenings.Given buffer) = events.Given buffer
+event_of (happenings.Given buffer drawn) = events.Given buffer
 event_of happenings.Missed = events.Missed
 
 abbrev pub pool_event : Timed → PoolEvent
 pool_event timed = record { stamp = timed.stamp; event = event_of timed.event }
 
-abbrev pub event_of_draw : Draw → PoolEvent
-event_of_draw draw = record { stamp = stamp_of draw; event = event_drawn draw }
+-- a draw as an event
+abbrev pub timed_draw : Draw → Timed
+timed_draw (draws.Got buffer stamp) = record { stamp = stamp; event = happenings.Got buffer }
+timed_draw (draws.Empty stamp) = record { stamp = stamp; event = happenings.Empty }
+
+-- a miss
+abbrev pub timed_miss : Step → Option Timed
+timed_miss (steps.Missed stamp) = Some (record { stamp = stamp; event = happenings.Missed })
+timed_miss _ = None
 
 -- the draw of a page, of clients with these draws
 abbrev pub draw_at : List (List Draw) → FoundPage → Option Draw
@@ -39,20 +45,21 @@ abbrev pub drawn_from : PlainJournal → ℕ → List FoundClient → List (List
 drawn_from J place [] = []
 drawn_from J place (client ∷ clients) = take (length client.started.items) (draws_at J place) ∷ drawn_from J (place + 1) clients
 
--- what a give is of a buffer in which a page was that had this draw
-abbrev pub event_of_give : ℕ → Option Draw → Option PoolEvent
-event_of_give stamp draw = option_map (λ buffer. record { stamp = stamp; event = events.Given buffer }) (option_and_then buffer_of draw)
+-- a give of the buffer of a page that had this draw
+abbrev pub timed_give : ℕ → Option Draw → Option Timed
+timed_give stamp (Some (draws.Got buffer drawn)) = Some (record { stamp = stamp; event = happenings.Given buffer drawn })
+timed_give stamp _ = None
 
--- the events of the gives of a log, whose buffers these pages were in
-abbrev pub give_events : List (List Draw) → List Step → List FoundPage → List PoolEvent
-give_events clients [] pages = []
-give_events clients (steps.Given stamp ∷ log) [] = []
-give_events clients (steps.Given stamp ∷ log) (page ∷ pages) = option_to_list (event_of_give stamp (draw_at clients page)) ++ give_events clients log pages
-give_events clients (step ∷ log) pages = give_events clients log pages
+-- the gives of a log, whose buffers these pages were in
+abbrev pub timed_gives : List (List Draw) → List Step → List FoundPage → List Timed
+timed_gives clients [] pages = []
+timed_gives clients (steps.Given stamp ∷ log) [] = []
+timed_gives clients (steps.Given stamp ∷ log) (page ∷ pages) = option_to_list (timed_give stamp (draw_at clients page)) ++ timed_gives clients log pages
+timed_gives clients (step ∷ log) pages = timed_gives clients log pages
 
 -- all events of a node's pool
-abbrev pub node_events : List (List Draw) → List Step → List FoundPage → List PoolEvent
-node_events clients log pages = flat_map (map event_of_draw) clients ++ give_events clients log pages ++ filter_map missed_event log
+abbrev pub node_timed : List (List Draw) → List Step → List FoundPage → List Timed
+node_timed clients log pages = flat_map (map timed_draw) clients ++ timed_gives clients log pages ++ filter_map timed_miss log
 
 -- ---- below a bound
 

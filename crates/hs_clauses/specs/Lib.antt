@@ -7,3 +7,4 @@ pub mod Sources
 pub mod Offering
 pub mod Happening
 pub mod Replaying
+pub mod Answering

@@ -6,9 +6,8 @@ ghost use Rattle.std.specs.Option.{option_to_list};
 ghost use Rattle.hs_base.specs.declared.limits.TheConstants.{MAX_CLIENTS};
 ghost use Rattle.hs_journal.specs.Views.{journal_of};
 ghost use Rattle.hs_lawful.specs.Following.{log_at};
-ghost use Rattle.hs_lawful.specs.Pooled.{missed_event};
 ghost use Rattle.hs_sent.specs.Sending.{draws_at, place_of};
-ghost use Rattle.hs_clauses.specs.Happening.{pool_event, event_of_draw, drawn_from, draw_at, event_of_give, give_events, node_events};
+ghost use Rattle.hs_clauses.specs.Happening.{timed_draw, timed_miss, timed_give, timed_gives, node_timed, drawn_from, draw_at};
 
 use crate::counting::{draws_of, log_of};
 use crate::found::{FoundClient, FoundNode, FoundPage};
@@ -21,7 +20,8 @@ use std::alloc::Global;
 pub(crate) enum Happening {
     Got { buffer: u32 },
     Empty,
-    Given { buffer: u32 },
+    /// The draw that had got the buffer had the stamp `drawn`.
+    Given { buffer: u32, drawn: u64 },
     Missed,
 }
 
@@ -34,7 +34,7 @@ pub(crate) struct Timed {
 
 /// A draw as an event.
 fn drawn(draw: Draw) -> Timed
-    ensures { pool_event result ≡ event_of_draw draw }
+    ensures { result ≡ timed_draw draw }
 {
     match draw {
         Draw::Got { buffer, stamp } => Timed {
@@ -50,7 +50,7 @@ fn drawn(draw: Draw) -> Timed
 
 /// Appends the events of the draws.
 fn push_drawn(events: &mut Vec<Timed>, draws: &[Draw]) -> Result<(), Memory>
-    ensures { OnOk result (map pool_event events.new.items ≡ map pool_event events.old.items ++ map event_of_draw draws.now) }
+    ensures { OnOk result (events.new.items ≡ events.old.items ++ map timed_draw draws.now) }
 {
     for draw in draws {
         events.push(drawn(*draw))?;
@@ -60,7 +60,7 @@ fn push_drawn(events: &mut Vec<Timed>, draws: &[Draw]) -> Result<(), Memory>
 
 /// Appends the events of the misses among these steps.
 fn push_missed(events: &mut Vec<Timed>, log: &[Step]) -> Result<(), Memory>
-    ensures { OnOk result (map pool_event events.new.items ≡ map pool_event events.old.items ++ filter_map missed_event log.now) }
+    ensures { OnOk result (events.new.items ≡ events.old.items ++ filter_map timed_miss log.now) }
 {
     for step in log {
         if let Step::Missed { stamp } = *step {
@@ -112,12 +112,18 @@ pub(crate) fn draw_of(
 
 /// Appends the event of a give of the buffer that a page was in, which had this draw.
 fn push_give(events: &mut Vec<Timed>, stamp: u64, draw: Option<Draw>) -> Result<(), Memory>
-    ensures { OnOk result (map pool_event events.new.items ≡ map pool_event events.old.items ++ option_to_list (event_of_give stamp draw)) }
+    ensures { OnOk result (events.new.items ≡ events.old.items ++ option_to_list (timed_give stamp draw)) }
 {
-    if let Some(Draw::Got { buffer, .. }) = draw {
+    if let Some(
+        Draw::Got {
+            buffer,
+            stamp: drawn,
+        },
+    ) = draw
+    {
         events.push(Timed {
             stamp,
-            event: Happening::Given { buffer },
+            event: Happening::Given { buffer, drawn },
         })?;
     }
     Ok(())
@@ -132,8 +138,8 @@ fn push_given(
     log: &[Step],
     found: &FoundNode,
 ) -> Result<(), Memory>
-    ensures { OnOk result (map pool_event events.new.items ≡ map pool_event events.old.items
-        ++ give_events (drawn_from (journal_of journal.now) (node * each) found.now.clients.items) log.now found.now.gives.items) }
+    ensures { OnOk result (events.new.items ≡ events.old.items
+        ++ timed_gives (drawn_from (journal_of journal.now) (node * each) found.now.clients.items) log.now found.now.gives.items) }
 {
     let clients = found.clients.as_slice();
     let gives = found.gives.as_slice();
@@ -163,8 +169,8 @@ fn push_all_drawn(
     clients: &[FoundClient],
 ) -> Result<(), Memory>
     requires { length clients.now ≤ MAX_CLIENTS }
-    ensures { OnOk result (map pool_event events.new.items ≡ map pool_event events.old.items
-        ++ flat_map (map event_of_draw) (drawn_from (journal_of journal.now) (node * each) clients.now)) }
+    ensures { OnOk result (events.new.items ≡ events.old.items
+        ++ flat_map (map timed_draw) (drawn_from (journal_of journal.now) (node * each) clients.now)) }
 {
     for number in 0..clients.len() {
         push_drawn(
@@ -184,8 +190,8 @@ pub(crate) fn events_of(
     found: &FoundNode,
 ) -> Result<Vec<Timed>, Memory>
     requires { length found.now.clients.items ≤ MAX_CLIENTS }
-    ensures { IfOk result (λ events. map pool_event events.items
-        ≡ node_events (drawn_from (journal_of journal.now) (node * each) found.now.clients.items) (log_at (journal_of journal.now) node) found.now.gives.items) }
+    ensures { IfOk result (λ events. events.items
+        ≡ node_timed (drawn_from (journal_of journal.now) (node * each) found.now.clients.items) (log_at (journal_of journal.now) node) found.now.gives.items) }
 {
     let log = log_of(journal, node as usize);
     let mut events = Vec::new(alloc);

@@ -2,6 +2,7 @@
 //! journal").
 #![tactic(auto)]
 
+mod answers;
 mod bare;
 mod counting;
 mod found;
@@ -18,6 +19,7 @@ mod shape;
 mod sources;
 mod stamps;
 
+pub use answers::has_answers;
 pub use bare::is_bare;
 pub use found::{Found, FoundClient, FoundNode, FoundPage};
 pub use history::has_history;

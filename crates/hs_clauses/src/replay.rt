@@ -114,7 +114,7 @@ impl Replay {
         match event {
             Happening::Got { buffer } => Ok(self.get(buffer)),
             Happening::Empty => Ok(self.find_none()),
-            Happening::Given { buffer } => self.give(buffer),
+            Happening::Given { buffer, .. } => self.give(buffer),
             Happening::Missed => Ok(self.miss()),
         }
     }

@@ -30,3 +30,6 @@ returns-clause-order c = λ bound.
     let stable = c.in_ok-sort_by_key.ensures.stable (λ (t : Timed). t.stamp) (answers_always _ _ _ (λ f a r g h. search rules)) in
     buckets-map pool_event (λ (e : PoolEvent). e.stamp) 0 bound xs
     ∙ ap (map pool_event) (put_in_order (λ (t : Timed). t.stamp) bound xs ys rises (λ s. same_stamp s xs ys stable))
+
+pub returns-clause-rises : goal.returns-clause-rises
+returns-clause-rises c = IsNonDecreasingBy-from_sort_by_key (λ (t : Timed). t.stamp) c.sort_by_key.new.self.items c.in_ok-sort_by_key.ensures.sorted (λ a r q k. search rules)
