@@ -1,0 +1,13 @@
+pub mod Work
+pub mod Lines
+pub mod Turns
+pub mod Agents
+pub mod Stages
+pub mod Desks
+pub mod Passing
+pub mod Manned
+pub mod Coordinators
+pub mod AgentLayout
+pub mod Shut
+pub mod Resting
+pub mod ShutLayout

@@ -1,0 +1,17 @@
+//! The agents and the coordinator of a run in threads: what each does in a round, and what waits between rounds
+//! (`docs/RULES.md`, "Schedules").
+#![tactic(auto)]
+
+mod agent;
+mod closed;
+mod coordinator;
+mod desk;
+mod ends;
+mod inbox;
+mod port;
+mod rests;
+mod steps;
+
+pub use agent::AgentActor;
+pub use closed::ClosedNode;
+pub use coordinator::CoordinatorActor;
