@@ -2,3 +2,4 @@ pub mod Turns
 pub mod Ends
 pub mod Stories
 pub mod Laws
+pub mod UnreadExample
