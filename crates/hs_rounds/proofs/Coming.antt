@@ -1,0 +1,109 @@
+-- A sequence with one item written, and the trace of a round more.
+use Rattle.std.proofs.Common.{◌≡◌, ◌⊎◌, inl, inr, ℕ, zero, suc, ◌<◌, Bool, cond, eqb, eq-eqb, refl, sym, ap, subst, ◌∙◌, arith}
+use Rattle.std.proofs.lemmas.Bool.{ne_eqb}
+use Rattle.hs_records.specs.Plain.{PlainWorkload}
+use Rattle.hs_rounds.specs.Standing.{Moment, IsBegun}
+use Rattle.hs_rounds.specs.Acting.{Acts}
+use Rattle.hs_rounds.specs.Meeting.{AllMeet}
+use Rattle.hs_rounds.specs.Moving.{Moves}
+use Rattle.hs_rounds.specs.Coming.{Came, NoRoundsCome, RoundsGoOn}
+
+-- the sequence with this item at the place n
+put_at : {A : Type 0} → (ℕ → A) → ℕ → A → ℕ → A
+put_at f n x k = cond (eqb k n) x (f k)
+
+put_here : {A : Type 0} (f : ℕ → A) (n : ℕ) (x : A) → put_at f n x n ≡ x
+unfolding put_at
+put_here f n x = ap (λ (b : Bool). cond b x (f n)) (eq-eqb n n refl)
+
+put_there : {A : Type 0} (f : ℕ → A) (n : ℕ) (x : A) (k : ℕ) → (k ≡ n → ⊥) → put_at f n x k ≡ f k
+unfolding put_at
+put_there f n x k ne = ap (λ (b : Bool). cond b x (f k)) (ne_eqb k n ne)
+
+same_or_less : (k n : ℕ) → k < suc n → (k < n) ⊎ (k ≡ n)
+same_or_less zero zero low = inr refl
+same_or_less zero (suc n) low = inl (omega arith)
+same_or_less (suc k) zero low = absurd (omega arith)
+same_or_less (suc k) (suc n) low = elim (same_or_less k n (omega arith)) [ inl h ↦ inl (omega (arith, h)) | inr h ↦ inr (ap suc h) ]
+
+pub no_rounds_come : NoRoundsCome
+no_rounds_come W m begun =
+    (record { at = λ _. m; acted = λ _. m; met = λ _. m; begun = begun; acts = λ k low. absurd (omega arith); meets = λ k low. absurd (omega arith); moves = λ k low. absurd (omega arith); last = refl }, refl)
+
+module _ (W : PlainWorkload) (rounds : ℕ) (m acted met m' : Moment) (came : Came W rounds m) where
+  at : ℕ → Moment
+  at = put_at came.at (suc rounds) m'
+
+  at_new : at (suc rounds) ≡ m'
+  unfolding at
+  at_new = put_here came.at (suc rounds) m'
+
+  at_old : (k : ℕ) → k < suc rounds → at k ≡ came.at k
+  unfolding at
+  at_old k low = put_there came.at (suc rounds) m' k (λ e. omega (arith, e, low))
+
+  at_end : at rounds ≡ m
+  at_end = at_old rounds (omega arith) ∙ came.last
+
+  acted_at : ℕ → Moment
+  acted_at = put_at came.acted rounds acted
+
+  met_at : ℕ → Moment
+  met_at = put_at came.met rounds met
+
+  acts : Acts W m acted → (k : ℕ) → k < suc rounds → Acts W (at k) (acted_at k)
+  unfolding acted_at
+  acts new k low =
+      elim (same_or_less k rounds low) [
+        | inl less ↦
+          subst (λ (a : Moment). Acts W a (put_at came.acted rounds acted k)) (sym (at_old k low))
+          (subst (Acts W (came.at k)) (sym (put_there came.acted rounds acted k (λ e. omega (arith, e, less)))) (came.acts k less))
+        | inr same ↦
+          subst (λ (n : ℕ). Acts W (at n) (put_at came.acted rounds acted n)) (sym same)
+          (subst (λ (a : Moment). Acts W a (put_at came.acted rounds acted rounds)) (sym at_end)
+          (subst (Acts W m) (sym (put_here came.acted rounds acted)) new))
+      ]
+
+  meets : AllMeet W acted met → (k : ℕ) → k < suc rounds → AllMeet W (acted_at k) (met_at k)
+  unfolding acted_at met_at
+  meets new k low =
+      elim (same_or_less k rounds low) [
+        | inl less ↦
+          subst (λ (a : Moment). AllMeet W a (put_at came.met rounds met k)) (sym (put_there came.acted rounds acted k (λ e. omega (arith, e, less))))
+          (subst (AllMeet W (came.acted k)) (sym (put_there came.met rounds met k (λ e. omega (arith, e, less)))) (came.meets k less))
+        | inr same ↦
+          subst (λ (n : ℕ). AllMeet W (put_at came.acted rounds acted n) (put_at came.met rounds met n)) (sym same)
+          (subst (λ (a : Moment). AllMeet W a (put_at came.met rounds met rounds)) (sym (put_here came.acted rounds acted))
+          (subst (AllMeet W acted) (sym (put_here came.met rounds met)) new))
+      ]
+
+  moves : Moves W met m' → (k : ℕ) → k < suc rounds → Moves W (met_at k) (at (suc k))
+  unfolding met_at
+  moves new k low =
+      elim (same_or_less k rounds low) [
+        | inl less ↦
+          subst (λ (a : Moment). Moves W a (at (suc k))) (sym (put_there came.met rounds met k (λ e. omega (arith, e, less))))
+          (subst (Moves W (came.met k)) (sym (at_old (suc k) (omega (arith, less)))) (came.moves k less))
+        | inr same ↦
+          subst (λ (n : ℕ). Moves W (put_at came.met rounds met n) (at (suc n))) (sym same)
+          (subst (λ (a : Moment). Moves W a (at (suc rounds))) (sym (put_here came.met rounds met))
+          (subst (Moves W met) (sym at_new) new))
+      ]
+
+  goes_on : Acts W m acted → AllMeet W acted met → Moves W met m' → (next : Came W (suc rounds) m') × (next.at 0 ≡ came.at 0)
+  goes_on act meet move = (
+      record {
+        at = at;
+        acted = acted_at;
+        met = met_at;
+        begun = subst (IsBegun W) (sym (at_old 0 (omega arith))) came.begun;
+        acts = acts act;
+        meets = meets meet;
+        moves = moves move;
+        last = at_new;
+      },
+      at_old 0 (omega arith),
+    )
+
+pub rounds_go_on : RoundsGoOn
+rounds_go_on W rounds m acted met m' came = goes_on W rounds m acted met m' came

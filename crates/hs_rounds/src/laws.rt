@@ -1,0 +1,13 @@
+//! Laws of rounds. These functions do nothing: their contracts say it.
+
+ghost use Rattle.hs_rounds.specs.Coming.{NoRoundsCome, RoundsGoOn};
+
+/// A moment that stands at the beginning came by no round.
+pub fn no_rounds_come()
+    ensures { NoRoundsCome }
+{}
+
+/// A round more leads on to what it leads to.
+pub fn rounds_go_on()
+    ensures { RoundsGoOn }
+{}
