@@ -1,0 +1,15 @@
+pub mod Lists
+pub mod Turning
+pub mod Chunks
+pub mod Drawing
+pub mod Spanning
+pub mod Moments
+pub mod Meetings
+pub mod Links
+pub mod LinkKinds
+pub mod Joined
+pub mod Sending
+pub mod Whole
+pub mod Further
+pub mod Recounted
+pub mod Kept

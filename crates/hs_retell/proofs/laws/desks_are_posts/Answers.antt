@@ -1,0 +1,23 @@
+use Rattle.std.proofs.Common.{◌++◌, sym, ap, subst, ◌∙◌, append-nil}
+use Rattle.std.specs.List.{AllByRecursion}
+use Rattle.hs_actors.specs.Facts.{HandsReady}
+use Rattle.hs_desk.specs.Agents.{IsPageThere, IsWithin}
+use Rattle.hs_desk.specs.Turns.{AreTurns}
+use Rattle.hs_model.specs.State.{start}
+use Rattle.hs_model.specs.Stepping.{after}
+use Rattle.hs_retell.proofs.laws.desks_are_posts.Goals as goal
+
+pub returns : goal.returns
+returns c W node heard work desk lines node_is stands none asked few =
+    let is = stands.works.is in
+    record {
+      node_is = node_is;
+      turns = subst (λ m. AreTurns W.settings m work.came work.events lines.giver.turns) node_is stands.turns;
+      pages = subst (λ m. AllByRecursion (IsPageThere W m work.pool) work.came) node_is is.pages;
+      sheets = is.sheets;
+      within = subst (λ m. AllByRecursion (IsWithin W m) work.events) node_is is.within;
+      hands = subst (λ m. HandsReady W.settings m (start W.settings) work.events) node_is is.hands;
+      moved = sym (append-nil work.moved) ∙ ap (λ said. work.moved ++ said) (sym none) ∙ stands.works.said_is ∙ ap (λ m. (after W.settings m work.events).said) node_is;
+      asked = asked;
+      hears = few;
+    }
