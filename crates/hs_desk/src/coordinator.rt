@@ -1,6 +1,6 @@
 //! The coordinator: it hears the messages that were brought to it, and its asks wait to be fetched.
 
-ghost use Rattle.std.specs.Prelude.{◌≡◌, ◌<◌, ◌≤◌, [], ◌∷◌, length, replicate, OnOk, IfOk, IfSome, IfNone};
+ghost use Rattle.std.specs.Prelude.{◌≡◌, ◌<◌, ◌≤◌, [], ◌∷◌, length, map, replicate, OnOk, IfOk, IfSome, IfNone};
 ghost use Rattle.hs_base.specs.declared.limits.TheConstants.{MAX_NODES};
 ghost use Rattle.hs_coord.specs.Messages.{Messages};
 ghost use Rattle.hs_records.specs.Plain.{PlainWorkload};
@@ -84,6 +84,14 @@ impl CoordinatorActor {
             → IfSome result (λ asks. IsAskable W asks.ask × ((asked' : Askings) → AreFetched W asks asked asked' → IsCoordinating W heard moved asked' self.new)) }
     {
         self.asks.pop_front()
+    }
+
+    /// The nodes whose messages were heard, in their order.
+    pub fn log(&self) -> &List<NodeId>
+        ensures { (W : PlainWorkload) (heard : Messages) (moved : Tellings) (asked : Askings) → IsCoordinating W heard moved asked self.now
+            → result.now.items ≡ map (λ m. m.node) heard }
+    {
+        self.coordinator.log()
     }
 
     /// Whether no message waits.
