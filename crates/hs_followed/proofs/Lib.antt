@@ -1,0 +1,16 @@
+pub mod Beginning
+pub mod Counting
+pub mod Done
+pub mod Filing
+pub mod Noting
+pub mod PassEnds
+pub mod FoundAll
+pub mod Lists
+pub mod Rows
+pub mod Popping
+pub mod Performing
+pub mod Readying
+pub mod Tracking
+pub mod Heard
+pub mod Sending
+pub mod Steps

@@ -1,0 +1,246 @@
+-- Taking an item out of a client's queues: the step that takes it is ready, and all else stays.
+use Rattle.std.proofs.Common.{◌≡◌, inl, inr, ℕ, suc, ◌+◌, ◌<◌, ◌≤◌, true, false, List, [], ◌∷◌, ◌++◌, length, map, drop, set, Option, Some, None, refl, sym, ap, subst, ◌∙◌, arith, option_map, eq-eqb, nat_eq, length-set}
+use Rattle.std.proofs.lemmas.List.{length-map, nil_from_length}
+use Rattle.std.specs.Prelude.{slice_get}
+use Rattle.std.specs.List.{AllByRecursion}
+use Rattle.std.specs.Option.{option_and_then}
+use Rattle.hs_clauses.specs.Finding.{IsFoundClient, numbers_of}
+use Rattle.hs_journal.specs.Books.{client_book_of}
+use Rattle.hs_given.specs.Gathering.{HasChunks, page_in}
+use Rattle.hs_given.specs.declared.sending.Sending.{Sending}
+use Rattle.hs_journal.specs.Views.{PlainJournal}
+use Rattle.hs_journal.specs.declared.journal.Step.{Step}
+use Rattle.hs_journal.specs.declared.journal.Step.TheVariants as steps
+use Rattle.hs_lawful.specs.Following.{Queue, Chunks, Crumbs, Triggers, takes, taken, NodeRun, next_of}
+use Rattle.hs_model.specs.Stepping.{Event}
+use Rattle.hs_player.specs.Playing.{Unleased}
+use Rattle.hs_records.specs.Plain.{PlainWorkload}
+use Rattle.hs_sent.specs.OneMore.{items_of}
+use Rattle.hs_sent.specs.Sending.{Sent, ClientSends, client_sends, node_sends}
+use Rattle.hs_words.specs.Buffers.{buffer_of}
+use Rattle.hs_words.specs.Pages.{Sheet}
+use Rattle.hs_followed.specs.Clients.{IsLeft, ClientStands, ClientsStand, SameBeside}
+use Rattle.hs_followed.proofs.Counting.{taken_still, taken_once, drop_next, drop_none, range_get, range_past}
+use Rattle.hs_followed.proofs.Lists.{found_in}
+
+-- ---- one queue
+
+-- the next of some items, and what is left behind it
+pub record IsNext {A : Type 0} (items : List (Sent A)) (k : ℕ) (x : A) (queue : List A) : Type 0 where
+  pub item : Sent A
+  pub at : slice_get items k ≡ Some item
+  pub is : item.item ≡ x
+  pub rest : queue ≡ items_of (drop (suc k) items)
+
+pub next_item : {A : Type 0} (items : List (Sent A)) (k : ℕ) (x : A) (queue : List A) → x ∷ queue ≡ items_of (drop k items) → IsNext items k x queue
+next_item {A = A} items k x queue e = go (drop k items) refl e
+  where
+    go : (left : List (Sent A)) → drop k items ≡ left → x ∷ queue ≡ items_of left → IsNext items k x queue
+    go [] d e = absurd cc
+    go (item ∷ left) d e =
+        let next = drop_next items k item left d in
+        let first : item.item ≡ x = cc in
+        let others : queue ≡ items_of left = cc in
+        record { item = item; at = next.0; is = first; rest = others ∙ ap items_of (sym next.1) }
+
+pub none_left : {A : Type 0} (items : List (Sent A)) (k : ℕ) → [] ≡ items_of (drop k items) → slice_get items k ≡ None
+none_left items k e =
+    let long = length-map (drop k items) (λ item. item.item) in
+    let none = ap length e in
+    drop_none items k (nil_from_length (drop k items) (omega (arith, long, none)))
+
+pub record IsNextChunk (size : ℕ) (items : List (Sent Sheet)) (k : ℕ) (x : Unleased) (buffers : List Unleased) : Type 0 where
+  pub item : Sent Sheet
+  pub at : slice_get items k ≡ Some item
+  pub page : x.chunk.page ≡ Some item.item
+  pub size_is : x.chunk.size ≡ size
+  pub rest : HasChunks size (drop (suc k) items) buffers (numbers_of (drop (suc k) items))
+
+pub next_of_chunks : (size : ℕ) (items : List (Sent Sheet)) (k : ℕ) (x : Unleased) (all buffers : List Unleased) → all ≡ x ∷ buffers → HasChunks size (drop k items) all (numbers_of (drop k items)) → IsNextChunk size items k x buffers
+next_of_chunks size items k x all buffers same has = go (drop k items) refl (sym (ap (map page_in) same) ∙ has.pages)
+  where
+    sizes : AllByRecursion (λ (b : Unleased). b.chunk.size ≡ size) (x ∷ buffers)
+    sizes = subst (AllByRecursion (λ (b : Unleased). b.chunk.size ≡ size)) same has.sizes
+
+    go : (left : List (Sent Sheet)) → drop k items ≡ left → page_in x ∷ map page_in buffers ≡ map (λ item. Some item.item) left → IsNextChunk size items k x buffers
+    go [] d e = absurd cc
+    go (item ∷ left) d e =
+        let next = drop_next items k item left d in
+        let first : page_in x ≡ Some item.item = cc in
+        let others : map page_in buffers ≡ map (λ item. Some item.item) left = cc in
+        record {
+          item = item;
+          at = next.0;
+          page = first;
+          size_is = sizes.0;
+          rest =
+              record {
+                pages = others ∙ ap (map (λ (item : Sent Sheet). Some item.item)) (sym next.1);
+                sizes = sizes.1;
+                numbers_are = refl;
+              };
+        }
+
+pub no_chunk : (size : ℕ) (items : List (Sent Sheet)) (k : ℕ) (all : List Unleased) → all ≡ [] → HasChunks size (drop k items) all (numbers_of (drop k items)) → slice_get items k ≡ None
+no_chunk size items k all none has =
+    let pages = ap length (sym (ap (map page_in) none) ∙ has.pages) in
+    let long = length-map (drop k items) (λ (item : Sent Sheet). Some item.item) in
+    drop_none items k (nil_from_length (drop k items) (omega (arith, pages, long)))
+
+-- ---- clients
+
+module _ (W : PlainWorkload) (J : PlainJournal) (node : ℕ) (log : List Step) where
+  -- a client where a step takes as much from each of its queues
+  pub client_as : (step : Step) (client : ℕ) (s : Sending) → takes (Chunks client) step ≡ false → takes (Crumbs client) step ≡ false → takes (Triggers client) step ≡ false → ClientStands W J node log client s
+      → ClientStands W J node (log ++ step ∷ []) client s
+  client_as step client s a b c stands =
+      let sends = client_sends W J node client in
+      record {
+        left =
+            subst (λ k. IsLeft W.settings.size sends k (taken (Crumbs client) (log ++ step ∷ [])) (taken (Triggers client) (log ++ step ∷ [])) s) (sym (taken_still (Chunks client) log step a))
+            (subst (λ l. IsLeft W.settings.size sends (taken (Chunks client) log) l (taken (Triggers client) (log ++ step ∷ [])) s) (sym (taken_still (Crumbs client) log step b))
+            (subst (λ m. IsLeft W.settings.size sends (taken (Chunks client) log) (taken (Crumbs client) log) m s) (sym (taken_still (Triggers client) log step c)) stands.left));
+        book = stands.book;
+      }
+
+  -- all clients where a step takes from none
+  pub clients_as : (step : Step) (clients : List Sending) → ((client : ℕ) → (takes (Chunks client) step ≡ false) × (takes (Crumbs client) step ≡ false) × (takes (Triggers client) step ≡ false)) → ClientsStand W J node log clients
+      → ClientsStand W J node (log ++ step ∷ []) clients
+  clients_as step clients none stand =
+      record {
+        count = stand.count;
+        each = λ client s at. client_as step client s (none client).0 (none client).1 (none client).2 (stand.each client s at);
+      }
+
+  -- one client moved, and a step takes from no other
+  pub one_moves : (step : Step) (client : ℕ) (clients : List Sending) (before now : Sending) → slice_get clients client ≡ Some before
+      → ((other : ℕ) → (client ≡ other → ⊥) → (takes (Chunks other) step ≡ false) × (takes (Crumbs other) step ≡ false) × (takes (Triggers other) step ≡ false)) → ClientStands W J node (log ++ step ∷ []) client now
+      → ClientsStand W J node log clients → ClientsStand W J node (log ++ step ∷ []) (set clients client now)
+  one_moves step client clients before now stood others moved stand =
+      record {
+        count = length-set clients client now ∙ stand.count;
+        each =
+            λ other s at.
+            elim (found_in clients client other before now s stood at) [
+              | inl h ↦ subst (λ (s : Sending). ClientStands W J node (log ++ step ∷ []) other s) h.1 (subst (λ c. ClientStands W J node (log ++ step ∷ []) c now) h.0 moved)
+              | inr h ↦ let same = others other h.0 in client_as step other s same.0 same.1 same.2 (stand.each other s h.1)
+            ];
+      }
+
+  -- one client became another that has the same
+  pub one_same : (client : ℕ) (clients : List Sending) (before now : Sending) → slice_get clients client ≡ Some before → ClientStands W J node log client now → ClientsStand W J node log clients
+      → ClientsStand W J node log (set clients client now)
+  one_same client clients before now stood same stand =
+      record {
+        count = length-set clients client now ∙ stand.count;
+        each =
+            λ other s at.
+            elim (found_in clients client other before now s stood at) [
+              | inl h ↦ subst (λ (s : Sending). ClientStands W J node log other s) h.1 (subst (λ c. ClientStands W J node log c now) h.0 same)
+              | inr h ↦ stand.each other s h.1
+            ];
+      }
+
+  pub client_same : (client : ℕ) (s s' : Sending) → map buffer_of s'.chunks.items ≡ map buffer_of s.chunks.items → s'.crumbs.items ≡ s.crumbs.items → s'.triggers.items ≡ s.triggers.items → SameBeside s s' → ClientStands W J node log client s
+      → ClientStands W J node log client s'
+  client_same client s s' chunks crumbs triggers beside stands =
+      let sends = client_sends W J node client in
+      record {
+        left =
+            record {
+              chunks = subst (λ buffers. HasChunks W.settings.size (drop (taken (Chunks client) log) sends.chunks) buffers (numbers_of (drop (taken (Chunks client) log) sends.chunks))) (sym chunks) stands.left.chunks;
+              crumbs = crumbs ∙ stands.left.crumbs;
+              triggers = triggers ∙ stands.left.triggers;
+              found = subst (λ f. IsFoundClient sends f) (sym beside.found) stands.left.found;
+            };
+        book = ap client_book_of beside.book ∙ stands.book;
+      }
+
+  module _ (client : ℕ) (s s' : Sending) (stands : ClientStands W J node log client s) where
+    own : nat_eq client client ≡ true
+    own = eq-eqb client client refl
+
+    abbrev sends : ClientSends
+    sends = client_sends W J node client
+
+    pub chunk_gone : HasChunks W.settings.size (drop (suc (taken (Chunks client) log)) sends.chunks) (map buffer_of s'.chunks.items) (numbers_of (drop (suc (taken (Chunks client) log)) sends.chunks)) → s'.crumbs ≡ s.crumbs → s'.triggers ≡ s.triggers → SameBeside s s'
+        → ClientStands W J node (log ++ steps.Chunk client ∷ []) client s'
+    chunk_gone rest crumbs triggers beside =
+        let step = steps.Chunk client in
+        let k = taken_once (Chunks client) log step own in
+        let l = taken_still (Crumbs client) log step refl in
+        let m = taken_still (Triggers client) log step refl in
+        record {
+          left =
+              record {
+                chunks = subst (λ k. HasChunks W.settings.size (drop k sends.chunks) (map buffer_of s'.chunks.items) (numbers_of (drop k sends.chunks))) (sym k) rest;
+                crumbs = ap (λ q. q.items) crumbs ∙ stands.left.crumbs ∙ ap (λ l. items_of (drop l sends.crumbs)) (sym l);
+                triggers = ap (λ q. q.items) triggers ∙ stands.left.triggers ∙ ap (λ m. items_of (drop m sends.triggers)) (sym m);
+                found = subst (λ f. IsFoundClient sends f) (sym beside.found) stands.left.found;
+              };
+          book = ap client_book_of beside.book ∙ stands.book;
+        }
+
+    pub crumb_gone : s'.crumbs.items ≡ items_of (drop (suc (taken (Crumbs client) log)) sends.crumbs) → s'.chunks ≡ s.chunks → s'.triggers ≡ s.triggers → SameBeside s s' → ClientStands W J node (log ++ steps.Crumb client ∷ []) client s'
+    crumb_gone rest chunks triggers beside =
+        let step = steps.Crumb client in
+        let k = taken_still (Chunks client) log step refl in
+        let l = taken_once (Crumbs client) log step own in
+        let m = taken_still (Triggers client) log step refl in
+        record {
+          left =
+              record {
+                chunks =
+                    subst (λ k. HasChunks W.settings.size (drop k sends.chunks) (map buffer_of s'.chunks.items) (numbers_of (drop k sends.chunks))) (sym k)
+                    (subst (λ q. HasChunks W.settings.size (drop (taken (Chunks client) log) sends.chunks) (map buffer_of q.items) (numbers_of (drop (taken (Chunks client) log) sends.chunks))) (sym chunks) stands.left.chunks);
+                crumbs = rest ∙ ap (λ l. items_of (drop l sends.crumbs)) (sym l);
+                triggers = ap (λ q. q.items) triggers ∙ stands.left.triggers ∙ ap (λ m. items_of (drop m sends.triggers)) (sym m);
+                found = subst (λ f. IsFoundClient sends f) (sym beside.found) stands.left.found;
+              };
+          book = ap client_book_of beside.book ∙ stands.book;
+        }
+
+    pub trigger_gone : s'.triggers.items ≡ items_of (drop (suc (taken (Triggers client) log)) sends.triggers) → s'.chunks ≡ s.chunks → s'.crumbs ≡ s.crumbs → SameBeside s s'
+        → ClientStands W J node (log ++ steps.Trigger client ∷ []) client s'
+    trigger_gone rest chunks crumbs beside =
+        let step = steps.Trigger client in
+        let k = taken_still (Chunks client) log step refl in
+        let l = taken_still (Crumbs client) log step refl in
+        let m = taken_once (Triggers client) log step own in
+        record {
+          left =
+              record {
+                chunks =
+                    subst (λ k. HasChunks W.settings.size (drop k sends.chunks) (map buffer_of s'.chunks.items) (numbers_of (drop k sends.chunks))) (sym k)
+                    (subst (λ q. HasChunks W.settings.size (drop (taken (Chunks client) log) sends.chunks) (map buffer_of q.items) (numbers_of (drop (taken (Chunks client) log) sends.chunks))) (sym chunks) stands.left.chunks);
+                crumbs = ap (λ q. q.items) crumbs ∙ stands.left.crumbs ∙ ap (λ l. items_of (drop l sends.crumbs)) (sym l);
+                triggers = rest ∙ ap (λ m. items_of (drop m sends.triggers)) (sym m);
+                found = subst (λ f. IsFoundClient sends f) (sym beside.found) stands.left.found;
+              };
+          book = ap client_book_of beside.book ∙ stands.book;
+        }
+
+-- ---- events
+
+module _ (W : PlainWorkload) (J : PlainJournal) (run : NodeRun) (sends_are : run.sends ≡ node_sends W J run.node) where
+  pub sends_there : (client : ℕ) → client < W.settings.clients → slice_get run.sends client ≡ Some (client_sends W J run.node client)
+  sends_there client low =
+      let zero_on : 0 + client ≡ client = omega arith in
+      ap (λ (s : List ClientSends). slice_get s client) sends_are ∙ range_get (client_sends W J run.node) 0 W.settings.clients client low ∙ ap (λ c. Some (client_sends W J run.node c)) zero_on
+
+  pub no_sends : (client : ℕ) → W.settings.clients ≤ client → slice_get run.sends client ≡ None
+  no_sends client high = ap (λ (s : List ClientSends). slice_get s client) sends_are ∙ range_past (client_sends W J run.node) 0 W.settings.clients client high
+
+  module _ {A : Type 0} (f : A → Event) (queue : Queue) (pick : ClientSends → List (Sent A)) (client : ℕ) where
+    pub event_there : (item : Sent A) → client < W.settings.clients → slice_get (pick (client_sends W J run.node client)) (taken queue run.state.log) ≡ Some item
+        → option_and_then (λ (s : ClientSends). option_map f (next_of queue run.state (pick s))) (slice_get run.sends client) ≡ Some (f item.item)
+    event_there item low found =
+        ap (option_and_then (λ (s : ClientSends). option_map f (next_of queue run.state (pick s)))) (sends_there client low) ∙ ap (λ (o : Option (Sent A)). option_map f (option_map (λ (i : Sent A). i.item) o)) found
+
+    pub event_none : client < W.settings.clients → slice_get (pick (client_sends W J run.node client)) (taken queue run.state.log) ≡ None
+        → option_and_then (λ (s : ClientSends). option_map f (next_of queue run.state (pick s))) (slice_get run.sends client) ≡ None
+    event_none low found =
+        ap (option_and_then (λ (s : ClientSends). option_map f (next_of queue run.state (pick s)))) (sends_there client low) ∙ ap (λ (o : Option (Sent A)). option_map f (option_map (λ (i : Sent A). i.item) o)) found
+
+    pub event_past : W.settings.clients ≤ client → option_and_then (λ (s : ClientSends). option_map f (next_of queue run.state (pick s))) (slice_get run.sends client) ≡ None
+    event_past high = ap (option_and_then (λ (s : ClientSends). option_map f (next_of queue run.state (pick s)))) (no_sends client high)
