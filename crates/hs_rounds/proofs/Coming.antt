@@ -56,12 +56,12 @@ module _ (W : PlainWorkload) (rounds : ℕ) (m acted met m' : Moment) (came : Ca
   acts new k low =
       elim (same_or_less k rounds low) [
         | inl less ↦
-          subst (λ (a : Moment). Acts W a (put_at came.acted rounds acted k)) (sym (at_old k low))
-          (subst (Acts W (came.at k)) (sym (put_there came.acted rounds acted k (λ e. omega (arith, e, less)))) (came.acts k less))
+            subst (λ (a : Moment). Acts W a (put_at came.acted rounds acted k)) (sym (at_old k low))
+            (subst (Acts W (came.at k)) (sym (put_there came.acted rounds acted k (λ e. omega (arith, e, less)))) (came.acts k less))
         | inr same ↦
-          subst (λ (n : ℕ). Acts W (at n) (put_at came.acted rounds acted n)) (sym same)
-          (subst (λ (a : Moment). Acts W a (put_at came.acted rounds acted rounds)) (sym at_end)
-          (subst (Acts W m) (sym (put_here came.acted rounds acted)) new))
+            subst (λ (n : ℕ). Acts W (at n) (put_at came.acted rounds acted n)) (sym same)
+            (subst (λ (a : Moment). Acts W a (put_at came.acted rounds acted rounds)) (sym at_end)
+            (subst (Acts W m) (sym (put_here came.acted rounds acted)) new))
       ]
 
   meets : AllMeet W acted met → (k : ℕ) → k < suc rounds → AllMeet W (acted_at k) (met_at k)
@@ -69,12 +69,12 @@ module _ (W : PlainWorkload) (rounds : ℕ) (m acted met m' : Moment) (came : Ca
   meets new k low =
       elim (same_or_less k rounds low) [
         | inl less ↦
-          subst (λ (a : Moment). AllMeet W a (put_at came.met rounds met k)) (sym (put_there came.acted rounds acted k (λ e. omega (arith, e, less))))
-          (subst (AllMeet W (came.acted k)) (sym (put_there came.met rounds met k (λ e. omega (arith, e, less)))) (came.meets k less))
+            subst (λ (a : Moment). AllMeet W a (put_at came.met rounds met k)) (sym (put_there came.acted rounds acted k (λ e. omega (arith, e, less))))
+            (subst (AllMeet W (came.acted k)) (sym (put_there came.met rounds met k (λ e. omega (arith, e, less)))) (came.meets k less))
         | inr same ↦
-          subst (λ (n : ℕ). AllMeet W (put_at came.acted rounds acted n) (put_at came.met rounds met n)) (sym same)
-          (subst (λ (a : Moment). AllMeet W a (put_at came.met rounds met rounds)) (sym (put_here came.acted rounds acted))
-          (subst (AllMeet W acted) (sym (put_here came.met rounds met)) new))
+            subst (λ (n : ℕ). AllMeet W (put_at came.acted rounds acted n) (put_at came.met rounds met n)) (sym same)
+            (subst (λ (a : Moment). AllMeet W a (put_at came.met rounds met rounds)) (sym (put_here came.acted rounds acted))
+            (subst (AllMeet W acted) (sym (put_here came.met rounds met)) new))
       ]
 
   moves : Moves W met m' → (k : ℕ) → k < suc rounds → Moves W (met_at k) (at (suc k))
@@ -82,28 +82,28 @@ module _ (W : PlainWorkload) (rounds : ℕ) (m acted met m' : Moment) (came : Ca
   moves new k low =
       elim (same_or_less k rounds low) [
         | inl less ↦
-          subst (λ (a : Moment). Moves W a (at (suc k))) (sym (put_there came.met rounds met k (λ e. omega (arith, e, less))))
-          (subst (Moves W (came.met k)) (sym (at_old (suc k) (omega (arith, less)))) (came.moves k less))
+            subst (λ (a : Moment). Moves W a (at (suc k))) (sym (put_there came.met rounds met k (λ e. omega (arith, e, less))))
+            (subst (Moves W (came.met k)) (sym (at_old (suc k) (omega (arith, less)))) (came.moves k less))
         | inr same ↦
-          subst (λ (n : ℕ). Moves W (put_at came.met rounds met n) (at (suc n))) (sym same)
-          (subst (λ (a : Moment). Moves W a (at (suc rounds))) (sym (put_here came.met rounds met))
-          (subst (Moves W met) (sym at_new) new))
+            subst (λ (n : ℕ). Moves W (put_at came.met rounds met n) (at (suc n))) (sym same)
+            (subst (λ (a : Moment). Moves W a (at (suc rounds))) (sym (put_here came.met rounds met))
+            (subst (Moves W met) (sym at_new) new))
       ]
 
   goes_on : Acts W m acted → AllMeet W acted met → Moves W met m' → (next : Came W (suc rounds) m') × (next.at 0 ≡ came.at 0)
   goes_on act meet move = (
-      record {
-        at = at;
-        acted = acted_at;
-        met = met_at;
-        begun = subst (IsBegun W) (sym (at_old 0 (omega arith))) came.begun;
-        acts = acts act;
-        meets = meets meet;
-        moves = moves move;
-        last = at_new;
-      },
-      at_old 0 (omega arith),
-    )
+    record {
+      at = at;
+      acted = acted_at;
+      met = met_at;
+      begun = subst (IsBegun W) (sym (at_old 0 (omega arith))) came.begun;
+      acts = acts act;
+      meets = meets meet;
+      moves = moves move;
+      last = at_new;
+    },
+    at_old 0 (omega arith),
+  )
 
 pub rounds_go_on : RoundsGoOn
 rounds_go_on W rounds m acted met m' came = goes_on W rounds m acted met m' came
