@@ -1,0 +1,10 @@
+use Rattle.std.proofs.Common.{map}
+use Rattle.hs_journal.specs.Books.{client_book_of}
+use Rattle.hs_closing.specs.Ended.{AreShut, items_of}
+use Rattle.hs_closing.specs.Over.{place_site}
+use Rattle.hs_closing.proofs.shutting.shut_all.Given as goal
+
+abbrev pub invariant-loop-place : goal.invariant-loop-place
+invariant-loop-place l =
+    (goal.iterator-loop-place).can_next l.place-iterator × (goal.iterator-loop-place).is_finite l.place-iterator
+    × AreShut (map place_site l.yielded) (map client_book_of l.books.items) (items_of l.drawers.items) l.nodes.items

@@ -1,0 +1,5 @@
+pub mod Over
+pub mod Ended
+pub mod Noted
+pub mod Finished
+pub mod Shutting

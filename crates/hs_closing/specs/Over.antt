@@ -1,0 +1,25 @@
+-- All nodes and the coordinator behind the rounds, where all operations are done.
+use Rattle.std.specs.Prelude.{◌≡◌, ℕ, List, length, map, slice_get, Some}
+use Rattle.hs_records.specs.Plain.{PlainWorkload}
+use Rattle.hs_sent.specs.Sending.{operations_at, place_of}
+use Rattle.hs_workload.specs.Validity.{IsValid}
+use Rattle.hs_caller.specs.Calling.{Calling}
+use Rattle.hs_desk.specs.Coordinators.{Coordinating}
+use Rattle.hs_rounds.specs.Standing.{Site, Moment}
+use Rattle.hs_rounds.specs.Coming.{Came}
+use Rattle.hs_retell.specs.Laws.{AllBegin}
+use Rattle.hs_closing.specs.declared.place.Place.{Place}
+
+abbrev pub place_site : Place → Site
+place_site p = record { callers = p.callers.items; agent = p.agent }
+
+pub record RoundsOver (W : PlainWorkload) (places : List Place) (coordinator : Coordinating) : Type 0 where
+  pub valid : IsValid W
+  pub rounds : ℕ
+  pub moment : Moment
+  pub came : Came W rounds moment
+  pub begin : AllBegin W (came.at 0)
+  pub nodes : moment.standing.nodes ≡ map place_site places
+  pub coordinator_is : moment.standing.coordinator ≡ coordinator
+  pub all : (node number : ℕ) (site : Site) (caller : Calling) → slice_get moment.standing.nodes node ≡ Some site → slice_get site.callers number ≡ Some caller
+      → caller.done ≡ length (operations_at W (place_of W.settings.clients node number))

@@ -1,0 +1,53 @@
+//! The books of a run whose rounds are over.
+
+ghost use Rattle.std.specs.Prelude.{IfOk};
+ghost use Rattle.hs_workload.specs.Views.{workload_of};
+ghost use Rattle.hs_closing.specs.Over.{RoundsOver};
+ghost use Rattle.hs_closing.specs.Finished.{AreLawfulBooks};
+
+use crate::closing::close_down;
+use crate::place::Place;
+use crate::pools::close_pools;
+use crate::shutting::{Ended, shut_all};
+use hs_base::{List, Memory};
+use hs_caller::callers_have_sent;
+use hs_desk::CoordinatorActor;
+use hs_report::Books;
+use hs_retell::laws::{closing_begins, pools_are_kept, runs_are_lawful};
+use hs_workload::Workload;
+use std::alloc::Global;
+
+/// Ends a run whose rounds are over, and answers its books: those of a lawful journal of the workload. The one error is want of
+/// memory.
+pub fn finish(
+    alloc: Global,
+    workload: &Workload,
+    places: List<Place>,
+    coordinator: CoordinatorActor,
+) -> Result<Books, Memory>
+    requires { RoundsOver (workload_of workload.now) places.items coordinator }
+    ensures { IfOk result (AreLawfulBooks (workload_of workload.now)) }
+{
+    closing_begins();
+    pools_are_kept();
+    runs_are_lawful();
+    callers_have_sent();
+    let mut coordinator = coordinator;
+    let Ended {
+        books,
+        drawers,
+        mut nodes,
+    } = shut_all(alloc, places)?;
+    close_down(&mut nodes, &mut coordinator)?;
+    let agents = close_pools(alloc, nodes, drawers)?;
+    let mut told = List::new(alloc);
+    told.append_slice(coordinator.log().as_slice())?;
+    Ok(Books {
+        version: workload.version,
+        nodes: workload.settings.nodes,
+        each: workload.settings.clients,
+        clients: books,
+        agents,
+        told,
+    })
+}

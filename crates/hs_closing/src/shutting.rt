@@ -1,0 +1,87 @@
+//! The clients of all nodes are taken apart, and their links closed.
+
+ghost use Rattle.std.specs.Prelude.{◌≡◌, ◌++◌, map, IfOk, OnOk};
+ghost use Rattle.hs_journal.specs.Books.{client_book_of};
+ghost use Rattle.hs_closing.specs.Ended.{IsEnded, AreEnded, HasShut, AreShut, items_of};
+ghost use Rattle.hs_closing.specs.Over.{place_site};
+
+use crate::place::Place;
+use hs_base::{List, Memory};
+use hs_caller::{Apart, take_apart};
+use hs_desk::ClosedNode;
+use hs_journal::ClientBook;
+use hs_ring::Drawer;
+use std::alloc::Global;
+
+/// What a node's clients noted, their drawers, and their agent with closed links.
+#[derive(Drop)]
+pub(crate) struct Shutting {
+    pub(crate) books: List<ClientBook>,
+    pub(crate) drawers: List<Drawer>,
+    pub(crate) node: ClosedNode,
+}
+
+/// What all clients noted, in the order of node and number; of each node the drawers; and the agents with closed links.
+#[derive(Drop)]
+pub(crate) struct Ended {
+    pub(crate) books: List<ClientBook>,
+    pub(crate) drawers: List<List<Drawer>>,
+    pub(crate) nodes: List<ClosedNode>,
+}
+
+/// Takes the clients of a node apart, and closes their links.
+fn shut(alloc: Global, place: Place) -> Result<Shutting, Memory>
+    requires { IsEnded (place_site place) }
+    ensures { IfOk result (λ s. HasShut (place_site place) (map client_book_of s.books.items) s.drawers.items s.node) }
+{
+    let Place { callers, agent } = place;
+    let Apart {
+        books,
+        drawers,
+        chunks,
+        crumbs,
+        triggers,
+    } = take_apart(alloc, callers)?;
+    let node = agent.close(alloc, chunks, crumbs, triggers)?;
+    Ok(Shutting {
+        books,
+        drawers,
+        node,
+    })
+}
+
+/// Takes the clients of all nodes apart, and closes their links.
+pub(crate) fn shut_all(alloc: Global, places: List<Place>) -> Result<Ended, Memory>
+    requires { AreEnded (map place_site places.items) }
+    ensures { IfOk result (λ e. AreShut (map place_site places.items) (map client_book_of e.books.items) (items_of e.drawers.items) e.nodes.items) }
+{
+    let mut books = List::new(alloc);
+    let mut drawers = List::new(alloc);
+    let mut nodes = List::new(alloc);
+    for place in places.into_vec() {
+        let one = shut(alloc, place)?;
+        let Shutting {
+            books: noted,
+            drawers: ends,
+            node,
+        } = one;
+        add_all(&mut books, noted)?;
+        drawers.append(ends)?;
+        nodes.append(node)?;
+    }
+    Ok(Ended {
+        books,
+        drawers,
+        nodes,
+    })
+}
+
+/// These books go behind the others.
+fn add_all(books: &mut List<ClientBook>, more: List<ClientBook>) -> Result<(), Memory>
+    ensures { OnOk result (map client_book_of books.new.items ≡ map client_book_of books.old.items ++ map client_book_of more.items) }
+{
+    for book in more.into_vec() {
+        books.append(book)?;
+    }
+    Ok(())
+}

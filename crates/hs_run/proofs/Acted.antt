@@ -1,0 +1,90 @@
+-- What it says of a node that its agent made a pass and its clients went on.
+use Rattle.std.proofs.Common.{◌≡◌, ℕ, List, length, Some, refl, sym, ap, subst, ◌∙◌, arith}
+use Rattle.std.specs.Prelude.{slice_get}
+use Rattle.hs_base.specs.Listing.{Listing}
+use Rattle.hs_base.specs.declared.settings.Settings.{Settings}
+use Rattle.hs_link.specs.Contents.{Incoming, Outgoing}
+use Rattle.hs_live.specs.Calls.{AreMates}
+use Rattle.hs_live.specs.Keys.{Key}
+use Rattle.hs_live.specs.Live.{IsMate}
+use Rattle.hs_records.specs.Plain.{Operation, PlainSettings, PlainWorkload, settings_of}
+use Rattle.hs_sent.specs.Sending.{operations_at, place_of}
+use Rattle.hs_workload.specs.declared.operation.Op.{Op}
+use Rattle.hs_workload.specs.Views.{operations_of}
+use Rattle.hs_caller.specs.Calling.{Calling}
+use Rattle.hs_caller.specs.Standing.{IsAt, Goes, IsFlushed}
+use Rattle.hs_desk.specs.Manned.{Manned, Passes, EachReceives}
+use Rattle.hs_desk.specs.Work.{Work, IsFew, with_events}
+use Rattle.hs_rounds.specs.Standing.{Site, SiteStands, client_at}
+use Rattle.hs_rounds.specs.Acting.{SiteActs}
+use Rattle.hs_run.specs.Going.{AllMayGo, AllHaveGone}
+use Rattle.hs_run.specs.Sites.{AreClients, HasPassed, HasActed}
+use Rattle.hs_run.proofs.Lists.{got, within}
+
+pub may_go : (W : PlainWorkload) (node : ℕ) (work : Work) (settings : Settings) (lists : List (Listing Op)) (site : Site) → SiteStands W node work site → AreClients W node settings lists
+    → AllMayGo (settings_of settings) lists site.callers
+may_go W node work settings lists site stands are =
+    record {
+      count = stands.count ∙ sym are.count;
+      each = λ number caller at ops found. (
+        client_at node number,
+        subst (λ (s : PlainSettings). IsAt s (client_at node number) (operations_of ops) caller) (sym are.settings_are)
+            (subst (λ (l : List Operation). IsAt W.settings (client_at node number) l caller) (sym (are.each number ops found)) (stands.callers number caller at)),
+      );
+    }
+
+-- the ends stay those of one link
+mate_stays : {T : Type 0} (number : ℕ) (rs rs' : List (Incoming T Key)) (s s' : Outgoing T Key) → EachReceives rs rs' → IsFlushed s s' → IsMate number rs s → IsMate number rs' s'
+mate_stays number rs rs' s s' receives flushed (r, at, ends) =
+    let (q, there, got) = receives.each number r at in
+    (q, there, got.same.0 ∙ ends ∙ sym flushed.goes.same.0)
+
+module _ (settings : Settings) (lists : List (Listing Op)) (old new : Site) (passed : HasPassed old.agent new.agent) (gone : AllHaveGone (settings_of settings) lists old.callers new.callers) where
+  module _ (W : PlainWorkload) (node : ℕ) (work : Work) (stands : SiteStands W node work old) (few : IsFew W work) (are : AreClients W node settings lists) where
+    -- how a client went on
+    went : (number : ℕ) (caller caller' : Calling) → slice_get old.callers number ≡ Some caller → slice_get new.callers number ≡ Some caller'
+        → Goes W.settings (operations_at W (place_of W.settings.clients node number)) caller caller'
+    went number caller caller' at at' =
+        let low = within old.callers number caller at in
+        let count = stands.count in
+        let lists_count = are.count in
+        let (ops, found) = got lists number (omega (arith, low, count, lists_count)) in
+        subst (λ (s : PlainSettings). Goes s (operations_at W (place_of W.settings.clients node number)) caller caller') are.settings_are
+        (subst (λ (l : List Operation). Goes (settings_of settings) l caller caller') (are.each number ops found) (gone.each number caller caller' at at' ops found))
+
+    -- the client of before
+    before : (number : ℕ) (caller' : Calling) → slice_get new.callers number ≡ Some caller' → (caller : Calling) × (slice_get old.callers number ≡ Some caller)
+    before number caller' at' = let low = within new.callers number caller' at' in let count = gone.count in got old.callers number (omega (arith, low, count))
+
+    acts : (work' : Work) × SiteActs W node work work' old new
+    acts =
+        let (pass, came, passes) = passed.by W work stands.agent few in (
+          with_events pass came work,
+          record {
+            stands =
+                record {
+                  node_is = stands.node_is;
+                  count = gone.count ∙ stands.count;
+                  callers = λ number caller' at'. let (caller, at) = before number caller' at' in (went number caller caller' at at').at (client_at node number) (stands.callers number caller at);
+                  mates = λ number caller' at'.
+                      let (caller, at) = before number caller' at' in
+                      let goes = went number caller caller' at at' in
+                      let mates = stands.mates number caller at in
+                      record {
+                        chunks = mate_stays number old.agent.port.chunks new.agent.port.chunks caller.client.chunks caller'.client.chunks passes.chunks goes.chunks mates.chunks;
+                        crumbs = mate_stays number old.agent.port.crumbs new.agent.port.crumbs caller.client.crumbs caller'.client.crumbs passes.crumbs goes.crumbs mates.crumbs;
+                        triggers = mate_stays number old.agent.port.triggers new.agent.port.triggers caller.client.triggers caller'.client.triggers passes.triggers goes.triggers mates.triggers;
+                        pool = goes.draws.pool ∙ mates.pool ∙ sym passes.gives.pool;
+                      };
+                  agent = passes.stands;
+                };
+            goes = went;
+            pass = pass;
+            came = came;
+            work_is = refl;
+            passes = passes;
+          },
+        )
+
+  pub has_acted : HasActed settings lists old new
+  has_acted = record { count = gone.count; by = acts }

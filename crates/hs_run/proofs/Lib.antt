@@ -1,0 +1,13 @@
+pub mod Lists
+pub mod Choosing
+pub mod Small
+pub mod Clients
+pub mod Acted
+pub mod Meetings
+pub mod Moments
+pub mod Telling
+pub mod Changed
+pub mod Few
+pub mod Moved
+pub mod Rounded
+mod Begun

@@ -1,0 +1,7 @@
+use Rattle.std.proofs.Common.{◌≤◌}
+use Rattle.hs_workload.specs.Views.{workload_of}
+use Rattle.hs_run.specs.Making.{AreMade}
+use Rattle.hs_run.proofs.making.make_nodes.Given as goal
+
+abbrev pub invariant-loop-number : goal.invariant-loop-number
+invariant-loop-number l = (l.workload.settings.nodes ≤ l.nodes.room) × AreMade (workload_of l.workload) l.number l.nodes.items

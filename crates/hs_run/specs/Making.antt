@@ -1,0 +1,30 @@
+-- Nodes before the first round.
+use Rattle.std.specs.Prelude.{◌≡◌, ℕ, List, [], length, slice_get, Some}
+use Rattle.hs_base.specs.declared.told.Ask.{Ask}
+use Rattle.hs_base.specs.declared.told.Told.{Told}
+use Rattle.hs_records.specs.Plain.{PlainWorkload}
+use Rattle.hs_words.specs.Pools.{PoolName}
+use Rattle.hs_caller.specs.Calling.{Calling}
+use Rattle.hs_desk.specs.Work.{no_work}
+use Rattle.hs_rounds.specs.Standing.{Site, SiteStands}
+use Rattle.hs_retell.specs.Laws.{LinksBegin, PoolOf}
+use Rattle.hs_run.specs.declared.node.Node.{Node}
+
+abbrev pub nothing_moved : ℕ → List Told
+nothing_moved node = []
+
+abbrev pub nothing_asked : ℕ → List Ask
+nothing_asked node = []
+
+-- Nothing was done at the node, with new links and a new pool.
+pub record SiteBegins (W : PlainWorkload) (node : ℕ) (site : Site) : Type 0 where
+  pub pool : PoolName
+  pub stands : SiteStands W node (no_work node pool) site
+  pub done : (number : ℕ) (caller : Calling) → slice_get site.callers number ≡ Some caller → caller.done ≡ 0
+  pub links : (number : ℕ) (caller : Calling) → slice_get site.callers number ≡ Some caller → LinksBegin number site caller
+  pub pool_of : PoolOf W site
+
+-- So many nodes, by number, where nothing was done.
+pub record AreMade (W : PlainWorkload) (count : ℕ) (nodes : List Node) : Type 0 where
+  pub many : length nodes ≡ count
+  pub each : (number : ℕ) (node : Node) → slice_get nodes number ≡ Some node → SiteBegins W number node.site

@@ -1,0 +1,12 @@
+//! The run of a workload: each client, each agent and the coordinator at once, in rounds that are joined
+//! (`docs/RULES.md`, "Schedules").
+#![tactic(auto)]
+
+mod making;
+mod meeting;
+mod node;
+mod rounds;
+mod running;
+mod site;
+
+pub use running::run;
