@@ -8,7 +8,7 @@ use Rattle.hs_cli.specs.Commands.{command_in}
 use Rattle.hs_cli.specs.Input.{ReadWhole, ReadBeyond}
 use Rattle.hs_cli.specs.Endings.{WillBeAbout, IsRefused, Owes, Ends}
 use Rattle.hs_cli.specs.declared.command.Command.{Command}
-use Rattle.hs_cli.specs.declared.command.Command.TheVariants.{Replay, Convert, Make, Drill}
+use Rattle.hs_cli.specs.declared.command.Command.TheVariants.{Replay, Run, Convert, Make, Drill}
 use Rattle.hs_cli.specs.declared.status.Status.{Status}
 use Rattle.hs_cli.specs.declared.status.Status.TheVariants.{Done, Usage, Refused, ReadFault, WriteFault, Memory, TooLong}
 
@@ -39,6 +39,7 @@ not_refused : (command : Command) (left left' : Option (List ℕ)) (text : List 
 not_refused (Make seed size) left left' text W will (reader, rest) = reader
 not_refused (Drill seed size) left left' text W will (reader, rest) = reader
 not_refused (Replay form) left left' text W will (reader, (bytes, whole, refused)) = text_reads left left' W bytes text whole refused will
+not_refused (Run form) left left' text W will (reader, (bytes, whole, refused)) = text_reads left left' W bytes text whole refused will
 not_refused Convert left left' text W will (reader, (bytes, whole, refused)) = text_reads left left' W bytes text whole refused will
 
 -- no more was read of it than an input may have
@@ -52,6 +53,7 @@ not_too_long : (command : Command) (left left' : Option (List ℕ)) (text : List
 not_too_long (Make seed size) left left' text W will (reader, rest) = reader
 not_too_long (Drill seed size) left left' text W will (reader, rest) = reader
 not_too_long (Replay form) left left' text W will (reader, (bytes, beyond, told)) = fits left left' W bytes beyond will
+not_too_long (Run form) left left' text W will (reader, (bytes, beyond, told)) = fits left left' W bytes beyond will
 not_too_long Convert left left' text W will (reader, (bytes, beyond, told)) = fits left left' W bytes beyond will
 
 -- words are one command

@@ -13,7 +13,7 @@ use Rattle.clap.specs.Simple.{on_top}
 use Rattle.clap.specs.declared.builder.action.ArgAction.TheVariants.{SetTrue}
 use Rattle.clap.proofs.OnLiterals.{clap_on_literals}
 use Rattle.hs_cli.specs.declared.command.Command.{Command}
-use Rattle.hs_cli.specs.declared.command.Command.TheVariants.{Replay, Convert, Make, Drill}
+use Rattle.hs_cli.specs.declared.command.Command.TheVariants.{Replay, Run, Convert, Make, Drill}
 use Rattle.hs_cli.specs.declared.command.Line as told
 
 -- the words of a call, told apart
@@ -55,10 +55,11 @@ sizes_in line =
 abbrev pub command_of : Line → Option Command
 command_of line =
     if bytes_eq line.command (codes "replay") then option_map Replay (form_in line)
+    else (if bytes_eq line.command (codes "run") then option_map Run (form_in line)
     else (if bytes_eq line.command (codes "convert") then (if is_alone line && not line.json then Some Convert else None)
     else (if bytes_eq line.command (codes "make") then option_map (λ (both : ℕ × ℕ). Make both.0 both.1) (sizes_in line)
     else (if bytes_eq line.command (codes "drill") then option_map (λ (both : ℕ × ℕ). Drill both.0 both.1) (sizes_in line)
-    else None)))
+    else None))))
 
 -- a size that a made workload may have
 abbrev pub IsSized : Command → Type 0
@@ -112,6 +113,18 @@ a_flag_behind = refl
 a_flag_before : command_in (codes "--json" ∷ codes "replay" ∷ []) ≡ Some (Replay Json)
 unfolding clap_on_literals
 a_flag_before = refl
+
+the_word_run : command_in (codes "run" ∷ []) ≡ Some (Run Lines)
+unfolding clap_on_literals
+the_word_run = refl
+
+a_run_as_json : command_in (codes "run" ∷ codes "--json" ∷ []) ≡ Some (Run Json)
+unfolding clap_on_literals
+a_run_as_json = refl
+
+no_watched_run : command_in (codes "run" ∷ codes "--watch" ∷ []) ≡ None
+unfolding clap_on_literals
+no_watched_run = refl
 
 no_flag_for_convert : command_in (codes "convert" ∷ codes "--json" ∷ []) ≡ None
 unfolding clap_on_literals

@@ -21,7 +21,7 @@ use Rattle.hs_cli.specs.Written.{GainsFront}
 use Rattle.hs_cli.specs.Commands.{command_in}
 use Rattle.hs_cli.specs.Messages.{usage_text, too_long_text, refusal_text}
 use Rattle.hs_cli.specs.declared.command.Command.{Command}
-use Rattle.hs_cli.specs.declared.command.Command.TheVariants.{Replay, Convert, Make, Drill}
+use Rattle.hs_cli.specs.declared.command.Command.TheVariants.{Replay, Run, Convert, Make, Drill}
 use Rattle.hs_cli.specs.declared.status.Status.{Status}
 use Rattle.hs_cli.specs.declared.status.Status.TheVariants.{Done, Usage, Refused, ReadFault, WriteFault, Memory, TooLong}
 
@@ -32,9 +32,11 @@ abbrev pub drill_text : PlainWorkload → List ℕ
 drill_text W = text_of (total_line (totals_of (outcome_of W (lockstep W)).entries) ∷ [])
 
 -- The text is what a command owes for a workload. What `replay` owes is the outcome of the workload and a journal that is lawful for
--- it, and this journal is that of the lockstep schedule.
+-- it, and this journal is that of the lockstep schedule. What `run` owes is the outcome of the workload and some journal that is
+-- lawful for it: which one, its threads decide.
 abbrev pub Due : Command → PlainWorkload → List ℕ → Type 0
 Due (Replay form) W text = (J : PlainJournal) × IsLawful W J × (J ≡ lockstep W) × (text ≡ outcome_text W J form)
+Due (Run form) W text = (J : PlainJournal) × IsLawful W J × (text ≡ outcome_text W J form)
 Due Convert W text = text ≡ workload_text (record W { version = 2 })
 Due (Make seed size) W text = text ≡ workload_text W
 Due (Drill seed size) W text = text ≡ drill_text W
@@ -42,6 +44,7 @@ Due (Drill seed size) W text = text ≡ drill_text W
 -- whether a command reads its workload; else it makes it
 abbrev pub IsReader : Command → Type 0
 IsReader (Replay form) = ⊤
+IsReader (Run form) = ⊤
 IsReader Convert = ⊤
 IsReader (Make seed size) = ⊥
 IsReader (Drill seed size) = ⊥

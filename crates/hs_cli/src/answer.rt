@@ -10,14 +10,17 @@ ghost use Rattle.hs_cli.specs.Messages.{refusal_text};
 
 use crate::command::Command;
 use crate::reading::{Input, read_all};
-use hs_base::{Bytes, Memory, Source};
+use hs_base::{Bytes, Gate, Memory, Source};
 use hs_lockstep::laws::schedule_is_lawful;
 use hs_make::make_workload;
 use hs_replay::{replay, write_outcome, write_total};
+use hs_run::run;
 use hs_workload::{
     ReadError, Refusal, Workload, read_workload, versions_are_exchanged, write_workload,
 };
 use std::alloc::Global;
+use std::marker::Sync;
+use std::thread::Threads;
 
 /// What a command is about, or why there is nothing.
 #[derive(Drop)]
@@ -47,7 +50,9 @@ pub(crate) fn subject_of<S: Source>(alloc: Global, command: Command, source: &mu
                 Err(_) => Subject::NoMemory,
             }
         }
-        Command::Replay { form: _ } | Command::Convert => read(alloc, command, source),
+        Command::Replay { form: _ } | Command::Run { form: _ } | Command::Convert => {
+            read(alloc, command, source)
+        }
     }
 }
 
@@ -81,8 +86,14 @@ fn refusal_line(alloc: Global, refusal: Refusal) -> Result<Vec<u8>, Memory>
     Ok(format!(in alloc; "refused line {line} {reason}\n")?.into_bytes())
 }
 
-/// The text that a command owes for a workload.
-pub(crate) fn text_for(alloc: Global, command: Command, workload: Workload) -> Result<Bytes, Memory>
+/// The text that a command owes for a workload. Each actor of a run passes the gate before each of its steps.
+pub(crate) fn text_for<R: Threads + Sync, G: Gate>(
+    rt: &R,
+    alloc: Global,
+    gate: &G,
+    command: Command,
+    workload: Workload,
+) -> Result<Bytes, Memory>
     requires { IsValid (workload_of workload) }
     ensures { IfOk result (λ text. Due command (workload_of workload) text.items) }
 {
@@ -90,6 +101,10 @@ pub(crate) fn text_for(alloc: Global, command: Command, workload: Workload) -> R
         Command::Replay { form } => {
             schedule_is_lawful();
             let outcome = replay(alloc, &workload)?;
+            write_outcome(alloc, &outcome, form)
+        }
+        Command::Run { form } => {
+            let outcome = run(rt, alloc, &workload, gate)?;
             write_outcome(alloc, &outcome, form)
         }
         Command::Convert => {

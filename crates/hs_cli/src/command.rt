@@ -18,6 +18,8 @@ use std::alloc::Global;
 pub enum Command {
     /// Replays the workload that it reads, and writes the outcome in this form.
     Replay { form: Form },
+    /// Runs the workload that it reads on threads, and writes the outcome in this form.
+    Run { form: Form },
     /// Writes the workload that it reads with version 2.
     Convert,
     /// Writes the workload of so many requests that the seed makes. Reads nothing.
@@ -75,6 +77,9 @@ impl Line<'_> {
         if self.command == "replay" {
             let form = self.form()?;
             Some(Command::Replay { form })
+        } else if self.command == "run" {
+            let form = self.form()?;
+            Some(Command::Run { form })
         } else if self.command == "convert" {
             if !self.is_alone() || self.json {
                 return None;

@@ -34,15 +34,22 @@ fn finish<K: Sink>(sink: &mut K, text: &[u8], status: Status) -> Status
     }
 }
 
-/// Runs a command.
-fn run<S: Source, K: Sink>(alloc: Global, command: Command, source: &mut S, sink: &mut K) -> Status
+/// Does what a command says.
+fn carry_out<R: Threads + Sync, S: Source, K: Sink, G: Gate>(
+    rt: &R,
+    alloc: Global,
+    command: Command,
+    source: &mut S,
+    sink: &mut K,
+    gate: &G,
+) -> Status
     requires { IsSized command }
     ensures ends { EndsWith command (S.left source.old) (S.left source.new) (K.written sink.old) (K.written sink.new)
         (S.faults source.old) (S.faults source.new) (K.faults sink.old) (K.faults sink.new) result }
     ensures untouched { IsReader command ⊎ IsUntouched (S.left source.old) (S.left source.new) (S.faults source.old) (S.faults source.new) }
 {
     match subject_of(alloc, command, source) {
-        Subject::Found(workload) => match text_for(alloc, command, workload) {
+        Subject::Found(workload) => match text_for(rt, alloc, gate, command, workload) {
             Ok(text) => finish(sink, text.as_slice(), Status::Done),
             Err(_) => Status::Memory,
         },
@@ -54,31 +61,40 @@ fn run<S: Source, K: Sink>(alloc: Global, command: Command, source: &mut S, sink
 }
 
 /// What the call does, with its answer as one fact.
-fn call<S: Source, K: Sink>(alloc: Global, words: &[String], source: &mut S, sink: &mut K) -> Status
+fn call<R: Threads + Sync, S: Source, K: Sink, G: Gate>(
+    rt: &R,
+    alloc: Global,
+    words: &[String],
+    source: &mut S,
+    sink: &mut K,
+    gate: &G,
+) -> Status
     ensures ends { Ends (map (λ word. string_bytes word) words.now) (S.left source.old) (S.left source.new) (K.written sink.old) (K.written sink.new)
         (S.faults source.old) (S.faults source.new) (K.faults sink.old) (K.faults sink.new) result }
     ensures untouched { Reading (map (λ word. string_bytes word) words.now) ⊎ IsUntouched (S.left source.old) (S.left source.new) (S.faults source.old) (S.faults source.new) }
 {
     match command_in(alloc, words) {
-        Ok(Some(command)) => run(alloc, command, source, sink),
+        Ok(Some(command)) => carry_out(rt, alloc, command, source, sink, gate),
         Ok(None) => finish(sink, USAGE, Status::Usage),
         Err(_) => Status::Memory,
     }
 }
 
 /// Runs the command that the words name: reads its input from the source and writes its output to
-/// the sink (`docs/FORMATS.md`, "The program"). `words` has no name of a program.
+/// the sink (`docs/FORMATS.md`, "The program"). `words` has no name of a program. Each actor of `run` passes the gate before
+/// each of its steps, by its number and the step's (`docs/RULES.md`, "The run"); no other command looks at it.
 pub fn hindsight<R: Threads + Sync, S: Source, K: Sink, G: Gate>(
-    _rt: &R,
+    rt: &R,
     alloc: Global,
     words: &[String],
     source: &mut S,
     sink: &mut K,
-    _gate: &G,
+    gate: &G,
 ) -> Status
     // The words are a command, and the sink gained the text that it owes. Of the input read whole, which reads as one
-    // workload: `replay` the outcome of that workload and the lockstep journal, which is lawful for it, and `convert` the
-    // workload's text. Of the workload that it makes, with nothing read: `make` its text, and `drill` the total line.
+    // workload: `replay` the outcome of that workload and the lockstep journal, which is lawful for it, `run` the outcome of
+    // that workload and some journal that is lawful for it, and `convert` the workload's text. Of the workload that it makes,
+    // with nothing read: `make` its text, and `drill` the total line.
     ensures done { result ≡ Status.Done
         → Wrote (map (λ word. string_bytes word) words.now) (S.left source.old) (S.left source.new)
         (K.written sink.old) (K.written sink.new) Status.Done }
@@ -135,5 +151,5 @@ pub fn hindsight<R: Threads + Sync, S: Source, K: Sink, G: Gate>(
         → ¬ Rose (K.faults sink.old) (K.faults sink.new)
         → (result ≡ Status.Done) ⊎ (result ≡ Status.Memory) }
 {
-    call(alloc, words, source, sink)
+    call(rt, alloc, words, source, sink, gate)
 }

@@ -31,7 +31,7 @@ done
 ";
 
 /// Each command with too few, too many and wrong words, flags where none may stand, and commands that are not built.
-const NO_COMMANDS: [&[&str]; 47] = [
+const NO_COMMANDS: [&[&str]; 52] = [
     &[],
     &[""],
     &["Replay"],
@@ -66,8 +66,13 @@ const NO_COMMANDS: [&[&str]; 47] = [
     &["make", "07", "3"],
     &["make", "x", "3"],
     &["make", "", "3"],
-    &["run"],
-    &["run", "--json"],
+    &["run", "now"],
+    &["run", "7", "3"],
+    &["run", "--watch"],
+    &["run", "--json", "--watch"],
+    &["run", "--json", "--json"],
+    &["run", "--", "--json"],
+    &["Run"],
     &["drill"],
     &["drill", "7"],
     &["drill", "7", "3", "1"],

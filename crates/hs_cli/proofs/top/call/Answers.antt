@@ -5,7 +5,7 @@ use Rattle.hs_cli.proofs.top.call.Goals as goal
 
 pub returns-in-Ok-Some-clause-ends : goal.returns-in-Ok-Some-clause-ends
 returns-in-Ok-Some-clause-ends g c =
-    worded c.in-Ok-Some.command _ _ _ _ _ _ _ _ (map (λ word. string_bytes word) c.args.words.now) (sym c.in-Ok-Some.ensures.is ∙ c.in-Ok-Some.field-0-is) c.run.result c.run.ensures.ends
+    worded c.in-Ok-Some.command _ _ _ _ _ _ _ _ (map (λ word. string_bytes word) c.args.words.now) (sym c.in-Ok-Some.ensures.is ∙ c.in-Ok-Some.field-0-is) c.carry_out.result c.carry_out.ensures.ends
 
 pub returns-in-Ok-None-clause-ends : goal.returns-in-Ok-None-clause-ends
 returns-in-Ok-None-clause-ends g c =

@@ -4,7 +4,7 @@ use Rattle.hs_cli.specs.Endings.{IsRefused, Due}
 use Rattle.hs_cli.specs.Messages.{too_long_text}
 use Rattle.hs_cli.specs.declared.status.Status.TheVariants.{Done, Refused, TooLong}
 use Rattle.hs_cli.proofs.EndingLemmas.{finished}
-use Rattle.hs_cli.proofs.top.run.Goals as goal
+use Rattle.hs_cli.proofs.top.carry_out.Goals as goal
 
 pub returns-in-Ok-clause-ends : goal.returns-in-Ok-clause-ends
 returns-in-Ok-clause-ends g c =

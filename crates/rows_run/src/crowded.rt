@@ -1,0 +1,53 @@
+//! Runs of many threads.
+
+use crate::calls::called;
+use hs_base::OpenGate;
+use std::alloc::{AllocError, Global};
+use std::test::Fail;
+
+/// A workload in which each client has one record, of a trace of its own.
+fn segments(alloc: Global, nodes: u32, clients: u32, buffers: u32) -> Result<String, AllocError> {
+    let mut text = format!(in alloc;
+        "hindsight 1\nnodes {nodes}\nclients {clients}\nbuffers {buffers}\nsize 64\nthreshold {buffers}\ntraces 8\npins 4\nstride 16\n"
+    )?;
+    for node in 0..nodes {
+        for client in 0..clients {
+            let trace = 16 * u64::from(node) + u64::from(client);
+            let lines = format!(in alloc;
+                "client {node} {client}\nbegin {trace:016x}\npoint 1 aa\nend\n"
+            )?;
+            text.push_str(lines.as_str())?;
+        }
+    }
+    text.push_str("done\n")?;
+    Ok(text)
+}
+
+/// So many nodes, clients of each and buffers of each, and the total line.
+const TABLE: [([u32; 3], &str); 3] = [
+    // of sixteen clients one gets the only buffer
+    (
+        [1, 16, 1],
+        "total 16 live 1 reported 0 null 15 evicted 0 abandoned 0\ndone\n",
+    ),
+    (
+        [16, 1, 1],
+        "total 16 live 16 reported 0 null 0 evicted 0 abandoned 0\ndone\n",
+    ),
+    // 256 clients, 16 agents and the coordinator
+    (
+        [16, 16, 8],
+        "total 256 live 128 reported 0 null 128 evicted 0 abandoned 0\ndone\n",
+    ),
+];
+
+#[test]
+fn many_threads_at_once(rt: HostRuntime) -> Result<(), Fail> {
+    for ([nodes, clients, buffers], total) in TABLE {
+        let input = segments(rt.alloc(), nodes, clients, buffers)?;
+        let (status, written) = called(&rt, &["run"], input.as_str(), &OpenGate)?;
+        assert_eq!(rt; status, 0);
+        assert!(rt; written.ends_with(total.as_bytes()));
+    }
+    Ok(())
+}

@@ -1,0 +1,86 @@
+//! Steps of threads in an order that a gate brings about.
+
+use crate::calls::{Row, assert_held};
+use crate::hold::{At, Both, Hold};
+use crate::inputs::{FOUR_SEGMENTS, TWO_CLIENTS, TWO_SEGMENTS};
+use std::test::Fail;
+
+/// The second client gets the only buffer, though the first one comes first.
+const THE_SECOND_DRAWS_FIRST: Row = Row {
+    name: "the second client draws first",
+    input: TWO_CLIENTS,
+    parts: &[
+        "draws 0 0
+empty 1
+draws 0 1
+got 0 0
+",
+        "ledger 2
+0 0 0 0000000000000001 null 1
+0 1 0 0000000000000002 live
+total 2 live 1 reported 0 null 1 evicted 0 abandoned 0
+done
+",
+    ],
+};
+
+/// The agent comes too late for the second draw, so it misses once before it gives the buffer back.
+const A_GIVE_IS_MISSED: Row = Row {
+    name: "a give is missed",
+    input: TWO_SEGMENTS,
+    parts: &[
+        "draws 0 0
+got 0 0
+empty 1
+log 0
+chunk 0
+turn
+missed 2
+given 3
+coordinator
+end
+reports 0
+ledger 2
+0 0 0 0000000000000001 evicted 1 1
+0 0 1 0000000000000002 null 1
+total 2 live 0 reported 0 null 1 evicted 1 abandoned 0
+done
+",
+    ],
+};
+
+/// The agent takes a chunk while its client stands between two operations.
+const BOTH_AT_ONCE: Row = Row {
+    name: "client and agent at once",
+    input: FOUR_SEGMENTS,
+    parts: &["ledger 4\n"],
+};
+
+#[test]
+fn a_client_waits_for_another(rt: HostRuntime) -> Result<(), Fail> {
+    let hold = Hold::new(At { actor: 0, step: 1 }, At { actor: 1, step: 2 });
+    assert_held(&rt, &["run"], &THE_SECOND_DRAWS_FIRST, &hold)?;
+    assert!(rt; hold.was_kept());
+    Ok(())
+}
+
+#[test]
+fn an_agent_waits_for_its_client(rt: HostRuntime) -> Result<(), Fail> {
+    let hold = Hold::new(At { actor: 1, step: 0 }, At { actor: 0, step: 5 });
+    assert_held(&rt, &["run"], &A_GIVE_IS_MISSED, &hold)?;
+    assert!(rt; hold.was_kept());
+    Ok(())
+}
+
+/// Where one of the two has to end its round before the other begins, one of these holds breaks.
+#[test]
+fn each_waits_for_the_other(rt: HostRuntime) -> Result<(), Fail> {
+    let both = Both {
+        first: Hold::new(At { actor: 1, step: 0 }, At { actor: 0, step: 9 }),
+        second: Hold::new(At { actor: 0, step: 9 }, At { actor: 1, step: 1 }),
+    };
+    assert_held(&rt, &["run"], &BOTH_AT_ONCE, &both)?;
+    assert!(rt; both.first.was_kept());
+    assert!(rt; both.second.was_kept());
+    Ok(())
+}

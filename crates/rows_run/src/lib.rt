@@ -1,0 +1,16 @@
+//! What `run` writes, through the top call: the parts of an output that are the same however the threads take turns, and
+//! orders of their steps that a gate brings about.
+#![tactic(auto)]
+
+#[cfg(test)]
+mod alike;
+#[cfg(test)]
+mod calls;
+#[cfg(test)]
+mod crowded;
+#[cfg(test)]
+mod held;
+#[cfg(test)]
+mod hold;
+#[cfg(test)]
+mod inputs;
