@@ -1,6 +1,6 @@
 //! A workload as an operator may have it: three nodes of four clients each, and one slow request among 1,600.
 
-use crate::calls::replayed;
+use crate::calls::{WHOLE, called, replayed};
 use std::alloc::{AllocError, Global};
 use std::test::Fail;
 
@@ -96,5 +96,34 @@ fn the_slow_request_is_reported(rt: HostRuntime) -> Result<(), Fail> {
     assert!(rt; text.ends_with(TOTAL));
     let wanted = reports(rt.alloc())?;
     assert!(rt; text.contains(wanted.as_str()));
+    Ok(())
+}
+
+/// The total lines that a run may have. The nodes are asked one after another, a few rounds apart, so the oldest of the nine
+/// traces may be evicted at node 1 by then, with three records, and the three oldest at node 2, with four each.
+const TOTALS: [&str; 8] = [
+    TOTAL,
+    "total 14400 live 432 reported 66 null 0 evicted 13902 abandoned 0\ndone\n",
+    "total 14400 live 432 reported 69 null 0 evicted 13899 abandoned 0\ndone\n",
+    "total 14400 live 432 reported 70 null 0 evicted 13898 abandoned 0\ndone\n",
+    "total 14400 live 432 reported 73 null 0 evicted 13895 abandoned 0\ndone\n",
+    "total 14400 live 432 reported 74 null 0 evicted 13894 abandoned 0\ndone\n",
+    "total 14400 live 432 reported 77 null 0 evicted 13891 abandoned 0\ndone\n",
+    "total 14400 live 432 reported 78 null 0 evicted 13890 abandoned 0\ndone\n",
+];
+
+/// The nine traces are reported of a run too, and as much is live at the end.
+#[test]
+fn the_slow_request_is_reported_of_a_run(rt: HostRuntime) -> Result<(), Fail> {
+    let input = workload(rt.alloc())?;
+    let (status, written) = called(&rt, &["run"], input.as_bytes(), &WHOLE)?;
+    assert_eq!(rt; status, 0);
+    let text = str::from_utf8(&written).ok().ok_or("a text")?;
+    assert!(rt; text.contains("\nreports 9\n"));
+    let mut found = false;
+    for total in TOTALS {
+        found = found || text.ends_with(total);
+    }
+    assert!(rt; found);
     Ok(())
 }

@@ -1,6 +1,6 @@
 //! The greatest workload.
 
-use crate::calls::replayed;
+use crate::calls::{WHOLE, called, replayed};
 use std::alloc::{AllocError, Global};
 use std::test::Fail;
 
@@ -21,9 +21,8 @@ fn workload(alloc: Global) -> Result<String, AllocError> {
 }
 
 /// A page of 64 bytes has four of them. 1,024 pages have a buffer, and the pages behind them found the pool empty at the
-/// draw of their number. A round has 64 operations and sends the pages behind which it starts one: 15, then 16 each time, and
-/// the last of the 1,024 in the round with the number 64. Of 4,096 rounds each has a turn.
-fn output(alloc: Global) -> Result<String, AllocError> {
+/// draw of their number.
+fn draws(alloc: Global) -> Result<String, AllocError> {
     let mut text = String::from_str(alloc, "journal 1 1 1\ndraws 0 0\n")?;
     for page in 0..POINTS.div_ceil(4) {
         let line = if page < 1024 {
@@ -34,6 +33,13 @@ fn output(alloc: Global) -> Result<String, AllocError> {
         text.push_str(line.as_str())?;
     }
     text.push_str("log 0\n")?;
+    Ok(text)
+}
+
+/// A round has 64 operations and sends the pages behind which it starts one: 15, then 16 each time, and the last of the 1,024
+/// in the round with the number 64. Of 4,096 rounds each has a turn.
+fn log(alloc: Global) -> Result<String, AllocError> {
+    let mut text = String::new(alloc);
     for round in 0..4096u32 {
         let chunks = if round == 0 {
             15
@@ -49,7 +55,12 @@ fn output(alloc: Global) -> Result<String, AllocError> {
         }
         text.push_str("turn\n")?;
     }
-    text.push_str("coordinator\nend\nreports 0\nledger 262142\n")?;
+    Ok(text)
+}
+
+/// What is behind the log.
+fn ledger(alloc: Global) -> Result<String, AllocError> {
+    let mut text = String::from_str(alloc, "coordinator\nend\nreports 0\nledger 262142\n")?;
     for point in 0..POINTS {
         let page = point / 4;
         let line = if page < 1024 {
@@ -66,10 +77,27 @@ fn output(alloc: Global) -> Result<String, AllocError> {
 /// 262,144 operations of one client have 262,142 records.
 #[test]
 fn most_operations_are_replayed(rt: HostRuntime) -> Result<(), Fail> {
-    let input = workload(rt.alloc())?;
+    let alloc = rt.alloc();
+    let input = workload(alloc)?;
     let (status, written) = replayed(&rt, input.as_bytes())?;
     assert_eq!(rt; status, 0);
-    let wanted = output(rt.alloc())?;
+    let mut wanted = draws(alloc)?;
+    wanted.push_str(log(alloc)?.as_str())?;
+    wanted.push_str(ledger(alloc)?.as_str())?;
     assert!(rt; written.as_slice() == wanted.as_bytes());
+    Ok(())
+}
+
+/// The same come to the same in a run, but for when the agent took its chunks.
+#[test]
+fn most_operations_are_run(rt: HostRuntime) -> Result<(), Fail> {
+    let alloc = rt.alloc();
+    let input = workload(alloc)?;
+    let (status, written) = called(&rt, &["run"], input.as_bytes(), &WHOLE)?;
+    assert_eq!(rt; status, 0);
+    let first = draws(alloc)?;
+    assert!(rt; written.starts_with(first.as_bytes()));
+    let last = ledger(alloc)?;
+    assert!(rt; written.ends_with(last.as_bytes()));
     Ok(())
 }
