@@ -11,17 +11,15 @@ use Rattle.hs_clauses.proofs.Ranges.{all_hold, one_fails, each_holds}
 
 -- ---- sums below a number
 
-total : (ℕ → ℕ) → ℕ → ℕ
+abbrev pub total : (ℕ → ℕ) → ℕ → ℕ
 total f zero = 0
 total f (suc n) = total f n + f n
 
 total_few : (f : ℕ → ℕ) (n : ℕ) → ((s : ℕ) → s < n → f s ≤ 1) → total f n ≤ n
-unfolding total
 total_few f zero few = omega arith
 total_few f (suc n) few = let a = total_few f n (λ s less. few s (omega arith)) in let b = few n (omega arith) in omega (arith, a, b)
 
 ones : (f : ℕ → ℕ) (n : ℕ) → ((s : ℕ) → s < n → f s ≤ 1) → total f n ≡ n → (s : ℕ) → s < n → f s ≡ 1
-unfolding total
 ones f zero few whole s less = absurd (omega arith)
 ones f (suc n) few whole s less =
     let a = total_few f n (λ s less. few s (omega arith)) in
@@ -29,7 +27,6 @@ ones f (suc n) few whole s less =
     elim (cases_eq s n) [ inl same ↦ let e = ap f same in omega (arith, e, a, b, whole) | inr other ↦ ones f n (λ s less. few s (omega arith)) (omega (arith, a, b, whole)) s (omega (arith, other)) ]
 
 all_ones : (f : ℕ → ℕ) (n : ℕ) → ((s : ℕ) → s < n → f s ≡ 1) → total f n ≡ n
-unfolding total
 all_ones f zero one = refl
 all_ones f (suc n) one = let a = all_ones f n (λ s less. one s (omega arith)) in let b = one n (omega arith) in omega (arith, a, b)
 
@@ -54,8 +51,7 @@ below_more n (x ∷ xs) =
     omega (arith, counted (λ t. ltb t n) x xs, counted (λ t. eqb t n) x xs, counted (λ t. ltb t (suc n)) x xs, one_more x n, below_more n xs)
 
 -- each number below n is counted at itself
-total_is : (n : ℕ) (xs : List ℕ) → total (λ s. count_by (λ t. eqb t s) xs) n ≡ count_by (λ t. ltb t n) xs
-unfolding total
+pub total_is : (n : ℕ) (xs : List ℕ) → total (λ s. count_by (λ t. eqb t s) xs) n ≡ count_by (λ t. ltb t n) xs
 total_is zero xs = sym (none_below xs)
 total_is (suc n) xs = ap (λ k. k + count_by (λ t. eqb t n) xs) (total_is n xs) ∙ below_more n xs
 

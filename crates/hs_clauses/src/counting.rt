@@ -9,7 +9,7 @@ ghost use Rattle.hs_sent.specs.Sending.{draws_at, place_of};
 use hs_journal::{Draw, Journal, Step};
 
 /// The steps of a node's agent, none where the journal has no such node.
-pub(crate) fn log_of(journal: &Journal, node: usize) -> &[Step]
+pub fn log_of(journal: &Journal, node: usize) -> &[Step]
     ensures { result.now ≡ log_at (journal_of journal.now) node }
 {
     match journal.logs.get(node) {
@@ -19,7 +19,7 @@ pub(crate) fn log_of(journal: &Journal, node: usize) -> &[Step]
 }
 
 /// The draws of a client of a node, none where the journal has no such client.
-pub(crate) fn draws_of(journal: &Journal, clients: u16, node: u16, number: u16) -> &[Draw]
+pub fn draws_of(journal: &Journal, clients: u16, node: u16, number: u16) -> &[Draw]
     ensures { result.now ≡ draws_at (journal_of journal.now) (place_of clients node number) }
 {
     let place = node as usize * clients as usize + number as usize;

@@ -17,7 +17,7 @@ use std::alloc::Global;
 
 /// An event of a pool. A buffer is named by its number.
 #[derive(Clone, Copy)]
-pub(crate) enum Happening {
+pub enum Happening {
     Got { buffer: u32 },
     Empty,
     /// The draw that had got the buffer had the stamp `drawn`.
@@ -27,9 +27,9 @@ pub(crate) enum Happening {
 
 /// An event with its stamp.
 #[derive(Clone, Copy)]
-pub(crate) struct Timed {
-    pub(crate) stamp: u64,
-    pub(crate) event: Happening,
+pub struct Timed {
+    pub stamp: u64,
+    pub event: Happening,
 }
 
 /// A draw as an event.
@@ -74,7 +74,7 @@ fn push_missed(events: &mut Vec<Timed>, log: &[Step]) -> Result<(), Memory>
 }
 
 /// The draws for the pages that a client of a node started.
-fn drawn_of<'a>(
+pub fn drawn_of<'a>(
     journal: &'a Journal,
     each: u16,
     node: u16,
@@ -182,7 +182,7 @@ fn push_all_drawn(
 }
 
 /// The events of a node's pool.
-pub(crate) fn events_of(
+pub fn events_of(
     alloc: Global,
     journal: &Journal,
     each: u16,

@@ -21,10 +21,13 @@ mod stamps;
 
 pub use answers::has_answers;
 pub use bare::is_bare;
+pub use counting::{draws_of, log_of};
 pub use found::{Found, FoundClient, FoundNode, FoundPage};
+pub use happened::{Happening, Timed, drawn_of, events_of};
 pub use history::has_history;
-pub use offers::has_offers;
+pub use offers::{has_offers, is_last, is_unread};
 pub use passes::has_passes;
+pub use rising::{stamp_of, step_stamp};
 pub use rounds::has_rounds;
 pub use shape::has_shape;
 pub use stamps::has_stamps;

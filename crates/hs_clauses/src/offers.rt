@@ -64,7 +64,7 @@ fn may_stand(last: bool, step: Step, hand: usize) -> bool
 }
 
 /// Whether a pass ends with the step at a place.
-pub(crate) fn is_last(log: &[Step], place: usize) -> bool
+pub fn is_last(log: &[Step], place: usize) -> bool
     requires { place < length log.now }
     ensures { result ≡ ends_front (drop place log.now) }
 {
@@ -89,7 +89,7 @@ fn is_offer(step: Step) -> bool
 }
 
 /// Whether a step is an offer that was unread.
-pub(crate) fn is_unread(step: Step) -> bool
+pub fn is_unread(step: Step) -> bool
     ensures { result ≡ is_unread step }
 {
     matches!(step, Step::Unread)

@@ -8,7 +8,7 @@ ghost use Rattle.hs_clauses.specs.Rising.{is_above};
 use hs_journal::{Draw, Step};
 
 /// The stamp of a draw.
-pub(crate) fn stamp_of(draw: Draw) -> u64
+pub fn stamp_of(draw: Draw) -> u64
     ensures { result ≡ stamp_of draw }
 {
     match draw {
@@ -18,7 +18,7 @@ pub(crate) fn stamp_of(draw: Draw) -> u64
 }
 
 /// The stamp of an offer that was an event of the pool.
-pub(crate) fn step_stamp(step: Step) -> Option<u64>
+pub fn step_stamp(step: Step) -> Option<u64>
     ensures { result ≡ step_stamp step }
 {
     match step {

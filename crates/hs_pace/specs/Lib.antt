@@ -1,0 +1,4 @@
+pub mod Counting
+pub mod Pacing
+pub mod Asking
+pub mod Besides

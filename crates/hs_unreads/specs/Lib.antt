@@ -1,0 +1,2 @@
+pub mod PageDraws
+pub mod Showing
