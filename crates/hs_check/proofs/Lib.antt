@@ -1,0 +1,5 @@
+mod Cuts
+mod First
+mod Whole
+mod Left
+mod Finishing

@@ -1,0 +1,42 @@
+-- What is left where a lawful journal was followed: the books of the clients, and agents that have nothing pinned.
+use Rattle.std.specs.Prelude.{◌≡◌, List, [], map}
+use Rattle.hs_agent.specs.Keeping.{Keeping}
+use Rattle.hs_clauses.specs.Finding.{AreFound}
+use Rattle.hs_followed.specs.Nodes.{AgentStands}
+use Rattle.hs_followed.specs.declared.parting.Ended.{Ended}
+use Rattle.hs_journal.specs.Books.{PlainAgentBook, client_book_of}
+use Rattle.hs_journal.specs.Views.{PlainJournal}
+use Rattle.hs_lawful.specs.Following.{NodeRun, followed}
+use Rattle.hs_lawful.specs.Lawful.{IsLawful}
+use Rattle.hs_model.specs.Books.{book_of}
+use Rattle.hs_outcome.specs.Outcomes.{client_books}
+use Rattle.hs_records.specs.Plain.{PlainSettings, PlainWorkload}
+use Rattle.hs_workload.specs.Validity.{IsValid}
+
+-- the book of a node's agent
+abbrev pub book_at : NodeRun → PlainAgentBook
+book_at run = book_of run.node run.state
+
+-- The agent follows the node's run, and has nothing pinned.
+pub record IsAgentOf (settings : PlainSettings) (run : NodeRun) (agent : Keeping (Unit {0})) : Type 0 where
+  pub stands : AgentStands settings run agent
+  pub pinned : run.state.pinned ≡ []
+
+-- one agent for each run
+abbrev pub AreAgentsOf : PlainSettings → List NodeRun → List (Keeping (Unit {0})) → Type 0
+AreAgentsOf settings runs agents = AreFound (IsAgentOf settings) runs agents
+
+-- the agents follow runs, whichever these are
+abbrev pub MayFinish : List (Keeping (Unit {0})) → Type 0
+MayFinish agents = (settings : PlainSettings) × (runs : List NodeRun) × AreAgentsOf settings runs agents
+
+-- These are the books of the agents.
+abbrev pub HaveFinished : List (Keeping (Unit {0})) → List PlainAgentBook → Type 0
+HaveFinished agents books = (settings : PlainSettings) (runs : List NodeRun) → AreAgentsOf settings runs agents → books ≡ map book_at runs
+
+-- This is left of a lawful journal.
+pub record AreLeft (W : PlainWorkload) (J : PlainJournal) (ended : Ended) : Type 0 where
+  pub valid : IsValid W
+  pub lawful : IsLawful W J
+  pub clients : map client_book_of ended.clients.items ≡ client_books W J
+  pub agents : AreAgentsOf W.settings (followed W J).nodes ended.agents.items

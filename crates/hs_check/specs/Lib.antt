@@ -1,0 +1,5 @@
+pub mod Asking
+pub mod Clauses
+pub mod Leaving
+pub mod Parts
+pub mod Verdicts
