@@ -13,7 +13,7 @@ use Rattle.clap.specs.Simple.{on_top}
 use Rattle.clap.specs.declared.builder.action.ArgAction.TheVariants.{SetTrue}
 use Rattle.clap.proofs.OnLiterals.{clap_on_literals}
 use Rattle.hs_cli.specs.declared.command.Command.{Command}
-use Rattle.hs_cli.specs.declared.command.Command.TheVariants.{Replay, Run, Convert, Make, Drill}
+use Rattle.hs_cli.specs.declared.command.Command.TheVariants.{Replay, Run, Convert, Make, Drill, Check}
 use Rattle.hs_cli.specs.declared.command.Line as told
 
 -- the words of a call, told apart
@@ -52,14 +52,19 @@ sizes_in line =
     if line.json || line.watch then None else
     option_and_then (λ seed. option_map (λ size. (seed, size)) (option_and_then size_of line.size)) (option_and_then seed_of line.seed)
 
+-- this command, where the line has nothing but its word
+abbrev pub alone : Line → Command → Option Command
+alone line command = if is_alone line && not line.json then Some command else None
+
 abbrev pub command_of : Line → Option Command
 command_of line =
     if bytes_eq line.command (codes "replay") then option_map Replay (form_in line)
     else (if bytes_eq line.command (codes "run") then option_map Run (form_in line)
-    else (if bytes_eq line.command (codes "convert") then (if is_alone line && not line.json then Some Convert else None)
+    else (if bytes_eq line.command (codes "convert") then alone line Convert
+    else (if bytes_eq line.command (codes "check") then alone line Check
     else (if bytes_eq line.command (codes "make") then option_map (λ (both : ℕ × ℕ). Make both.0 both.1) (sizes_in line)
     else (if bytes_eq line.command (codes "drill") then option_map (λ (both : ℕ × ℕ). Drill both.0 both.1) (sizes_in line)
-    else None))))
+    else None)))))
 
 -- a size that a made workload may have
 abbrev pub IsSized : Command → Type 0
@@ -129,6 +134,14 @@ no_watched_run = refl
 no_flag_for_convert : command_in (codes "convert" ∷ codes "--json" ∷ []) ≡ None
 unfolding clap_on_literals
 no_flag_for_convert = refl
+
+the_word_check : command_in (codes "check" ∷ []) ≡ Some Check
+unfolding clap_on_literals
+the_word_check = refl
+
+no_flag_for_check : command_in (codes "check" ∷ codes "--json" ∷ []) ≡ None
+unfolding clap_on_literals
+no_flag_for_check = refl
 
 drilled_with_two_numbers : command_in (codes "drill" ∷ codes "0" ∷ codes "1" ∷ []) ≡ Some (Drill 0 1)
 unfolding clap_on_literals

@@ -1,6 +1,6 @@
 -- What each status says of a call: of its words, of what it took from its source and of what its sink gained.
 -- `left` and `written` are before and after the call.
-use Rattle.std.specs.Prelude.{◌≡◌, ⊤, ℕ, ◌≤◌, List, [], ◌∷◌, length, Option, Some, None}
+use Rattle.std.specs.Prelude.{◌≡◌, ⊤, ◌⊎◌, ℕ, ◌≤◌, List, [], ◌∷◌, length, Option, Some, None}
 use Rattle.hs_base.specs.Outside.{Rose, Gains}
 use Rattle.hs_base.specs.declared.limits.TheConstants.{MAX_INPUT}
 use Rattle.hs_records.specs.Plain.{PlainWorkload}
@@ -9,21 +9,26 @@ use Rattle.hs_workload.specs.Validity.{Reads}
 use Rattle.hs_workload.specs.Faults.{first_fault}
 use Rattle.hs_workload.specs.Grammar.{workload_text}
 use Rattle.hs_make.specs.Made.{made_workload}
+use Rattle.hs_journal.specs.declared.refusal.JournalRefusal.{JournalRefusal}
 use Rattle.hs_journal.specs.Views.{PlainJournal}
-use Rattle.hs_lawful.specs.Lawful.{IsLawful}
+use Rattle.hs_journal.specs.Grammar.{Reads as ReadsJournal}
+use Rattle.hs_journal.specs.Faults.{first_fault as first_journal_fault}
+use Rattle.hs_lawful.specs.Lawful.{IsLawful, first_unlawful}
 use Rattle.hs_ledger.specs.Totals.{totals_of}
 use Rattle.hs_lockstep.specs.Lockstep.{lockstep}
 use Rattle.hs_outcome.specs.Outcomes.{outcome_of}
 use Rattle.hs_outcome.specs.OutcomeText.{outcome_text, total_line}
+use Rattle.hs_outcome.specs.declared.form.Form.TheVariants.{Text as Lines}
 use Rattle.hs_text.specs.Text.{text_of}
+use Rattle.hs_check.specs.Parts.{workload_part, journal_part}
 use Rattle.hs_cli.specs.Input.{ReadWhole, ReadBeyond}
 use Rattle.hs_cli.specs.Written.{GainsFront}
 use Rattle.hs_cli.specs.Commands.{command_in}
-use Rattle.hs_cli.specs.Messages.{usage_text, too_long_text, refusal_text}
+use Rattle.hs_cli.specs.Messages.{usage_text, too_long_text, refusal_text, journal_refusal_text, unlawful_text}
 use Rattle.hs_cli.specs.declared.command.Command.{Command}
-use Rattle.hs_cli.specs.declared.command.Command.TheVariants.{Replay, Run, Convert, Make, Drill}
+use Rattle.hs_cli.specs.declared.command.Command.TheVariants.{Replay, Run, Convert, Make, Drill, Check}
 use Rattle.hs_cli.specs.declared.status.Status.{Status}
-use Rattle.hs_cli.specs.declared.status.Status.TheVariants.{Done, Usage, Refused, ReadFault, WriteFault, Memory, TooLong}
+use Rattle.hs_cli.specs.declared.status.Status.TheVariants.{Done, Usage, Refused, ReadFault, WriteFault, Memory, TooLong, Unlawful}
 
 -- ---- what a command owes
 
@@ -31,21 +36,24 @@ use Rattle.hs_cli.specs.declared.status.Status.TheVariants.{Done, Usage, Refused
 abbrev pub drill_text : PlainWorkload → List ℕ
 drill_text W = text_of (total_line (totals_of (outcome_of W (lockstep W)).entries) ∷ [])
 
--- The text is what a command owes for a workload. What `replay` owes is the outcome of the workload and a journal that is lawful for
+-- The text is what a command owes for a workload, and `check` for a workload and the text of a journal. What `replay` owes is the outcome of the workload and a journal that is lawful for
 -- it, and this journal is that of the lockstep schedule. What `run` owes is the outcome of the workload and some journal that is
--- lawful for it: which one, its threads decide.
-abbrev pub Due : Command → PlainWorkload → List ℕ → Type 0
-Due (Replay form) W text = (J : PlainJournal) × IsLawful W J × (J ≡ lockstep W) × (text ≡ outcome_text W J form)
-Due (Run form) W text = (J : PlainJournal) × IsLawful W J × (text ≡ outcome_text W J form)
-Due Convert W text = text ≡ workload_text (record W { version = 2 })
-Due (Make seed size) W text = text ≡ workload_text W
-Due (Drill seed size) W text = text ≡ drill_text W
+-- lawful for it: which one, its threads decide. What `check` owes is the outcome of the workload and the journal that was read, which
+-- is lawful for it.
+abbrev pub Due : Command → PlainWorkload → (journal text : List ℕ) → Type 0
+Due (Replay form) W journal text = (J : PlainJournal) × IsLawful W J × (J ≡ lockstep W) × (text ≡ outcome_text W J form)
+Due (Run form) W journal text = (J : PlainJournal) × IsLawful W J × (text ≡ outcome_text W J form)
+Due Check W journal text = (J : PlainJournal) × ReadsJournal journal J × IsLawful W J × (text ≡ outcome_text W J Lines)
+Due Convert W journal text = text ≡ workload_text (record W { version = 2 })
+Due (Make seed size) W journal text = text ≡ workload_text W
+Due (Drill seed size) W journal text = text ≡ drill_text W
 
 -- whether a command reads its workload; else it makes it
 abbrev pub IsReader : Command → Type 0
 IsReader (Replay form) = ⊤
 IsReader (Run form) = ⊤
 IsReader Convert = ⊤
+IsReader Check = ⊤
 IsReader (Make seed size) = ⊥
 IsReader (Drill seed size) = ⊥
 
@@ -53,17 +61,41 @@ IsReader (Drill seed size) = ⊥
 abbrev pub IsUntouched : Option (List ℕ) → Option (List ℕ) → (source source' : ℕ) → Type 0
 IsUntouched left left' source source' = (left' ≡ left) × (source' ≡ source)
 
--- The command was about this workload: it made it and read nothing, or read the whole input, which is its text.
-abbrev pub IsAbout : Command → Option (List ℕ) → Option (List ℕ) → PlainWorkload → Type 0
-IsAbout (Make seed size) left left' W = (left' ≡ left) × (W ≡ made_workload seed size)
-IsAbout (Drill seed size) left left' W = (left' ≡ left) × (W ≡ made_workload seed size)
-IsAbout command left left' W = (input : List ℕ) × ReadWhole left left' input × Reads input W
+-- which part of an input is a workload: all of it, but of what `check` reads
+abbrev pub workload_in : Command → List ℕ → List ℕ
+workload_in Check input = workload_part input
+workload_in command input = input
+
+-- which part of an input is a journal: none, but of what `check` reads
+abbrev pub journal_in : Command → List ℕ → List ℕ
+journal_in Check input = journal_part input
+journal_in command input = []
+
+-- This part of an input is the text of the workload, and that part is where a journal stands.
+abbrev pub AreParts : Command → List ℕ → PlainWorkload → List ℕ → Type 0
+AreParts command input W journal = Reads (workload_in command input) W × (journal ≡ journal_in command input)
+
+-- The command was about this workload: it made it and read nothing, or read the whole input, in which it stands, and behind it the
+-- text of a journal, if one is looked for.
+abbrev pub IsAbout : Command → Option (List ℕ) → Option (List ℕ) → PlainWorkload → (journal : List ℕ) → Type 0
+IsAbout (Make seed size) left left' W journal = (left' ≡ left) × (W ≡ made_workload seed size)
+IsAbout (Drill seed size) left left' W journal = (left' ≡ left) × (W ≡ made_workload seed size)
+IsAbout command left left' W journal = (input : List ℕ) × ReadWhole left left' input × AreParts command input W journal
 
 -- The command will be about this workload: it makes it, or a source that has a whole, short enough input gives it.
-abbrev pub WillBeAbout : Command → Option (List ℕ) → PlainWorkload → Type 0
-WillBeAbout (Make seed size) left W = W ≡ made_workload seed size
-WillBeAbout (Drill seed size) left W = W ≡ made_workload seed size
-WillBeAbout command left W = (input : List ℕ) × (left ≡ Some input) × Reads input W × (length input ≤ MAX_INPUT)
+abbrev pub WillBeAbout : Command → Option (List ℕ) → PlainWorkload → (journal : List ℕ) → Type 0
+WillBeAbout (Make seed size) left W journal = W ≡ made_workload seed size
+WillBeAbout (Drill seed size) left W journal = W ≡ made_workload seed size
+WillBeAbout command left W journal = (input : List ℕ) × (left ≡ Some input) × AreParts command input W journal × (length input ≤ MAX_INPUT)
+
+-- The status to which a command over a workload comes, unless a stream fails or memory runs out: Done, but for `check` of a journal
+-- that is not lawful, or of what is no journal.
+abbrev pub ComesTo : Command → PlainWorkload → (journal : List ℕ) → Status → Type 0
+ComesTo Check W journal Done = (J : PlainJournal) × ReadsJournal journal J × IsLawful W J
+ComesTo Check W journal Unlawful = (J : PlainJournal) × ReadsJournal journal J × ¬ IsLawful W J
+ComesTo Check W journal Refused = (J : PlainJournal) → ¬ ReadsJournal journal J
+ComesTo Check W journal status = ⊥
+ComesTo command W journal status = status ≡ Done
 
 -- The input is no workload, and this text names its first bad line with the line's first reason.
 pub record IsRefused (input text : List ℕ) : Type 0 where
@@ -72,12 +104,41 @@ pub record IsRefused (input text : List ℕ) : Type 0 where
   pub no_workload : (W : PlainWorkload) → Reads input W → ⊥
   pub told : text ≡ refusal_text refusal.line refusal.reason
 
+-- The text is no journal's, and this other one names its first bad line with the line's first reason.
+pub record IsRefusedJournal (journal text : List ℕ) : Type 0 where
+  pub refusal : JournalRefusal
+  pub first : first_journal_fault journal ≡ Some refusal
+  pub no_journal : (J : PlainJournal) → ReadsJournal journal J → ⊥
+  pub told : text ≡ journal_refusal_text refusal.line refusal.reason
+
+-- The journal is not lawful for the workload, and this text names the first clause that fails.
+pub record IsUnlawful (W : PlainWorkload) (J : PlainJournal) (text : List ℕ) : Type 0 where
+  pub clause : ℕ
+  pub first : first_unlawful W J ≡ Some clause
+  pub broken : ¬ IsLawful W J
+  pub told : text ≡ unlawful_text clause
+
 -- ---- statuses
+
+-- The input was read whole, and no workload stands in it. This text says so.
+abbrev pub RefusesWorkload : Command → Option (List ℕ) → Option (List ℕ) → List ℕ → Type 0
+RefusesWorkload command left left' text = IsReader command × ((input : List ℕ) × ReadWhole left left' input × IsRefused (workload_in command input) text)
+
+-- `check` was about a workload, and behind it no journal stands. This text says so.
+abbrev pub RefusesJournal : Command → Option (List ℕ) → Option (List ℕ) → List ℕ → Type 0
+RefusesJournal command left left' text =
+    (command ≡ Check) × ((W : PlainWorkload) × (journal : List ℕ) × IsAbout Check left left' W journal × IsRefusedJournal journal text)
+
+-- `check` was about a workload and a journal, which is not lawful for it. This text says so.
+abbrev pub FindsUnlawful : Command → Option (List ℕ) → Option (List ℕ) → List ℕ → Type 0
+FindsUnlawful command left left' text =
+    (command ≡ Check) × ((W : PlainWorkload) × (journal : List ℕ) × IsAbout Check left left' W journal × ((J : PlainJournal) × ReadsJournal journal J × IsUnlawful W J text))
 
 -- Of a command, before anything is written, this status is due, with this text.
 abbrev pub Owes : Command → Option (List ℕ) → Option (List ℕ) → Status → List ℕ → Type 0
-Owes command left left' Done text = (W : PlainWorkload) × IsAbout command left left' W × Due command W text
-Owes command left left' Refused text = IsReader command × ((input : List ℕ) × ReadWhole left left' input × IsRefused input text)
+Owes command left left' Done text = (W : PlainWorkload) × (journal : List ℕ) × IsAbout command left left' W journal × Due command W journal text
+Owes command left left' Refused text = RefusesWorkload command left left' text ⊎ RefusesJournal command left left' text
+Owes command left left' Unlawful text = FindsUnlawful command left left' text
 Owes command left left' TooLong text = IsReader command × ((input : List ℕ) × ReadBeyond left left' input × (text ≡ too_long_text))
 Owes command left left' Usage text = ⊥
 Owes command left left' ReadFault text = ⊥
@@ -118,6 +179,7 @@ Ends words left left' written written' source source' sink sink' Done = NoneFail
 Ends words left left' written written' source source' sink sink' Usage = NoneFailed source source' sink sink' × Wrote words left left' written written' Usage
 Ends words left left' written written' source source' sink sink' Refused = NoneFailed source source' sink sink' × Wrote words left left' written written' Refused
 Ends words left left' written written' source source' sink sink' TooLong = NoneFailed source source' sink sink' × Wrote words left left' written written' TooLong
+Ends words left left' written written' source source' sink sink' Unlawful = NoneFailed source source' sink sink' × Wrote words left left' written written' Unlawful
 Ends words left left' written written' source source' sink sink' ReadFault = Reading words × Rose source source' × (sink' ≡ sink) × (written' ≡ written)
 Ends words left left' written written' source source' sink sink' WriteFault = (source' ≡ source) × Rose sink sink' × WroteFront words left left' written written'
 Ends words left left' written written' source source' sink sink' Memory = NoneFailed source source' sink sink' × (written' ≡ written)

@@ -1,16 +1,21 @@
-//! The workload that a command is about, and the text that it owes for it.
+//! The workload that a command is about, and what it answers for it.
 
-ghost use Rattle.std.specs.Prelude.{◌≡◌, ◌⊎◌, IfOk};
+ghost use Rattle.std.specs.Prelude.{◌≡◌, ◌≤◌, ◌⊎◌, IfOk, length};
+ghost use Rattle.hs_base.specs.declared.limits.TheConstants.{MAX_INPUT};
 ghost use Rattle.hs_workload.specs.Validity.{IsValid};
 ghost use Rattle.hs_workload.specs.Views.{workload_of};
 ghost use Rattle.hs_cli.specs.Commands.{IsSized};
-ghost use Rattle.hs_cli.specs.Endings.{Due, IsReader, IsUntouched};
-ghost use Rattle.hs_cli.specs.Answers.{IsSubject};
+ghost use Rattle.hs_cli.specs.Endings.{IsReader, IsUntouched, workload_in, journal_in};
+ghost use Rattle.hs_cli.specs.Answers.{IsSubject, IsFoundIn, IsAnswer};
 ghost use Rattle.hs_cli.specs.Messages.{refusal_text};
+ghost use Rattle.hs_cli.specs.declared.status.Status.TheVariants.{Done};
 
+use crate::checking::judge;
 use crate::command::Command;
 use crate::reading::{Input, read_all};
+use crate::status::Status;
 use hs_base::{Bytes, Gate, Memory, Source};
+use hs_check::split_input;
 use hs_lockstep::laws::schedule_is_lawful;
 use hs_make::make_workload;
 use hs_replay::{replay, write_outcome, write_total};
@@ -25,8 +30,8 @@ use std::thread::Threads;
 /// What a command is about, or why there is nothing.
 #[derive(Drop)]
 pub(crate) enum Subject {
-    /// This workload, which it read or made.
-    Found(Workload),
+    /// This workload, which it read or made, and of what `check` reads the text of a journal.
+    Found(Workload, Vec<u8>),
     /// The input is no workload, and this says why.
     Refused(Vec<u8>),
     /// The input has one byte more than an input may have.
@@ -35,6 +40,13 @@ pub(crate) enum Subject {
     Fault,
     /// There was no memory.
     NoMemory,
+}
+
+/// What a command answers.
+#[derive(Drop)]
+pub(crate) struct Answer {
+    pub(crate) status: Status,
+    pub(crate) text: Bytes,
 }
 
 /// What a command is about: what it makes, or what its source has.
@@ -46,29 +58,57 @@ pub(crate) fn subject_of<S: Source>(alloc: Global, command: Command, source: &mu
     match command {
         Command::Make { seed, size } | Command::Drill { seed, size } => {
             match make_workload(alloc, seed, size) {
-                Ok(workload) => Subject::Found(workload),
+                Ok(workload) => Subject::Found(workload, Vec::new(alloc)),
                 Err(_) => Subject::NoMemory,
             }
         }
-        Command::Replay { form: _ } | Command::Run { form: _ } | Command::Convert => {
-            read(alloc, command, source)
-        }
+        Command::Replay { form: _ }
+        | Command::Run { form: _ }
+        | Command::Check
+        | Command::Convert => read(alloc, command, source),
     }
 }
 
-/// The workload that a source has.
+/// What a source has.
 fn read<S: Source>(alloc: Global, command: Command, source: &mut S) -> Subject
     requires { IsReader command }
     ensures { IsSubject command (S.left source.old) (S.left source.new) (S.faults source.old) (S.faults source.new) result }
 {
-    let input = match read_all(alloc, source) {
-        Input::Whole(input) => input,
-        Input::TooLong => return Subject::TooLong,
-        Input::Fault => return Subject::Fault,
-        Input::NoMemory => return Subject::NoMemory,
-    };
-    match read_workload(alloc, &input) {
-        Ok(workload) => Subject::Found(workload),
+    match read_all(alloc, source) {
+        Input::Whole(input) => found_in(alloc, command, &input),
+        Input::TooLong => Subject::TooLong,
+        Input::Fault => Subject::Fault,
+        Input::NoMemory => Subject::NoMemory,
+    }
+}
+
+/// The parts of an input that a command looks at: a workload, and of what `check` reads a journal.
+fn parts_of(command: Command, input: &[u8]) -> (&[u8], &[u8])
+    ensures workload { result.0.now ≡ workload_in command input.now }
+    ensures journal { result.1.now ≡ journal_in command input.now }
+    ensures within { length result.1.now ≤ length input.now }
+{
+    match command {
+        Command::Check => {
+            let split = split_input(input);
+            let behind = &input[split.workload..];
+            (&input[..split.workload], &behind[..split.journal])
+        }
+        _ => (input, &[]),
+    }
+}
+
+/// What an input has that was read whole.
+fn found_in(alloc: Global, command: Command, input: &[u8]) -> Subject
+    requires { length input.now ≤ MAX_INPUT }
+    ensures { IsFoundIn command input.now result }
+{
+    let (front, behind) = parts_of(command, input);
+    match read_workload(alloc, front) {
+        Ok(workload) => match behind.to_vec(alloc) {
+            Ok(journal) => Subject::Found(workload, journal),
+            Err(_) => Subject::NoMemory,
+        },
         Err(ReadError::Refused(refusal)) => match refusal_line(alloc, refusal) {
             Ok(line) => Subject::Refused(line),
             Err(_) => Subject::NoMemory,
@@ -86,26 +126,41 @@ fn refusal_line(alloc: Global, refusal: Refusal) -> Result<Vec<u8>, Memory>
     Ok(format!(in alloc; "refused line {line} {reason}\n")?.into_bytes())
 }
 
-/// The text that a command owes for a workload. Each actor of a run passes the gate before each of its steps.
-pub(crate) fn text_for<R: Threads + Sync, G: Gate>(
+/// The command is done, and this is its output.
+fn done(text: Bytes) -> Answer
+    ensures status { result.status ≡ Done }
+    ensures text { result.text ≡ text }
+{
+    Answer {
+        status: Status::Done,
+        text,
+    }
+}
+
+/// What a command answers for a workload, and `check` for a workload and the text of a journal. Each actor of a run passes the
+/// gate before each of its steps.
+pub(crate) fn answer_for<R: Threads + Sync, G: Gate>(
     rt: &R,
     alloc: Global,
     gate: &G,
     command: Command,
     workload: Workload,
-) -> Result<Bytes, Memory>
-    requires { IsValid (workload_of workload) }
-    ensures { IfOk result (λ text. Due command (workload_of workload) text.items) }
+    journal: &[u8],
+) -> Result<Answer, Memory>
+    requires valid { IsValid (workload_of workload) }
+    requires short { length journal.now ≤ MAX_INPUT }
+    ensures { IfOk result (λ answer. IsAnswer command (workload_of workload) journal.now answer.status answer.text.items) }
 {
     match command {
+        Command::Check => judge(alloc, &workload, journal),
         Command::Replay { form } => {
             schedule_is_lawful();
             let outcome = replay(alloc, &workload)?;
-            write_outcome(alloc, &outcome, form)
+            Ok(done(write_outcome(alloc, &outcome, form)?))
         }
         Command::Run { form } => {
             let outcome = run(rt, alloc, &workload, gate)?;
-            write_outcome(alloc, &outcome, form)
+            Ok(done(write_outcome(alloc, &outcome, form)?))
         }
         Command::Convert => {
             versions_are_exchanged();
@@ -114,12 +169,12 @@ pub(crate) fn text_for<R: Threads + Sync, G: Gate>(
                 settings: workload.settings,
                 clients: workload.clients,
             };
-            write_workload(alloc, &widened)
+            Ok(done(write_workload(alloc, &widened)?))
         }
-        Command::Make { seed: _, size: _ } => write_workload(alloc, &workload),
+        Command::Make { seed: _, size: _ } => Ok(done(write_workload(alloc, &workload)?)),
         Command::Drill { seed: _, size: _ } => {
             let outcome = replay(alloc, &workload)?;
-            write_total(alloc, &outcome)
+            Ok(done(write_total(alloc, &outcome)?))
         }
     }
 }

@@ -2,7 +2,7 @@
 
 ghost use Rattle.std.specs.Prelude.{◌≡◌, ◌≤◌, false, Option, IfOk, IfSome, map, string_bytes, option_map};
 ghost use Rattle.hs_base.specs.declared.limits.TheConstants.{MAX_REQUESTS};
-ghost use Rattle.hs_cli.specs.Commands.{Line, command_of, command_in, line_in, line_of, is_set, named, parser, needed, flag, seed_of, size_of, form_in, sizes_in, is_alone, IsSized};
+ghost use Rattle.hs_cli.specs.Commands.{Line, command_of, command_in, line_in, line_of, is_set, named, parser, needed, flag, seed_of, size_of, form_in, sizes_in, is_alone, alone, IsSized};
 ghost use Rattle.clap.specs.Words.{app_of, rule_of, first_of, found_of, rows_of};
 
 use clap::error::ErrorKind;
@@ -22,6 +22,8 @@ pub enum Command {
     Run { form: Form },
     /// Writes the workload that it reads with version 2.
     Convert,
+    /// Says whether the journal that it reads behind a workload is lawful for that, and writes the outcome of the two.
+    Check,
     /// Writes the workload of so many requests that the seed makes. Reads nothing.
     Make { seed: u64, size: u32 },
     /// Replays the workload of so many requests that the seed makes, and writes the total line. Reads nothing.
@@ -56,6 +58,16 @@ impl Line<'_> {
         Some(if self.json { Form::Json } else { Form::Text })
     }
 
+    /// This command, where the line has nothing but its word.
+    fn alone(self, command: Command) -> Option<Command>
+        ensures { result ≡ alone (line_in self.entry) command }
+    {
+        if !self.is_alone() || self.json {
+            return None;
+        }
+        Some(command)
+    }
+
     /// The seed and the size of the line, or `None` where it has not both or has a flag.
     fn sizes(self) -> Option<(u64, u32)>
         ensures is { result ≡ sizes_in (line_in self.entry) }
@@ -81,10 +93,9 @@ impl Line<'_> {
             let form = self.form()?;
             Some(Command::Run { form })
         } else if self.command == "convert" {
-            if !self.is_alone() || self.json {
-                return None;
-            }
-            Some(Command::Convert)
+            self.alone(Command::Convert)
+        } else if self.command == "check" {
+            self.alone(Command::Check)
         } else if self.command == "make" {
             let (seed, size) = self.sizes()?;
             Some(Command::Make { seed, size })

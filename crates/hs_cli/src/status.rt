@@ -10,7 +10,7 @@ pub enum Status {
     Done,
     /// The words are no command. Nothing was read.
     Usage,
-    /// The whole input was read, and it is no workload.
+    /// The whole input was read, and it is no workload; or, of `check`, its parts are no workload and no journal.
     Refused,
     /// The source failed. Nothing was written.
     ReadFault,
@@ -20,6 +20,8 @@ pub enum Status {
     Memory,
     /// The input has more bytes than it may have.
     TooLong,
+    /// The whole input was read, and the journal in it is not lawful for the workload in it.
+    Unlawful,
 }
 
 impl Status {
@@ -35,6 +37,7 @@ impl Status {
             Status::WriteFault => 5,
             Status::Memory => 6,
             Status::TooLong => 7,
+            Status::Unlawful => 8,
         }
     }
 }

@@ -1,17 +1,19 @@
 //! The top call.
 
-ghost use Rattle.std.specs.Prelude.{◌≡◌, ◌<◌, ◌⊎◌, map, string_bytes, Some, None};
+ghost use Rattle.std.specs.Prelude.{◌≡◌, ◌<◌, ◌⊎◌, ℕ, List, map, string_bytes, Some, None};
 ghost use Rattle.hs_base.specs.Outside.{Rose, Gains};
 ghost use Rattle.hs_records.specs.Plain.{PlainWorkload};
 ghost use Rattle.hs_cli.specs.Commands.{command_in, IsSized};
 ghost use Rattle.hs_cli.specs.Written.{GainsFront};
-ghost use Rattle.hs_cli.specs.Endings.{Ends, EndsWith, Wrote, WroteFront, IsReader, IsUntouched, Reading, WillBeAbout};
+ghost use Rattle.hs_cli.specs.Endings.{Ends, EndsWith, Wrote, WroteFront, IsReader, IsUntouched, Reading, WillBeAbout, ComesTo};
 
-use crate::answer::{Subject, subject_of, text_for};
+use crate::answer::{Subject, answer_for, subject_of};
 use crate::command::{Command, command_in};
 use crate::status::Status;
 use crate::writing::write_all;
 use hs_base::{Gate, Sink, Source};
+use hs_journal::laws::texts_have_one_journal;
+use hs_workload::one_workload_a_text;
 use std::alloc::Global;
 use std::marker::Sync;
 use std::thread::Threads;
@@ -49,10 +51,12 @@ fn carry_out<R: Threads + Sync, S: Source, K: Sink, G: Gate>(
     ensures untouched { IsReader command ⊎ IsUntouched (S.left source.old) (S.left source.new) (S.faults source.old) (S.faults source.new) }
 {
     match subject_of(alloc, command, source) {
-        Subject::Found(workload) => match text_for(rt, alloc, gate, command, workload) {
-            Ok(text) => finish(sink, text.as_slice(), Status::Done),
-            Err(_) => Status::Memory,
-        },
+        Subject::Found(workload, journal) => {
+            match answer_for(rt, alloc, gate, command, workload, &journal) {
+                Ok(answer) => finish(sink, answer.text.as_slice(), answer.status),
+                Err(_) => Status::Memory,
+            }
+        }
         Subject::Refused(text) => finish(sink, &text, Status::Refused),
         Subject::TooLong => finish(sink, TOO_LONG, Status::TooLong),
         Subject::Fault => Status::ReadFault,
@@ -93,8 +97,9 @@ pub fn hindsight<R: Threads + Sync, S: Source, K: Sink, G: Gate>(
 ) -> Status
     // The words are a command, and the sink gained the text that it owes. Of the input read whole, which reads as one
     // workload: `replay` the outcome of that workload and the lockstep journal, which is lawful for it, `run` the outcome of
-    // that workload and some journal that is lawful for it, and `convert` the workload's text. Of the workload that it makes,
-    // with nothing read: `make` its text, and `drill` the total line.
+    // that workload and some journal that is lawful for it, and `convert` the workload's text. Of the input read whole, of which
+    // one part reads as one workload, and that behind it as one journal, which is lawful for it: `check` the outcome of the two.
+    // Of the workload that it makes, with nothing read: `make` its text, and `drill` the total line.
     ensures done { result ≡ Status.Done
         → Wrote (map (λ word. string_bytes word) words.now) (S.left source.old) (S.left source.new)
         (K.written sink.old) (K.written sink.new) Status.Done }
@@ -107,10 +112,18 @@ pub fn hindsight<R: Threads + Sync, S: Source, K: Sink, G: Gate>(
     ensures no_command { command_in (map (λ word. string_bytes word) words.now) ≡ None
         → (result ≡ Status.Usage) ⊎ ((result ≡ Status.WriteFault) ⊎ (result ≡ Status.Memory)) }
 
-    // The input was read whole and is no workload, and the sink gained its first bad line and reason.
+    // The input was read whole and is no workload, and the sink gained its first bad line and reason. For `check` this is said of
+    // the part that is to be a workload; or that part reads as one, and the part behind it is no journal, whose first bad line
+    // and reason the sink gained.
     ensures refused { result ≡ Status.Refused
         → Wrote (map (λ word. string_bytes word) words.now) (S.left source.old) (S.left source.new)
         (K.written sink.old) (K.written sink.new) Status.Refused }
+
+    // The words are `check`, the input was read whole, and its parts read as one workload and one journal, which is not lawful for
+    // it. The sink gained the first clause that fails.
+    ensures unlawful { result ≡ Status.Unlawful
+        → Wrote (map (λ word. string_bytes word) words.now) (S.left source.old) (S.left source.new)
+        (K.written sink.old) (K.written sink.new) Status.Unlawful }
 
     // The source gave one byte more than an input may have and was asked for no more, and the sink
     // gained the text that says so.
@@ -143,13 +156,17 @@ pub fn hindsight<R: Threads + Sync, S: Source, K: Sink, G: Gate>(
         ⊎ IsUntouched (S.left source.old) (S.left source.new) (S.faults source.old) (S.faults source.new) }
 
     // A command over any valid workload, which it makes or reads whole from a short enough input, is done where nothing
-    // fails, unless memory runs out.
-    ensures complete { (command : Command) (W : PlainWorkload)
+    // fails, unless memory runs out. `check` is done where the journal behind the workload is lawful for it; where it is not, or
+    // where no journal is, it has the status that says so.
+    ensures complete { (command : Command) (W : PlainWorkload) (journal : List ℕ) (status : Status)
         → command_in (map (λ word. string_bytes word) words.now) ≡ Some command
-        → WillBeAbout command (S.left source.old) W
+        → WillBeAbout command (S.left source.old) W journal
+        → ComesTo command W journal status
         → ¬ Rose (S.faults source.old) (S.faults source.new)
         → ¬ Rose (K.faults sink.old) (K.faults sink.new)
-        → (result ≡ Status.Done) ⊎ (result ≡ Status.Memory) }
+        → (result ≡ status) ⊎ (result ≡ Status.Memory) }
 {
+    one_workload_a_text();
+    texts_have_one_journal();
     call(rt, alloc, words, source, sink, gate)
 }

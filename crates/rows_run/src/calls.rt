@@ -33,7 +33,20 @@ pub(crate) struct Row {
     pub(crate) parts: &'static [&'static str],
 }
 
-/// Runs the row's workload under this gate, and looks for each of the row's parts.
+/// What `check` writes of a workload and a run's output behind it, which is lawful.
+pub(crate) fn checked<R: Threads + Sync + AllocGlobal + Abort>(
+    rt: &R,
+    input: &str,
+    output: &str,
+) -> Result<Vec<u8>, Fail> {
+    let both = format!(in rt.alloc(); "{input}{output}")?;
+    let (status, written) = called(rt, &["check"], both.as_str(), &OpenGate)?;
+    assert_eq!(rt; status, 0);
+    Ok(written)
+}
+
+/// Runs the row's workload under this gate, and looks for each of the row's parts. What was written in lines is what `check`
+/// writes of it.
 pub(crate) fn assert_held<R: Threads + Sync + AllocGlobal + Abort, G: Gate>(
     rt: &R,
     words: &[&str],
@@ -46,6 +59,10 @@ pub(crate) fn assert_held<R: Threads + Sync + AllocGlobal + Abort, G: Gate>(
     let text = str::from_utf8(&written).ok().ok_or("a text")?;
     for part in row.parts {
         assert!(rt; text.contains(*part), "{name}");
+    }
+    let again = checked(rt, row.input, text)?;
+    if words.len() == 1 {
+        assert_eq!(rt; again.as_slice(), written.as_slice(), "{name}");
     }
     Ok(())
 }

@@ -1,6 +1,6 @@
 //! Runs of many threads.
 
-use crate::calls::called;
+use crate::calls::{called, checked};
 use hs_base::OpenGate;
 use std::alloc::{AllocError, Global};
 use std::test::Fail;
@@ -48,6 +48,9 @@ fn many_threads_at_once(rt: HostRuntime) -> Result<(), Fail> {
         let (status, written) = called(&rt, &["run"], input.as_str(), &OpenGate)?;
         assert_eq!(rt; status, 0);
         assert!(rt; written.ends_with(total.as_bytes()));
+        let text = str::from_utf8(&written).ok().ok_or("a text")?;
+        let again = checked(&rt, input.as_str(), text)?;
+        assert_eq!(rt; again.as_slice(), written.as_slice());
     }
     Ok(())
 }

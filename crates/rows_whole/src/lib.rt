@@ -7,6 +7,10 @@ mod agents;
 #[cfg(test)]
 mod calls;
 #[cfg(test)]
+mod checking;
+#[cfg(test)]
+mod clauses;
+#[cfg(test)]
 mod drills;
 #[cfg(test)]
 mod faults;

@@ -2,7 +2,10 @@
 
 use crate::calls::{WHOLE, called, replayed};
 use std::alloc::{AllocError, Global};
+use std::marker::Sync;
+use std::process::Abort;
 use std::test::Fail;
+use std::thread::Threads;
 
 const HEAD: &str = "hindsight 1
 nodes 3
@@ -87,6 +90,19 @@ fn reports(alloc: Global) -> Result<String, AllocError> {
     Ok(text)
 }
 
+/// Behind its workload the output is lawful, and checking it writes it again.
+fn assert_lawful<R: Threads + Sync + AllocGlobal + Abort>(
+    rt: &R,
+    input: &str,
+    output: &str,
+) -> Result<(), Fail> {
+    let both = format!(in rt.alloc(); "{input}{output}")?;
+    let (status, written) = called(rt, &["check"], both.as_str().as_bytes(), &WHOLE)?;
+    assert_eq!(rt; status, 0);
+    assert!(rt; written.as_slice() == output.as_bytes());
+    Ok(())
+}
+
 #[test]
 fn the_slow_request_is_reported(rt: HostRuntime) -> Result<(), Fail> {
     let input = workload(rt.alloc())?;
@@ -96,7 +112,7 @@ fn the_slow_request_is_reported(rt: HostRuntime) -> Result<(), Fail> {
     assert!(rt; text.ends_with(TOTAL));
     let wanted = reports(rt.alloc())?;
     assert!(rt; text.contains(wanted.as_str()));
-    Ok(())
+    assert_lawful(&rt, input.as_str(), text)
 }
 
 /// The total lines that a run may have. The nodes are asked one after another, a few rounds apart, so the oldest of the nine
@@ -125,5 +141,5 @@ fn the_slow_request_is_reported_of_a_run(rt: HostRuntime) -> Result<(), Fail> {
         found = found || text.ends_with(total);
     }
     assert!(rt; found);
-    Ok(())
+    assert_lawful(&rt, input.as_str(), text)
 }

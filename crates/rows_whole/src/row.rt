@@ -1,6 +1,6 @@
 //! A workload of one node and one client, and what its replay writes.
 
-use crate::calls::replayed;
+use crate::calls::{WHOLE, called, replayed};
 use std::alloc::Global;
 use std::marker::Sync;
 use std::process::Abort;
@@ -82,7 +82,7 @@ impl Row {
     }
 }
 
-/// Replays each of the rows, and compares all that is written.
+/// Replays each of the rows, and compares all that is written. Behind its workload that is lawful.
 pub(crate) fn assert_rows<R: Threads + Sync + AllocGlobal + Abort>(
     rt: &R,
     rows: &[&Row],
@@ -93,6 +93,10 @@ pub(crate) fn assert_rows<R: Threads + Sync + AllocGlobal + Abort>(
         let wanted = row.output(alloc, row.reports)?;
         let (status, written) = replayed(rt, input.as_str().as_bytes())?;
         let name = row.name;
+        assert_eq!(rt; status, 0, "{name}");
+        assert_eq!(rt; written.as_slice(), wanted.as_str().as_bytes(), "{name}");
+        let both = format!(in alloc; "{input}{wanted}")?;
+        let (status, written) = called(rt, &["check"], both.as_str().as_bytes(), &WHOLE)?;
         assert_eq!(rt; status, 0, "{name}");
         assert_eq!(rt; written.as_slice(), wanted.as_str().as_bytes(), "{name}");
     }

@@ -88,6 +88,21 @@ fn most_operations_are_replayed(rt: HostRuntime) -> Result<(), Fail> {
     Ok(())
 }
 
+/// The journal of the replay is lawful, and comes to the same.
+#[test]
+fn most_operations_are_checked(rt: HostRuntime) -> Result<(), Fail> {
+    let alloc = rt.alloc();
+    let mut wanted = draws(alloc)?;
+    wanted.push_str(log(alloc)?.as_str())?;
+    wanted.push_str(ledger(alloc)?.as_str())?;
+    let mut input = workload(alloc)?;
+    input.push_str(wanted.as_str())?;
+    let (status, written) = called(&rt, &["check"], input.as_bytes(), &WHOLE)?;
+    assert_eq!(rt; status, 0);
+    assert!(rt; written.as_slice() == wanted.as_bytes());
+    Ok(())
+}
+
 /// The same come to the same in a run, but for when the agent took its chunks.
 #[test]
 fn most_operations_are_run(rt: HostRuntime) -> Result<(), Fail> {

@@ -1,6 +1,6 @@
 //! Rows of several nodes or clients, whole, and the example.
 
-use crate::calls::{EXAMPLE, EXAMPLE_OUTPUT, replayed};
+use crate::calls::{EXAMPLE, EXAMPLE_OUTPUT, WHOLE, called, replayed};
 use std::test::Fail;
 
 /// Two nodes claim in different orders, and abandon the same trace.
@@ -348,10 +348,15 @@ const ROWS: [(&str, [&str; 2]); 4] = [
     ),
 ];
 
+/// What is written is lawful behind its workload.
 #[test]
 fn nodes_and_clients_together(rt: HostRuntime) -> Result<(), Fail> {
     for (name, [input, wanted]) in ROWS {
         let (status, written) = replayed(&rt, input.as_bytes())?;
+        assert_eq!(rt; status, 0, "{name}");
+        assert_eq!(rt; written.as_slice(), wanted.as_bytes(), "{name}");
+        let both = format!(in rt.alloc(); "{input}{wanted}")?;
+        let (status, written) = called(&rt, &["check"], both.as_str().as_bytes(), &WHOLE)?;
         assert_eq!(rt; status, 0, "{name}");
         assert_eq!(rt; written.as_slice(), wanted.as_bytes(), "{name}");
     }

@@ -31,7 +31,7 @@ done
 ";
 
 /// Each command with too few, too many and wrong words, flags where none may stand, and commands that are not built.
-const NO_COMMANDS: [&[&str]; 52] = [
+const NO_COMMANDS: [&[&str]; 57] = [
     &[],
     &[""],
     &["Replay"],
@@ -80,7 +80,12 @@ const NO_COMMANDS: [&[&str]; 52] = [
     &["drill", "7", "0"],
     &["drill", "7", "10001"],
     &["drill", "7", "+1"],
-    &["check"],
+    &["check", "now"],
+    &["check", "7", "3"],
+    &["check", "--json"],
+    &["--json", "check"],
+    &["check", "--watch"],
+    &["Check"],
     &["compare", "1", "1"],
     &["7", "make", "3"],
     &["make", "replay", "convert"],

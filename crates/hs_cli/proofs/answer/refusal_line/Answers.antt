@@ -1,11 +1,7 @@
-use Rattle.std.proofs.Common.{◌≡◌, ◌++◌, ℕ, List, [], ◌∷◌, decimal, codes, sym, ap, ◌∙◌, append_assoc}
-use Rattle.std.proofs.lemmas.List.{append-nil}
+use Rattle.std.proofs.Common.{◌++◌, ℕ, List, [], ◌∷◌, decimal, codes, ap, ◌∙◌}
 use Rattle.hs_workload.specs.Reasons.{reason_text}
+use Rattle.hs_cli.proofs.Lines.{regrouped}
 use Rattle.hs_cli.proofs.answer.refusal_line.Goals as goal
-
--- the line's end, taken apart and put together
-regrouped : (number reason : List ℕ) → number ++ 32 ∷ (reason ++ 10 ∷ []) ≡ ((number ++ 32 ∷ reason) ++ 10 ∷ []) ++ []
-regrouped number reason = sym (append-nil _ ∙ append_assoc number (32 ∷ reason) (10 ∷ []))
 
 pub returns : goal.returns
 returns c =

@@ -1,22 +1,32 @@
-use Rattle.std.proofs.Common.{List, ℕ, refl, sym, subst}
+use Rattle.std.proofs.Common.{List, ℕ, inl, refl, sym, subst}
 use Rattle.hs_workload.specs.Views.{workload_of}
-use Rattle.hs_cli.specs.Endings.{IsRefused, Due}
+use Rattle.hs_cli.specs.Answers.{IsAnswer}
+use Rattle.hs_cli.specs.Endings.{IsAbout, RefusesWorkload}
 use Rattle.hs_cli.specs.Messages.{too_long_text}
-use Rattle.hs_cli.specs.declared.status.Status.TheVariants.{Done, Refused, TooLong}
-use Rattle.hs_cli.proofs.EndingLemmas.{finished}
+use Rattle.hs_cli.specs.declared.status.Status.TheVariants.{Refused, TooLong}
+use Rattle.hs_cli.proofs.EndingLemmas.{answered, finished}
 use Rattle.hs_cli.proofs.top.carry_out.Goals as goal
 
 pub returns-in-Ok-clause-ends : goal.returns-in-Ok-clause-ends
 returns-in-Ok-clause-ends g c =
+    let left = g.S.Source.left in
     let W = workload_of c.in-Found.workload in
-    let due : Due c.args.command W c.as_slice.result.now = subst (λ (text : List ℕ). Due c.args.command W text) (sym c.as_slice.ensures) c.in-Ok.ensures in
-    finished c.args.command _ _ _ _ _ _ _ _ Done c.finish.result c.as_slice.result.now (W, c.in-Found.ensures.subject.0, due) c.in-Found.ensures.subject.2 c.finish.ensures
+    let command = c.args.command in
+    let journal = c.deref.result.now in
+    let (is_about, valid, short, still) = c.in-Found.ensures.subject in
+    let about : IsAbout command (left c.args.source.now) (left c.subject_of.new.source) W journal =
+    subst (λ (part : List ℕ). IsAbout command (left c.args.source.now) (left c.subject_of.new.source) W part) (sym c.deref.ensures.value) is_about in
+    let answer : IsAnswer command W journal c.in-Ok.answer.status c.as_slice.result.now =
+    subst (λ (text : List ℕ). IsAnswer command W journal c.in-Ok.answer.status text) (sym c.as_slice.ensures) c.in-Ok.ensures in
+    finished command _ _ _ _ _ _ _ _ c.in-Ok.answer.status c.finish.result c.as_slice.result.now (answered command _ _ c.in-Ok.answer.status c.as_slice.result.now W journal about answer) still c.finish.ensures
 
 pub returns-in-Refused-clause-ends : goal.returns-in-Refused-clause-ends
 returns-in-Refused-clause-ends g c =
-    let (reader, (input, whole, refused), still) = c.in-Refused.ensures.subject in
-    finished c.args.command _ _ _ _ _ _ _ _ Refused c.finish-in-Refused.result c.deref.result.now
-    (reader, (input, whole, subst (λ (text : List ℕ). IsRefused input text) (sym c.deref.ensures.value) refused)) still c.finish-in-Refused.ensures
+    let left = g.S.Source.left in
+    let (refused, still) = c.in-Refused.ensures.subject in
+    let told : RefusesWorkload c.args.command (left c.args.source.now) (left c.subject_of.new.source) c.deref-in-Refused.result.now =
+    subst (λ (text : List ℕ). RefusesWorkload c.args.command (left c.args.source.now) (left c.subject_of.new.source) text) (sym c.deref-in-Refused.ensures.value) refused in
+    finished c.args.command _ _ _ _ _ _ _ _ Refused c.finish-in-Refused.result c.deref-in-Refused.result.now (inl told) still c.finish-in-Refused.ensures
 
 pub returns-in-TooLong-clause-ends : goal.returns-in-TooLong-clause-ends
 returns-in-TooLong-clause-ends g c =

@@ -2,4 +2,5 @@ use Rattle.hs_cli.proofs.Completion.{completed}
 use Rattle.hs_cli.proofs.top.hindsight.Goals as goal
 
 pub returns-clause-complete : goal.returns-clause-complete
-returns-clause-complete g c command W is will steady still = completed _ _ _ _ _ _ _ _ _ command W is will steady still c.call.result c.call.ensures.ends
+returns-clause-complete g c command W journal status is will comes steady still =
+    completed c.one_workload_a_text.ensures.once c.texts_have_one_journal.ensures _ _ _ _ _ _ _ _ _ command W journal status is will comes steady still c.call.result c.call.ensures.ends
