@@ -19,7 +19,7 @@ use std::time::Instant;
 const CAPACITY: u32 = 64;
 
 /// The condition that is true of every item.
-struct Anything;
+pub(crate) struct Anything;
 
 impl<T> Fact<T> for Anything {
     ghost holds = { λ _ _. ⊤ };

@@ -5,9 +5,11 @@
 mod auto;
 mod collect;
 mod coord;
+mod five;
 mod index;
 mod journal;
 mod link;
+mod live;
 mod locked;
 mod pages;
 mod pins;
@@ -29,9 +31,11 @@ fn main(rt: HostRuntime) -> Result<()> {
         "auto" => auto::run(&rt, count),
         "collect" => collect::run(&rt, count),
         "coord" => coord::run(&rt, count),
+        "five" => five::run(&rt, count),
         "index" => index::run(&rt, count),
         "journal" => journal::run(&rt, count),
         "link" => link::run(&rt, count),
+        "live" => live::run(&rt, count),
         "locked" => locked::run(&rt, count),
         "pages" => pages::run(&rt, count),
         "pins" => pins::run(&rt, count),

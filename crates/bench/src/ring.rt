@@ -21,7 +21,7 @@ use std::thread::{Threads, join};
 use std::time::Instant;
 
 /// The allowance of each of the four drawers of a pool.
-const DRAWS: u32 = 65_536;
+pub(crate) const DRAWS: u32 = 65_536;
 
 /// A pool of so many chunks of 64 bytes.
 pub(crate) fn pool_of(
@@ -329,13 +329,13 @@ fn close_four(
 
 /// What was seen of pools so far.
 #[derive(Default, Drop)]
-struct Seen {
+pub(crate) struct Seen {
     pools: u64,
-    gots: u64,
+    pub(crate) gots: u64,
     empties: u64,
     misses: u64,
     unread: u64,
-    nanos: u128,
+    pub(crate) nanos: u128,
 }
 
 /// What came of one pool: the stamps of all ends, how often a give was left unread, and the tally.
@@ -379,7 +379,7 @@ fn draw_and_give<R: Threads + Wait + Sync>(
 }
 
 /// Times a pool with four drawers and a giver, looks at its stamps, and adds what was seen.
-fn turn_pool<R: Threads + Clock + Wait + Sync>(
+pub(crate) fn turn_pool<R: Threads + Clock + Wait + Sync>(
     rt: &R,
     alloc: Global,
     seen: &mut Seen,

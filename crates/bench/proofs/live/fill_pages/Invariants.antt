@@ -1,0 +1,5 @@
+use Rattle.fixtures_live.specs.Pairs.{CanCall, HasClient}
+use Rattle.bench.proofs.live.fill_pages.Given as goal
+
+abbrev pub invariant-loop-page : goal.invariant-loop-page
+invariant-loop-page g l = CanCall 32768 l.left l.client × HasClient l.port

@@ -1,0 +1,5 @@
+use Rattle.fixtures_live.specs.Pairs.{HasClient}
+use Rattle.bench.proofs.live.give_all.Given as goal
+
+abbrev pub invariant-loop : goal.invariant-loop
+invariant-loop g l = HasClient l.port
