@@ -1,8 +1,9 @@
 //! The core of a client.
 
-ghost use Rattle.std.specs.Prelude.{◌≡◌, ◌+◌, ◌-◌, ◌≤◌, ◌<◌, ◌^◌, length, IfOk, OnErr, false, None, IsSome, IsNone, count_by};
+ghost use Rattle.std.specs.Prelude.{◌≡◌, ◌+◌, ◌-◌, ◌≤◌, ◌<◌, ◌^◌, length, IfOk, OnErr, true, false, None, IsSome, IsNone, count_by};
+ghost use Rattle.hs_base.specs.declared.limits.TheConstants.{FRAME_COST};
 ghost use Rattle.hs_client.specs.Calls.{May};
-ghost use Rattle.hs_client.specs.Core.{new_core, after_step, began, ended_step, pointed_step, supplied, closed, handed, started, piece, BeginsBy, PointsBy, EndsBy, MaySupply, HasClearChunk, is_null};
+ghost use Rattle.hs_client.specs.Core.{new_core, after_step, Wrote, Fits, NeedsPage, began, ended_step, pointed_step, supplied, closed, handed, started, piece, BeginsBy, PointsBy, EndsBy, MaySupply, HasClearChunk, is_null};
 ghost use Rattle.hs_words.specs.Buffers.{buffer_in, buffer_of};
 
 use crate::answers::{Begun, Ended, Pointed};
@@ -106,27 +107,38 @@ impl<L: Token> ClientCore<L> {
         if payload.len() + FRAME_COST > self.size as usize {
             return Pointed::TooWide;
         }
-        let Some(page) = self.page else {
-            return Pointed::NeedPage(None);
-        };
-        let used = self.used as usize + (PIECE_COST + payload.len());
-        if used > self.size as usize {
+        if !self.has_room(payload.len()) {
             return Pointed::NeedPage(self.close_page());
         }
+        self.write(moment, payload, more);
+        Pointed::Written
+    }
+
+    /// Whether a page is open that has room for a piece with so many bytes, which fit a page.
+    pub fn has_room(&self, len: usize) -> bool
+        requires narrow { FRAME_COST + len ≤ self.now.size }
+        ensures room { result ≡ true → Fits self.now len }
+        ensures none { result ≡ false → NeedsPage self.now len }
+    {
+        self.page.is_some() && self.used as usize + (PIECE_COST + len) <= self.size as usize
+    }
+
+    /// Records a piece on the page that is open, which has room for it: the last of its record unless `more` is true.
+    pub fn write(&mut self, moment: u64, payload: &[u8], more: bool)
+        requires { May self.old (Wrote moment payload.now more) }
+        ensures { self.new ≡ after_step self.old (Wrote moment payload.now more) }
+    {
         if let Some(held) = &mut self.held {
             held.chunk.add(moment, payload);
         }
-        self.page = Some(PageNote {
-            trace: page.trace,
-            first: page.first,
-            count: page.count + 1,
-        });
-        self.used = used as u32;
+        if let Some(page) = &mut self.page {
+            page.count += 1;
+        }
+        self.used += (PIECE_COST + payload.len()) as u32;
         self.counted += 1;
         if !more {
             self.record += 1;
         }
-        Pointed::Written
     }
 
     /// Records a piece that is the last of its record, or all of it.

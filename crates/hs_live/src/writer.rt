@@ -87,9 +87,33 @@ impl Writer {
         self.piece(moment, rest, false);
     }
 
-    /// Records a piece, the last of its record unless `more` is true. Where it needs a page, the full chunk of the page
-    /// before is sent, and then the new page draws a buffer.
+    /// Records a piece, the last of its record unless `more` is true.
     fn piece(&mut self, moment: u64, payload: &[u8], more: bool)
+        requires sound { IsSoundIn self.old }
+        requires open { IsSome self.old.core.trace }
+        requires left { self.old.core.counted < self.old.core.calls }
+        requires draws { 1 ≤ self.old.drawer.left }
+        requires room { length (sent (outgoing self.old.chunks)) < self.old.chunks.room }
+        requires narrow { FRAME_COST + length payload.now ≤ self.old.core.size }
+        ensures sound { IsSoundIn self.new }
+        ensures trace { self.new.core.trace ≡ self.old.core.trace }
+        ensures number { self.new.core.number ≡ number_after more self.old.core.number }
+        ensures page { IsSome self.new.core.current }
+        ensures spends { Spends 1 (writing_in self.old) (writing_in self.new) }
+        ensures written { WritesPieces (record { number = self.old.core.number; moment = moment; payload = payload.now } ∷ []) (writing_in self.old) (writing_in self.new) }
+    {
+        if self.core.has_room(payload.len()) {
+            self.core.write(moment, payload, more);
+        } else {
+            self.turn_page(moment, payload, more);
+        }
+    }
+
+    /// Records a piece. Where it needs a page, the full chunk of the page before is sent, and then the new page draws a buffer. It
+    /// stands apart, since most pieces need no page.
+    #[cold]
+    #[inline(never)]
+    fn turn_page(&mut self, moment: u64, payload: &[u8], more: bool)
         requires sound { IsSoundIn self.old }
         requires open { IsSome self.old.core.trace }
         requires left { self.old.core.counted < self.old.core.calls }

@@ -160,3 +160,29 @@ fn most_calls_and_none(rt: HostRuntime) -> Result<(), Fail> {
     assert!(rt; book.draws.is_empty() && book.pages.is_empty());
     Ok(())
 }
+
+const ONE: [PageNote; 1] = [PageNote {
+    trace: TraceId(1),
+    first: 0,
+    count: 2,
+}];
+
+/// A null page of 64 bytes with a piece of 10 has room for one of 10 more, and then for none.
+#[test]
+fn a_piece_is_written_where_there_is_room(rt: HostRuntime) -> Result<(), Fail> {
+    let mut core = ClientCore::<()>::make(rt.alloc(), OWNER, 64, 6)
+        .ok()
+        .ok_or("memory")?;
+    assert!(rt; core.begin(TraceId(1)) == Begun::Began);
+    assert!(rt; !core.has_room(0));
+    assert!(rt; matches!(core.piece(5, &BYTES[..10], false), Pointed::NeedPage(None)));
+    core.supply(Drawn::Empty { stamp: 0 }, 5, &BYTES[..10], false);
+    assert!(rt; core.has_room(10) && !core.has_room(11));
+    core.write(6, &BYTES[..10], false);
+    assert!(rt; !core.has_room(0));
+    assert!(rt; matches!(core.end(), Ended::Ended(None)));
+    let book = core.finish();
+    assert!(rt; book.draws.as_slice() == [Draw::Empty { stamp: 0 }].as_slice());
+    assert!(rt; book.pages.as_slice() == ONE.as_slice());
+    Ok(())
+}

@@ -1,49 +1,9 @@
-use Rattle.std.proofs.Common.{length, ◌∷◌, ◌++◌, refl, sym, ap, ◌∙◌, subst, arith, ◌≤◌, length-append}
-use Rattle.std.specs.Option.{option_to_list}
-use Rattle.hs_client.specs.Core.{Core, after_step, supplied}
-use Rattle.hs_link.specs.Contents.{sent}
-use Rattle.hs_ring.specs.Parts.{Leased}
-use Rattle.hs_live.specs.Live.{outgoing}
+use Rattle.std.proofs.Common.{refl}
 use Rattle.hs_live.specs.Inside.{writing_in}
-use Rattle.hs_live.specs.Writing.{Writing, IsWriting, IsSound}
-use Rattle.hs_words.specs.Buffers.{buffer_in}
-use Rattle.hs_live.proofs.Cuts.{spends_page}
-use Rattle.hs_live.proofs.Sound.{sound_supplied, one_at_most}
-use Rattle.hs_live.proofs.Steps.{piece_of, wrote, needed, drew}
+use Rattle.hs_live.proofs.Steps.{wrote}
 use Rattle.hs_live.proofs.writer.Writer.piece.Goals as goal
 
-pub returns-in-Written-clause-written : goal.returns-in-Written-clause-written
-returns-in-Written-clause-written c = λ made pieces later all is.
-    wrote made pieces later all (writing_in c.args.self.now) _ c.args.moment c.args.payload.now c.args.more c.in-Written.ensures.may c.in-Written.ensures.after refl refl is
-
-pub returns-in-NeedPage-clause-sound : goal.returns-in-NeedPage-clause-sound
-returns-in-NeedPage-clause-sound c =
-    let old = c.args.self.now in
-    let chunks = outgoing c.send_chunk.new.chunks in
-    let step = supplied c.draw-drawn.result c.args.moment c.args.payload.now c.args.more in
-    let core_is = c.supply.ensures.after ∙ ap (λ core. after_step core step) c.in-NeedPage.ensures.after in
-    let more = length-append (sent (outgoing old.chunks)) (option_to_list (buffer_in c.in-NeedPage.full)) in
-    let one = one_at_most (buffer_in c.in-NeedPage.full) in
-    let room : length (sent chunks) ≤ old.chunks.room = omega (arith, ap length c.send_chunk.ensures.sent, more, one, c.requires.room) in
-    subst (λ (core : Core Leased). IsSound (record { core = core; drawer = c.draw-drawn.new.self; chunks = chunks })) (sym core_is)
-    (sound_supplied (writing_in old) c.draw-drawn.new.self chunks c.draw-drawn.result c.args.moment c.args.payload.now c.args.more c.requires.sound c.send_chunk.ensures.goes
-    (omega (arith, room, c.send_chunk.ensures.goes.same.3)) c.draw-drawn.ensures)
-
-pub returns-in-NeedPage-clause-written : goal.returns-in-NeedPage-clause-written
-returns-in-NeedPage-clause-written c = λ made pieces later all is.
-    let old = c.args.self.now in
-    let payload = c.args.payload.now in
-    let turned = c.in-NeedPage.ensures in
-    let middle : Writing = record { core = c.piece.new.self; drawer = old.drawer; chunks = outgoing c.send_chunk.new.chunks } in
-    let chunks = c.send_chunk.ensures.sent ∙ ap (λ handed. sent (outgoing old.chunks) ++ option_to_list handed) turned.answer.4 in
-    let same = ap (λ (core : Core Leased). core.number) turned.after in
-    let writing = needed made (piece_of old.core.number c.args.moment payload ∷ pieces) later all (writing_in old) middle (length payload) turned.may turned.after refl chunks is in
-    drew made pieces later all middle _ c.draw-drawn.result c.args.moment payload c.args.more c.draw-drawn.ensures c.supply.ensures.may
-    c.supply.ensures.after refl (subst (λ number. IsWriting made (piece_of number c.args.moment payload ∷ pieces) later all middle) (sym same) writing)
-
-pub returns-in-NeedPage-clause-spends : goal.returns-in-NeedPage-clause-spends
-returns-in-NeedPage-clause-spends c =
-    let step = supplied c.draw-drawn.result c.args.moment c.args.payload.now c.args.more in
-    let core_is = c.supply.ensures.after ∙ ap (λ core. after_step core step) c.in-NeedPage.ensures.after in
-    spends_page (writing_in c.args.self.now) c.supply.new.self c.draw-drawn.new.self (outgoing c.send_chunk.new.chunks) (buffer_in c.in-NeedPage.full) c.draw-drawn.result c.args.moment c.args.payload.now c.args.more
-    core_is c.draw-drawn.ensures c.send_chunk.ensures.goes c.send_chunk.ensures.sent
+pub returns-then-has_room-clause-written : goal.returns-then-has_room-clause-written
+returns-then-has_room-clause-written c = λ made pieces later all is.
+    wrote made pieces later all (writing_in c.args.self.now) _ c.args.moment c.args.payload.now c.args.more
+    (c.requires.left, c.requires.open, c.requires.narrow, c.if-has_room.ensures.room refl) c.write.ensures refl refl is
