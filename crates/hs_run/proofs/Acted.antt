@@ -1,10 +1,9 @@
 -- What it says of a node that its agent made a pass and its clients went on.
-use Rattle.std.proofs.Common.{◌≡◌, ℕ, List, length, Some, refl, sym, ap, subst, ◌∙◌, arith}
+use Rattle.std.proofs.Common.{◌≡◌, ℕ, List, Some, refl, sym, subst, ◌∙◌, arith}
 use Rattle.std.specs.Prelude.{slice_get}
 use Rattle.hs_base.specs.Listing.{Listing}
 use Rattle.hs_base.specs.declared.settings.Settings.{Settings}
 use Rattle.hs_link.specs.Contents.{Incoming, Outgoing}
-use Rattle.hs_live.specs.Calls.{AreMates}
 use Rattle.hs_live.specs.Keys.{Key}
 use Rattle.hs_live.specs.Live.{IsMate}
 use Rattle.hs_records.specs.Plain.{Operation, PlainSettings, PlainWorkload, settings_of}
@@ -13,7 +12,7 @@ use Rattle.hs_workload.specs.declared.operation.Op.{Op}
 use Rattle.hs_workload.specs.Views.{operations_of}
 use Rattle.hs_caller.specs.Calling.{Calling}
 use Rattle.hs_caller.specs.Standing.{IsAt, Goes, IsFlushed}
-use Rattle.hs_desk.specs.Manned.{Manned, Passes, EachReceives}
+use Rattle.hs_desk.specs.Manned.{EachReceives}
 use Rattle.hs_desk.specs.Work.{Work, IsFew, with_events}
 use Rattle.hs_rounds.specs.Standing.{Site, SiteStands, client_at}
 use Rattle.hs_rounds.specs.Acting.{SiteActs}

@@ -1,5 +1,5 @@
 -- Lists whose items change one after another.
-use Rattle.std.proofs.Common.{◌≡◌, ℕ, suc, ◌+◌, ◌<◌, ◌≤◌, List, set, length, length-set, Some, refl, sym, ap, subst, ◌∙◌, inl, inr, arith, slice_get}
+use Rattle.std.proofs.Common.{◌≡◌, ℕ, ◌+◌, ◌≤◌, List, set, length, length-set, Some, refl, sym, ap, subst, ◌∙◌, inl, inr, arith, slice_get}
 use Rattle.std.proofs.lemmas.Option.{same_Some}
 use Rattle.hs_run.specs.Changing.{EachChanged, FirstChanged}
 use Rattle.hs_run.proofs.Lists.{same_or_less, found_in, get_other, within}

@@ -1,13 +1,9 @@
 -- No agent takes more triggers than its clients sent, and these are no more than the workload has.
-use Rattle.std.proofs.Common.{◌≡◌, ◌⊎◌, inl, inr, ℕ, zero, suc, ◌+◌, ◌*◌, ◌<◌, ◌≤◌, List, [], ◌∷◌, ◌++◌, length, take, drop, cond, eqb, eq-eqb, Bool, true, false, Some, None, Option, refl, sym, ap, subst, ◌∙◌, arith, slice_get, unwrap_or, length-append}
-use Rattle.std.proofs.lemmas.Bool.{cases_eq, ne_eqb}
+use Rattle.std.proofs.Common.{◌≡◌, inl, inr, ℕ, zero, suc, ◌+◌, ◌*◌, ◌<◌, ◌≤◌, List, [], ◌∷◌, ◌++◌, length, take, cond, eq-eqb, Bool, false, Option, refl, ap, subst, ◌∙◌, arith, slice_get, unwrap_or, length-append}
 use Rattle.std.proofs.lemmas.List.Sums.{sum_by-cons}
 use Rattle.std.specs.List.{AllByRecursion}
-use Rattle.std.specs.Prelude.{count_by}
 use Rattle.hs_actors.specs.Doings.{trigger_in, triggers_in}
 use Rattle.hs_base.specs.declared.told.Trigger.{Trigger}
-use Rattle.hs_link.specs.Contents.{Incoming, Outgoing, Contains, sent}
-use Rattle.hs_live.specs.Keys.{Key}
 use Rattle.hs_model.specs.Stepping.{Chunk, Crumbed, Triggered, Asked, Turn, Event, Took, Gave}
 use Rattle.hs_records.specs.Plain.{Operation, PlainSettings, PlainWorkload}
 use Rattle.hs_sent.specs.Sending.{operations_at, place_of}

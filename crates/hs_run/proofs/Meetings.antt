@@ -1,5 +1,5 @@
 -- The clients of a node meet its agent one after another: what one meeting more says of all.
-use Rattle.std.proofs.Common.{◌≡◌, ℕ, zero, suc, ◌+◌, ◌<◌, ◌≤◌, max, List, [], ◌∷◌, ◌++◌, length, map, take, reverse, set, Some, None, ◌⊎◌, inl, inr, refl, sym, ap, subst, ◌∙◌, arith, append_assoc, length-set}
+use Rattle.std.proofs.Common.{◌≡◌, ℕ, zero, suc, ◌<◌, ◌≤◌, max, List, [], ◌∷◌, ◌++◌, length, map, take, reverse, Some, ◌⊎◌, inl, inr, refl, sym, ap, subst, ◌∙◌, arith, append_assoc, length-set}
 use Rattle.std.proofs.Math.Nat.{le-max_left, le-max_right}
 use Rattle.std.proofs.lemmas.List.{reverse-append, map-append}
 use Rattle.std.proofs.lemmas.Option.{same_Some}
@@ -7,7 +7,7 @@ use Rattle.std.specs.Prelude.{slice_get}
 use Rattle.hs_link.specs.Contents.{Incoming, Outgoing, Contains}
 use Rattle.hs_live.specs.Calls.{AreMates}
 use Rattle.hs_live.specs.Keys.{Key}
-use Rattle.hs_live.specs.Live.{hears, is_told, IsEnd, IsMate, MeetAt}
+use Rattle.hs_live.specs.Live.{hears, is_told, IsMate, MeetAt}
 use Rattle.hs_records.specs.Plain.{PlainWorkload}
 use Rattle.hs_ring.specs.Parts.{Giving, AllBelow}
 use Rattle.hs_sent.specs.Sending.{operations_at, place_of}
@@ -17,7 +17,7 @@ use Rattle.hs_caller.specs.Standing.{IsAt}
 use Rattle.hs_desk.specs.Manned.{Manned}
 use Rattle.hs_desk.specs.Work.{Work}
 use Rattle.hs_rounds.specs.Standing.{Site, SiteStands, client_at}
-use Rattle.hs_rounds.specs.Meeting.{LinkMet, EndsMet, CallerMet, GiverMet, SiteMeets, told_of}
+use Rattle.hs_rounds.specs.Meeting.{EndsMet, CallerMet, GiverMet, SiteMeets, told_of}
 use Rattle.hs_run.specs.Sites.{MeetsOne, HaveMet}
 use Rattle.hs_run.proofs.Lists.{same_or_less, found_in, get_set, get_other, within, take_more, take_get, get_take}
 

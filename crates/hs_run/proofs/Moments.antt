@@ -1,10 +1,10 @@
 -- From what each node did to what all did between two moments.
-use Rattle.std.proofs.Common.{◌≡◌, ◌⊎◌, inl, inr, ℕ, zero, suc, ◌<◌, ◌≤◌, List, [], ◌∷◌, ◌++◌, length, map, Some, None, refl, sym, ap, subst, ◌∙◌, arith, slice_get}
+use Rattle.std.proofs.Common.{◌≡◌, inl, inr, ℕ, zero, suc, ◌<◌, List, [], ◌∷◌, ◌++◌, length, Some, None, refl, sym, ap, subst, ◌∙◌, arith, slice_get}
 use Rattle.std.specs.List.{AllByRecursion}
 use Rattle.std.proofs.lemmas.Bool.{cases_lt}
 use Rattle.std.proofs.lemmas.List.{length-map}
 use Rattle.std.proofs.lemmas.Option.{same_Some}
-use Rattle.std.specs.Prelude.{Result, Ok, Err, OnOk, false}
+use Rattle.std.specs.Prelude.{Result, Ok, Err, OnOk}
 use Rattle.hs_base.specs.declared.told.Ask.{Ask}
 use Rattle.hs_base.specs.declared.told.Told.{Told}
 use Rattle.hs_coord.specs.Messages.{Messages}
@@ -13,10 +13,10 @@ use Rattle.hs_workload.specs.Views.{workload_of}
 use Rattle.hs_workload.specs.declared.operation.Workload.{Workload}
 use Rattle.hs_desk.specs.Agents.{IsTellable}
 use Rattle.hs_desk.specs.Coordinators.{Coordinating, IsCoordinating, Hears, asks_for}
-use Rattle.hs_desk.specs.Work.{Work, IsFew, with_events}
+use Rattle.hs_desk.specs.Work.{Work}
 use Rattle.hs_rounds.specs.Standing.{Site, Moment, SiteStands, Stands, moved_by, asked_by}
-use Rattle.hs_rounds.specs.Acting.{SiteActs, Acts}
-use Rattle.hs_rounds.specs.Meeting.{SiteMeets, AllMeet}
+use Rattle.hs_rounds.specs.Acting.{SiteActs}
+use Rattle.hs_rounds.specs.Meeting.{SiteMeets}
 use Rattle.hs_run.specs.declared.node.Node.{Node}
 use Rattle.hs_run.specs.Changing.{EachChanged}
 use Rattle.hs_run.specs.Moments.{IsHere, AreFew, ActedTo, MetTo}

@@ -1,5 +1,5 @@
 -- What is moved behind a round, node by node and ask by ask.
-use Rattle.std.proofs.Common.{◌≡◌, ◌⊎◌, inl, inr, ℕ, ◌+◌, ◌<◌, ◌≤◌, List, [], ◌∷◌, set, length, map, Some, refl, sym, ap, subst, ◌∙◌, arith, slice_get}
+use Rattle.std.proofs.Common.{◌≡◌, inl, inr, ℕ, ◌+◌, ◌<◌, ◌≤◌, List, [], set, length, Some, refl, sym, ap, subst, ◌∙◌, arith, slice_get}
 use Rattle.std.proofs.lemmas.Bool.{cases_eq}
 use Rattle.std.proofs.lemmas.List.{length-map}
 use Rattle.hs_coord.specs.declared.asks.Asks.{Asks}
@@ -8,9 +8,9 @@ use Rattle.hs_desk.specs.Coordinators.{Coordinating, IsCoordinating}
 use Rattle.hs_desk.specs.Manned.{Manned}
 use Rattle.hs_desk.specs.Work.{Work}
 use Rattle.hs_rounds.specs.Standing.{Site, Moment, SiteStands, Stands, moved_by, asked_by}
-use Rattle.hs_rounds.specs.Moving.{IsSameDoing, SiteMoves, Moves}
+use Rattle.hs_rounds.specs.Moving.{IsSameDoing, SiteMoves}
 use Rattle.hs_run.specs.declared.node.Node.{Node}
-use Rattle.hs_run.specs.Changing.{EachChanged, FirstChanged}
+use Rattle.hs_run.specs.Changing.{EachChanged}
 use Rattle.hs_run.specs.Moments.{IsHere, MovedTo}
 use Rattle.hs_run.specs.Movings.{Tells, HasTold, SiteAsked, NodeAsked, NodeMoves, SitesStand, AskedFirst, Telling, Moving, asked_all}
 use Rattle.hs_run.specs.Nodes.{sites_of}

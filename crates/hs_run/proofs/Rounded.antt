@@ -1,6 +1,6 @@
 -- What a round more says of all rounds.
-use Rattle.std.proofs.Common.{◌≡◌, ℕ, zero, suc, ◌+◌, ◌*◌, ◌<◌, ◌≤◌, min, List, [], ◌∷◌, length, Some, None, true, false, refl, sym, ap, subst, ◌∙◌, arith, slice_get, unwrap_or}
-use Rattle.std.proofs.Math.Nat.{suc-mul, mul-le-mul_right, mul-le-mul_left}
+use Rattle.std.proofs.Common.{◌≡◌, ℕ, zero, suc, ◌+◌, ◌*◌, ◌<◌, ◌≤◌, List, [], ◌∷◌, length, Some, true, false, sym, ap, subst, ◌∙◌, arith, slice_get, unwrap_or}
+use Rattle.std.proofs.Math.Nat.{suc-mul, mul-le-mul_left}
 use Rattle.hs_base.specs.declared.ids.ClientId.{ClientId}
 use Rattle.hs_base.specs.declared.limits.TheConstants.{MAX_OPERATIONS}
 use Rattle.hs_records.specs.Plain.{Operation, Begin, Point, End, Fire, Sample, PlainSettings, PlainWorkload}
@@ -12,14 +12,14 @@ use Rattle.hs_caller.specs.Calling.{Calling}
 use Rattle.hs_caller.specs.Standing.{IsAt, HasSentSoFar}
 use Rattle.hs_desk.specs.Coordinators.{Coordinating}
 use Rattle.hs_desk.specs.Work.{Work, IsFew, triggered}
-use Rattle.hs_rounds.specs.Standing.{Site, Moment, SiteStands, Stands, IsBegun}
+use Rattle.hs_rounds.specs.Standing.{Site, Moment, Stands}
 use Rattle.hs_rounds.specs.Acting.{Acts}
 use Rattle.hs_rounds.specs.Meeting.{AllMeet}
 use Rattle.hs_rounds.specs.Moving.{Moves}
 use Rattle.hs_rounds.specs.Coming.{Came, NoRoundsCome, RoundsGoOn}
 use Rattle.hs_retell.specs.Laws.{AllBegin}
 use Rattle.hs_run.specs.declared.node.Node.{Node}
-use Rattle.hs_run.specs.Moments.{IsHere, AreFew, ActedTo, MetTo, MovedTo, CanBegin, DoneIn, AllDone, RoundsMade, RoundsOver}
+use Rattle.hs_run.specs.Moments.{IsHere, AreFew, ActedTo, MetTo, MovedTo, CanBegin, DoneIn, RoundsMade, RoundsOver}
 use Rattle.hs_run.specs.Movings.{AllStand}
 use Rattle.hs_run.specs.Nodes.{AreWhole, TellsLeft}
 use Rattle.hs_run.proofs.Few.{few_met}

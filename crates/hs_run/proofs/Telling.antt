@@ -1,5 +1,5 @@
 -- Messages go from an agent to the coordinator, and asks to the agents.
-use Rattle.std.proofs.Common.{◌≡◌, ◌⊎◌, inl, inr, ℕ, ◌<◌, List, [], ◌∷◌, ◌++◌, cond, eqb, eq-eqb, Bool, true, false, refl, sym, ap, subst, ◌∙◌, arith, slice_get, Some, length}
+use Rattle.std.proofs.Common.{◌≡◌, inl, inr, ℕ, List, [], ◌∷◌, ◌++◌, cond, eqb, eq-eqb, Bool, refl, sym, ap, subst, ◌∙◌, slice_get, length}
 use Rattle.std.proofs.lemmas.Bool.{ne_eqb, cases_eq}
 use Rattle.std.specs.Prelude.{Result, Ok, Err, OnOk}
 use Rattle.hs_base.specs.declared.told.Told.{Told}
@@ -7,12 +7,10 @@ use Rattle.hs_coord.specs.Messages.{Messages}
 use Rattle.hs_live.specs.Calls.{AreMates}
 use Rattle.hs_records.specs.Plain.{PlainWorkload}
 use Rattle.hs_caller.specs.Calling.{Calling}
-use Rattle.hs_desk.specs.Agents.{IsTellable}
 use Rattle.hs_desk.specs.Coordinators.{Coordinating, IsCoordinating}
 use Rattle.hs_desk.specs.Manned.{Manned, IsManned}
 use Rattle.hs_desk.specs.Work.{Work, with_moved}
 use Rattle.hs_rounds.specs.Standing.{Site, SiteStands, moved_by, asked_by}
-use Rattle.hs_rounds.specs.Moving.{IsSameDoing}
 use Rattle.hs_run.specs.Movings.{Tells, HasTold}
 use Rattle.hs_run.proofs.Moments.{coordinates_same}
 

@@ -1,10 +1,10 @@
 -- Nodes and a coordinator that stand at a moment of a run, and how far the rounds have come.
-use Rattle.std.specs.Prelude.{◌≡◌, ℕ, ◌*◌, ◌<◌, ◌≤◌, min, List, length, slice_get, Some}
+use Rattle.std.specs.Prelude.{◌≡◌, ℕ, ◌*◌, ◌<◌, min, List, length, slice_get, Some}
 use Rattle.hs_records.specs.Plain.{PlainWorkload}
 use Rattle.hs_sent.specs.Sending.{operations_at, place_of}
 use Rattle.hs_caller.specs.Calling.{Calling}
 use Rattle.hs_desk.specs.Coordinators.{Coordinating}
-use Rattle.hs_desk.specs.Work.{Work, IsFew}
+use Rattle.hs_desk.specs.Work.{IsFew}
 use Rattle.hs_rounds.specs.Standing.{Site, Moment, Stands, IsBegun}
 use Rattle.hs_rounds.specs.Acting.{Acts}
 use Rattle.hs_rounds.specs.Meeting.{AllMeet}

@@ -1,5 +1,5 @@
 -- What was told and asked is moved between the agents and the coordinator, node by node and ask by ask.
-use Rattle.std.specs.Prelude.{◌≡◌, ℕ, ◌<◌, ◌≤◌, [], ◌++◌, List, length, slice_get, Some}
+use Rattle.std.specs.Prelude.{◌≡◌, ℕ, ◌<◌, ◌≤◌, ◌++◌, List, length, slice_get, Some}
 use Rattle.hs_base.specs.declared.limits.TheConstants.{MAX_NODES}
 use Rattle.hs_base.specs.declared.told.Ask.{Ask}
 use Rattle.hs_coord.specs.Messages.{Messages}

@@ -18,7 +18,6 @@ use Rattle.hs_live.specs.Calls.{MeetsAt}
 use Rattle.hs_caller.specs.Standing.{IsAt}
 use Rattle.hs_rounds.specs.Acting.{SiteActs}
 use Rattle.hs_rounds.specs.Meeting.{CallerMet, GiverMet}
-use Rattle.hs_run.specs.Going.{AllMayGo}
 
 -- The settings are those of the workload, and these are the operations of the clients of a node.
 pub record AreClients (W : PlainWorkload) (node : ℕ) (settings : Settings) (lists : List (Listing Op)) : Type 0 where

@@ -1,4 +1,4 @@
-use Rattle.std.proofs.Common.{◌≡◌, ◌<◌, ◌≤◌, length, refl, sym, ap, subst, ◌∙◌, arith}
+use Rattle.std.proofs.Common.{◌<◌, length, refl, sym, ap, subst, ◌∙◌, arith}
 use Rattle.hs_desk.specs.Coordinators.{Coordinating}
 use Rattle.hs_rounds.specs.Standing.{moved_by, asked_by}
 use Rattle.hs_run.specs.Movings.{Moving, asked_all}

@@ -1,4 +1,4 @@
-use Rattle.std.proofs.Common.{ℕ, length, List}
+use Rattle.std.proofs.Common.{length, List}
 use Rattle.hs_records.specs.Plain.{PlainWorkload}
 use Rattle.hs_rounds.specs.Standing.{Moment}
 use Rattle.hs_run.specs.declared.node.Node.{Node}

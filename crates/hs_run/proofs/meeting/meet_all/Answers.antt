@@ -1,4 +1,4 @@
-use Rattle.std.proofs.Common.{◌≡◌, ◌<◌, ◌+◌, get_or, length, List, Some, sym, subst, ◌∙◌, arith, slice_get}
+use Rattle.std.proofs.Common.{◌+◌, get_or, sym, subst, ◌∙◌, arith}
 use Rattle.hs_run.specs.declared.node.Node.{Node}
 use Rattle.hs_run.specs.Changing.{FirstChanged}
 use Rattle.hs_run.specs.Movings.{HasMet}

@@ -1,4 +1,4 @@
-use Rattle.std.proofs.Common.{◌≡◌, ◌<◌, ◌+◌, get_or, length, List, Some, sym, subst, ◌∙◌, arith, slice_get}
+use Rattle.std.proofs.Common.{◌<◌, ◌+◌, get_or, length, List, sym, subst, arith}
 use Rattle.hs_run.specs.declared.node.Node.{Node}
 use Rattle.hs_run.specs.Movings.{Telling}
 use Rattle.hs_run.proofs.Lists.{lent_is, lent_from}

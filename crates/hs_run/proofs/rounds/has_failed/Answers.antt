@@ -1,4 +1,4 @@
-use Rattle.std.proofs.Common.{◌≡◌, ℕ, ◌<◌, suc, ◌+◌, Some, sym, ap, ◌∙◌, inl, inr, arith, slice_get}
+use Rattle.std.proofs.Common.{sym, ap, ◌∙◌, inl, inr, arith, slice_get}
 use Rattle.hs_run.proofs.Lists.{same_or_less, within}
 use Rattle.hs_run.proofs.rounds.has_failed.Goals as goal
 

@@ -1,4 +1,4 @@
-use Rattle.std.proofs.Common.{◌≡◌, ℕ, ◌<◌, suc, ◌+◌, get_or, Some, Bool, true, false, sym, ap, subst, ◌∙◌, inl, inr, arith, slice_get}
+use Rattle.std.proofs.Common.{ℕ, get_or, false, sym, ap, subst, ◌∙◌, inl, inr, arith, slice_get}
 use Rattle.std.proofs.lemmas.Option.{same_Some}
 use Rattle.hs_workload.specs.Views.{workload_of}
 use Rattle.hs_run.specs.declared.node.Node.{Node}

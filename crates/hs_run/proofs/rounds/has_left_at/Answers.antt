@@ -1,11 +1,11 @@
-use Rattle.std.proofs.Common.{◌≡◌, ◌<◌, ◌≤◌, ◌+◌, ◌-◌, ◌*◌, ℕ, Bool, true, false, List, Some, length, take, drop, sym, ap, ◌∙◌, subst, arith, slice_get}
+use Rattle.std.proofs.Common.{◌≡◌, ◌+◌, ◌-◌, ◌*◌, ℕ, Bool, true, false, List, Some, length, take, drop, sym, ap, ◌∙◌, arith, slice_get}
 use Rattle.std.proofs.lemmas.List.{length-map}
 use Rattle.hs_base.specs.Listing.{Listing}
 use Rattle.hs_base.specs.declared.settings.Settings.{Settings}
 use Rattle.hs_records.specs.Plain.{PlainWorkload}
 use Rattle.hs_rounds.specs.Standing.{Site}
 use Rattle.hs_sent.specs.Sending.{operations_at, place_of}
-use Rattle.hs_workload.specs.Views.{workload_of, operation_of, operations_of}
+use Rattle.hs_workload.specs.Views.{workload_of, operation_of}
 use Rattle.hs_workload.specs.declared.operation.Op.{Op}
 use Rattle.hs_run.specs.Nodes.{TellsNodeLeft}
 use Rattle.hs_run.specs.Sites.{AreClients, TellsSiteLeft}

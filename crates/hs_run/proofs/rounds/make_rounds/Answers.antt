@@ -1,4 +1,4 @@
-use Rattle.std.proofs.Common.{◌≡◌, ◌<◌, ◌-◌, ◌+◌, subst, arith, rules}
+use Rattle.std.proofs.Common.{◌<◌, ◌-◌, ◌+◌, subst, arith, rules}
 use Rattle.std.proofs.iter.Serving.{serving}
 use Rattle.hs_base.specs.declared.limits.TheConstants.{MAX_OPERATIONS}
 use Rattle.hs_workload.specs.Views.{workload_of}

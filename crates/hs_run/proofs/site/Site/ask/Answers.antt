@@ -1,4 +1,4 @@
-use Rattle.std.proofs.Common.{◌≡◌, List, [], ◌∷◌, ◌++◌, Bool, true, false, refl, sym, ap, subst, ◌∙◌}
+use Rattle.std.proofs.Common.{◌≡◌, List, [], ◌∷◌, Bool, true, false, refl, sym, ap, subst, ◌∙◌}
 use Rattle.std.proofs.lemmas.List.{append-nil}
 use Rattle.std.specs.Prelude.{if◌then◌else◌}
 use Rattle.hs_base.specs.NodeSets.{has_node}
@@ -8,7 +8,7 @@ use Rattle.hs_desk.specs.Manned.{Manned}
 use Rattle.hs_desk.specs.Work.{Work, with_ask}
 use Rattle.hs_rounds.specs.Standing.{Site, SiteStands}
 use Rattle.hs_run.specs.Layout.{site_of}
-use Rattle.hs_run.specs.Movings.{SiteAsked, with_asks}
+use Rattle.hs_run.specs.Movings.{with_asks}
 use Rattle.hs_run.proofs.Telling.{on_ok_two, site_with}
 use Rattle.hs_run.proofs.site.Site.ask.Goals as goal
 

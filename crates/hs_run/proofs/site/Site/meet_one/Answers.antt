@@ -1,5 +1,4 @@
-use Rattle.std.proofs.Common.{◌≡◌, ◌<◌, get_or, ap, length, sym, subst, arith}
-use Rattle.hs_desk.specs.Work.{Work}
+use Rattle.std.proofs.Common.{get_or, ap, length, sym, subst, arith}
 use Rattle.hs_rounds.specs.Standing.{Site, SiteStands, client_at}
 use Rattle.hs_sent.specs.Sending.{operations_at, place_of}
 use Rattle.hs_run.specs.Layout.{site_of}

@@ -1,7 +1,6 @@
-use Rattle.std.proofs.Common.{◌≡◌, ap, sym, subst}
+use Rattle.std.proofs.Common.{ap, sym, subst}
 use Rattle.std.proofs.lemmas.Result.{on_ok_weaker}
 use Rattle.hs_rounds.specs.Standing.{Site}
-use Rattle.hs_run.specs.Layout.{site_of}
 use Rattle.hs_run.specs.Movings.{Tells, HasTold}
 use Rattle.hs_run.proofs.site.Site.tell.Goals as goal
 
