@@ -1,11 +1,13 @@
-//! Four threads that draw and one that gives, on eight chunks: through a ring and through the kit's `ArrayQueue`, in turn.
+//! Four threads that draw and one that gives, on eight chunks: through a ring and through the kit's `ArrayQueue`, in turn. Each call is
+//! timed by itself, and a thread rests behind a draw that got a chunk, as one that fills a page before it needs the next.
 
 ghost use Rattle.std.specs.Prelude.{◌≡◌, []};
 ghost use Rattle.std.specs.Thread.{IsSync};
 ghost use Rattle.hs_link.specs.Contents.{sent};
 
 use crate::link::Anything;
-use crate::ring::{DRAWS, Seen, turn_pool};
+use crate::ring::{DRAWS, Pace, Seen, turn_pool};
+use crate::spent::{Spent, bare, now, rest, since};
 use anyhow::{Context, Result};
 use crossbeam_queue::ArrayQueue;
 use hs_link::{Receiver, Sender, link};
@@ -16,7 +18,6 @@ use std::sync::Wait;
 use std::sync::atomic::{AtomicU64, Ordering};
 use std::thread;
 use std::thread::{Threads, join};
-use std::time::Instant;
 
 type Chunks = Receiver<Chunk, Anything>;
 
@@ -36,6 +37,9 @@ struct Jobs {
     four: Job,
 }
 
+/// How long a thread rests behind a draw that got a chunk: some microseconds.
+const RESTS: u32 = 64;
+
 /// The links on which chunks come back.
 #[derive(Drop)]
 struct Work {
@@ -45,98 +49,110 @@ struct Work {
     four: Chunks,
 }
 
-/// Pops as often as a drawer of the ring draws, and sends what came. Answers how often a chunk came.
-fn pop_all<R: Wait>(rt: &R, queue: &ArrayQueue<Chunk>, job: Job, over: &AtomicU64) -> u64 {
+/// Pops as often as a drawer of the ring draws, and sends what came. Answers how long the pops took that got a chunk.
+fn pop_all<R: Wait + Clock>(rt: &R, queue: &ArrayQueue<Chunk>, job: Job, pace: &Pace) -> Spent {
     let Job { mut chunks } = job;
-    let mut gots = 0u64;
+    let mut spent = Spent::default();
     for _draw in 0..DRAWS {
+        let start = now(rt);
         match queue.pop(rt) {
             Some(mut chunk) => {
+                spent.add(since(rt, start));
                 chunk.clear();
                 chunks.send(chunk);
-                gots = gots.wrapping_add(1);
+                rest(pace.rests);
             }
             None => thread::yield_now(),
         }
     }
-    over.fetch_add(1, Ordering::SeqCst);
-    gots
+    pace.over.fetch_add(1, Ordering::SeqCst);
+    spent
 }
 
 /// Pushes back what one thread sent, as far as it has come.
-fn serve<R: Wait>(rt: &R, queue: &ArrayQueue<Chunk>, chunks: &mut Chunks) {
+fn serve<R: Wait + Clock>(
+    rt: &R,
+    queue: &ArrayQueue<Chunk>,
+    chunks: &mut Chunks,
+    spent: &mut Spent,
+) {
     for _ in 0..8 {
         let Some(chunk) = chunks.receive() else {
             break;
         };
+        let start = now(rt);
         let _ = queue.push(rt, chunk);
+        spent.add(since(rt, start));
     }
 }
 
-/// Pushes back what comes, until all four threads are done.
-fn push_all<R: Wait>(rt: &R, queue: &ArrayQueue<Chunk>, work: Work, over: &AtomicU64) {
+/// Pushes back what comes, until all four threads are done. Answers how long the pushes took.
+fn push_all<R: Wait + Clock>(rt: &R, queue: &ArrayQueue<Chunk>, work: Work, pace: &Pace) -> Spent {
     let Work {
         mut one,
         mut two,
         mut three,
         mut four,
     } = work;
+    let mut spent = Spent::default();
     for _ in rt.forever() {
-        let last = over.load(Ordering::SeqCst) >= 4;
-        serve(rt, queue, &mut one);
-        serve(rt, queue, &mut two);
-        serve(rt, queue, &mut three);
-        serve(rt, queue, &mut four);
+        let last = pace.over.load(Ordering::SeqCst) >= 4;
+        serve(rt, queue, &mut one, &mut spent);
+        serve(rt, queue, &mut two, &mut spent);
+        serve(rt, queue, &mut three, &mut spent);
+        serve(rt, queue, &mut four, &mut spent);
         if last {
-            return;
+            return spent;
         }
     }
     unreachable!()
 }
 
 /// Two threads that pop.
-fn pop_two<R: Threads + Wait + Sync>(
+fn pop_two<R: Threads + Clock + Wait + Sync>(
     rt: &R,
     queue: &ArrayQueue<Chunk>,
     one: Job,
     two: Job,
-    over: &AtomicU64,
-) -> u64 {
-    let (first, second) = join(
+    pace: &Pace,
+) -> Spent {
+    let (mut first, second) = join(
         rt,
-        move || -> u64
+        move || -> Spent
             requires { IsSync R.row }
-        { pop_all(rt, queue, one, over) },
-        move || -> u64
+        { pop_all(rt, queue, one, pace) },
+        move || -> Spent
             requires { IsSync R.row }
-        { pop_all(rt, queue, two, over) },
+        { pop_all(rt, queue, two, pace) },
     );
-    first.wrapping_add(second)
+    first.add_all(second);
+    first
 }
 
 /// Four threads that pop.
-fn pop_four<R: Threads + Wait + Sync>(
+fn pop_four<R: Threads + Clock + Wait + Sync>(
     rt: &R,
     queue: &ArrayQueue<Chunk>,
     jobs: Jobs,
-    over: &AtomicU64,
-) -> u64 {
+    pace: &Pace,
+) -> Spent {
     let Jobs {
         one,
         two,
         three,
         four,
     } = jobs;
-    let (front, back) = join(
+    let (mut front, back) = join(
         rt,
-        move || -> u64
+        move || -> Spent
             requires { IsSync R.row }
-        { pop_two(rt, queue, one, two, over) },
-        move || -> u64
+        { pop_two(rt, queue, one, two, pace) },
+        move || -> Spent
             requires { IsSync R.row }
-        { pop_two(rt, queue, three, four, over) },
+        { pop_two(rt, queue, three, four, pace) },
     );
-    front.wrapping_add(back)
+    front.add_all(back);
+    front
 }
 
 /// A link for the chunks of a thread.
@@ -177,49 +193,52 @@ fn queue_of<R: Wait>(rt: &R, alloc: Global) -> Result<ArrayQueue<Chunk>> {
     Ok(queue)
 }
 
-/// The five threads, until those that pop are done. Answers how often a chunk came.
-fn pop_and_push<R: Threads + Wait + Sync>(
+/// The five threads, until those that pop are done. Answers how long the pushes took, and the pops that got a chunk.
+fn pop_and_push<R: Threads + Clock + Wait + Sync>(
     rt: &R,
     queue: &ArrayQueue<Chunk>,
     jobs: Jobs,
     work: Work,
-) -> u64 {
-    let over = AtomicU64::new(0);
-    let told = &over;
-    let ((), gots) = join(
+    pace: &Pace,
+) -> (Spent, Spent) {
+    join(
         rt,
-        move || -> ()
+        move || -> Spent
             requires { IsSync R.row }
-        { push_all(rt, queue, work, told) },
-        move || -> u64
+        { push_all(rt, queue, work, pace) },
+        move || -> Spent
             requires { IsSync R.row }
-        { pop_four(rt, queue, jobs, told) },
-    );
-    gots
+        { pop_four(rt, queue, jobs, pace) },
+    )
 }
 
-/// Times a queue with its five threads. Adds the nanoseconds, and how often a chunk came.
+/// Times the calls of a queue with its five threads, and adds what they took: the pushes, and the pops that got a chunk.
 fn turn_queue<R: Threads + Clock + Wait + Sync>(
     rt: &R,
     alloc: Global,
-    nanos: &mut u128,
-    gots: &mut u64,
+    pushes: &mut Spent,
+    pops: &mut Spent,
 ) -> Result<()> {
-    let start = Instant::now(rt)?;
+    let pace = Pace {
+        over: AtomicU64::new(0),
+        rests: RESTS,
+    };
     let queue = queue_of(rt, alloc)?;
     let (jobs, work) = jobs_of(alloc)?;
-    let got = pop_and_push(rt, &queue, jobs, work);
-    *nanos = nanos.saturating_add(start.elapsed(rt)?.as_nanos());
-    *gots = gots.saturating_add(got);
+    let (pushed, popped) = pop_and_push(rt, &queue, jobs, work, &pace);
+    pushes.add_all(pushed);
+    pops.add_all(popped);
     Ok(())
 }
 
-/// Prints the nanoseconds of a draw, and those for each chunk that was got.
-fn report<R: Print>(rt: &R, name: &str, nanos: u128, draws: u64, gots: u64) -> Result<()> {
+/// Prints what such a call took.
+fn report<R: Print>(rt: &R, name: &str, spent: Spent) -> Result<()> {
     println!(rt;
-        "{name}: {} ns a draw, {} ns for each chunk that was got, by {gots} of {draws} draws",
-        nanos / u128::from(draws.max(1)),
-        nanos / u128::from(gots.max(1))
+        "{name}: {}.{} ns, {} calls and {} that were kept from their processor",
+        spent.tenths() / 10,
+        spent.tenths() % 10,
+        spent.calls,
+        spent.late
     )?;
     Ok(())
 }
@@ -230,13 +249,22 @@ pub(crate) fn run<R: Print + Clock + AllocGlobal + Threads + Wait + Sync>(
     pools: u32,
 ) -> Result<()> {
     let mut seen = Seen::default();
-    let mut nanos = 0u128;
-    let mut gots = 0u64;
+    let mut pushes = Spent::default();
+    let mut pops = Spent::default();
     for _pool in 0..pools {
-        turn_pool(rt, rt.alloc(), &mut seen)?;
-        turn_queue(rt, rt.alloc(), &mut nanos, &mut gots)?;
+        turn_pool(rt, rt.alloc(), RESTS, &mut seen)?;
+        turn_queue(rt, rt.alloc(), &mut pushes, &mut pops)?;
     }
-    let draws = u64::from(pools) * 4 * u64::from(DRAWS);
-    report(rt, "ring", seen.nanos, draws, seen.gots)?;
-    report(rt, "crossbeam_queue", nanos, draws, gots)
+    report(rt, "the clock, read twice", bare(rt, DRAWS))?;
+    report(rt, "a draw that got a chunk", seen.drawn)?;
+    report(rt, "a give that put one back", seen.given)?;
+    report(rt, "a pop that got a chunk", pops)?;
+    report(rt, "a push", pushes)?;
+    println!(rt;
+        "of {} draws of the ring {} got a chunk, and {} gives missed",
+        u64::from(pools) * 4 * u64::from(DRAWS),
+        seen.gots,
+        seen.misses
+    )?;
+    Ok(())
 }

@@ -16,6 +16,7 @@ mod pins;
 mod pool;
 mod rate;
 mod ring;
+mod spent;
 
 use anyhow::{Context, Result, bail};
 use std::env;

@@ -6,6 +6,7 @@ ghost use Rattle.std.specs.Thread.{IsSync};
 ghost use Rattle.hs_link.specs.Contents.{sent};
 ghost use Rattle.hs_ring.specs.Parts.{AreNewEnds, AreAllEnds};
 
+use crate::spent::{Spent, now, rest, since};
 use anyhow::{Context, Result, ensure};
 use hs_base::{List, Memory};
 use hs_link::{Fact, Receiver, Sender, link};
@@ -22,6 +23,15 @@ use std::time::Instant;
 
 /// The allowance of each of the four drawers of a pool.
 pub(crate) const DRAWS: u32 = 65_536;
+
+/// How the threads of a pool work together.
+#[derive(Drop)]
+pub(crate) struct Pace {
+    /// How many of them are done.
+    pub(crate) over: AtomicU64,
+    /// How long a thread rests behind a draw that got a chunk.
+    pub(crate) rests: u32,
+}
 
 /// A pool of so many chunks of 64 bytes.
 pub(crate) fn pool_of(
@@ -72,8 +82,28 @@ struct Work {
     ghost of_four: { (four.key.giver.value.pool ≡ giver.pool) × (four.key.giver.value.size ≡ giver.size) },
 }
 
-/// Draws as often as the allowance says, and sends what was got. Gives the stamps.
-fn draw_all(alloc: Global, job: Job) -> Result<(Drawer, Vec<u64>), AllocError>
+/// What a drawer was answered: the stamps, and how long the draws took that got a chunk.
+#[derive(Drop)]
+struct Draws {
+    stamps: Vec<u64>,
+    spent: Spent,
+}
+
+impl Draws {
+    /// Those of another drawer, too.
+    fn add_all(&mut self, other: Draws) -> Result<(), AllocError> {
+        self.spent.add_all(other.spent);
+        self.stamps.extend_from_slice(other.stamps.as_slice())
+    }
+}
+
+/// Draws as often as the allowance says, and sends what was got.
+fn draw_all<R: Clock>(
+    rt: &R,
+    alloc: Global,
+    job: Job,
+    rests: u32,
+) -> Result<(Drawer, Draws), AllocError>
     ensures { IfOk result (λ end. (end.0.pool ≡ job.drawer.pool) × (end.0.number ≡ job.drawer.number)) }
 {
     let Job {
@@ -81,11 +111,15 @@ fn draw_all(alloc: Global, job: Job) -> Result<(Drawer, Vec<u64>), AllocError>
         mut chunks,
     } = job;
     let mut stamps = Vec::with_capacity(alloc, drawer.left() as usize)?;
+    let mut spent = Spent::default();
     'draws: while drawer.left() > 0 {
+        let start = now(rt);
         match drawer.draw() {
             Drawn::Got { held, stamp } => {
+                spent.add(since(rt, start));
                 chunks.send(held);
                 stamps.push(stamp)?;
+                rest(rests);
             }
             Drawn::Empty { stamp } => {
                 stamps.push(stamp)?;
@@ -93,31 +127,33 @@ fn draw_all(alloc: Global, job: Job) -> Result<(Drawer, Vec<u64>), AllocError>
             }
         }
     }
-    Ok((drawer, stamps))
+    Ok((drawer, Draws { stamps, spent }))
 }
 
 /// Draws all, and says that this is done.
-fn draw_and_tell(
+fn draw_and_tell<R: Clock>(
+    rt: &R,
     alloc: Global,
     job: Job,
-    over: &AtomicU64,
-) -> Result<(Drawer, Vec<u64>), AllocError>
+    pace: &Pace,
+) -> Result<(Drawer, Draws), AllocError>
     ensures { IfOk result (λ end. (end.0.pool ≡ job.drawer.pool) × (end.0.number ≡ job.drawer.number)) }
 {
-    let end = draw_all(alloc, job);
-    over.fetch_add(1, Ordering::SeqCst);
+    let end = draw_all(rt, alloc, job, pace.rests);
+    pace.over.fetch_add(1, Ordering::SeqCst);
     end
 }
 
-/// What the giver was answered: the stamps, and how often a give was left unread.
+/// What the giver was answered: the stamps, how long the gives took, and how often one was left unread.
 #[derive(Drop)]
 struct Answers {
     stamps: Vec<u64>,
+    spent: Spent,
     unread: u64,
 }
 
 /// Gives a chunk back, again after each answer but `Given`.
-fn give_back<R: Wait>(
+fn give_back<R: Wait + Clock>(
     rt: &R,
     giver: &mut Giver,
     held: Held<Lease>,
@@ -128,8 +164,10 @@ fn give_back<R: Wait>(
 {
     let mut held = held;
     for _ in rt.forever() {
+        let start = now(rt);
         held = match giver.give(held) {
             Given::Given { stamp } => {
+                answers.spent.add(since(rt, start));
                 answers.stamps.push(stamp)?;
                 return Ok(());
             }
@@ -148,7 +186,7 @@ fn give_back<R: Wait>(
 }
 
 /// Gives back what one drawer sent, as far as it has come.
-fn serve<R: Wait>(
+fn serve<R: Wait + Clock>(
     rt: &R,
     giver: &mut Giver,
     chunks: &mut Chunks,
@@ -168,11 +206,11 @@ fn serve<R: Wait>(
 }
 
 /// Gives back what comes, until all four drawers are done.
-fn give_all<R: Wait>(
+fn give_all<R: Wait + Clock>(
     rt: &R,
     alloc: Global,
     work: Work,
-    over: &AtomicU64,
+    pace: &Pace,
 ) -> Result<(Giver, Answers), AllocError>
     ensures { IfOk result (λ end. (end.0.pool ≡ work.giver.pool) × (end.0.drawers ≡ work.giver.drawers)) }
 {
@@ -185,10 +223,11 @@ fn give_all<R: Wait>(
     } = work;
     let mut answers = Answers {
         stamps: Vec::new(alloc),
+        spent: Spent::default(),
         unread: 0,
     };
     for _ in rt.forever() {
-        let last = over.load(Ordering::SeqCst) >= 4;
+        let last = pace.over.load(Ordering::SeqCst) >= 4;
         serve(rt, &mut giver, &mut one, &mut answers)?;
         serve(rt, &mut giver, &mut two, &mut answers)?;
         serve(rt, &mut giver, &mut three, &mut answers)?;
@@ -201,59 +240,61 @@ fn give_all<R: Wait>(
 }
 
 /// Two drawers in threads of their own.
-fn draw_two<R: Threads + Sync>(
+fn draw_two<R: Threads + Clock + Sync>(
     rt: &R,
     alloc: Global,
     one: Job,
     two: Job,
-    over: &AtomicU64,
-) -> Result<(Drawer, Drawer, Vec<u64>), AllocError>
+    pace: &Pace,
+) -> Result<(Drawer, Drawer, Draws), AllocError>
     ensures one { IfOk result (λ end. (end.0.pool ≡ one.drawer.pool) × (end.0.number ≡ one.drawer.number)) }
     ensures two { IfOk result (λ end. (end.1.pool ≡ two.drawer.pool) × (end.1.number ≡ two.drawer.number)) }
 {
     let (first, second) = join(
         rt,
-        move || -> Result<(Drawer, Vec<u64>), AllocError>
+        move || -> Result<(Drawer, Draws), AllocError>
+            requires { IsSync R.row }
             ensures { IfOk result (λ end. (end.0.pool ≡ one.drawer.pool) × (end.0.number ≡ one.drawer.number)) }
-        { draw_and_tell(alloc, one, over) },
-        move || -> Result<(Drawer, Vec<u64>), AllocError>
+        { draw_and_tell(rt, alloc, one, pace) },
+        move || -> Result<(Drawer, Draws), AllocError>
+            requires { IsSync R.row }
             ensures { IfOk result (λ end. (end.0.pool ≡ two.drawer.pool) × (end.0.number ≡ two.drawer.number)) }
-        { draw_and_tell(alloc, two, over) },
+        { draw_and_tell(rt, alloc, two, pace) },
     );
-    let (first, mut stamps) = first?;
+    let (first, mut draws) = first?;
     let (second, more) = second?;
-    stamps.extend_from_slice(more.as_slice())?;
-    Ok((first, second, stamps))
+    draws.add_all(more)?;
+    Ok((first, second, draws))
 }
 
 /// Four drawers in threads of their own.
-fn draw_four<R: Threads + Sync>(
+fn draw_four<R: Threads + Clock + Sync>(
     rt: &R,
     alloc: Global,
     one: Job,
     two: Job,
     three: Job,
     four: Job,
-    over: &AtomicU64,
-) -> Result<(Drawer, Drawer, Drawer, Drawer, Vec<u64>), AllocError>
+    pace: &Pace,
+) -> Result<(Drawer, Drawer, Drawer, Drawer, Draws), AllocError>
     ensures { IfOk result (λ end. (end.0.pool ≡ one.drawer.pool) × (end.0.number ≡ one.drawer.number) × (end.1.pool ≡ two.drawer.pool) × (end.1.number ≡ two.drawer.number)
         × (end.2.pool ≡ three.drawer.pool) × (end.2.number ≡ three.drawer.number) × (end.3.pool ≡ four.drawer.pool) × (end.3.number ≡ four.drawer.number)) }
 {
     let (front, back) = join(
         rt,
-        move || -> Result<(Drawer, Drawer, Vec<u64>), AllocError>
+        move || -> Result<(Drawer, Drawer, Draws), AllocError>
             requires { IsSync R.row }
             ensures { IfOk result (λ end. (end.0.pool ≡ one.drawer.pool) × (end.0.number ≡ one.drawer.number) × (end.1.pool ≡ two.drawer.pool) × (end.1.number ≡ two.drawer.number)) }
-        { draw_two(rt, alloc, one, two, over) },
-        move || -> Result<(Drawer, Drawer, Vec<u64>), AllocError>
+        { draw_two(rt, alloc, one, two, pace) },
+        move || -> Result<(Drawer, Drawer, Draws), AllocError>
             requires { IsSync R.row }
             ensures { IfOk result (λ end. (end.0.pool ≡ three.drawer.pool) × (end.0.number ≡ three.drawer.number) × (end.1.pool ≡ four.drawer.pool) × (end.1.number ≡ four.drawer.number)) }
-        { draw_two(rt, alloc, three, four, over) },
+        { draw_two(rt, alloc, three, four, pace) },
     );
-    let (one, two, mut stamps) = front?;
+    let (one, two, mut draws) = front?;
     let (three, four, more) = back?;
-    stamps.extend_from_slice(more.as_slice())?;
-    Ok((one, two, three, four, stamps))
+    draws.add_all(more)?;
+    Ok((one, two, three, four, draws))
 }
 
 /// A link for the chunks of a drawer.
@@ -333,19 +374,28 @@ pub(crate) struct Seen {
     pools: u64,
     pub(crate) gots: u64,
     empties: u64,
-    misses: u64,
+    pub(crate) misses: u64,
     unread: u64,
-    pub(crate) nanos: u128,
+    nanos: u128,
+    /// What the draws took that got a chunk.
+    pub(crate) drawn: Spent,
+    /// What the gives took that put one back.
+    pub(crate) given: Spent,
 }
 
-/// What came of one pool: the stamps of all ends, how often a give was left unread, and the tally.
-type Outcome = (Vec<u64>, u64, Tally);
+/// What came of one pool.
+#[derive(Drop)]
+struct Outcome {
+    draws: Draws,
+    answers: Answers,
+    tally: Tally,
+}
 
 /// Four drawers and a giver, each in a thread of its own, until the drawers are done.
-fn draw_and_give<R: Threads + Wait + Sync>(
+fn draw_and_give<R: Threads + Clock + Wait + Sync>(
     rt: &R,
     alloc: Global,
-    over: &AtomicU64,
+    pace: &Pace,
 ) -> Result<Outcome, Memory> {
     let (giver, one, two, three, four) = four_drawers(alloc, DRAWS)?;
     let (job1, chunks1) = job_of(alloc, &giver, one)?;
@@ -364,43 +414,60 @@ fn draw_and_give<R: Threads + Wait + Sync>(
         move || -> Result<(Giver, Answers), AllocError>
             requires { IsSync R.row }
             ensures { IfOk result (λ end. (end.0.pool ≡ work.giver.pool) × (end.0.drawers ≡ work.giver.drawers)) }
-        { give_all(rt, alloc, work, over) },
-        move || -> Result<(Drawer, Drawer, Drawer, Drawer, Vec<u64>), AllocError>
+        { give_all(rt, alloc, work, pace) },
+        move || -> Result<(Drawer, Drawer, Drawer, Drawer, Draws), AllocError>
             requires { IsSync R.row }
             ensures { IfOk result (λ end. (end.0.pool ≡ job1.drawer.pool) × (end.0.number ≡ job1.drawer.number) × (end.1.pool ≡ job2.drawer.pool) × (end.1.number ≡ job2.drawer.number)
                 × (end.2.pool ≡ job3.drawer.pool) × (end.2.number ≡ job3.drawer.number) × (end.3.pool ≡ job4.drawer.pool) × (end.3.number ≡ job4.drawer.number)) }
-        { draw_four(rt, alloc, job1, job2, job3, job4, over) },
+        { draw_four(rt, alloc, job1, job2, job3, job4, pace) },
     );
     let (giver, answers) = given?;
-    let (one, two, three, four, mut stamps) = drawn?;
-    stamps.extend_from_slice(answers.stamps.as_slice())?;
+    let (one, two, three, four, draws) = drawn?;
     let tally = close_four(alloc, giver, one, two, three, four)?;
-    Ok((stamps, answers.unread, tally))
+    Ok(Outcome {
+        draws,
+        answers,
+        tally,
+    })
 }
 
-/// Times a pool with four drawers and a giver, looks at its stamps, and adds what was seen.
+/// Times a pool with four drawers and a giver, looks at its stamps, and adds what was seen. A drawer rests so long behind a draw that got
+/// a chunk.
 pub(crate) fn turn_pool<R: Threads + Clock + Wait + Sync>(
     rt: &R,
     alloc: Global,
+    rests: u32,
     seen: &mut Seen,
 ) -> Result<()> {
-    let over = AtomicU64::new(0);
+    let pace = Pace {
+        over: AtomicU64::new(0),
+        rests,
+    };
     let start = Instant::now(rt)?;
-    let (mut stamps, unread, tally) = draw_and_give(rt, alloc, &over).ok().context("memory")?;
+    let outcome = draw_and_give(rt, alloc, &pace).ok().context("memory")?;
     let nanos = start.elapsed(rt)?.as_nanos();
-    ensure!(are_all(&mut stamps), "a stamp is missing, or stands twice");
-    add(seen, tally, unread, nanos);
-    Ok(())
+    add(seen, outcome, nanos)
 }
 
 /// Adds what was seen of one pool.
-fn add(seen: &mut Seen, tally: Tally, unread: u64, nanos: u128) {
+fn add(seen: &mut Seen, outcome: Outcome, nanos: u128) -> Result<()> {
+    let Outcome {
+        draws,
+        answers,
+        tally,
+    } = outcome;
+    let mut stamps = draws.stamps;
+    stamps.extend_from_slice(answers.stamps.as_slice())?;
+    ensure!(are_all(&mut stamps), "a stamp is missing, or stands twice");
     seen.pools = seen.pools.saturating_add(1);
     seen.gots = seen.gots.saturating_add(tally.gots);
     seen.empties = seen.empties.saturating_add(tally.empties);
     seen.misses = seen.misses.saturating_add(tally.misses);
-    seen.unread = seen.unread.saturating_add(unread);
+    seen.unread = seen.unread.saturating_add(answers.unread);
     seen.nanos = seen.nanos.saturating_add(nanos);
+    seen.drawn.add_all(draws.spent);
+    seen.given.add_all(answers.spent);
+    Ok(())
 }
 
 /// Goes on for so many seconds, and prints what was seen.
@@ -411,7 +478,7 @@ pub(crate) fn run<R: Print + Clock + AllocGlobal + Threads + Wait + Sync>(
     let mut seen = Seen::default();
     let start = Instant::now(rt)?;
     for _ in rt.forever() {
-        turn_pool(rt, rt.alloc(), &mut seen)?;
+        turn_pool(rt, rt.alloc(), 0, &mut seen)?;
         if start.elapsed(rt)?.as_secs() >= u64::from(seconds) {
             break;
         }

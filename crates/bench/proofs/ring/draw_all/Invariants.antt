@@ -4,10 +4,10 @@ use Rattle.bench.proofs.ring.draw_all.Given as goal
 
 -- what is left of the allowance goes over the link
 abbrev pub invariant-draws : goal.invariant-draws
-invariant-draws l =
+invariant-draws g l =
     (l.drawer.pool ≡ l.initial.drawer.pool) × (l.drawer.number ≡ l.initial.drawer.number)
     × (l.drawer.pool ≡ l.chunks.key.giver.value.pool) × (l.drawer.size ≡ l.chunks.key.giver.value.size)
     × (length (sent l.chunks) + l.drawer.left ≤ l.chunks.room)
 
 abbrev pub decreases-draws : goal.decreases-draws
-decreases-draws l = l.drawer.left
+decreases-draws g l = l.drawer.left
