@@ -37,7 +37,7 @@ struct Jobs {
     four: Job,
 }
 
-/// How long a thread rests behind a draw that got a chunk: some microseconds.
+/// How many turns a thread rests behind a draw that got a chunk, of a few nanoseconds each.
 const RESTS: u32 = 64;
 
 /// The links on which chunks come back.

@@ -5,7 +5,7 @@ ghost use Rattle.std.specs.Option.{option_to_list};
 ghost use Rattle.hs_base.specs.declared.limits.TheConstants.{FRAME_COST, MIN_SIZE};
 ghost use Rattle.hs_records.specs.Records.{piece_count, record_pieces};
 ghost use Rattle.hs_words.specs.Buffers.{buffer_in};
-ghost use Rattle.hs_client.specs.Core.{number_after};
+ghost use Rattle.hs_client.specs.Core.{number_after, NeedsPage};
 ghost use Rattle.hs_link.specs.Contents.{sent};
 ghost use Rattle.hs_live.specs.declared.called.Called.TheVariants.{Done};
 ghost use Rattle.hs_live.specs.Keys.{IsChunkOf};
@@ -109,8 +109,8 @@ impl Writer {
         }
     }
 
-    /// Records a piece. Where it needs a page, the full chunk of the page before is sent, and then the new page draws a buffer. It
-    /// stands apart, since most pieces need no page.
+    /// Records a piece that needs a page: the full chunk of the page before is sent, and then the new page draws a buffer. It stands
+    /// apart, since most pieces need no page.
     #[cold]
     #[inline(never)]
     fn turn_page(&mut self, moment: u64, payload: &[u8], more: bool)
@@ -120,6 +120,7 @@ impl Writer {
         requires draws { 1 ≤ self.old.drawer.left }
         requires room { length (sent (outgoing self.old.chunks)) < self.old.chunks.room }
         requires narrow { FRAME_COST + length payload.now ≤ self.old.core.size }
+        requires needs { NeedsPage self.old.core (length payload.now) }
         ensures sound { IsSoundIn self.new }
         ensures trace { self.new.core.trace ≡ self.old.core.trace }
         ensures number { self.new.core.number ≡ number_after more self.old.core.number }
@@ -128,13 +129,13 @@ impl Writer {
         ensures written { WritesPieces (record { number = self.old.core.number; moment = moment; payload = payload.now } ∷ []) (writing_in self.old) (writing_in self.new) }
     {
         match self.core.piece(moment, payload, more) {
-            Pointed::Written => {}
             Pointed::NeedPage(full) => {
                 send_chunk(&mut self.chunks, full);
                 let drawn = self.drawer.draw();
                 self.core.supply(drawn, moment, payload, more);
             }
-            Pointed::Spent | Pointed::NoTrace | Pointed::TooWide => unreachable!(),
+            Pointed::Written | Pointed::Spent | Pointed::NoTrace | Pointed::TooWide =>
+                unreachable!(),
         }
     }
 

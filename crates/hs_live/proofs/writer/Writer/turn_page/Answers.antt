@@ -9,15 +9,11 @@ use Rattle.hs_live.specs.Writing.{Writing, IsWriting, IsSound}
 use Rattle.hs_words.specs.Buffers.{buffer_in}
 use Rattle.hs_live.proofs.Cuts.{spends_page}
 use Rattle.hs_live.proofs.Sound.{sound_supplied, one_at_most}
-use Rattle.hs_live.proofs.Steps.{piece_of, wrote, needed, drew}
+use Rattle.hs_live.proofs.Steps.{piece_of, needed, drew}
 use Rattle.hs_live.proofs.writer.Writer.turn_page.Goals as goal
 
-pub returns-in-Written-clause-written : goal.returns-in-Written-clause-written
-returns-in-Written-clause-written c = λ made pieces later all is.
-    wrote made pieces later all (writing_in c.args.self.now) _ c.args.moment c.args.payload.now c.args.more c.in-Written.ensures.may c.in-Written.ensures.after refl refl is
-
-pub returns-in-NeedPage-clause-sound : goal.returns-in-NeedPage-clause-sound
-returns-in-NeedPage-clause-sound c =
+pub returns-clause-sound : goal.returns-clause-sound
+returns-clause-sound c =
     let old = c.args.self.now in
     let chunks = outgoing c.send_chunk.new.chunks in
     let step = supplied c.draw-drawn.result c.args.moment c.args.payload.now c.args.more in
@@ -29,8 +25,8 @@ returns-in-NeedPage-clause-sound c =
     (sound_supplied (writing_in old) c.draw-drawn.new.self chunks c.draw-drawn.result c.args.moment c.args.payload.now c.args.more c.requires.sound c.send_chunk.ensures.goes
     (omega (arith, room, c.send_chunk.ensures.goes.same.3)) c.draw-drawn.ensures)
 
-pub returns-in-NeedPage-clause-written : goal.returns-in-NeedPage-clause-written
-returns-in-NeedPage-clause-written c = λ made pieces later all is.
+pub returns-clause-written : goal.returns-clause-written
+returns-clause-written c = λ made pieces later all is.
     let old = c.args.self.now in
     let payload = c.args.payload.now in
     let turned = c.in-NeedPage.ensures in
@@ -41,8 +37,8 @@ returns-in-NeedPage-clause-written c = λ made pieces later all is.
     drew made pieces later all middle _ c.draw-drawn.result c.args.moment payload c.args.more c.draw-drawn.ensures c.supply.ensures.may
     c.supply.ensures.after refl (subst (λ number. IsWriting made (piece_of number c.args.moment payload ∷ pieces) later all middle) (sym same) writing)
 
-pub returns-in-NeedPage-clause-spends : goal.returns-in-NeedPage-clause-spends
-returns-in-NeedPage-clause-spends c =
+pub returns-clause-spends : goal.returns-clause-spends
+returns-clause-spends c =
     let step = supplied c.draw-drawn.result c.args.moment c.args.payload.now c.args.more in
     let core_is = c.supply.ensures.after ∙ ap (λ core. after_step core step) c.in-NeedPage.ensures.after in
     spends_page (writing_in c.args.self.now) c.supply.new.self c.draw-drawn.new.self (outgoing c.send_chunk.new.chunks) (buffer_in c.in-NeedPage.full) c.draw-drawn.result c.args.moment c.args.payload.now c.args.more
