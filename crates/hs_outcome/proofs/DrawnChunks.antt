@@ -1,27 +1,24 @@
 -- Each chunk that an agent took is of a page of its node's clients, at the page's place, and the page has a buffer.
-use Rattle.std.proofs.Common.{◌≡◌, inl, inr, ℕ, zero, suc, ◌+◌, Bool, true, false, cond, List, [], ◌∷◌, ◌++◌, refl, sym, ap, subst, ◌∙◌, Option, Some, None, arith, map, filter, option_map, slice_get}
+use Rattle.std.proofs.Common.{◌≡◌, ℕ, zero, suc, ◌+◌, Bool, true, false, cond, List, [], ◌∷◌, refl, sym, ap, subst, ◌∙◌, Option, Some, None, arith, map, filter, option_map, slice_get, take, eq-eqb}
 use Rattle.std.specs.List.{AllByRecursion, range_with_len}
-use Rattle.std.specs.Option.{option_and_then}
+use Rattle.std.specs.Option.{option_and_then, option_map_or}
 use Rattle.std.proofs.lemmas.Option.{slice_get-map}
 use Rattle.hs_base.specs.declared.ids.ClientId.{ClientId}
-use Rattle.hs_coord.specs.Following.{Messages}
 use Rattle.hs_journal.specs.declared.journal.Draw.{Draw}
-use Rattle.hs_journal.specs.declared.journal.Step.{Step}
-use Rattle.hs_journal.specs.declared.journal.Step.TheVariants as steps
 use Rattle.hs_journal.specs.Views.{PlainJournal}
-use Rattle.hs_model.specs.Laws.{EventsAddThis, brought_by, sheets_of}
+use Rattle.hs_model.specs.Laws.{sheets_of}
 use Rattle.hs_model.specs.Standings.{Taken}
-use Rattle.hs_model.specs.Stepping.{Chunk, Crumbed, Triggered, Asked, Turn, Event, Took, Gave, after_event}
 use Rattle.hs_records.specs.Plain.{PlainWorkload}
 use Rattle.hs_sent.specs.Drawn.{DrawnPage, has_buffer, drawn_from}
 use Rattle.hs_sent.specs.Sending.{Sent, ClientSends, sheet_of, sent_chunks, client_sends, node_sends}
 use Rattle.hs_sent.specs.Timing.{TimedPage}
 use Rattle.hs_words.specs.Pages.{Sheet}
-use Rattle.hs_lawful.specs.Following.{Chunks, taken, NodeRun, Run, next_of, event_of, perform, step_node, node_start, run_start, followed}
-use Rattle.hs_lawful.specs.Orders.{Performs, Leads, Stays, Goes, FollowingPlaysOut}
+use Rattle.hs_lawful.specs.Extending.{IsOfJournal, RunsAreOfTheJournal}
+use Rattle.hs_lawful.specs.Following.{Chunks, taken, NodeRun, followed}
+use Rattle.hs_lawful.specs.Orders.{FollowingPlaysOut}
+use Rattle.hs_lawful.specs.Taking.{is_by, sheets_sent, TakesInOrder, ChunksAreTakenInOrder}
 use Rattle.hs_outcome.specs.Origins.{IsOfDrawnPage, TakenPagesWereDrawn}
-use Rattle.hs_outcome.proofs.Lists.{some_same, all_each}
-use Rattle.hs_outcome.proofs.Sheets.{step_left, all_set, all_get, hear_nodes}
+use Rattle.hs_outcome.proofs.Lists.{some_same}
 
 -- ---- what is sent is of a drawn page
 
@@ -68,7 +65,7 @@ sent_at client k (page ∷ timed) (draw ∷ draws) n item h =
     sent_case client k (record { client = client; number = k; page = page.page; started = page.started; sent = page.sent; draw = draw }) (drawn_from client (k + 1) timed draws) n item (has_buffer draw) refl refl refl
     (λ n h. sent_at client (k + 1) timed draws n item h) h
 
--- ---- one step
+-- ---- a client of a node
 
 in_range : (start count i n : ℕ) → slice_get (range_with_len start count) i ≡ Some n → n ≡ start + i
 in_range start zero i n h = let no : None ≡ Some n = h in absurd cc
@@ -79,7 +76,36 @@ unmapped : {X Y : Type 0} (f : X → Y) (o : Option X) (y : Y) → option_map f 
 unmapped f None y h = let no : None ≡ Some y = h in absurd cc
 unmapped f (Some x) y h = (x, refl, sym (some_same (f x) y h))
 
-module _ (adds : EventsAddThis) (W : PlainWorkload) (J : PlainJournal) where
+-- ---- what holds of all pages
+
+module _ (P : Sheet → Type 0) where
+  each_item : (items : List (Sent Sheet)) → ((n : ℕ) (item : Sent Sheet) → slice_get items n ≡ Some item → P item.item) → AllByRecursion P (map (λ (item : Sent Sheet). item.item) items)
+  each_item [] on = tt
+  each_item (item ∷ items) on = (on 0 item refl, each_item items (λ n item h. on (suc n) item h))
+
+  all_take : (n : ℕ) (sheets : List Sheet) → AllByRecursion P sheets → AllByRecursion P (take n sheets)
+  all_take zero sheets all = tt
+  all_take (suc n) [] all = tt
+  all_take (suc n) (sheet ∷ sheets) all = (all.0, all_take n sheets all.1)
+
+  first_case : (sheet : Sheet) (kept : List Sheet) (b : Bool) → b ≡ true → AllByRecursion P (cond b (sheet ∷ kept) kept) → P sheet
+  first_case sheet kept true e all = all.0
+  first_case sheet kept false e all = let no : false ≡ true = e in absurd cc
+
+  rest_case : (sheet : Sheet) (kept : List Sheet) (b : Bool) → AllByRecursion P (cond b (sheet ∷ kept) kept) → AllByRecursion P kept
+  rest_case sheet kept true all = all.1
+  rest_case sheet kept false all = all
+
+  -- what holds of the pages of each client
+  by_clients : (sheets : List Sheet) → ((client : ℕ) → AllByRecursion P (filter (is_by client) sheets)) → AllByRecursion P sheets
+  by_clients [] each = tt
+  by_clients (sheet ∷ sheets) each =
+      let own = sheet.header.client.number in (
+        first_case sheet (filter (is_by own) sheets) (is_by own sheet) (eq-eqb own own refl) (each own),
+        by_clients sheets (λ client. rest_case sheet (filter (is_by client) sheets) (is_by client sheet) (each client)),
+      )
+
+module _ (W : PlainWorkload) (J : PlainJournal) where
   of_sent : (run : NodeRun) → run.sends ≡ node_sends W J run.node → (client : ℕ) (s : ClientSends) (n : ℕ) (item : Sent Sheet) → slice_get run.sends client ≡ Some s → slice_get s.chunks n ≡ Some item
       → IsOfDrawnPage run item.item
   of_sent run sends client s n item there h =
@@ -108,77 +134,30 @@ module _ (adds : EventsAddThis) (W : PlainWorkload) (J : PlainJournal) where
       page_number_is : (p q : ℕ) → p ≡ 0 + q → p ≡ q
       page_number_is p q e = omega (arith, e)
 
-  record Keeps (run : NodeRun) : Type 0 where
-    sends : run.sends ≡ node_sends W J run.node
-    all : AllByRecursion (IsOfDrawnPage run) (sheets_of run.state.taken)
-
-  both : (P : Sheet → Type 0) (xs ys : List Sheet) → AllByRecursion P xs → AllByRecursion P ys → AllByRecursion P (xs ++ ys)
-  both P [] ys a b = b
-  both P (x ∷ xs) ys a b = (a.0, both P xs ys a.1 b)
-
-  chunk_event : (run : NodeRun) (heard : Messages) (client : ℕ) (event : Event) → run.sends ≡ node_sends W J run.node → (o : Option ClientSends) → slice_get run.sends client ≡ o
-      → option_and_then (λ (s : ClientSends). option_map (λ sheet. Took (Chunk client sheet)) (next_of (Chunks client) run.state s.chunks)) o ≡ Some event → AllByRecursion (IsOfDrawnPage run) (brought_by event)
-  chunk_event run heard client event sends None e h = let no : None ≡ Some event = h in absurd cc
-  chunk_event run heard client event sends (Some s) e h =
-      let t = unmapped (λ sheet. Took (Chunk client sheet)) (next_of (Chunks client) run.state s.chunks) event h in
-      let i = unmapped (λ (item : Sent Sheet). item.item) (slice_get s.chunks (taken (Chunks client) run.state.log)) t.0 t.1 in
-      let of = of_sent run sends client s (taken (Chunks client) run.state.log) i.0 e i.1 in
-      subst (λ (event : Event). AllByRecursion (IsOfDrawnPage run) (brought_by event)) (sym t.2) (subst (IsOfDrawnPage run) (sym i.2) of, tt)
-
-  other_event : {A : Type 0} (run : NodeRun) (f : A → Event) (event : Event) (o : Option A) → ((a : A) → brought_by (f a) ≡ []) → option_map f o ≡ Some event → AllByRecursion (IsOfDrawnPage run) (brought_by event)
-  other_event run f event o none h =
-      let t = unmapped f o event h in subst (AllByRecursion (IsOfDrawnPage run)) (sym (ap brought_by t.2 ∙ none t.0)) tt
-
-  client_event : {A : Type 0} (run : NodeRun) (f : A → Event) (event : Event) (g : ClientSends → Option A) (o : Option ClientSends) → ((a : A) → brought_by (f a) ≡ []) → option_and_then (λ (s : ClientSends). option_map f (g s)) o ≡ Some event
-      → AllByRecursion (IsOfDrawnPage run) (brought_by event)
-  client_event run f event g None none h = let no : None ≡ Some event = h in absurd cc
-  client_event run f event g (Some s) none h = other_event run f event (g s) none h
-
-  event_drawn : (run : NodeRun) (heard : Messages) (step : Step) (event : Event) → run.sends ≡ node_sends W J run.node → event_of run heard step ≡ Some event → AllByRecursion (IsOfDrawnPage run) (brought_by event)
-  event_drawn run heard (steps.Chunk client) event sends h = chunk_event run heard client event sends (slice_get run.sends client) refl h
-  event_drawn run heard (steps.Crumb client) event sends h = client_event run (λ crumb. Took (Crumbed client crumb)) event _ (slice_get run.sends client) (λ a. refl) h
-  event_drawn run heard (steps.Trigger client) event sends h = client_event run (λ trigger. Took (Triggered client trigger)) event _ (slice_get run.sends client) (λ a. refl) h
-  event_drawn run heard steps.Ask event sends h = other_event run (λ ask. Took (Asked ask)) event _ (λ a. refl) h
-  event_drawn run heard steps.Turn event sends h = subst (λ (e : Event). AllByRecursion (IsOfDrawnPage run) (brought_by e)) (some_same (Took Turn) event h) tt
-  event_drawn run heard (steps.Given stamp) event sends h = other_event run (λ _. Gave _) event (slice_get run.state.hand 0) (λ a. refl) h
-  event_drawn run heard (steps.Missed stamp) event sends h = other_event run (λ _. Gave _) event (slice_get run.state.hand 0) (λ a. refl) h
-  event_drawn run heard steps.Unread event sends h = other_event run (λ _. Gave _) event (slice_get run.state.hand 0) (λ a. refl) h
-
-  step_keeps : (heard : Messages) (run stepped : NodeRun) → Keeps run → step_node W.settings heard run ≡ Some stepped → Keeps stepped
-  step_keeps heard run stepped k h =
-      let s = step_left W.settings heard run stepped run.left refl h in
-      subst Keeps (sym s.is)
-      (record {
-        sends = k.sends;
-        all =
-            all_each (IsOfDrawnPage run) (IsOfDrawnPage (perform W.settings s.rest run s.event)) (sheets_of (after_event W.settings run.node run.state s.event).taken)
-            (λ sheet o. record { page = o.page; there = o.there; got = o.got; is = o.is })
-            (subst (AllByRecursion (IsOfDrawnPage run)) (sym ((adds W.settings run.node run.state).chunks s.event))
-            (both (IsOfDrawnPage run) (sheets_of run.state.taken) (brought_by s.event) k.all (event_drawn run heard s.step s.event k.sends s.met)));
-      })
-
-  performs_keeps : (run next : Run) → AllByRecursion Keeps run.nodes → Performs W.settings run next → AllByRecursion Keeps next.nodes
-  performs_keeps run next all (inl s) =
-      subst (λ (r : Run). AllByRecursion Keeps r.nodes) (sym s.result)
-      (all_set Keeps run.nodes s.place s.stepped all (step_keeps run.heard s.node s.stepped (all_get Keeps run.nodes s.place s.node all s.stands) s.ready))
-  performs_keeps run next all (inr k) = subst (AllByRecursion Keeps) (sym (hear_nodes run next run.left k)) all
-
-  leads_keeps : (run last : Run) → AllByRecursion Keeps run.nodes → Leads W.settings run last → AllByRecursion Keeps last.nodes
-  leads_keeps run last all (Stays r) = all
-  leads_keeps run last all (Goes r next l p leads) = leads_keeps next last (performs_keeps run next all p) leads
-
-  starts_keep : (nodes : List ℕ) → AllByRecursion Keeps (map (node_start W J) nodes)
-  starts_keep [] = tt
-  starts_keep (node ∷ nodes) = (record { sends = refl; all = tt }, starts_keep nodes)
+  sent_drawn : (run : NodeRun) → run.sends ≡ node_sends W J run.node → (client : ℕ) (o : Option ClientSends) → slice_get run.sends client ≡ o
+      → AllByRecursion (IsOfDrawnPage run) (option_map_or (λ (sends : ClientSends). map (λ (item : Sent Sheet). item.item) sends.chunks) o [])
+  sent_drawn run sends client None e = tt
+  sent_drawn run sends client (Some s) e = each_item (IsOfDrawnPage run) s.chunks (λ n item h. of_sent run sends client s n item e h)
 
   by_chunk : (run : NodeRun) (taken : List Taken) → AllByRecursion (IsOfDrawnPage run) (sheets_of taken) → AllByRecursion (λ (chunk : Taken). IsOfDrawnPage run chunk.sheet) taken
   by_chunk run [] all = tt
   by_chunk run (chunk ∷ taken) all = (all.0, by_chunk run taken all.1)
 
-  kept : (nodes : List NodeRun) → AllByRecursion Keeps nodes → AllByRecursion (λ (run : NodeRun). AllByRecursion (λ (chunk : Taken). IsOfDrawnPage run chunk.sheet) run.state.taken) nodes
-  kept [] all = tt
-  kept (run ∷ nodes) all = (by_chunk run run.state.taken all.0.all, kept nodes all.1)
+  -- what was taken of a client is a front of what it sent
+  taken_drawn : (run : NodeRun) → IsOfJournal W J run → TakesInOrder run → AllByRecursion (λ (chunk : Taken). IsOfDrawnPage run chunk.sheet) run.state.taken
+  taken_drawn run own takes =
+      by_chunk run run.state.taken
+      (by_clients (IsOfDrawnPage run) (sheets_of run.state.taken)
+      (λ client.
+      subst (AllByRecursion (IsOfDrawnPage run)) (sym (takes client))
+      (all_take (IsOfDrawnPage run) (taken (Chunks client) run.state.log) (sheets_sent run client) (sent_drawn run own.sends client (slice_get run.sends client) refl))))
 
-pub taken_pages_were_drawn : EventsAddThis → FollowingPlaysOut → TakenPagesWereDrawn
-taken_pages_were_drawn adds plays W J =
-    kept adds W J (followed W J).nodes (leads_keeps adds W J (run_start W J) (followed W J) (starts_keep adds W J (range_with_len 0 W.settings.nodes)) (plays W J).leads)
+  each_node : (nodes : List NodeRun) → AllByRecursion (IsOfJournal W J) nodes → AllByRecursion TakesInOrder nodes
+      → AllByRecursion (λ (run : NodeRun). AllByRecursion (λ (chunk : Taken). IsOfDrawnPage run chunk.sheet) run.state.taken) nodes
+  each_node [] own takes = tt
+  each_node (run ∷ nodes) own takes = (taken_drawn run own.0 takes.0, each_node nodes own.1 takes.1)
+
+pub taken_pages_were_drawn : FollowingPlaysOut → RunsAreOfTheJournal → ChunksAreTakenInOrder → TakenPagesWereDrawn
+taken_pages_were_drawn plays runs takes W J =
+    let leads = (plays W J).leads in
+    each_node W J (followed W J).nodes (runs W J (followed W J) leads).each (takes W J (followed W J) leads)

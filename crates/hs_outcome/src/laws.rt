@@ -124,8 +124,9 @@ pub fn nothing_claimed_was_evicted()
 pub fn taken_pages_were_drawn()
     ensures { TakenPagesWereDrawn }
 {
-    events_add_this();
     following_plays_out();
+    runs_are_of_the_journal();
+    chunks_are_taken_in_order();
 }
 
 /// The books of the clients come in order, and each holds its client's records without a gap.
