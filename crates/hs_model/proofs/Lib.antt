@@ -10,6 +10,7 @@ pub mod Limits
 pub mod Rising
 pub mod Ordered
 pub mod Whiles
+pub mod WereOver
 pub mod PageOrder
 pub mod Apart
 pub mod Saying

@@ -147,6 +147,21 @@ pub record IsWithin (settings : PlainSettings) (state : AgentState) : Type 0 whe
 abbrev pub LimitsHold : Type 0
 LimitsHold = (settings : PlainSettings) (node : ℕ) (events : List Event) → IsWithin settings (after settings node events)
 
+-- a chunk that was evicted was so where one of its counts was over its limit
+abbrev pub WasOver : PlainSettings → ChunkStanding → Type 0
+WasOver settings Indexed = Unit {0}
+WasOver settings (Pinned group) = Unit {0}
+WasOver settings (Reported group) = Unit {0}
+WasOver settings (Evicted chunks traces) = (settings.threshold < chunks) ⊎ (settings.traces < traces)
+WasOver settings (Abandoned group) = Unit {0}
+
+abbrev pub AllWereOver : PlainSettings → List Taken → Type 0
+AllWereOver settings taken = AllByRecursion (λ (chunk : Taken). WasOver settings chunk.standing) taken
+
+-- Nothing was evicted at or below both limits.
+abbrev pub EvictedWereOver : Type 0
+EvictedWereOver = (settings : PlainSettings) (node : ℕ) (events : List Event) → AllWereOver settings (after settings node events).taken
+
 -- ---- the order of reports
 
 -- each place is below those behind it

@@ -1,7 +1,7 @@
 //! What holds of an agent after any events. These functions do nothing: their contracts say it.
 
 ghost use Rattle.hs_model.specs.Leading.{CrumbsLeadBelow};
-ghost use Rattle.hs_model.specs.Laws.{ListsHaveTheirChunks, StandingsPartition, HeldChunksAreInNoHand, TracesAreClaimedOnce, ClaimsHoldForGood, ChunksStandByTheirClaim, NothingClaimedIsEvicted, TheLeastGoes, LimitsHold, ReportedInOrder, EvictsWhileOver, IndexedStayTouched, AbandonsWhileOver, EventsGoOn, ClientsPagesRise, VisitsAreApart, StepsSayWhatTheyTell, EventsAddThis, EventsAddFew, TurnsReport};
+ghost use Rattle.hs_model.specs.Laws.{ListsHaveTheirChunks, StandingsPartition, HeldChunksAreInNoHand, TracesAreClaimedOnce, ClaimsHoldForGood, ChunksStandByTheirClaim, NothingClaimedIsEvicted, TheLeastGoes, LimitsHold, ReportedInOrder, EvictsWhileOver, EvictedWereOver, IndexedStayTouched, AbandonsWhileOver, EventsGoOn, ClientsPagesRise, VisitsAreApart, StepsSayWhatTheyTell, EventsAddThis, EventsAddFew, TurnsReport};
 
 /// The pinned and the reported chunks stand in their lists, each once, and the evicted, abandoned and
 /// reported ones in the hand, each once, until they are given back.
@@ -60,6 +60,12 @@ pub fn reported_in_order()
 /// each time it is the one touched longest ago.
 pub fn evicts_while_over()
     ensures { EvictsWhileOver }
+{}
+
+/// A chunk was evicted only where more chunks or more traces were indexed than may stay, by the counts that it
+/// bears.
+pub fn evicted_were_over()
+    ensures { EvictedWereOver }
 {}
 
 /// After any events the traces of indexed chunks are touched.

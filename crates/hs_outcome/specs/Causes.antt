@@ -2,12 +2,12 @@
 -- its lists have their chunks, its limits hold, and all chunks of a claimed trace stand for the group that claimed it. A chunk is
 -- evicted only where more was indexed than may stay. A buffer is got only by one writer at a time, and a draw is empty only where
 -- the queue is.
-use Rattle.std.specs.Prelude.{◌≡◌, ◌⊎◌, ℕ, ◌<◌, ◌≤◌, List, [], ◌∷◌, ◌++◌, reverse, count_by, true}
+use Rattle.std.specs.Prelude.{◌≡◌, ℕ, ◌≤◌, List, [], ◌∷◌, ◌++◌, reverse, count_by, true}
 use Rattle.std.specs.List.{AllByRecursion}
 use Rattle.hs_base.specs.declared.ids.TraceId.{TraceId}
 use Rattle.hs_journal.specs.Views.{PlainJournal}
-use Rattle.hs_model.specs.Laws.{count_of, given_places, PlacesMatch, IsWithin, IsClaimedOrTouched, AllStandByClaim}
-use Rattle.hs_model.specs.Standings.{ChunkStanding, Indexed, Pinned, Reported, Evicted, Abandoned, Taken, is_evicted, is_let_go, stands, is_of_trace}
+use Rattle.hs_model.specs.Laws.{count_of, given_places, PlacesMatch, IsWithin, IsClaimedOrTouched, AllStandByClaim, AllWereOver}
+use Rattle.hs_model.specs.Standings.{is_evicted, is_let_go, stands, is_of_trace}
 use Rattle.hs_model.specs.State.{AgentState, GivenPlace, is_claimed}
 use Rattle.hs_records.specs.Plain.{PlainSettings, PlainWorkload}
 use Rattle.hs_words.specs.PoolHistory.{Event, Got, Empty, is_got, is_given, queue_after, IsPoolHistory}
@@ -29,17 +29,6 @@ pub record KeepsItsModel (settings : PlainSettings) (run : NodeRun) : Type 0 whe
 
 abbrev pub AgentsKeepTheirModel : Type 0
 AgentsKeepTheirModel = (W : PlainWorkload) (J : PlainJournal) → AllByRecursion (KeepsItsModel W.settings) (followed W J).nodes
-
--- a chunk that was evicted was so where one of its counts was over its limit
-abbrev pub WasOver : PlainSettings → ChunkStanding → Type 0
-WasOver settings Indexed = Unit {0}
-WasOver settings (Pinned group) = Unit {0}
-WasOver settings (Reported group) = Unit {0}
-WasOver settings (Evicted chunks traces) = (settings.threshold < chunks) ⊎ (settings.traces < traces)
-WasOver settings (Abandoned group) = Unit {0}
-
-abbrev pub AllWereOver : PlainSettings → List Taken → Type 0
-AllWereOver settings taken = AllByRecursion (λ (chunk : Taken). WasOver settings chunk.standing) taken
 
 -- No agent evicts at or below both limits, and the counts that a fate names show it.
 abbrev pub EvictedOnlyWhereOver : Type 0

@@ -17,8 +17,8 @@ use hs_lawful::laws::{
 };
 use hs_model::laws::{
     chunks_stand_by_their_claim, claims_hold_for_good, clients_pages_rise, events_add_this,
-    events_go_on, limits_hold, lists_have_their_chunks, nothing_claimed_is_evicted,
-    traces_are_claimed_once,
+    events_go_on, evicted_were_over, limits_hold, lists_have_their_chunks,
+    nothing_claimed_is_evicted, traces_are_claimed_once,
 };
 use hs_records::{
     pages_carry_the_records, pages_hold_the_pieces, pieces_are_counted, pieces_join_to_the_payload,
@@ -61,6 +61,7 @@ pub fn agents_keep_their_model()
 pub fn evicted_only_where_over()
     ensures { EvictedOnlyWhereOver }
 {
+    evicted_were_over();
     agents_come_by_events();
 }
 
