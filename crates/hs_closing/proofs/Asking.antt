@@ -9,7 +9,7 @@ use Rattle.hs_desk.specs.Shut.{Shut}
 use Rattle.hs_desk.specs.Work.{Work}
 use Rattle.hs_rounds.specs.Standing.{moved_by, asked_by}
 use Rattle.hs_closing.specs.Shutting.{AllSents, IsShutAt, ShutStand, IsAskedOnly, AskedOnly, AskedFirst, Asked, asked_all}
-use Rattle.hs_closing.proofs.Lists.{same_or_less, found_in, got, within}
+use Rattle.hs_desk.proofs.Lists.{same_or_less, found_in, got, within}
 
 only_none : (x : Shut) → IsAskedOnly x x
 only_none x = record { giver = refl; said = refl }

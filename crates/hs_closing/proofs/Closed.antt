@@ -22,7 +22,7 @@ use Rattle.hs_retell.specs.Spans.{Post, IsPost, IsStep}
 use Rattle.hs_retell.specs.Closing.{TakesLeft, IsPassAlone}
 use Rattle.hs_retell.specs.Laws.{ClosingGoesOn, DesksArePosts}
 use Rattle.hs_closing.specs.Shutting.{AllSents, PassedAlone, Stand, Passing, Asked, ClosingAt}
-use Rattle.hs_closing.proofs.Lists.{got, within}
+use Rattle.hs_desk.proofs.Lists.{got, within}
 
 few_nodes : (W : PlainWorkload) → IsValid W → W.settings.nodes ≤ 16
 few_nodes W valid = (valid.head settings.Nodes).1

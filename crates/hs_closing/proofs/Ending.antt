@@ -27,7 +27,7 @@ use Rattle.hs_retell.specs.Closing as closing
 use Rattle.hs_retell.specs.Closing.{drawn_at, IsClosedPool, IsOver}
 use Rattle.hs_retell.specs.Laws.{PoolOf, AllBegin, PoolsAreKept}
 use Rattle.hs_closing.specs.Shutting.{AllSents, ClosingAt, AllBare}
-use Rattle.hs_closing.proofs.Lists.{got, within}
+use Rattle.hs_desk.proofs.Lists.{got, within}
 
 abbrev pub drawer_of : Calling → Drawing
 drawer_of caller = caller.client.drawer

@@ -1,154 +1,21 @@
--- No agent takes more triggers than its clients sent, and these are no more than the workload has.
-use Rattle.std.proofs.Common.{◌≡◌, inl, inr, ℕ, zero, suc, ◌+◌, ◌*◌, ◌<◌, ◌≤◌, List, [], ◌∷◌, ◌++◌, length, take, cond, eq-eqb, Bool, false, Option, refl, ap, subst, ◌∙◌, arith, slice_get, unwrap_or, length-append}
-use Rattle.std.proofs.lemmas.List.Sums.{sum_by-cons}
-use Rattle.std.specs.List.{AllByRecursion}
-use Rattle.hs_actors.specs.Doings.{trigger_in, triggers_in}
+-- No agent takes more triggers than its clients sent, so no more than the workload has, when the links are closed too.
+use Rattle.std.proofs.Common.{◌≡◌, ℕ, ◌+◌, ◌<◌, ◌≤◌, length, ap, arith, length-append}
+use Rattle.std.proofs.lemmas.List.{length-map}
+use Rattle.hs_actors.specs.Doings.{triggers_in}
 use Rattle.hs_base.specs.declared.told.Trigger.{Trigger}
 use Rattle.hs_link.specs.Contents.{Remaining}
 use Rattle.hs_live.specs.Keys.{Key}
-use Rattle.hs_model.specs.Stepping.{Chunk, Crumbed, Triggered, Asked, Turn, Event, Took, Gave}
-use Rattle.hs_records.specs.Plain.{Operation, PlainWorkload}
+use Rattle.hs_records.specs.Plain.{PlainWorkload}
 use Rattle.hs_sent.specs.Sending.{operations_at, place_of}
-use Rattle.hs_workload.specs.Validity.{IsValid, client_pieces, workload_pieces}
-use Rattle.hs_workload.specs.declared.word.Setting.TheVariants as settings
-use Rattle.std.proofs.Math.Nat.{mul-le-mul_right}
-use Rattle.std.proofs.lemmas.List.{length-map}
+use Rattle.hs_workload.specs.Validity.{IsValid, client_pieces}
 use Rattle.hs_desk.specs.Lines.{closed}
+use Rattle.hs_desk.proofs.Few.{few_of_sent}
+use Rattle.hs_desk.proofs.Lists.{got}
 use Rattle.hs_closing.specs.Shutting.{AllSents, AreFew}
-use Rattle.hs_desk.specs.Agents.{IsWithin}
-use Rattle.hs_desk.specs.Work.{is_triggered, triggered}
-use Rattle.hs_closing.proofs.Lists.{got, take_more, same_or_less}
 
--- ---- sums over numbers
-
-sum_to : ℕ → (ℕ → ℕ) → ℕ
-sum_to zero f = 0
-sum_to (suc n) f = sum_to n f + f n
-
-sum_less : (n : ℕ) (f g : ℕ → ℕ) → ((k : ℕ) → k < n → g k ≤ f k) → sum_to n g ≤ sum_to n f
-unfolding sum_to
-sum_less zero f g h = omega arith
-sum_less (suc n) f g h =
-    let rest = sum_less n f g (λ k low. h k (omega (arith, low))) in
-    let last = h n (omega arith) in
-    omega (arith, rest, last)
-
-sum_lesser : (n : ℕ) (f g : ℕ → ℕ) (i : ℕ) → i < n → ((k : ℕ) → g k ≤ f k) → g i + 1 ≤ f i → sum_to n g + 1 ≤ sum_to n f
-unfolding sum_to
-sum_lesser zero f g i low h one = absurd (omega arith)
-sum_lesser (suc n) f g i low h one =
-    elim (same_or_less i n low) [
-      | inl less ↦ let rest = sum_lesser n f g i less h one in let last = h n in omega (arith, rest, last)
-      | inr same ↦
-          let rest = sum_less n f g (λ k _. h k) in
-          let last : g n + 1 ≤ f n = subst (λ (k : ℕ). g k + 1 ≤ f k) same one in
-          omega (arith, rest, last)
-    ]
-
--- ---- the triggers of all clients
-
-taken_of : List Event → ℕ → ℕ
-taken_of events client = length (triggers_in client events)
-
-one : Bool → ℕ
-one b = cond b 1 0
-
-count_cons : (e : Event) (es : List Event) → triggered (e ∷ es) ≡ one (is_triggered e) + triggered es
-unfolding one
-count_cons e es = sum_by-cons (λ (x : Event). cond (is_triggered x) 1 0) e es
-
-taken_more : (e : Event) (es : List Event) (client : ℕ) → taken_of es client ≤ taken_of (e ∷ es) client
-unfolding taken_of
-taken_more e es client = let h = length-append (trigger_in client e) (triggers_in client es) in omega (arith, h)
-
-taken_here : (client : ℕ) (t : Trigger) (es : List Event) → taken_of es client + 1 ≤ taken_of (Took (Triggered client t) ∷ es) client
-unfolding taken_of
-taken_here client t es =
-    let h = length-append (trigger_in client (Took (Triggered client t))) (triggers_in client es) in
-    let e : length (trigger_in client (Took (Triggered client t))) ≡ 1 = ap (λ (b : Bool). length (cond b (t ∷ []) [])) (eq-eqb client client refl) in
-    omega (arith, h, e)
-
--- an event that is no trigger
-other : (n : ℕ) (e : Event) (es : List Event) → is_triggered e ≡ false → triggered es ≤ sum_to n (taken_of es) → triggered (e ∷ es) ≤ sum_to n (taken_of (e ∷ es))
-unfolding one
-other n e es off rest =
-    let count : triggered (e ∷ es) ≡ 0 + triggered es = count_cons e es ∙ ap (λ (b : Bool). cond b 1 0 + triggered es) off in
-    let less = sum_less n (taken_of (e ∷ es)) (taken_of es) (λ k _. taken_more e es k) in
-    omega (arith, rest, count, less)
-
-few_taken : (W : PlainWorkload) (node n : ℕ) → n ≡ W.settings.clients → (events : List Event) → AllByRecursion (IsWithin W node) events → triggered events ≤ sum_to n (taken_of events)
-unfolding one
-few_taken W node n is [] h = omega arith
-few_taken W node n is (Took (Chunk client sheet) ∷ es) h = other n (Took (Chunk client sheet)) es refl (few_taken W node n is es h.1)
-few_taken W node n is (Took (Crumbed client crumb) ∷ es) h = other n (Took (Crumbed client crumb)) es refl (few_taken W node n is es h.1)
-few_taken W node n is (Took (Asked ask) ∷ es) h = other n (Took (Asked ask)) es refl (few_taken W node n is es h.1)
-few_taken W node n is (Took Turn ∷ es) h = other n (Took Turn) es refl (few_taken W node n is es h.1)
-few_taken W node n is (Gave answer ∷ es) h = other n (Gave answer) es refl (few_taken W node n is es h.1)
-few_taken W node n is (Took (Triggered client t) ∷ es) h =
-    let rest = few_taken W node n is es h.1 in
-    let count : triggered (Took (Triggered client t) ∷ es) ≡ 1 + triggered es = count_cons (Took (Triggered client t)) es in
-    let low = h.0.0 in
-    let less = sum_lesser n (taken_of (Took (Triggered client t) ∷ es)) (taken_of es) client (omega (arith, low, is)) (taken_more (Took (Triggered client t)) es) (taken_here client t es) in
-    omega (arith, rest, count, less)
-
--- ---- the operations of a node's clients
-
-pieces_append : (size : ℕ) (xs ys : List (List Operation)) → workload_pieces size (xs ++ ys) ≡ workload_pieces size xs + workload_pieces size ys
-pieces_append size [] ys = omega arith
-pieces_append size (x ∷ xs) ys = let rest = pieces_append size xs ys in omega (arith, rest)
-
--- the pieces of the client at a place
-pieces_at : ℕ → List (List Operation) → ℕ → ℕ
-pieces_at size lists place = client_pieces size (unwrap_or (slice_get lists place) [])
-
-pieces_first : (size : ℕ) (lists : List (List Operation)) (start n : ℕ) → start + n ≤ length lists
-    → sum_to n (λ k. pieces_at size lists (start + k)) + workload_pieces size (take start lists) ≤ workload_pieces size (take (start + n) lists)
-unfolding sum_to pieces_at
-pieces_first size lists start zero high = let e = ap (λ (k : ℕ). workload_pieces size (take k lists)) same in omega (arith, e)
-  where
-    same : start + 0 ≡ start
-    same = omega arith
-pieces_first size lists start (suc n) high =
-    let rest = pieces_first size lists start n (omega (arith, high)) in
-    let (x, at) = got lists (start + n) (omega (arith, high)) in
-    let more = ap (workload_pieces size) (take_more lists (start + n) x at) ∙ pieces_append size (take (start + n) lists) (x ∷ []) in
-    let here = ap (λ (o : Option (List Operation)). client_pieces size (unwrap_or o [])) at in
-    let next : start + suc n ≡ suc (start + n) = omega arith in
-    let there = ap (λ (k : ℕ). workload_pieces size (take k lists)) next in
-    omega (arith, rest, more, here, there)
-
-pieces_all : (size : ℕ) (lists : List (List Operation)) (n : ℕ) → workload_pieces size (take n lists) ≤ workload_pieces size lists
-pieces_all size [] zero = omega arith
-pieces_all size [] (suc n) = omega arith
-pieces_all size (x ∷ xs) zero = omega arith
-pieces_all size (x ∷ xs) (suc n) = let rest = pieces_all size xs n in omega (arith, rest)
-
--- ---- when the links are closed
-
-few_clients : (W : PlainWorkload) → IsValid W → W.settings.clients ≤ 16
-few_clients W valid = (valid.head settings.Clients).1
-
--- the clients of a node are among all
-last_low : (W : PlainWorkload) → IsValid W → (n : ℕ) → n < W.settings.nodes → n * W.settings.clients + W.settings.clients ≤ length W.clients
-last_low W valid n low =
-    let more : suc n * W.settings.clients ≤ W.settings.nodes * W.settings.clients = mul-le-mul_right W.settings.clients (omega (arith, low)) in
-    let next : suc n * W.settings.clients ≡ n * W.settings.clients + W.settings.clients = omega arith in
-    let count = valid.count in
-    omega (arith, more, next, count)
-
--- what the clients of a node sent bounds what its agent takes
 pub few_shut : (W : PlainWorkload) → IsValid W → (sents : AllSents) → ((node client : ℕ) → node < W.settings.nodes → client < W.settings.clients → length ((sents node).triggers client) ≤ client_pieces W.settings.size (operations_at W (place_of W.settings.clients node client)))
     → AreFew W sents
-unfolding sum_to taken_of pieces_at
-few_shut W valid sents each node work shut low stands =
-    let is = stands.is.stands in
-    let within = subst (λ m. AllByRecursion (IsWithin W m) work.events) refl is.works.is.within in
-    let taken = few_taken W work.node W.settings.clients refl work.events within in
-    let all = sum_less W.settings.clients (λ k. pieces_at W.settings.size W.clients (node * W.settings.clients + k)) (taken_of work.events) received in
-    let first = pieces_first W.settings.size W.clients (node * W.settings.clients) W.settings.clients (last_low W valid node low) in
-    let whole = pieces_all W.settings.size W.clients (node * W.settings.clients + W.settings.clients) in
-    let most = valid.few in
-    record { clients = few_clients W valid; triggers = omega (arith, taken, all, first, whole, most) }
+few_shut W valid sents each node work shut low stands = few_of_sent W valid node low work stands.is.stands.works.is.within received
   where
     received : (client : ℕ) → client < W.settings.clients → length (triggers_in client work.events) ≤ client_pieces W.settings.size (operations_at W (place_of W.settings.clients node client))
     received client own =

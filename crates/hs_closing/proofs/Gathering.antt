@@ -24,7 +24,7 @@ use Rattle.hs_closing.specs.Ended.{AreShut, CanFinish, MayFinish, HasFinished, H
 use Rattle.hs_closing.specs.Noted.{IsNoted, books_of, first_books}
 use Rattle.hs_closing.proofs.ClientBooks.{node_books, books_more}
 use Rattle.hs_closing.proofs.Ending.{drawer_of, all_ends, all_over}
-use Rattle.hs_closing.proofs.Lists.{got, within}
+use Rattle.hs_desk.proofs.Lists.{got, within}
 
 -- ---- lists of equal length
 

@@ -1,4 +1,3 @@
-pub mod Lists
 pub mod Telling
 pub mod Passed
 pub mod Asking

@@ -15,7 +15,7 @@ use Rattle.hs_desk.specs.Coordinators.{Coordinating}
 use Rattle.hs_desk.specs.Shut.{Shut, AllSent, PassesShut}
 use Rattle.hs_desk.specs.Work.{Work, with_events, is_of}
 use Rattle.hs_closing.specs.Shutting.{AllSents, IsShutAt, TakesItems, PassedAlone, Tells, MayTell, HasTold, CanPass, HasPassed, Stand, Passing}
-use Rattle.hs_closing.proofs.Lists.{same_or_less, found_in, get_other}
+use Rattle.hs_desk.proofs.Lists.{same_or_less, found_in, get_other}
 use Rattle.hs_closing.proofs.Telling.{put_at, put_here, put_there}
 
 -- what a pass of this node led to

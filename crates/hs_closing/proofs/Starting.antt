@@ -21,7 +21,7 @@ use Rattle.hs_retell.specs.Closing.{left_at}
 use Rattle.hs_retell.specs.Laws.{ClosingBegins}
 use Rattle.hs_closing.specs.Shutting.{AreSentsOf, ClosingAt, AreShutFrom, sents_of, sents_at}
 use Rattle.hs_closing.proofs.Few.{few_shut}
-use Rattle.hs_closing.proofs.Lists.{got, within}
+use Rattle.hs_desk.proofs.Lists.{got, within}
 
 abbrev pub HaveSent : Type 0
 HaveSent = (settings : PlainSettings) (client : ClientId) (ops : List Operation) (caller : Calling) → IsAt settings client ops caller → HasSentSoFar settings client ops caller

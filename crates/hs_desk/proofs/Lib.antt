@@ -1,4 +1,4 @@
-mod Lists
+pub mod Lists
 mod Admitted
 mod Taking
 mod Handing
@@ -9,6 +9,7 @@ mod Offering
 mod Offers
 mod ByClient
 mod Ports
+pub mod Few
 mod Passed
 mod Telling
 mod Hearing

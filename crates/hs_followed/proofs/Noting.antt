@@ -6,7 +6,8 @@ use Rattle.hs_lawful.specs.Following.{NodeRun}
 use Rattle.hs_model.specs.State.{AgentState}
 use Rattle.hs_model.specs.Stepping.{Event, after}
 use Rattle.hs_records.specs.Plain.{PlainSettings}
-use Rattle.hs_followed.specs.Ends.{ends_front, ends_within}
+use Rattle.hs_clauses.specs.Offering.{ends_front}
+use Rattle.hs_followed.specs.Ends.{ends_within}
 use Rattle.hs_followed.specs.Noting.{behind_at, noted_if}
 
 -- ---- ends

@@ -8,16 +8,9 @@ use Rattle.hs_lawful.specs.Played.{state_behind}
 use Rattle.hs_model.specs.State.{AgentState}
 use Rattle.hs_records.specs.Plain.{PlainSettings}
 use Rattle.hs_clauses.specs.Finding.{behind_passes}
-use Rattle.hs_followed.specs.Ends.{ends_front, ends_within}
+use Rattle.hs_clauses.specs.Offering.{ends_front}
+use Rattle.hs_followed.specs.Ends.{ends_within}
 use Rattle.hs_followed.specs.Noting.{behind_at}
-
--- ---- the last step
-
-pub last_ends : (log : List Step) (place : ℕ) → place + 1 ≡ length log → true ≡ ends_front (drop place log)
-last_ends [] place is = absurd (omega (arith, is))
-last_ends (step ∷ []) zero is = refl
-last_ends (step ∷ next ∷ log) zero is = absurd (omega (arith, is))
-last_ends (step ∷ log) (suc place) is = last_ends log place (omega (arith, is))
 
 -- ---- passes
 

@@ -12,7 +12,8 @@ use Rattle.hs_records.specs.Plain.{PlainWorkload}
 use Rattle.hs_followed.specs.Nodes.{HasPerformed, IsNotReady, Stands}
 use Rattle.hs_followed.specs.Whole.{MayStepAt, HasStepped, HasNotStepped, left_steps}
 use Rattle.hs_base.specs.Listing.{Listing}
-use Rattle.hs_followed.specs.Ends.{ends_front, ends_within}
+use Rattle.hs_clauses.specs.Offering.{ends_front}
+use Rattle.hs_followed.specs.Ends.{ends_within}
 use Rattle.hs_followed.specs.Noting.{Notes, hand_of, said_of, behind_at}
 use Rattle.hs_followed.proofs.Noting.{noted_more}
 use Rattle.hs_followed.specs.declared.follower.Follower.{Follower}

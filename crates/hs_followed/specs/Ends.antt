@@ -1,14 +1,8 @@
 -- Where the passes of a log end, step by step.
-use Rattle.std.specs.Prelude.{◌≡◌, ℕ, zero, suc, ◌+◌, Bool, true, List, [], ◌∷◌, if◌then◌else◌, refl}
+use Rattle.std.specs.Prelude.{◌≡◌, ℕ, zero, suc, ◌+◌, List, [], ◌∷◌, if◌then◌else◌, refl}
 use Rattle.hs_journal.specs.declared.journal.Step.{Step}
 use Rattle.hs_journal.specs.declared.journal.Step.TheVariants as steps
-use Rattle.hs_lawful.specs.Passes.{ends_between}
-
--- whether a pass ends with the first of these steps
-abbrev pub ends_front : List Step → Bool
-ends_front [] = true
-ends_front (step ∷ []) = true
-ends_front (step ∷ next ∷ log) = ends_between step next
+use Rattle.hs_clauses.specs.Offering.{ends_front}
 
 -- of the first so many steps, numbered on from here, those behind which a pass ends
 abbrev pub ends_within : ℕ → ℕ → List Step → List ℕ

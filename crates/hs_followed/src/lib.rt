@@ -3,7 +3,6 @@
 #![tactic(auto)]
 
 mod clients;
-mod ends;
 mod follower;
 mod following;
 mod hearing;

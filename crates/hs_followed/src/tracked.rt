@@ -4,9 +4,9 @@ ghost use Rattle.std.specs.Prelude.{IfOk, OnOk};
 ghost use Rattle.hs_followed.specs.Noting.{Notes};
 ghost use Rattle.hs_followed.specs.Whole.{MayStep, StepsOn, KnowsFollower};
 
-use crate::ends::is_last;
 use crate::follower::Follower;
 use hs_base::{Ask, List, Memory};
+use hs_clauses::is_last;
 use hs_journal::Step;
 
 /// An agent that follows its log, how many steps of the log it has performed, and how many buffers were in the hand and how many

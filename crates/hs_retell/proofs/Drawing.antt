@@ -6,7 +6,7 @@ use Rattle.hs_words.specs.Ends.{Answer}
 use Rattle.hs_words.specs.PoolHistory.{Event, Got, Empty, Given, Missed}
 use Rattle.hs_live.specs.Writing.{IsDraw, IsDrawn, noted, draws_by}
 use Rattle.hs_actors.specs.Pools.{draw_answer}
-use Rattle.hs_retell.proofs.Lists.{reverse_on}
+use Rattle.hs_gathered.proofs.Lists.{reverse_on}
 
 noted_answer : (stamp draw : ℕ) (event : Event) → IsDraw event → draw ≡ 0 → draw_answer (noted stamp event) ≡ record { stamp = stamp; event = event; draw = draw }
 noted_answer stamp draw (Got buffer) is zeroth = ap (λ d. record { stamp = stamp; event = Got buffer; draw = d }) (sym zeroth)

@@ -6,7 +6,7 @@ use Rattle.hs_caller.specs.Calling.{Calling}
 use Rattle.hs_rounds.specs.Standing.{Site, Moment, Stands}
 use Rattle.hs_rounds.specs.Coming.{Came}
 use Rattle.hs_retell.specs.Laws.{AllBegin, PoolsAreKept}
-use Rattle.hs_retell.proofs.Lists.{get_within}
+use Rattle.hs_gathered.proofs.Lists.{get_within}
 use Rattle.hs_retell.proofs.Moments.{site_of, site_there, stands_at, site_stands, site_acts, site_meets, giver_same}
 use Rattle.hs_retell.proofs.Meetings.{caller_at, here_at, goes_at, caller_met, caller_moved}
 

@@ -18,7 +18,7 @@ use Rattle.hs_rounds.specs.Meeting.{EndsMet, CallerMet}
 use Rattle.hs_rounds.specs.Moving.{IsSameDoing}
 use Rattle.hs_rounds.specs.Coming.{Came}
 use Rattle.hs_gathered.specs.Ends.{operations_of}
-use Rattle.hs_retell.proofs.Lists.{HasItem, get_some}
+use Rattle.hs_gathered.proofs.Lists.{HasItem, get_some}
 use Rattle.hs_retell.proofs.Moments.{site_of, site_stands, site_acts, site_moves, doing_same}
 use Rattle.hs_retell.proofs.Meetings.{caller_at, acted_at, met_at, goes_at, caller_met, caller_moved}
 

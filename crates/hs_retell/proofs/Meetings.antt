@@ -15,7 +15,7 @@ use Rattle.hs_rounds.specs.Meeting.{told_of, CallerMet}
 use Rattle.hs_rounds.specs.Coming.{Came}
 use Rattle.hs_gathered.specs.Ends.{operations_of, done_by, Ends, HasMet}
 use Rattle.hs_retell.proofs.Drawing.{draws_long}
-use Rattle.hs_retell.proofs.Lists.{reverse_on, all_each}
+use Rattle.hs_gathered.proofs.Lists.{reverse_on, all_each}
 use Rattle.hs_retell.proofs.Moments.{site_of, caller_of, site_there, caller_there, site_stands, site_acts, site_meets, site_moves, giver_same}
 
 -- ---- meetings among turns

@@ -22,7 +22,7 @@ use Rattle.hs_rounds.specs.Meeting.{told_of, SiteMeets}
 use Rattle.hs_rounds.specs.Moving.{IsSameDoing, SiteMoves}
 use Rattle.hs_rounds.specs.Coming.{Came}
 use Rattle.hs_retell.specs.Spans.{Post, IsPost, IsStep}
-use Rattle.hs_retell.proofs.Lists.{HasItem, get_some}
+use Rattle.hs_gathered.proofs.Lists.{HasItem, get_some}
 
 pub found : {X : Type 0} (xs : List X) (i : ℕ) (other : X) → i < length xs → slice_get xs i ≡ Some (unwrap_or (slice_get xs i) other)
 found xs i other low = let s = get_some xs i low in s.there ∙ ap (λ x. Some x) (ap (λ o. unwrap_or o other) (sym s.there))

@@ -28,7 +28,7 @@ use Rattle.hs_retell.specs.Laws.{LinkBegins, AllLinksBegin, IsRecounted}
 use Rattle.hs_retell.proofs.Joined.{heard_last}
 use Rattle.hs_retell.proofs.LinkKinds.{chunk_links, crumb_links, trigger_links}
 use Rattle.hs_retell.proofs.Links.{Kind, LinkBegan}
-use Rattle.hs_retell.proofs.Lists.{get_within}
+use Rattle.hs_gathered.proofs.Lists.{get_within}
 use Rattle.hs_retell.proofs.Moments.{site_of, site_there, stands_at}
 use Rattle.hs_retell.proofs.Meetings.{HaveSent, caller_at, here_at}
 use Rattle.hs_retell.proofs.Whole.{HaveSentAll, LinksBegan, story, is_story, callers_drew, callers_few, agents_last}

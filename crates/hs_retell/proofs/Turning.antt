@@ -11,7 +11,7 @@ use Rattle.hs_words.specs.Ends.{Answer, Turn, answered, unread, met}
 use Rattle.hs_desk.specs.Turns as desk
 use Rattle.hs_desk.specs.Turns.{GivesFirst, IsAnswered, took, AreInputs, LastOffer}
 use Rattle.hs_gathered.specs.Turns.{Lent, IsOffered, AreTurns, Begins, Takes, Offers, Meets}
-use Rattle.hs_retell.proofs.Lists.{get_front}
+use Rattle.hs_gathered.proofs.Lists.{get_front}
 
 -- a chunk as it came
 abbrev pub lent_of : Buffer Leased → Lent

@@ -18,7 +18,7 @@ use Rattle.hs_rounds.specs.Standing.{Site, SiteStands, client_at}
 use Rattle.hs_rounds.specs.Acting.{SiteActs}
 use Rattle.hs_run.specs.Going.{AllMayGo, AllHaveGone}
 use Rattle.hs_run.specs.Sites.{AreClients, HasPassed, HasActed}
-use Rattle.hs_run.proofs.Lists.{got, within}
+use Rattle.hs_desk.proofs.Lists.{got, within}
 
 pub may_go : (W : PlainWorkload) (node : ℕ) (work : Work) (settings : Settings) (lists : List (Listing Op)) (site : Site) → SiteStands W node work site → AreClients W node settings lists
     → AllMayGo (settings_of settings) lists site.callers

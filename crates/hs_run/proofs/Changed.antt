@@ -2,7 +2,7 @@
 use Rattle.std.proofs.Common.{◌≡◌, ℕ, ◌+◌, ◌≤◌, List, set, length, length-set, Some, refl, sym, ap, subst, ◌∙◌, inl, inr, arith, slice_get}
 use Rattle.std.proofs.lemmas.Option.{same_Some}
 use Rattle.hs_run.specs.Changing.{EachChanged, FirstChanged}
-use Rattle.hs_run.proofs.Lists.{same_or_less, found_in, get_other, within}
+use Rattle.hs_desk.proofs.Lists.{same_or_less, found_in, get_other, within}
 
 module _ {A : Type 0} (Changes : ℕ → A → A → Type 0) where
   pub first_none : (xs : List A) → FirstChanged Changes 0 xs xs

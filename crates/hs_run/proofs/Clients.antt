@@ -8,7 +8,7 @@ use Rattle.hs_workload.specs.Views.{operations_of, workload_of}
 use Rattle.hs_workload.specs.declared.operation.Op.{Op}
 use Rattle.hs_workload.specs.declared.operation.Workload.{Workload}
 use Rattle.hs_run.specs.Sites.{AreClients}
-use Rattle.hs_run.proofs.Small.{last_low}
+use Rattle.hs_desk.proofs.Few.{last_low}
 
 sliced : {X : Type 0} (xs : List X) (from count i : ℕ) (x : X) → slice_get (take count (drop from xs)) i ≡ Some x → (i < count) × (slice_get xs (from + i) ≡ Some x)
 sliced [] zero zero i x h = let never : None ≡ Some x = h in absurd cc

@@ -1,4 +1,3 @@
-pub mod Lists
 pub mod Choosing
 pub mod Small
 pub mod Clients

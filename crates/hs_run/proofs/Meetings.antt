@@ -19,7 +19,7 @@ use Rattle.hs_desk.specs.Work.{Work}
 use Rattle.hs_rounds.specs.Standing.{Site, SiteStands, client_at}
 use Rattle.hs_rounds.specs.Meeting.{EndsMet, CallerMet, GiverMet, SiteMeets, told_of}
 use Rattle.hs_run.specs.Sites.{MeetsOne, HaveMet}
-use Rattle.hs_run.proofs.Lists.{same_or_less, found_in, get_set, get_other, within, take_more, take_get, get_take}
+use Rattle.hs_desk.proofs.Lists.{same_or_less, found_in, get_set, get_other, within, take_more, take_get, get_take}
 
 -- ---- one link
 

@@ -23,7 +23,7 @@ use Rattle.hs_run.specs.Moments.{IsHere, AreFew, ActedTo, MetTo}
 use Rattle.hs_run.specs.Movings.{HasMet}
 use Rattle.hs_run.specs.Nodes.{AllHaveActed, HasHeard, NoneFailed, sites_of}
 use Rattle.hs_run.proofs.Choosing.{Chosen, choose}
-use Rattle.hs_run.proofs.Lists.{got, within}
+use Rattle.hs_desk.proofs.Lists.{got, within}
 
 abbrev site_in : Node → Site
 site_in node = node.site

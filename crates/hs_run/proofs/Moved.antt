@@ -15,7 +15,7 @@ use Rattle.hs_run.specs.Moments.{IsHere, MovedTo}
 use Rattle.hs_run.specs.Movings.{Tells, HasTold, SiteAsked, NodeAsked, NodeMoves, SitesStand, AskedFirst, Telling, Moving, asked_all}
 use Rattle.hs_run.specs.Nodes.{sites_of}
 use Rattle.hs_run.proofs.Changed.{first_none, first_more, first_all}
-use Rattle.hs_run.proofs.Lists.{same_or_less, found_in, got, within}
+use Rattle.hs_desk.proofs.Lists.{same_or_less, found_in, got, within}
 use Rattle.hs_run.proofs.Moments.{node_count, node_stands, coordinates, node_there}
 use Rattle.hs_run.proofs.Telling.{put_at, put_here, put_there, told_coordinates, site_with}
 

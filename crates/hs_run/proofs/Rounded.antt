@@ -23,9 +23,9 @@ use Rattle.hs_run.specs.Moments.{IsHere, AreFew, ActedTo, MetTo, MovedTo, CanBeg
 use Rattle.hs_run.specs.Movings.{AllStand}
 use Rattle.hs_run.specs.Nodes.{AreWhole, TellsLeft}
 use Rattle.hs_run.proofs.Few.{few_met}
-use Rattle.hs_run.proofs.Lists.{got, within}
+use Rattle.hs_desk.proofs.Lists.{got, within}
 use Rattle.hs_run.proofs.Moments.{node_stands, node_low, node_there, site_there}
-use Rattle.hs_run.proofs.Small.{few_clients}
+use Rattle.hs_desk.proofs.Few.{few_clients}
 
 -- what callers have sent
 abbrev pub SendSo : Type 0

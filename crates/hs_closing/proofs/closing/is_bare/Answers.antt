@@ -1,6 +1,6 @@
 use Rattle.std.proofs.Common.{◌≡◌, Some, sym, ap, subst, ◌∙◌, inl, inr, arith, slice_get}
 use Rattle.hs_desk.specs.Shut.{IsShut, IsBare}
-use Rattle.hs_closing.proofs.Lists.{same_or_less, within, indexed}
+use Rattle.hs_desk.proofs.Lists.{same_or_less, within, indexed}
 use Rattle.hs_closing.proofs.closing.is_bare.Goals as goal
 
 pub loop-number-preserved : goal.loop-number-preserved

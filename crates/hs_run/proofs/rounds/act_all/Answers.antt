@@ -3,7 +3,7 @@ use Rattle.std.proofs.lemmas.Option.{slice_get-get_or, get_or_from_slice_get}
 use Rattle.std.proofs.iter.Serving.{serving}
 use Rattle.hs_run.specs.declared.node.Node.{Node}
 use Rattle.hs_run.specs.Nodes.{HasActedAt}
-use Rattle.hs_run.proofs.Lists.{within}
+use Rattle.hs_desk.proofs.Lists.{within}
 use Rattle.hs_run.proofs.rounds.act_all.Goals as goal
 
 pub for_each_mut-requires-clause-accepts : goal.for_each_mut-requires-clause-accepts

@@ -1,5 +1,5 @@
 use Rattle.std.proofs.Common.{sym, ap, ◌∙◌, inl, inr, arith, slice_get}
-use Rattle.hs_run.proofs.Lists.{same_or_less, within}
+use Rattle.hs_desk.proofs.Lists.{same_or_less, within}
 use Rattle.hs_run.proofs.rounds.has_failed.Goals as goal
 
 pub loop-number-preserved : goal.loop-number-preserved

@@ -3,7 +3,7 @@ use Rattle.std.proofs.lemmas.Option.{same_Some}
 use Rattle.hs_workload.specs.Views.{workload_of}
 use Rattle.hs_run.specs.declared.node.Node.{Node}
 use Rattle.hs_run.specs.Nodes.{TellsNodeLeft}
-use Rattle.hs_run.proofs.Lists.{same_or_less, within, lent_from}
+use Rattle.hs_desk.proofs.Lists.{same_or_less, within, lent_from}
 use Rattle.hs_run.proofs.rounds.has_left.Goals as goal
 
 pub has_left_at-requires : goal.has_left_at-requires

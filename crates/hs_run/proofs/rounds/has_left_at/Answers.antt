@@ -10,8 +10,9 @@ use Rattle.hs_workload.specs.declared.operation.Op.{Op}
 use Rattle.hs_run.specs.Nodes.{TellsNodeLeft}
 use Rattle.hs_run.specs.Sites.{AreClients, TellsSiteLeft}
 use Rattle.hs_run.proofs.Clients.{clients_are}
-use Rattle.hs_run.proofs.Lists.{got, within}
-use Rattle.hs_run.proofs.Small.{few_clients, few_nodes, few_products}
+use Rattle.hs_desk.proofs.Lists.{got, within}
+use Rattle.hs_run.proofs.Small.{few_nodes, few_products}
+use Rattle.hs_desk.proofs.Few.{few_clients}
 use Rattle.hs_run.proofs.rounds.has_left_at.Goals as goal
 
 -- as many operations

@@ -6,7 +6,7 @@ use Rattle.hs_rounds.specs.Standing.{Site, SiteStands}
 use Rattle.hs_run.specs.Going.{AllMayGo, AllHaveGone}
 use Rattle.hs_run.specs.Layout.{site_of}
 use Rattle.hs_run.specs.Sites.{HasActed}
-use Rattle.hs_run.proofs.Lists.{lent_whole, lent_whole_is}
+use Rattle.hs_desk.proofs.Lists.{lent_whole, lent_whole_is}
 use Rattle.hs_run.proofs.Acted.{may_go, has_acted}
 use Rattle.hs_run.proofs.site.Site.act.Goals as goal
 

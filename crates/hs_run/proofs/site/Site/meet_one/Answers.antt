@@ -3,8 +3,8 @@ use Rattle.hs_rounds.specs.Standing.{Site, SiteStands, client_at}
 use Rattle.hs_sent.specs.Sending.{operations_at, place_of}
 use Rattle.hs_run.specs.Layout.{site_of}
 use Rattle.hs_run.specs.Sites.{MeetsOne}
-use Rattle.hs_run.proofs.Lists.{lent, lent_is, lent_from}
-use Rattle.hs_run.proofs.Small.{few_clients}
+use Rattle.hs_desk.proofs.Lists.{lent, lent_is, lent_from}
+use Rattle.hs_desk.proofs.Few.{few_clients}
 use Rattle.hs_run.proofs.site.Site.meet_one.Goals as goal
 
 pub overflow_cast-number : goal.overflow_cast-number
