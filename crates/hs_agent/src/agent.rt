@@ -163,11 +163,12 @@ impl<L: Token> Agent<L> {
         self.holdings.in_hand()
     }
 
-    /// The book of the agent, and the chunks that it has left.
+    /// The book of the agent, and the chunks that it has left. An agent that found no memory once has neither.
     pub fn finish(self) -> Result<Finished<L>, Memory>
         requires { Knows self (λ run. ((state_of run).pinned ≡ []) × (run.offered ≡ None)) }
         ensures book { (run : Run L) → Follows self run → IfOk result (λ finished. agent_book_of finished.book ≡ book_of run.node (state_of run)) }
         ensures rest { (run : Run L) → Follows self run → IfOk result (λ finished. map buffer_of finished.rest.items ≡ buffers_left (point_of run)) }
+        ensures stays { IsSpent self → IsErr result }
     {
         let Agent {
             holdings,
