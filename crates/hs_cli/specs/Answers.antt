@@ -10,7 +10,7 @@ use Rattle.hs_outcome.specs.declared.form.Form.TheVariants.{Text as Lines}
 use Rattle.hs_records.specs.Plain.{PlainWorkload}
 use Rattle.hs_workload.specs.Validity.{IsValid}
 use Rattle.hs_workload.specs.Views.{workload_of}
-use Rattle.hs_cli.specs.Input.{ReadBeyond}
+use Rattle.hs_cli.specs.Input.{ReadBeyond, ReadFront}
 use Rattle.hs_cli.specs.Endings.{IsReader, IsAbout, IsRefused, AreParts, Due, RefusesWorkload, IsRefusedJournal, IsUnlawful, workload_in}
 use Rattle.hs_cli.specs.declared.command.Command.{Command}
 use Rattle.hs_cli.specs.declared.command.Command.TheVariants.{Check}
@@ -25,7 +25,7 @@ IsSubject command left left' faults faults' (Found workload journal) =
     IsAbout command left left' (workload_of workload) journal.items × IsValid (workload_of workload) × (length journal.items ≤ MAX_INPUT) × (faults' ≡ faults)
 IsSubject command left left' faults faults' (Refused text) = RefusesWorkload command left left' text.items × (faults' ≡ faults)
 IsSubject command left left' faults faults' TooLong = IsReader command × ((input : List ℕ) × ReadBeyond left left' input) × (faults' ≡ faults)
-IsSubject command left left' faults faults' Fault = IsReader command × Rose faults faults'
+IsSubject command left left' faults faults' Fault = IsReader command × Rose faults faults' × ((input : List ℕ) × ReadFront left left' input)
 IsSubject command left left' faults faults' NoMemory = faults' ≡ faults
 
 -- what an input comes to that was read whole

@@ -21,7 +21,7 @@ use Rattle.hs_outcome.specs.OutcomeText.{outcome_text, total_line}
 use Rattle.hs_outcome.specs.declared.form.Form.TheVariants.{Text as Lines}
 use Rattle.hs_text.specs.Text.{text_of}
 use Rattle.hs_check.specs.Parts.{workload_part, journal_part}
-use Rattle.hs_cli.specs.Input.{ReadWhole, ReadBeyond}
+use Rattle.hs_cli.specs.Input.{ReadWhole, ReadBeyond, ReadFront}
 use Rattle.hs_cli.specs.Written.{GainsFront}
 use Rattle.hs_cli.specs.Commands.{command_in}
 use Rattle.hs_cli.specs.Messages.{usage_text, too_long_text, refusal_text, journal_refusal_text, unlawful_text}
@@ -168,7 +168,7 @@ Reading words = (command : Command) × (command_in words ≡ Some command) × Is
 
 -- what a status says of a command
 abbrev pub EndsWith : Command → Option (List ℕ) → Option (List ℕ) → Option (List ℕ) → Option (List ℕ) → (source source' sink sink' : ℕ) → Status → Type 0
-EndsWith command left left' written written' source source' sink sink' ReadFault = IsReader command × Rose source source' × (sink' ≡ sink) × (written' ≡ written)
+EndsWith command left left' written written' source source' sink sink' ReadFault = IsReader command × Rose source source' × (sink' ≡ sink) × (written' ≡ written) × ((input : List ℕ) × ReadFront left left' input)
 EndsWith command left left' written written' source source' sink sink' WriteFault = (source' ≡ source) × Rose sink sink' × ((status : Status) × (text : List ℕ) × Owes command left left' status text × GainsFront written written' text)
 EndsWith command left left' written written' source source' sink sink' Memory = NoneFailed source source' sink sink' × (written' ≡ written)
 EndsWith command left left' written written' source source' sink sink' status = NoneFailed source source' sink sink' × ((text : List ℕ) × Owes command left left' status text × Gains written written' text)
@@ -180,6 +180,6 @@ Ends words left left' written written' source source' sink sink' Usage = NoneFai
 Ends words left left' written written' source source' sink sink' Refused = NoneFailed source source' sink sink' × Wrote words left left' written written' Refused
 Ends words left left' written written' source source' sink sink' TooLong = NoneFailed source source' sink sink' × Wrote words left left' written written' TooLong
 Ends words left left' written written' source source' sink sink' Unlawful = NoneFailed source source' sink sink' × Wrote words left left' written written' Unlawful
-Ends words left left' written written' source source' sink sink' ReadFault = Reading words × Rose source source' × (sink' ≡ sink) × (written' ≡ written)
+Ends words left left' written written' source source' sink sink' ReadFault = Reading words × Rose source source' × (sink' ≡ sink) × (written' ≡ written) × ((input : List ℕ) × ReadFront left left' input)
 Ends words left left' written written' source source' sink sink' WriteFault = (source' ≡ source) × Rose sink sink' × WroteFront words left left' written written'
 Ends words left left' written written' source source' sink sink' Memory = NoneFailed source source' sink sink' × (written' ≡ written)

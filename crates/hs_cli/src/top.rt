@@ -4,6 +4,7 @@ ghost use Rattle.std.specs.Prelude.{◌≡◌, ◌<◌, ◌⊎◌, ℕ, List, ma
 ghost use Rattle.hs_base.specs.Outside.{Rose, Gains};
 ghost use Rattle.hs_records.specs.Plain.{PlainWorkload};
 ghost use Rattle.hs_cli.specs.Commands.{command_in, IsSized};
+ghost use Rattle.hs_cli.specs.Input.{ReadFront};
 ghost use Rattle.hs_cli.specs.Written.{GainsFront};
 ghost use Rattle.hs_cli.specs.Endings.{Ends, EndsWith, Wrote, WroteFront, IsReader, IsUntouched, Reading, WillBeAbout, ComesTo};
 
@@ -125,8 +126,7 @@ pub fn hindsight<R: Threads + Sync, S: Source, K: Sink, G: Gate>(
         → Wrote (map (λ word. string_bytes word) words.now) (S.left source.old) (S.left source.new)
         (K.written sink.old) (K.written sink.new) Status.Unlawful }
 
-    // The source gave one byte more than an input may have and was asked for no more, and the sink
-    // gained the text that says so.
+    // The source gave one byte more than an input may have, and the sink gained the text that says so.
     ensures too_long { result ≡ Status.TooLong
         → Wrote (map (λ word. string_bytes word) words.now) (S.left source.old) (S.left source.new)
         (K.written sink.old) (K.written sink.new) Status.TooLong }
@@ -138,6 +138,10 @@ pub fn hindsight<R: Threads + Sync, S: Source, K: Sink, G: Gate>(
     ensures read_fault { result ≡ Status.ReadFault
         → Reading (map (λ word. string_bytes word) words.now) × Rose (S.faults source.old) (S.faults source.new) }
     ensures read_fault_writes { result ≡ Status.ReadFault → K.written sink.new ≡ K.written sink.old }
+
+    // And before it failed the source had given no more than an input may have: where it gave more, that is what is told.
+    ensures read_fault_reads { result ≡ Status.ReadFault
+        → (input : List ℕ) × ReadFront (S.left source.old) (S.left source.new) input }
 
     // Where the sink failed in this call, it ends so, whatever status was due.
     ensures sink_failed { K.faults sink.old < K.faults sink.new → result ≡ Status.WriteFault }

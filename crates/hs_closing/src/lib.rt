@@ -1,5 +1,5 @@
 //! The end of a run in threads, on one thread: the clients are taken apart and their links closed, passes are made until nothing waits
-//! and nothing is pinned, the pools are closed, and the books gathered (`docs/RULES.md`, "Schedules").
+//! and nothing is pinned, the pools are closed, and the books gathered (`docs/RULES.md`, "The run").
 #![tactic(auto)]
 
 mod closing;

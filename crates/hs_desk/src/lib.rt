@@ -1,5 +1,5 @@
 //! The agents and the coordinator of a run in threads: what each does in a round, and what waits between rounds
-//! (`docs/RULES.md`, "Schedules").
+//! (`docs/RULES.md`, "The run").
 #![tactic(auto)]
 
 mod agent;

@@ -1,4 +1,4 @@
-//! The eleventh clause: agents and coordinator keep pace with the clients (`docs/RULES.md`, "Pace").
+//! The eleventh clause: agents and coordinator keep pace with the clients (`docs/RULES.md`, "The lawful journal").
 
 ghost use Rattle.std.specs.Prelude.{◌≡◌, ◌*◌, ◌<◌, ◌≤◌, ◌&&◌, true, length, IfOk};
 ghost use Rattle.hs_base.specs.declared.limits.TheConstants.{MAX_CLIENTS};

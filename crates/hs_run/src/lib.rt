@@ -1,5 +1,5 @@
 //! The run of a workload: each client, each agent and the coordinator at once, in rounds that are joined
-//! (`docs/RULES.md`, "Schedules").
+//! (`docs/RULES.md`, "The run").
 #![tactic(auto)]
 
 mod making;

@@ -14,6 +14,21 @@ fn input_that_is_too_long(rt: HostRuntime) -> Result<(), Fail> {
     Ok(())
 }
 
+/// The call behind that which gave one byte too many would fail. Nobody makes it: too much is told, and no fault.
+#[test]
+fn no_read_behind_too_much(rt: HostRuntime) -> Result<(), Fail> {
+    let input = vec![in rt.alloc(); b'x'; 16_777_217]?;
+    let streams = Streams {
+        most: 65_536,
+        read_fails: &[257],
+        write_fails: &[],
+    };
+    let (status, written) = called(&rt, &["replay"], &input, &streams)?;
+    assert_eq!(rt; status, 7);
+    assert_eq!(rt; written.as_slice(), TOO_LONG.as_bytes());
+    Ok(())
+}
+
 /// Each call of the source fails in turn, until a run meets no fault.
 #[test]
 fn each_read_fails(rt: HostRuntime) -> Result<(), Fail> {

@@ -1,4 +1,4 @@
-use Rattle.std.proofs.Common.{◌≡◌, ◌∙◌, refl, take, sym, ap, subst, arith, List, [], ℕ}
+use Rattle.std.proofs.Common.{◌≡◌, ◌∙◌, refl, take, sym, ap, subst, arith, List, [], Option, ℕ}
 use Rattle.std.proofs.lemmas.List.{append-nil, length-take}
 use Rattle.hs_base.specs.Outside.{Loses}
 use Rattle.hs_cli.proofs.Streams.{Loses-nil, Loses-trans, Rose-since, nothing_left, ended}
@@ -15,7 +15,20 @@ loop-text-init g c =
     }
 
 pub returns-in_default-read : goal.returns-in_default-read
-returns-in_default-read g c = record { read = Rose-since _ _ _ c.loop-text.invariant.still c.in_default-read.ensures.failed }
+returns-in_default-read g c =
+    let left = g.S.Source.left in
+    record {
+      read = (
+        Rose-since _ _ _ c.loop-text.invariant.still c.in_default-read.ensures.failed,
+        (
+          c.loop-text.text.items,
+          record {
+            taken = subst (λ (now : Option (List ℕ)). Loses (left c.args.source.now) now c.loop-text.text.items) (sym c.in_default-read.ensures.kept) c.loop-text.invariant.lost;
+            short = omega (arith, c.loop-text.text.ok.0, c.loop-text-test.true, c.len.ensures);
+          },
+        ),
+      );
+    }
 
 pub returns-then-count-eq0 : goal.returns-then-count-eq0
 returns-then-count-eq0 g c =
