@@ -1,0 +1,160 @@
+-- An agent claims for a group, and speaks of it, only where it admitted the group's trigger or is in the group's asked set.
+use Rattle.std.proofs.Common.{◌≡◌, ℕ, Bool, true, false, cond, not, ◌||◌, ◌&&◌, List, [], ◌∷◌, ◌++◌, Option, Some, None, find, option_map, refl, sym, subst, ◌∙◌, slice_get, eqb}
+use Rattle.std.specs.List.{AllByRecursion, position_or_len}
+use Rattle.std.specs.Option.{option_and_then, option_to_list}
+use Rattle.std.proofs.lemmas.Bool.{cond_both}
+use Rattle.std.proofs.lemmas.List.Folds.{find_at}
+use Rattle.hs_base.specs.declared.ids.GroupId.{GroupId}
+use Rattle.hs_base.specs.declared.told.Crumb.{Crumb}
+use Rattle.hs_base.specs.declared.told.Group.{Group}
+use Rattle.hs_base.specs.declared.told.Told.{Told}
+use Rattle.hs_base.specs.declared.told.Trigger.{Trigger}
+use Rattle.hs_base.specs.declared.told.Why.TheVariants.{Fired}
+use Rattle.hs_coord.specs.Following.{Message, Messages, same_group, is_asked}
+use Rattle.hs_journal.specs.declared.journal.Step.{Step}
+use Rattle.hs_journal.specs.declared.journal.Step.TheVariants as steps
+use Rattle.hs_model.specs.Laws.{AllPass, IsPassed, claimed_by, EventsAddFew, StepsSayWhatTheyTell}
+use Rattle.hs_model.specs.Messages.{has_crumb, told_of, late_of}
+use Rattle.hs_model.specs.Standings.{same_trace}
+use Rattle.hs_model.specs.State.{ClaimedTrace, claim_of}
+use Rattle.hs_model.specs.Stepping.{Input, Chunk, Crumbed, Triggered, Asked, Turn, Event, Took, Gave, admits, group_of, told_by}
+use Rattle.hs_records.specs.Plain.{PlainSettings}
+use Rattle.hs_sent.specs.Sending.{ClientSends}
+use Rattle.hs_sent.proofs.Cutting.{all_both}
+use Rattle.hs_lawful.specs.Following.{Chunks, Crumbs, Triggers, Asks, taken, asks_to, NodeRun, next_of, event_of, perform, step_node}
+use Rattle.hs_lawful.proofs.Extending.{all_get}
+use Rattle.hs_lawful.proofs.Steps.{mapped_from, step_from}
+use Rattle.hs_orderly.proofs.Asked.{asked_stays, asked_for}
+
+all_found : {X : Type 0} (P : X → Type 0) (p : X → Bool) (xs : List X) (x : X) → AllByRecursion P xs → find p xs ≡ Some x → P x
+all_found P p xs x all h = all_get P xs (position_or_len p xs) x all (sym (find_at p xs) ∙ h)
+
+-- ---- of which groups a node may speak
+
+own_bits : (own number asked : Bool) → (not (own && number) || (own || asked)) ≡ true
+own_bits true true asked = refl
+own_bits true false asked = refl
+own_bits false number asked = refl
+
+asked_bits : (same own asked : Bool) → (same ≡ true → asked ≡ true) → (not same || (own || asked)) ≡ true
+asked_bits true true asked h = refl
+asked_bits true false asked h = h refl
+asked_bits false own asked h = refl
+
+more_bits : (same own asked more : Bool) → (asked ≡ true → more ≡ true) → (not same || (own || asked)) ≡ true → (not same || (own || more)) ≡ true
+more_bits true true asked more on h = refl
+more_bits true false asked more on h = on h
+more_bits false own asked more on h = refl
+
+module _ (group : GroupId) where
+  -- whether the other group is not this one, or the node admitted this one or is in its asked set
+  abbrev pub may_speak : Messages → ℕ → Group → Bool
+  may_speak heard node other = not (same_group group other.id) || (eqb group.node node || is_asked group heard node)
+
+  abbrev pub MaySay : Messages → ℕ → Told → Type 0
+  MaySay heard node told = may_speak heard node told.group ≡ true
+
+  -- all that a node claims and said is of groups of which it may speak
+  pub record KeepsToIt (heard : Messages) (run : NodeRun) : Type 0 where
+    pub claims : AllPass (may_speak heard run.node) run.state.claims
+    pub said : AllByRecursion (MaySay heard run.node) run.state.said
+
+  -- of what it may speak it may speak when more was heard
+  module _ (heard : Messages) (m : Message) (node : ℕ) where
+    may_more : (other : Group) → may_speak heard node other ≡ true → may_speak (heard ++ m ∷ []) node other ≡ true
+    may_more other h = more_bits (same_group group other.id) (eqb group.node node) (is_asked group heard node) (is_asked group (heard ++ m ∷ []) node) (asked_stays group heard m node) h
+
+    claims_more : (claims : List ClaimedTrace) → AllPass (may_speak heard node) claims → AllPass (may_speak (heard ++ m ∷ []) node) claims
+    claims_more [] all = tt
+    claims_more (claim ∷ claims) all = (may_more claim.group all.0, claims_more claims all.1)
+
+    said_more : (said : List Told) → AllByRecursion (MaySay heard node) said → AllByRecursion (MaySay (heard ++ m ∷ []) node) said
+    said_more [] all = tt
+    said_more (told ∷ said) all = (may_more told.group all.0, said_more said all.1)
+
+  pub keeps_more : (heard : Messages) (m : Message) (run : NodeRun) → KeepsToIt heard run → KeepsToIt (heard ++ m ∷ []) run
+  keeps_more heard m run k = record { claims = claims_more heard m run.node run.state.claims k.claims; said = said_more heard m run.node run.state.said k.said }
+
+  -- ---- one step
+
+  module _ (settings : PlainSettings) (heard : Messages) (run : NodeRun) where
+    -- Of the group for which an event claims, if it does, the node may speak.
+    abbrev Allowed : Event → Type 0
+    Allowed (Took input) = IsPassed (may_speak heard run.node) (claimed_by settings run.node run.state input)
+    Allowed (Gave answer) = Unit {0}
+
+    trigger_allowed : (client : ℕ) (trigger : Trigger) → Allowed (Took (Triggered client trigger))
+    trigger_allowed client trigger =
+        cond_both (admits settings run.state.tried trigger) (Some (group_of run.node run.state trigger).group) None (IsPassed (may_speak heard run.node))
+        (λ yes. own_bits (eqb group.node run.node) (eqb group.number run.state.admitted) (is_asked group heard run.node)) (λ no. tt)
+
+    item_allowed : {A : Type 0} (f : A → Event) (event : Event) (o : Option A) → ((a : A) → Allowed (f a)) → option_map f o ≡ Some event → Allowed event
+    item_allowed f event o each h = let m = mapped_from f o event h in subst Allowed (sym m.is) (each m.item)
+
+    sent_allowed : {A : Type 0} (f : A → Event) (event : Event) (pick : ClientSends → Option A) (o : Option ClientSends) → ((a : A) → Allowed (f a))
+        → option_and_then (λ (sends : ClientSends). option_map f (pick sends)) o ≡ Some event → Allowed event
+    sent_allowed f event pick None each h = let no : None ≡ Some event = h in absurd cc
+    sent_allowed f event pick (Some sends) each h = item_allowed f event (pick sends) each h
+
+    -- a step that is ready claims for a group of which its node may speak
+    allowed : (step : Step) (event : Event) → event_of run heard step ≡ Some event → Allowed event
+    allowed (steps.Chunk client) event h =
+        sent_allowed (λ sheet. Took (Chunk client sheet)) event (λ (s : ClientSends). next_of (Chunks client) run.state s.chunks) (slice_get run.sends client) (λ a. tt) h
+    allowed (steps.Crumb client) event h =
+        sent_allowed (λ crumb. Took (Crumbed client crumb)) event (λ (s : ClientSends). next_of (Crumbs client) run.state s.crumbs) (slice_get run.sends client) (λ a. tt) h
+    allowed (steps.Trigger client) event h =
+        sent_allowed (λ trigger. Took (Triggered client trigger)) event (λ (s : ClientSends). next_of (Triggers client) run.state s.triggers) (slice_get run.sends client) (trigger_allowed client) h
+    allowed steps.Ask event h =
+        let place = taken Asks run.state.log in
+        let m = mapped_from (λ ask. Took (Asked ask)) (slice_get (asks_to run.node heard) place) event h in
+        subst Allowed (sym m.is)
+        (asked_bits (same_group group m.item.group.id) (eqb group.node run.node) (is_asked group heard run.node) (asked_for group run.node heard place m.item m.there))
+    allowed steps.Turn event h = let is : Took Turn ≡ event = cc in subst Allowed is tt
+    allowed (steps.Given stamp) event h = item_allowed (λ _. Gave _) event (slice_get run.state.hand 0) (λ a. tt) h
+    allowed (steps.Missed stamp) event h = item_allowed (λ _. Gave _) event (slice_get run.state.hand 0) (λ a. tt) h
+    allowed steps.Unread event h = item_allowed (λ _. Gave _) event (slice_get run.state.hand 0) (λ a. tt) h
+
+    module _ (k : KeepsToIt heard run) where
+      abbrev Says : Option Told → Type 0
+      Says o = AllByRecursion (MaySay heard run.node) (option_to_list o)
+
+      crumb_told : (crumb : Crumb) (o : Option ClaimedTrace) → claim_of run.state.claims crumb.trace ≡ o
+          → Says (option_and_then (λ claim. cond (has_crumb run.state.crumbs crumb) None (Some (late_of claim crumb))) o)
+      crumb_told crumb None e = tt
+      crumb_told crumb (Some claim) e =
+          let may =
+          all_found (λ (claim : ClaimedTrace). may_speak heard run.node claim.group ≡ true) (λ (claim : ClaimedTrace). same_trace crumb.trace claim.trace) run.state.claims claim k.claims e
+          in
+          cond_both (has_crumb run.state.crumbs crumb) None (Some (late_of claim crumb)) Says (λ known. tt) (λ new. (may, tt))
+
+      trigger_told : (trigger : Trigger) (b : Bool) → IsPassed (may_speak heard run.node) (cond b (Some (group_of run.node run.state trigger).group) None)
+          → Says (cond b (Some (told_of run.state.crumbs (group_of run.node run.state trigger) Fired)) None)
+      trigger_told trigger true passed = (passed, tt)
+      trigger_told trigger false passed = tt
+
+      -- what it tells is of such a group too
+      told : (input : Input) → Allowed (Took input) → Says (told_by settings run.node run.state input)
+      told (Chunk client sheet) passed = tt
+      told (Crumbed client crumb) passed = crumb_told crumb (claim_of run.state.claims crumb.trace) refl
+      told (Triggered client trigger) passed = trigger_told trigger (admits settings run.state.tried trigger) passed
+      told (Asked ask) passed = (passed, tt)
+      told Turn passed = tt
+
+      module _ (says : StepsSayWhatTheyTell) (few : EventsAddFew) where
+        event_keeps : (rest : List Step) (event : Event) → Allowed event → KeepsToIt heard (perform settings rest run event)
+        event_keeps rest (Took input) passed =
+            record {
+              claims = (few settings run.node run.state).claims (may_speak heard run.node) input k.claims passed;
+              said =
+                  subst (AllByRecursion (MaySay heard run.node)) (sym ((says settings run.node run.state).inputs input))
+                  (all_both (MaySay heard run.node) run.state.said (option_to_list (told_by settings run.node run.state input)) k.said (told input passed));
+            }
+        event_keeps rest (Gave answer) passed =
+            record {
+              claims = subst (AllPass (may_speak heard run.node)) (sym ((few settings run.node run.state).kept answer)) k.claims;
+              said = subst (AllByRecursion (MaySay heard run.node)) (sym ((says settings run.node run.state).answers answer)) k.said;
+            }
+
+        pub step_keeps : (stepped : NodeRun) → step_node settings heard run ≡ Some stepped → KeepsToIt heard stepped
+        step_keeps stepped h =
+            let s = step_from settings heard run stepped h in subst (KeepsToIt heard) (sym s.is) (event_keeps s.rest s.event (allowed s.step s.event s.met))
