@@ -1,14 +1,17 @@
--- So each message that is heard comes from a known sender, since the first of its group comes from the node that admitted it.
-use Rattle.std.proofs.Common.{◌≡◌, ◌⊎◌, inl, inr, ℕ, ◌<◌, Bool, true, false, not, ◌||◌, List, [], ◌∷◌, ◌++◌, set, Option, Some, None, find, option_map, count_by, refl, sym, ap, subst, ◌∙◌, ⊎_elim, arith, slice_get, eqb, eqb-true, eq-eqb}
-use Rattle.std.specs.List.{range_with_len}
+-- So each message that is heard comes from a known sender, since the first of its group comes from the node that admitted it. And
+-- each node of which an `Answer` is heard has an ask.
+use Rattle.std.proofs.Common.{◌≡◌, ◌⊎◌, inl, inr, ℕ, ◌<◌, Bool, true, false, not, ◌||◌, ◌&&◌, List, [], ◌∷◌, ◌++◌, set, Option, Some, None, find, option_map, count_by, refl, sym, ap, subst, ◌∙◌, ⊎_elim, arith, slice_get, eqb, eqb-true, eq-eqb, true≢false}
+use Rattle.std.proofs.Math.Bool.{or-false}
+use Rattle.std.specs.List.{list_any, range_with_len}
 use Rattle.std.specs.Option.{option_and_then, option_map_or}
-use Rattle.std.proofs.lemmas.Bool.{or_cases, or_left}
+use Rattle.std.proofs.lemmas.Bool.{and_parts, false_from_ne_true, or_cases, or_left, or_right}
 use Rattle.std.proofs.lemmas.List.FromFn.{get_or-range_with_len, length-range_with_len}
+use Rattle.std.proofs.lemmas.List.Folds.{list_any-append}
 use Rattle.std.proofs.lemmas.Option.{slice_get-map, slice_get_within, get_or_from_slice_get}
 use Rattle.hs_base.specs.declared.ids.GroupId.{GroupId}
 use Rattle.hs_base.specs.declared.ids.NodeId.{NodeId}
 use Rattle.hs_base.specs.declared.told.Told.{Told}
-use Rattle.hs_coord.specs.Following.{Message, Messages, message, is_of, is_asked, is_first_sender, has_crumb}
+use Rattle.hs_coord.specs.Following.{Message, Messages, message, is_of, is_asked, is_first_sender, has_crumb, has_ask, is_answer, is_answer_from, is_answered_after, is_answered}
 use Rattle.hs_coord.specs.Orderly.{IsOrderly, is_known_sender}
 use Rattle.hs_coord.proofs.FollowingLemmas.{first_now, first_of_other}
 use Rattle.hs_coord.proofs.KeptLemmas.{first_bit}
@@ -20,8 +23,8 @@ use Rattle.hs_lawful.specs.Orders.{StepsNode, Performs, Leads, Stays, Goes}
 use Rattle.hs_lawful.proofs.Extending.{all_get}
 use Rattle.hs_lawful.proofs.Orders.{same_or, get_set, get_other}
 use Rattle.hs_lawful.proofs.Steps.{some_same, mapped_from, step_from, heard_from}
-use Rattle.hs_orderly.specs.Speaking.{MessagesAreOrderly}
-use Rattle.hs_orderly.proofs.Asked.{nobody_asked, asked_stays}
+use Rattle.hs_orderly.specs.Speaking.{MessagesAreOrderly, AnswersComeFromAsked}
+use Rattle.hs_orderly.proofs.Asked.{nobody_asked, asked_stays, ask_stays}
 use Rattle.hs_orderly.proofs.Speaking.{MaySay, KeepsToIt, keeps_more, step_keeps}
 
 -- ---- one message more
@@ -77,7 +80,7 @@ module _ (group : GroupId) where
   known_if messages from told admitting may own = by (find (is_of group) messages) refl (or_cases (eqb group.node from.0) (is_asked group messages from.0) either)
     where
       either : (eqb group.node from.0 || is_asked group messages from.0) ≡ true
-      either = sym (ap (λ b. not b || (eqb group.node from.0 || is_asked group messages from.0)) own) ∙ may
+      either = sym (ap (λ b. not b || (eqb group.node from.0 || is_asked group messages from.0)) own) ∙ may.speaks
 
       by : (o : Option Message) → find (is_of group) messages ≡ o → (eqb group.node from.0 ≡ true) ⊎ (is_asked group messages from.0 ≡ true)
           → option_map_or (λ (first : Message). is_asked group messages from.0) o (eqb from.0 group.node) ≡ true
@@ -85,6 +88,27 @@ module _ (group : GroupId) where
       by None none (inr e) = absurd (nobody_asked group messages from.0 none e)
       by (Some x) is (inl e) = ap (is_asked group messages) (sym (eqb-true group.node from.0 e)) ∙ admitting x is
       by (Some x) is (inr e) = e
+
+  -- the nodes that told an `Answer` of the group have an ask
+  abbrev AnswersAreAsked : Messages → Type 0
+  AnswersAreAsked messages = (node : ℕ) → list_any (is_answer_from group node) messages ≡ true → has_ask group messages node ≡ true
+
+  answers_more : (messages : Messages) (from : NodeId) (told : Told) → AnswersAreAsked messages → MaySay group messages from.0 told → AnswersAreAsked (messages ++ message from told ∷ [])
+  answers_more messages from told answers may node e =
+      ask_stays group messages (message from told) node
+      (⊎_elim (answers node) now (or_cases (list_any (is_answer_from group node) messages) (is_answer_from group node (message from told)) last))
+    where
+      last : (list_any (is_answer_from group node) messages || is_answer_from group node (message from told)) ≡ true
+      last =
+          sym (list_any-append (is_answer_from group node) messages (message from told ∷ [])
+          ∙ ap (λ b. list_any (is_answer_from group node) messages || b) (or-false (is_answer_from group node (message from told))))
+          ∙ e
+
+      now : is_answer_from group node (message from told) ≡ true → has_ask group messages node ≡ true
+      now answer =
+          let outer = and_parts (is_of group (message from told) && eqb node from.0) (is_answer told.why) answer in
+          let inner = and_parts (is_of group (message from told)) (eqb node from.0) outer.0 in
+          ap (has_ask group messages) (eqb-true node from.0 inner.1) ∙ may.answers inner.0 outer.1
 
   -- ---- all steps
 
@@ -97,6 +121,7 @@ module _ (group : GroupId) where
     nodes : (place : ℕ) (node : NodeRun) → slice_get run.nodes place ≡ Some node → IsAtPlace run.heard place node
     orderly : IsOrderly group run.heard
     admitting : HasAdmitting run.heard
+    answers : AnswersAreAsked run.heard
 
   -- what the next message is
   record IsSaid (nodes : List NodeRun) (from : NodeId) (m : Message) : Type 0 where
@@ -129,7 +154,7 @@ module _ (group : GroupId) where
 
     performs_stands : (run next : Run) → Stands run → Performs settings run next → Stands next
     performs_stands run next st (inl s) =
-        subst Stands (sym s.result) (record { nodes = node_stands run next st s; orderly = st.orderly; admitting = st.admitting })
+        subst Stands (sym s.result) (record { nodes = node_stands run next st s; orderly = st.orderly; admitting = st.admitting; answers = st.answers })
     performs_stands run next st (inr k) =
         let s = heard_from run next k in
         let said = said_from run.nodes run.heard s.node s.heard (slice_get run.nodes s.node.0) refl s.told in
@@ -145,6 +170,7 @@ module _ (group : GroupId) where
           nodes = λ place node stands. let was = st.nodes place node stands in record { number = was.number; keeps = keeps_more group run.heard s.heard node was.keeps };
           orderly = orderly_more run.heard s.heard st.orderly known;
           admitting = admitting_more run.heard s.heard st.admitting known;
+          answers = subst (λ (m : Message). AnswersAreAsked (run.heard ++ m ∷ [])) (sym said.is) (answers_more run.heard s.node said.told st.answers may);
         })
 
     leads_stands : (run last : Run) → Stands run → Leads settings run last → Stands last
@@ -165,13 +191,46 @@ module _ (group : GroupId) where
             subst (IsAtPlace [] place) (sym m.is) (record { number = number; keeps = record { claims = tt; said = tt } });
         orderly = nothing_heard;
         admitting = λ first there. let no : None ≡ Some first = there in absurd cc;
+        answers = λ node e. absurd (true≢false (sym e));
       }
     where
       nothing_heard : IsOrderly group []
       nothing_heard [] later x split own = let no : [] ≡ x ∷ later = split in absurd cc
       nothing_heard (y ∷ before) later x split own = let no : [] ≡ y ∷ (before ++ x ∷ later) = split in absurd cc
 
+-- ---- answered asks
+
+-- what answers an ask is an `Answer`
+module _ (group : GroupId) (node : ℕ) where
+  answered_by_some : (before later : Messages) → is_answered_after group node before later ≡ true → list_any (is_answer_from group node) later ≡ true
+  answered_by_some before [] e = e
+  answered_by_some before (m ∷ later) e =
+      ⊎_elim
+      (λ (now : (has_ask group before node && is_answer_from group node m) ≡ true).
+      or_left (is_answer_from group node m) (list_any (is_answer_from group node) later) (and_parts (has_ask group before node) (is_answer_from group node m) now).1)
+      (λ (then : is_answered_after group node (before ++ m ∷ []) later ≡ true).
+      or_right (is_answer_from group node m) (list_any (is_answer_from group node) later) (answered_by_some (before ++ m ∷ []) later then))
+      (or_cases (has_ask group before node && is_answer_from group node m) (is_answered_after group node (before ++ m ∷ []) later) e)
+
+  -- so the two agree, where they do for a node with an ask, and where each `Answer` comes from one
+  pub answered_as_told : (messages : Messages) → (has_ask group messages node ≡ true → is_answered group messages node ≡ list_any (is_answer_from group node) messages)
+      → (list_any (is_answer_from group node) messages ≡ true → has_ask group messages node ≡ true) → is_answered group messages node ≡ list_any (is_answer_from group node) messages
+  answered_as_told messages exactly asked = by (has_ask group messages node) refl
+    where
+      by : (b : Bool) → has_ask group messages node ≡ b → is_answered group messages node ≡ list_any (is_answer_from group node) messages
+      by true ask = exactly ask
+      by false none =
+          let silent : list_any (is_answer_from group node) messages ≡ false = false_from_ne_true (list_any (is_answer_from group node) messages) (λ answer. true≢false (sym (asked answer) ∙ none)) in
+          false_from_ne_true (is_answered group messages node) (λ answered. true≢false (sym (answered_by_some [] messages answered) ∙ silent)) ∙ sym silent
+
 -- ---- the laws
 
-pub messages_are_orderly : StepsSayWhatTheyTell → EventsAddFew → MessagesAreOrderly
-messages_are_orderly says few W J run leads group = (leads_stands group says few W.settings (run_start W J) run (starts_stand group W J) leads).orderly
+module _ (says : StepsSayWhatTheyTell) (few : EventsAddFew) where
+  stands_all : (group : GroupId) (W : PlainWorkload) (J : PlainJournal) (run : Run) → Leads W.settings (run_start W J) run → Stands group run
+  stands_all group W J run leads = leads_stands group says few W.settings (run_start W J) run (starts_stand group W J) leads
+
+  pub messages_are_orderly : MessagesAreOrderly
+  messages_are_orderly W J run leads group = (stands_all group W J run leads).orderly
+
+  pub answers_come_from_asked : AnswersComeFromAsked
+  answers_come_from_asked W J group node run leads = (stands_all group W J run leads).answers node

@@ -1,7 +1,7 @@
 -- An agent speaks of a group when it admits the group's trigger, when it is asked, and later of crumbs of traces that the group
 -- holds there. So in a journal that is followed no node speaks out of turn, and what holds of orderly messages holds of those that
--- the coordinator hears: the asked set of a group that was heard of is the least that no crumb leads out of, and a node's ask was
--- answered exactly where it told an `Answer`.
+-- the coordinator hears: the asked set of a group that was heard of is the least that no crumb leads out of. And an agent answers
+-- only an ask that it took, so a node's ask was answered exactly where it told an `Answer`.
 use Rattle.std.specs.Prelude.{◌≡◌, ℕ, Bool, true, false, [], ◌∷◌, refl}
 use Rattle.std.specs.List.{list_any}
 use Rattle.hs_base.specs.declared.ids.GroupId.{GroupId}
@@ -31,10 +31,16 @@ AskedSetsAreLeast =
     (W : PlainWorkload) (J : PlainJournal) (group : GroupId) → list_any (is_of group) (followed W J).heard ≡ true
     → IsLeastClosed group (followed W J).heard (is_asked group (followed W J).heard)
 
--- A node's ask was answered exactly where some message of the group is an `Answer` from the node.
+-- In whatever order the steps of a journal come, a node that told an `Answer` of a group has an ask for it.
+abbrev pub AnswersComeFromAsked : Type 0
+AnswersComeFromAsked =
+    (W : PlainWorkload) (J : PlainJournal) (group : GroupId) (node : ℕ) (run : Run) → Leads W.settings (run_start W J) run
+    → list_any (is_answer_from group node) run.heard ≡ true → has_ask group run.heard node ≡ true
+
+-- A node has an ask that was answered exactly where some message of the group is an `Answer` from the node.
 abbrev pub AnswersAreToAsks : Type 0
 AnswersAreToAsks =
-    (W : PlainWorkload) (J : PlainJournal) (group : GroupId) (node : ℕ) → has_ask group (followed W J).heard node ≡ true
+    (W : PlainWorkload) (J : PlainJournal) (group : GroupId) (node : ℕ)
     → is_answered group (followed W J).heard node ≡ list_any (is_answer_from group node) (followed W J).heard
 
 -- ---- examples
