@@ -6,10 +6,11 @@ pub mod Plain
 pub mod Spelled
 pub mod Claimed
 pub mod ByTrace
+pub mod Seen
+pub mod Rising
 pub mod Ids
 pub mod Sent
 pub mod Reports
-pub mod Ordered
 pub mod Runs
 pub mod Adding
 pub mod Shapes

@@ -1,18 +1,21 @@
--- Pages that are sorted by trace and client keep the order of the pages of each client and trace.
-use Rattle.std.proofs.Common.{◌≡◌, ℕ, ◌<◌, Bool, true, false, cond, not, ◌&&◌, eqb, List, [], ◌∷◌, length, get_or, set, map, sym, ap, ◌∙◌, refl, subst, arith}
-use Rattle.std.specs.List.{AllByRecursion, All, filter, swap}
+-- Pages that are sorted by the places of their traces and by client are a reordering: they keep the order of the pages of each client and
+-- trace, and that in which the traces are first seen.
+use Rattle.std.proofs.Common.{◌≡◌, ℕ, ◌<◌, Bool, true, false, cond, not, ◌&&◌, eqb, List, [], ◌∷◌, length, get_or, set, map, Option, Some, None, slice_get, sym, ap, ◌∙◌, refl, subst, arith}
+use Rattle.std.specs.List.{AllByRecursion, All, filter, swap, IsDistinct}
 use Rattle.std.specs.List.Sorted.{IsPermutation, IsSortedBy, IsStableBy, ties}
+use Rattle.std.specs.Option.{option_map_or}
 use Rattle.std.proofs.lemmas.Bool.Decides.{nat_tests}
 use Rattle.std.proofs.lemmas.List.Elements.{All-from_recursion, recursion_from_All, All-filter}
 use Rattle.std.proofs.lemmas.List.{map-set, get_or-map, length-map}
 use Rattle.std.proofs.lemmas.List.Sorted.{All-permutation, IsPermutation-swap, IsPermutation-keeps, IsPermutation-map}
 use Rattle.hs_base.specs.declared.ids.ClientId.{ClientId}
 use Rattle.hs_base.specs.declared.ids.TraceId.{TraceId}
-use Rattle.hs_collect.specs.Collected.{is_by}
+use Rattle.hs_collect.specs.Collected.{first_seen, is_by}
 use Rattle.hs_words.specs.Pages.{Sheet, IsPage, page_bytes}
 use Rattle.hs_report.specs.declared.pages.Reported.{Reported}
-use Rattle.hs_report.specs.Pages.{Sheets, Note, AreNotesOf, Sorted, note_of, noted}
-use Rattle.hs_report.proofs.Ordered.{OrdersRuns, pages_sorted}
+use Rattle.hs_report.specs.Pages.{Sheets, Traces, Note, AreReported, Reordered, bytes_of, note_of, noted}
+use Rattle.hs_report.proofs.Rising.{PutsEarlierFirst, same_place, seen_as_before}
+use Rattle.hs_report.proofs.Seen.{is_trace, seen_once}
 use Rattle.hs_report.proofs.Stable.{stable_keeps}
 
 -- pages have bytes of their own
@@ -20,8 +23,11 @@ abbrev pub HaveOwnBytes : Type 0
 HaveOwnBytes = (a b : Sheet) → IsPage a → IsPage b → page_bytes a ≡ page_bytes b → a ≡ b
 
 -- whether a note is one of this client and trace
+abbrev is_named : TraceId → Option TraceId → Bool
+is_named trace found = option_map_or (λ (other : TraceId). eqb other.0 trace.0) found false
+
 abbrev of_run : ClientId → TraceId → Note → Bool
-of_run client trace note = eqb note.client.node client.node && eqb note.client.number client.number && eqb note.trace.0 trace.0
+of_run client trace note = eqb note.client.node client.node && eqb note.client.number client.number && is_named trace note.trace
 
 -- the pages are decided by their notes
 by_notes : HaveOwnBytes → (xs ys : Sheets) → AllByRecursion IsPage xs → AllByRecursion IsPage ys → map note_of xs ≡ map note_of ys → xs ≡ ys
@@ -33,6 +39,14 @@ by_notes own (x ∷ xs) (y ∷ ys) p q e =
     let rest : map note_of xs ≡ map note_of ys = cc in
     let head = own x y p.0 q.0 (ap (λ (n : Note). n.bytes) first) in
     ap (λ z. z ∷ xs) head ∙ ap (λ zs. y ∷ zs) (by_notes own xs ys p.1 q.1 rest)
+
+bytes_noted : (traces : Traces) (pages : List Reported) → map (λ (n : Note). n.bytes) (map (noted traces) pages) ≡ bytes_of pages
+bytes_noted traces [] = refl
+bytes_noted traces (page ∷ pages) = ap (λ t. page.bytes.now ∷ t) (bytes_noted traces pages)
+
+bytes_of_notes : (sheets : Sheets) → map (λ (n : Note). n.bytes) (map note_of sheets) ≡ map page_bytes sheets
+bytes_of_notes [] = refl
+bytes_of_notes (sheet ∷ sheets) = ap (λ t. page_bytes sheet ∷ t) (bytes_of_notes sheets)
 
 -- what is true of elements, by what they are mapped to
 along_more : {X Y : Type 0} (f : X → Y) (x : X) (front rest : List Y) (more : List X) (t : Bool) → front ≡ map f more → cond t (f x ∷ front) front ≡ map f (cond t (x ∷ more) more)
@@ -72,36 +86,51 @@ pages_for sheets notes valid perm =
 
 -- a test that tells no pages of one client and trace apart
 abbrev pub TellsNoRun : (Reported → Reported → Bool) → Type 0
-TellsNoRun lt = (x y : Reported) → x.client ≡ y.client → x.trace ≡ y.trace → lt x y ≡ false
+TellsNoRun lt = (x y : Reported) → x.client ≡ y.client → x.seen ≡ y.seen → lt x y ≡ false
 
-same_run : (lt : Reported → Reported → Bool) (client : ClientId) (trace : TraceId) → TellsNoRun lt → (x y : Reported) → of_run client trace (noted x) ≡ true → of_run client trace (noted y) ≡ true → ties lt x y ≡ true
-same_run lt client trace tells x y p q =
+named : (trace : TraceId) (found : Option TraceId) → is_named trace found ≡ true → found ≡ Some trace
+named trace None is = absurd cc
+named trace (Some other) is =
+    let number : other.0 ≡ trace.0 = grind (arith, nat_tests) in
+    ap (λ n. Some (record { 0 = n })) number
+
+same_client : (a b : ClientId) → a.node ≡ b.node → a.number ≡ b.number → a ≡ b
+same_client a b node number = ap (λ n. record { node = n; number = a.number }) node ∙ ap (λ n. record { node = b.node; number = n }) number
+
+both_not : (a b : Bool) → a ≡ false → b ≡ false → (not a && not b) ≡ true
+both_not a b p q = ap (λ x. not x && not b) p ∙ ap not q
+
+same_run : (traces : Traces) → IsDistinct is_trace traces → (lt : Reported → Reported → Bool) (client : ClientId) (trace : TraceId) → TellsNoRun lt → (x y : Reported)
+    → of_run client trace (noted traces x) ≡ true → of_run client trace (noted traces y) ≡ true → ties lt x y ≡ true
+same_run traces distinct lt client trace tells x y p q =
     let number : x.client.number ≡ y.client.number = grind (arith, nat_tests) in
     let node : x.client.node ≡ y.client.node = grind (arith, nat_tests) in
-    let of_trace : x.trace.0 ≡ y.trace.0 = grind (arith, nat_tests) in
-    let clients : x.client ≡ y.client = ap (λ n. record { node = n; number = x.client.number }) node ∙ ap (λ n. record { node = y.client.node; number = n }) number in
-    let traces : x.trace ≡ y.trace = ap (λ n. record { 0 = n }) of_trace in
-    ap (λ a. not a && not (lt y x)) (tells x y clients traces) ∙ ap not (tells y x (sym clients) (sym traces))
+    let first : is_named trace (slice_get traces x.seen) ≡ true = grind (arith, nat_tests) in
+    let second : is_named trace (slice_get traces y.seen) ≡ true = grind (arith, nat_tests) in
+    let clients = same_client x.client y.client node number in
+    let seen = same_place traces distinct x.seen y.seen trace (named trace _ first) (named trace _ second) in
+    both_not (lt x y) (lt y x) (tells x y clients seen) (tells y x (sym clients) (sym seen))
 
--- sorted pages keep their runs
-pub runs_kept : (lt : Reported → Reported → Bool) (sheets : Sheets) (pages sorted : List Reported) → AreNotesOf sheets pages → IsPermutation pages sorted → IsStableBy lt pages sorted → IsSortedBy lt sorted → HaveOwnBytes
-    → TellsNoRun lt → OrdersRuns lt → Sorted sheets sorted
-runs_kept lt sheets pages sorted notes perm stable up own tells orders =
-    let made = pages_for sheets (map noted sorted) notes.valid (subst (λ (ns : List Note). IsPermutation ns (map noted sorted)) notes.are (IsPermutation-map noted pages sorted perm)) in
-    let valid = recursion_from_All IsPage made.sheets made.valid in
+-- sorted pages are a reordering
+pub sorted_reordered : (lt : Reported → Reported → Bool) (sheets : Sheets) (pages sorted : List Reported) → AreReported sheets pages → IsPermutation pages sorted → IsStableBy lt pages sorted → IsSortedBy lt sorted → HaveOwnBytes
+    → TellsNoRun lt → PutsEarlierFirst lt → Reordered sheets sorted
+sorted_reordered lt sheets pages sorted reported perm stable up own tells puts =
+    let traces = first_seen sheets in
+    let note = noted traces in
+    let made = pages_for sheets (map note sorted) reported.valid (subst (λ (ns : List Note). IsPermutation ns (map note sorted)) reported.notes (IsPermutation-map note pages sorted perm)) in
     record {
       others = made.sheets;
-      notes = record { valid = valid; are = made.are };
       order =
           record {
-            kept = λ client trace.
+            pages = λ client trace.
                 let test = of_run client trace in
-                by_notes own (filter (is_by client trace) sheets) (filter (is_by client trace) made.sheets)
-                (recursion_from_All IsPage _ (All-filter (is_by client trace) IsPage sheets (All-from_recursion IsPage sheets notes.valid)))
+                by_notes own (filter (is_by client trace) made.sheets) (filter (is_by client trace) sheets)
                 (recursion_from_All IsPage _ (All-filter (is_by client trace) IsPage made.sheets made.valid))
-                (sym (filter_along note_of test sheets) ∙ ap (filter test) (sym notes.are) ∙ filter_along noted test pages
-                ∙ ap (map noted) (sym (stable_keeps lt (λ (x : Reported). test (noted x)) pages sorted (same_run lt client trace tells) stable))
-                ∙ sym (filter_along noted test sorted) ∙ ap (filter test) made.are ∙ filter_along note_of test made.sheets);
-            ordered = pages_sorted lt sorted made.sheets orders made.are up;
+                (recursion_from_All IsPage _ (All-filter (is_by client trace) IsPage sheets (All-from_recursion IsPage sheets reported.valid)))
+                (sym (filter_along note_of test made.sheets) ∙ ap (filter test) (sym made.are) ∙ filter_along note test sorted
+                ∙ ap (map note) (stable_keeps lt (λ (x : Reported). test (note x)) pages sorted (same_run traces (seen_once sheets) lt client trace tells) stable)
+                ∙ sym (filter_along note test pages) ∙ ap (filter test) reported.notes ∙ filter_along note_of test sheets);
+            seen = seen_as_before lt sheets made.sheets pages sorted puts reported.notes made.are perm up;
           };
+      spelled = record { valid = recursion_from_All IsPage made.sheets made.valid; are = sym (bytes_noted traces sorted) ∙ ap (map (λ (n : Note). n.bytes)) made.are ∙ bytes_of_notes made.sheets };
     }

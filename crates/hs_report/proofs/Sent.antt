@@ -1,13 +1,15 @@
--- Pages and their bytes, one beside another.
-use Rattle.std.proofs.Common.{◌≡◌, ℕ, zero, suc, ◌+◌, ◌<◌, List, [], ◌∷◌, ◌++◌, length, get_or, take, drop, map, sym, ap, ◌∙◌, refl, append_assoc, append-nil, add-one, arith}
-use Rattle.std.specs.List.{AllByRecursion}
-use Rattle.std.proofs.lemmas.List.{map-append, take_more, take-append-drop}
+-- Pages and their bytes, one beside another, and what is read of one page more.
+use Rattle.std.proofs.Common.{◌≡◌, ◌==◌, ℕ, zero, suc, ◌+◌, ◌<◌, ◌≤◌, Bool, true, false, cond, List, [], ◌∷◌, ◌++◌, length, get_or, take, drop, map, Some, slice_get, sym, ap, ◌∙◌, refl, append-nil, arith}
+use Rattle.std.specs.List.{AllByRecursion, list_any}
+use Rattle.std.proofs.lemmas.List.{map-append, take_more, take-append-drop, take_all, length-map}
 use Rattle.std.proofs.lemmas.List.Concat.{flat_map-append}
+use Rattle.hs_base.specs.declared.ids.TraceId.{TraceId}
 use Rattle.hs_journal.specs.declared.books.AgentBook.{AgentBook}
 use Rattle.hs_words.specs.Pages.{Sheet, IsPage, page_bytes}
 use Rattle.hs_words.specs.Reading.{Spells}
 use Rattle.hs_report.specs.declared.pages.Reported.{Reported}
-use Rattle.hs_report.specs.Pages.{Sheets, Note, SpellAll, note_of, noted, sent_by, all_sent}
+use Rattle.hs_report.specs.Pages.{Sheets, Traces, Note, SpellAll, AreRead, JoinsAs, note_of, noted, with_trace, sent_by, all_sent}
+use Rattle.hs_report.proofs.Seen.{seen_more}
 
 -- the page beside an element
 pub record Beside {X : Type 0} (f : X → List ℕ) (sheets : Sheets) (k : ℕ) (x : X) : Type 0 where
@@ -26,13 +28,52 @@ sheet_at f (suc k) (s ∷ sheets) (y ∷ xs) x valid are lt is =
     let later = sheet_at f k sheets xs x valid.1 rest (omega arith) is in
     record { sheet = later.sheet; next = ap (λ t. s ∷ t) later.next; spells = later.spells }
 
--- the notes of one page more
-pub notes_more : (init : List Note) (olds news : List Reported) (x : Reported) (sheets : Sheets) (k : ℕ) (s : Sheet) → news ≡ olds ++ x ∷ [] → map noted olds ≡ init ++ map note_of (take k sheets) → noted x ≡ note_of s
-    → take (suc k) sheets ≡ take k sheets ++ s ∷ [] → map noted news ≡ init ++ map note_of (take (k + 1) sheets)
-notes_more init olds news x sheets k s pushed so one next =
-    ap (map noted) pushed ∙ map-append noted olds (x ∷ []) ∙ ap (λ t. t ++ noted x ∷ []) so ∙ append_assoc init (map note_of (take k sheets)) (noted x ∷ [])
-    ∙ ap (λ t. init ++ (map note_of (take k sheets) ++ t ∷ [])) one ∙ ap (λ t. init ++ t) (sym (map-append note_of (take k sheets) (s ∷ [])))
-    ∙ ap (λ t. init ++ map note_of t) (sym next) ∙ ap (λ n. init ++ map note_of (take n sheets)) (sym (add-one k))
+pub all_beside : {X : Type 0} (f : X → List ℕ) (k : ℕ) (sheets : Sheets) (xs : List X) → map f xs ≡ map page_bytes sheets → length xs ≤ k → take k sheets ≡ sheets
+all_beside f k sheets xs are le = take_all k sheets (omega (arith, ap length are, length-map xs f, length-map sheets page_bytes))
+
+-- ---- one page more
+
+-- a trace keeps its place where another joins
+place_kept : (traces : Traces) (trace : TraceId) (there : Bool) (k : ℕ) (seen : TraceId) → slice_get traces k ≡ Some seen → slice_get (cond there traces (traces ++ trace ∷ [])) k ≡ Some seen
+place_kept traces trace true k seen at = at
+place_kept [] trace false k seen at = absurd cc
+place_kept (first ∷ traces) trace false zero seen at = at
+place_kept (first ∷ traces) trace false (suc k) seen at = place_kept traces trace false k seen at
+
+same_note : (traces before : Traces) (page : Reported) (sheet : Sheet) → slice_get traces page.seen ≡ Some sheet.header.trace → noted before page ≡ note_of sheet → noted traces page ≡ note_of sheet
+same_note traces before page sheet at note =
+    ap (λ t. record { trace = t; client = page.client; bytes = page.bytes.now }) at ∙ ap (λ (n : Note). record { trace = Some sheet.header.trace; client = n.client; bytes = n.bytes }) note
+
+-- so the notes of pages stay the same
+notes_kept : (traces : Traces) (trace : TraceId) (pages : List Reported) (sheets : Sheets) → map (noted traces) pages ≡ map note_of sheets → map (noted (with_trace traces trace)) pages ≡ map note_of sheets
+notes_kept traces trace [] [] notes = refl
+notes_kept traces trace [] (sheet ∷ sheets) notes = absurd cc
+notes_kept traces trace (page ∷ pages) [] notes = absurd cc
+notes_kept traces trace (page ∷ pages) (sheet ∷ sheets) notes =
+    let first : noted traces page ≡ note_of sheet = cc in
+    let rest : map (noted traces) pages ≡ map note_of sheets = cc in
+    let kept = place_kept traces trace (list_any (λ other. trace.0 == other.0) traces) page.seen sheet.header.trace (ap (λ (n : Note). n.trace) first) in
+    let same : noted (with_trace traces trace) page ≡ note_of sheet = same_note (with_trace traces trace) traces page sheet kept first in
+    let later = notes_kept traces trace pages sheets rest in
+    cc
+
+pub read_more : (sheets : Sheets) (sheet : Sheet) (old new : Traces) (olds news : List Reported) (page : Reported) → AreRead sheets old olds → JoinsAs sheet old new page → news ≡ olds ++ page ∷ []
+    → AreRead (sheets ++ sheet ∷ []) new news
+read_more sheets sheet old new olds news page read joins pushed =
+    record {
+      seen = joins.traces ∙ ap (λ traces. with_trace traces sheet.header.trace) read.seen ∙ sym (seen_more sheets sheet);
+      notes =
+          ap (map (noted new)) pushed ∙ map-append (noted new) olds (page ∷ []) ∙ ap (λ t. t ++ noted new page ∷ []) (ap (λ traces. map (noted traces) olds) joins.traces ∙ notes_kept old sheet.header.trace olds sheets read.notes)
+          ∙ ap (λ n. map note_of sheets ++ n ∷ []) joins.note ∙ sym (map-append note_of sheets (sheet ∷ []));
+    }
+
+-- no bytes are those of no page
+pub none_sent : (sheets : Sheets) → SpellAll sheets [] → sheets ≡ []
+none_sent [] all = refl
+none_sent (sheet ∷ sheets) all = let e : [] ≡ page_bytes sheet ∷ map page_bytes sheets = all.are in absurd cc
+
+pub none_read : (traces : Traces) (pages : List Reported) → traces ≡ [] → pages ≡ [] → AreRead [] traces pages
+none_read traces pages none empty = record { seen = none; notes = ap (map (noted traces)) empty }
 
 -- ---- parts
 
@@ -71,11 +112,3 @@ sent_split agents i = ap all_sent (sym (take-append-drop i agents)) ∙ sent_joi
 pub sent_more : (agents : List AgentBook) (i : ℕ) (book : AgentBook) → i < length agents → book ≡ get_or agents i book → all_sent (take (i + 1) agents) ≡ all_sent (take i agents) ++ sent_by book
 sent_more agents i book lt is =
     ap all_sent (take_more agents i book lt) ∙ ap (λ b. all_sent (take i agents ++ b ∷ [])) (sym is) ∙ sent_join (take i agents) (book ∷ []) ∙ ap (λ t. all_sent (take i agents) ++ t) (append-nil (sent_by book))
-
-pub map_notes : (xs ys : Sheets) → map note_of (xs ++ ys) ≡ map note_of xs ++ map note_of ys
-map_notes xs ys = map-append note_of xs ys
-
--- no bytes are those of no page
-pub no_sheets : (pages : List Reported) (sheets : Sheets) → pages ≡ [] → SpellAll sheets [] → map noted pages ≡ map note_of sheets
-no_sheets pages [] is all = ap (map noted) is
-no_sheets pages (s ∷ sheets) is all = let e : [] ≡ page_bytes s ∷ map page_bytes sheets = all.are in absurd cc

@@ -16,7 +16,7 @@ within_more test by z zs false false ta tb all rest =
     ap (λ t. filter test (cond t (z ∷ filter by zs) (filter by zs))) tb ∙ rest ∙ ap (λ t. cond t (z ∷ filter test zs) (filter test zs)) (sym ta)
 
 -- what passes the test also passes the second one
-within : {X : Type 0} (test by : X → Bool) → ((y : X) → test y ≡ true → by y ≡ true) → (zs : List X) → filter test (filter by zs) ≡ filter test zs
+pub within : {X : Type 0} (test by : X → Bool) → ((y : X) → test y ≡ true → by y ≡ true) → (zs : List X) → filter test (filter by zs) ≡ filter test zs
 within test by all [] = refl
 within test by all (z ∷ zs) = within_more test by z zs (test z) (by z) refl refl (all z) (within test by all zs)
 

@@ -1,5 +1,5 @@
 -- The text of an outcome, by its parts.
-use Rattle.std.proofs.Common.{◌≡◌, ℕ, List, ◌++◌, map, sym, ap, ◌∙◌}
+use Rattle.std.proofs.Common.{◌≡◌, ℕ, List, ◌++◌, map, sym, ap, ◌∙◌, refl}
 use Rattle.std.specs.List.{filter}
 use Rattle.hs_base.specs.declared.ids.TraceId.{TraceId}
 use Rattle.hs_collect.specs.Collected.{Placed}
@@ -30,10 +30,10 @@ pub hold : CollectedRecordsAreWhole → (W : PlainWorkload) (J : PlainJournal) (
 hold whole W J outcome fates valid lawful is are =
     record {
       are = are;
-      sheets = is.sheets;
+      sheets = (outcome_of W J).reported;
       collected = is.collected;
       show = λ trace wholes all.
-          ap (λ entries. reported_wholes entries wholes) is.entries ∙ whole W J is.sheets trace wholes (ends_its_traces W valid) valid.count lawful is.order.kept all
+          ap (λ entries. reported_wholes entries wholes) is.entries ∙ whole W J (outcome_of W J).reported trace wholes (ends_its_traces W valid) valid.count lawful (λ client of. refl) all
           ∙ ap (λ entries. records_by W entries trace) (sym is.entries);
     }
 

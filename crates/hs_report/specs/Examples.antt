@@ -1,20 +1,26 @@
--- A small outcome: one client, whose trigger comes before the one record of its trace, so that the record is reported.
-use Rattle.std.specs.Prelude.{◌≡◌, zero, suc, List, [], ◌∷◌, All, codes, length, map, refl}
-use Rattle.std.proofs.Common.{arith}
+-- Small outcomes: one client, whose trigger comes before the one record of its trace, so that the record is reported; and two nodes that
+-- report a trace each, the greater one first.
+use Rattle.std.specs.Prelude.{◌≡◌, ℕ, zero, suc, List, [], ◌∷◌, ◌++◌, All, None, codes, length, map, refl}
+use Rattle.std.proofs.Common.{ap, arith}
 use Rattle.std.specs.Fmt.{digits}
 use Rattle.std.specs.List.{Any}
 use Rattle.hs_base.specs.Listing.{Listing}
 use Rattle.hs_base.specs.declared.ids.RecordId.{RecordId}
 use Rattle.hs_base.specs.declared.ids.TraceId.{TraceId}
 use Rattle.hs_base.specs.declared.told.Fate.TheVariants.{Reported}
-use Rattle.hs_collect.specs.Collected.{Placed, AreWholes, IsWhole, pieces_of}
+use Rattle.hs_collect.specs.Collected.{Placed, AreCollected, AreWholes, IsWhole, pieces_of}
+use Rattle.hs_collect.specs.Views.{Collection}
 use Rattle.hs_journal.specs.declared.journal.Draw.TheVariants.{Got}
 use Rattle.hs_journal.specs.Grammar.{journal_lines}
+use Rattle.hs_journal.specs.Views.{PlainJournal}
 use Rattle.hs_lawful.specs.Journals.{of_trigger_first, of_short_of_pins}
-use Rattle.hs_lawful.specs.Samples.{chunk, trigger, turn, given}
-use Rattle.hs_lawful.specs.Workloads.{trigger_first, short_of_pins}
+use Rattle.hs_lawful.specs.Lawful.{first_unlawful}
+use Rattle.hs_lawful.specs.Samples.{journal, chunk, trigger, turn, given}
+use Rattle.hs_lawful.specs.Workloads.{one_rule, trigger_first, short_of_pins}
 use Rattle.hs_outcome.specs.Outcomes.{outcome_of}
 use Rattle.hs_outcome.specs.Records.{all_records}
+use Rattle.hs_records.specs.Plain.{PlainWorkload}
+use Rattle.hs_sent.specs.Samples.{t, settings, on_nodes, workload, fire, segment}
 use Rattle.hs_words.specs.Pages.{Sheet}
 use Rattle.hs_report.specs.declared.outcome.Outcome.{Outcome}
 use Rattle.hs_report.specs.Outcomes.{IsOutcome}
@@ -78,8 +84,6 @@ one_report =
       entries = refl;
       totals = refl;
       claimed = refl;
-      sheets = the_sheet ∷ [];
-      order = record { kept = λ client trace. refl; ordered = λ k d least within. absurd (omega arith) };
       collected = record { seen = refl; each = of_one (λ (entry : TraceId × List Placed). AreWholes (pieces_of entry.0 (the_sheet ∷ [])) entry.1) (the_trace, the_whole ∷ []) the_records };
     }
 
@@ -98,3 +102,25 @@ records_counted = (refl, refl)
 -- each of two nodes reported two pages, the one behind the other
 pages_counted : map (λ (sheet : Sheet). sheet.header.client.node) (outcome_of short_of_pins of_short_of_pins).reported ≡ 0 ∷ 0 ∷ 1 ∷ 1 ∷ []
 pages_counted = refl
+
+-- ---- the order of traces
+
+-- each of two nodes has one trace and triggers it: node 0 the trace 9, and node 1 the trace 7
+abbrev nine_and_seven : PlainWorkload
+nine_and_seven = workload (on_nodes 2 1 (settings 4 4 8 4 16 one_rule)) ((segment 9 2 ++ fire 3 1 9 ∷ []) ∷ (segment 7 2 ++ fire 3 1 7 ∷ []) ∷ [])
+
+abbrev of_nine_and_seven : PlainJournal
+of_nine_and_seven = journal 2 1 ((Got 0 0 ∷ []) ∷ (Got 0 0 ∷ []) ∷ []) ((chunk ∷ trigger ∷ turn ∷ given 1 ∷ []) ∷ (chunk ∷ trigger ∷ turn ∷ given 1 ∷ []) ∷ []) (0 ∷ 1 ∷ [])
+
+nothing_unlawful : first_unlawful nine_and_seven of_nine_and_seven ≡ None
+nothing_unlawful = refl
+
+-- what a collector has of them stands in the order of the nodes, and so the greater trace comes first
+nine_first : (collector : Collection) → AreCollected (outcome_of nine_and_seven of_nine_and_seven).reported collector → map (λ entry. entry.0) collector ≡ t 9 ∷ t 7 ∷ []
+nine_first collector collected = collected.seen
+
+another_order : t 7 ∷ t 9 ∷ [] ≡ t 9 ∷ t 7 ∷ [] → ⊥
+another_order same = let numbers : ◌≡◌ {A = List ℕ} (7 ∷ 9 ∷ []) (9 ∷ 7 ∷ []) = ap (map (λ (trace : TraceId). trace.0)) same in absurd cc
+
+not_seven_first : (nine seven : List Placed) → AreCollected (outcome_of nine_and_seven of_nine_and_seven).reported ((t 7, seven) ∷ (t 9, nine) ∷ []) → ⊥
+not_seven_first nine seven collected = another_order collected.seen

@@ -1,6 +1,6 @@
--- When books are those of a workload and a journal, and when an outcome is what these come to. The collector was given
--- the reported pages by trace and client, those of each client and trace as they were reported.
-use Rattle.std.specs.Prelude.{◌≡◌, List, map}
+-- When books are those of a workload and a journal, and when an outcome is what these come to. The collector has what the
+-- reported pages collect, node by node, as they were reported.
+use Rattle.std.specs.Prelude.{◌≡◌, map}
 use Rattle.hs_collect.specs.Collected.{AreCollected}
 use Rattle.hs_journal.specs.Books.{client_book_of, agent_book_of}
 use Rattle.hs_journal.specs.Views.{PlainJournal, journal_of}
@@ -9,11 +9,9 @@ use Rattle.hs_lawful.specs.Lawful.{IsLawful}
 use Rattle.hs_ledger.specs.Totals.{totals_of}
 use Rattle.hs_outcome.specs.Outcomes.{client_books, agent_books, outcome_of}
 use Rattle.hs_records.specs.Plain.{PlainWorkload}
-use Rattle.hs_words.specs.Pages.{Sheet}
 use Rattle.hs_workload.specs.Validity.{IsValid}
 use Rattle.hs_report.specs.declared.outcome.Books.{Books}
 use Rattle.hs_report.specs.declared.outcome.Outcome.{Outcome}
-use Rattle.hs_report.specs.Pages.{InOrder}
 
 -- These books were noted where the journal came about, which is lawful for the workload.
 pub record AreBooksOf (W : PlainWorkload) (J : PlainJournal) (books : Books) : Type 0 where
@@ -33,6 +31,4 @@ pub record IsOutcome (W : PlainWorkload) (J : PlainJournal) (outcome : Outcome) 
   pub entries : outcome.ledger.entries.items ≡ (outcome_of W J).entries
   pub totals : outcome.ledger.totals ≡ totals_of (outcome_of W J).entries
   pub claimed : outcome.claimed.items ≡ (outcome_of W J).claimed
-  pub sheets : List Sheet
-  pub order : InOrder (outcome_of W J).reported sheets
-  pub collected : AreCollected sheets outcome.collector
+  pub collected : AreCollected (outcome_of W J).reported outcome.collector

@@ -1,4 +1,4 @@
-use Rattle.std.proofs.Common.{◌≤◌, ◌^◌, List, length, map, ap, sym, ◌∙◌, subst, arith}
+use Rattle.std.proofs.Common.{◌≤◌, ◌^◌, List, length, map, ap, sym, ◌∙◌, refl, subst, arith}
 use Rattle.hs_journal.specs.Books.{PlainClientBook, PlainAgentBook, agent_book_of}
 use Rattle.hs_ledger.specs.Books.{BooksFit}
 use Rattle.hs_ledger.specs.Fates.{entries_of}
@@ -27,7 +27,7 @@ collected-requires c =
     let few : length (all_records W) ≤ 2 ^ 32 = omega (arith, c.records_are_few.ensures W are.valid) in (
       (outcome_of W J).reported,
       record { valid = c.reported_pages_are_pages.ensures W J are.valid; are = ap all_sent c.as_slice-2.ensures ∙ sent_are W J c.args.books are },
-      λ others kept. (c.reported_pages_can_be_collected.ensures W J others (ends_its_traces W are.valid) are.valid.count are.lawful few kept).added,
+      (c.reported_pages_can_be_collected.ensures W J (outcome_of W J).reported (ends_its_traces W are.valid) are.valid.count are.lawful few (λ client trace. refl)).added,
     )
 
 pub returns : goal.returns
@@ -35,7 +35,7 @@ returns c = λ W J are.
     let few : length (all_records W) ≤ 2 ^ 32 = omega (arith, c.records_are_few.ensures W are.valid) in
     let spelled : SpellAll (outcome_of W J).reported (all_sent c.as_slice-2.result.now) =
     record { valid = c.reported_pages_are_pages.ensures W J are.valid; are = ap all_sent c.as_slice-2.ensures ∙ sent_are W J c.args.books are } in
-    let has = c.in_ok-collector.ensures (outcome_of W J).reported spelled (λ others kept. (c.reported_pages_can_be_collected.ensures W J others (ends_its_traces W are.valid) are.valid.count are.lawful few kept).added) in
+    let can = (c.reported_pages_can_be_collected.ensures W J (outcome_of W J).reported (ends_its_traces W are.valid) are.valid.count are.lawful few (λ client trace. refl)).added in
     let entries = ap (λ (clients : List PlainClientBook). entries_of clients (map agent_book_of c.args.books.agents.items)) are.clients ∙ ap (λ (agents : List PlainAgentBook). entries_of (client_books W J) agents) are.agents in
     record {
       version = are.version;
@@ -43,7 +43,5 @@ returns c = λ W J are.
       entries = c.in_ok-ledger.ensures.entries ∙ entries;
       totals = c.in_ok-ledger.ensures.totals ∙ ap totals_of entries;
       claimed = c.in_ok-claimed.ensures ∙ ap rising_traces (ap all_claimed c.as_slice.ensures ∙ claimed_are W J c.args.books are);
-      sheets = has.others;
-      order = has.order;
-      collected = has.collected;
+      collected = c.in_ok-collector.ensures (outcome_of W J).reported spelled can;
     }

@@ -1,6 +1,8 @@
 use Rattle.std.proofs.Common.{take, suc, sym, ap, ◌∙◌, subst, add-one}
 use Rattle.hs_collect.specs.Collected.{AreCollected, CanBeAdded}
-use Rattle.hs_report.proofs.Adding.{page_at, can_front, all_pages}
+use Rattle.hs_report.specs.declared.pages.Reported.{Reported}
+use Rattle.hs_report.proofs.Adding.{page_at, can_front}
+use Rattle.hs_report.proofs.Sent.{all_beside}
 use Rattle.hs_report.proofs.pages.collect.Goals as goal
 
 pub add-requires : goal.add-requires
@@ -10,10 +12,10 @@ add-requires c =
     (take c.loop-page.page-index sheets, at.sheet, c.loop-page.invariant sheets c.requires.1 c.requires.2, at.spells, subst CanBeAdded at.next (can_front (suc c.loop-page.page-index) sheets c.requires.2))
 
 pub loop-page-preserved : goal.loop-page-preserved
-loop-page-preserved c = λ sheets notes can.
-    let at = page_at c.loop-page.page-index sheets c.args.pages.now _ notes c.loop-page-test.true in
+loop-page-preserved c = λ sheets all can.
+    let at = page_at c.loop-page.page-index sheets c.args.pages.now _ all c.loop-page-test.true in
     subst (λ pages. AreCollected pages c.add.new.self) (sym at.next ∙ ap (λ n. take n sheets) (sym (add-one c.loop-page.page-index)))
-    (c.in_ok-add.ensures.ok (take c.loop-page.page-index sheets) at.sheet (c.loop-page.invariant sheets notes can) at.spells)
+    (c.in_ok-add.ensures.ok (take c.loop-page.page-index sheets) at.sheet (c.loop-page.invariant sheets all can) at.spells)
 
 pub returns : goal.returns
-returns c = λ sheets notes can. subst (λ pages. AreCollected pages c.loop-page.collector) (all_pages c.loop-page.page-index sheets c.args.pages.now notes c.loop-page-test.false) (c.loop-page.invariant sheets notes can)
+returns c = λ sheets all can. subst (λ pages. AreCollected pages c.loop-page.collector) (all_beside (λ (p : Reported). p.bytes.now) c.loop-page.page-index sheets c.args.pages.now all.are c.loop-page-test.false) (c.loop-page.invariant sheets all can)

@@ -1,6 +1,7 @@
-use Rattle.std.proofs.Common.{◌+◌, ◌++◌, take, drop, map, sym, ap, ◌∙◌, subst}
-use Rattle.hs_report.specs.Pages.{SpellAll, all_sent, note_of}
-use Rattle.hs_report.proofs.Sent.{split, sent_more, sent_split, map_notes, no_sheets}
+use Rattle.std.proofs.Common.{◌≡◌, ◌+◌, take, drop, map, sym, subst}
+use Rattle.std.proofs.lemmas.List.{take_all}
+use Rattle.hs_report.specs.Pages.{Sheets, SpellAll, AreRead, all_sent, noted, note_of}
+use Rattle.hs_report.proofs.Sent.{split, sent_more, sent_split, none_sent, none_read}
 use Rattle.hs_report.proofs.pages.reported_pages.Goals as goal
 
 pub push_reported-requires : goal.push_reported-requires
@@ -14,8 +15,13 @@ pub loop-book-preserved : goal.loop-book-preserved
 loop-book-preserved c = λ sheets all.
     let i = c.loop-book.book-index in
     let own = split (all_sent (take i c.args.agents.now)) _ sheets (subst (SpellAll sheets) (sent_more c.args.agents.now i c.book-item.result c.loop-book-test.true c.book-item.is) all) in
-    c.in_ok-push_reported.ensures own.back (subst (λ items. SpellAll own.back (map (λ page. page.items) items)) (sym c.as_slice.ensures) own.second)
-    ∙ ap (λ t. t ++ map note_of own.back) (c.loop-book.invariant own.front own.first) ∙ sym (map_notes own.front own.back) ∙ ap (map note_of) (sym own.both)
+    subst (λ (s : Sheets). AreRead s c.push_reported.new.traces.keys c.push_reported.new.pages.items) (sym own.both)
+    (c.in_ok-push_reported.ensures own.front own.back (c.loop-book.invariant own.front own.first) (subst (λ items. SpellAll own.back (map (λ page. page.items) items)) (sym c.as_slice.ensures) own.second))
 
 pub loop-book-init : goal.loop-book-init
-loop-book-init c = λ sheets all. no_sheets c.new-pages.result.items sheets c.new-pages.ensures.items all
+loop-book-init c = λ sheets all. subst (λ (s : Sheets). AreRead s c.new-traces.result.keys c.new-pages.result.items) (sym (none_sent sheets all)) (none_read c.new-traces.result.keys c.new-pages.result.items c.new-traces.ensures.empty c.new-pages.ensures.items)
+
+pub returns : goal.returns
+returns c = λ sheets all.
+    let read = c.loop-book.invariant sheets (subst (λ books. SpellAll sheets (all_sent books)) (sym (take_all c.loop-book.book-index c.args.agents.now c.loop-book-test.false)) all) in
+    record { valid = all.valid; notes = subst (λ traces. map (noted traces) c.loop-book.pages.items ≡ map note_of sheets) read.seen read.notes }

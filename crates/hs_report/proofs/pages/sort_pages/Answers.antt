@@ -1,18 +1,17 @@
-use Rattle.std.proofs.Common.{rules, arith}
+use Rattle.std.proofs.Common.{ℕ, rules, arith}
 use Rattle.std.proofs.lemmas.Fn.{always_returns_same}
 use Rattle.std.proofs.lemmas.Bool.Decides.{nat_tests}
 use Rattle.hs_base.specs.declared.ids.ClientId.{ClientId}
-use Rattle.hs_base.specs.declared.ids.TraceId.{TraceId}
 use Rattle.hs_report.specs.declared.pages.Reported.{Reported}
-use Rattle.hs_report.proofs.Runs.{runs_kept}
+use Rattle.hs_report.proofs.Runs.{sorted_reordered}
 use Rattle.hs_report.proofs.pages.sort_pages.Goals as goal
 
-abbrev key_of : Reported → TraceId × ClientId
-key_of page = (page.trace, page.client)
+abbrev key_of : Reported → ℕ × ClientId
+key_of page = (page.seen, page.client)
 
 pub returns : goal.returns
-returns c = λ sheets notes.
+returns c = λ sheets reported.
     let stable = c.in_ok-sort_by_key.ensures.stable key_of (always_returns_same _ _ _ (λ a r q k. search rules)) in
     let sorted = c.in_ok-sort_by_key.ensures.sorted key_of (always_returns_same _ _ _ (λ a r q k. search rules)) in
-    runs_kept _ sheets c.args.pages.now.items c.sort_by_key.new.self.items notes c.in_ok-sort_by_key.ensures.permutation stable sorted c.pages_have_bytes_of_their_own.ensures (λ x y p q. grind (arith, nat_tests))
-    (λ x y. grind (arith, nat_tests))
+    sorted_reordered _ sheets c.args.pages.now.items c.sort_by_key.new.self.items reported c.in_ok-sort_by_key.ensures.permutation stable sorted c.pages_have_bytes_of_their_own.ensures
+    (λ x y p q. grind (arith, nat_tests)) (λ x y first. grind (arith, nat_tests))
