@@ -63,7 +63,7 @@ module _ (command : Command) (left left' written written' : Option (List ℕ)) (
     worded TooLong (none, (text, owes, gains)) = (none, (text, (command, is, owes), gains))
     worded Unlawful (none, (text, owes, gains)) = (none, (text, (command, is, owes), gains))
     worded Usage (none, (text, owes, gains)) = absurd owes
-    worded ReadFault (reader, rose, still, same) = ((command, is, reader), rose, still, same)
+    worded ReadFault (reader, rose, still, same, front) = ((command, is, reader), rose, still, same, front)
     worded WriteFault (read, rose, (status, text, owes, front)) = (read, rose, (status, text, due_of status text owes, front))
     worded Memory ends = ends
 
