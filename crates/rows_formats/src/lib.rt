@@ -1,5 +1,5 @@
 //! Tables over the ground and the formats: each call on its happy path, near its greatest size, and with nothing at
-//! all; and each text with the first reason for which it is refused.
+//! all. The texts that are refused, each with its first reason, stand in `cases/`.
 #![tactic(auto)]
 
 #[cfg(test)]

@@ -34,15 +34,20 @@ fn count_operations(workload: &Workload) -> usize {
     count
 }
 
+/// The operation of this number at a client.
+fn operation(workload: &Workload, client: usize, number: usize) -> Option<&Op> {
+    workload.clients.get(client)?.get(number)
+}
+
 #[test]
 fn traces_are_first_words(rt: HostRuntime) -> Result<(), Fail> {
     for (seed, word, client) in FIRST_WORDS {
         let workload = make_workload(rt.alloc(), seed, 1)?;
-        let operations = workload.clients.get(client).ok_or("no client")?;
-        match operations.get(0).ok_or("no operation")? {
-            Op::Begin { trace } => assert_eq!(rt; *trace, TraceId(word), "seed {seed}"),
-            _ => assert!(rt; false, "not a begin"),
-        }
+        let first = operation(&workload, client, 0);
+        assert!(rt;
+            matches!(first, Some(Op::Begin { trace }) if *trace == TraceId(word)),
+            "seed {seed}"
+        );
     }
     Ok(())
 }
@@ -55,14 +60,17 @@ fn three_requests(rt: HostRuntime) -> Result<(), Fail> {
         let operations = workload.clients.get(place).ok_or("no client")?;
         assert_eq!(rt; operations.len(), *want, "client {place}");
     }
-    let operations = workload.clients.get(7).ok_or("no client")?;
-    match operations.get(1).ok_or("no operation")? {
-        Op::Point { moment, payload } => {
-            assert_eq!(rt; *moment, 1010);
-            assert_eq!(rt; payload.as_slice(), PAYLOAD.as_slice());
-        }
-        _ => assert!(rt; false, "not a point"),
-    }
+    Ok(())
+}
+
+#[test]
+fn the_only_point_of_a_client(rt: HostRuntime) -> Result<(), Fail> {
+    let workload = make_workload(rt.alloc(), 7, 3)?;
+    let Some(Op::Point { moment, payload }) = operation(&workload, 7, 1) else {
+        return Err("not a point".into());
+    };
+    assert_eq!(rt; *moment, 1010);
+    assert_eq!(rt; payload.as_slice(), PAYLOAD.as_slice());
     Ok(())
 }
 

@@ -22,12 +22,16 @@ const NUMBERS: [(&[u8], Option<u64>); 6] = [
 ];
 
 #[test]
-fn words_are_read(rt: HostRuntime) {
+fn lines_and_words_are_split(rt: HostRuntime) {
     let split = split_line(b"got 3\nempty 4\n");
     assert!(rt; split == Some((b"got 3".as_slice(), b"empty 4\n".as_slice())));
     assert!(rt; split_word(b"got 3") == (b"got".as_slice(), Some(b"3".as_slice())));
     assert!(rt; count_words(b"client 0 12") == 3);
     assert!(rt; line_fault(b"client 0 12").is_none());
+}
+
+#[test]
+fn numbers_are_read(rt: HostRuntime) {
     for (word, says) in &NUMBERS {
         assert!(rt; number(word) == *says);
     }
@@ -46,25 +50,40 @@ fn words_are_written(rt: HostRuntime) -> Result<(), Memory> {
     Ok(())
 }
 
-const LINE: &[u8] =
-    b"queue abc 7 00af 000000000000000a 0000000000000000000000000000000b 00ff - 1 18446744073709551615 0000000000000001 0000000000000002\n";
-
 #[test]
-fn lines_are_written(rt: HostRuntime) -> Result<(), Fail> {
+fn a_line_of_words_is_written(rt: HostRuntime) -> Result<(), Fail> {
     let mut text = Vec::from_slice(rt.alloc(), b"queue")?;
     push_spaced(&mut text, b"abc")?;
     push_spaced_number(&mut text, 7)?;
     push_spaced_hex(&mut text, 4, 175)?;
-    push_spaced_trace(&mut text, 1, TraceId(10))?;
-    push_spaced_trace(&mut text, 2, TraceId(11))?;
     push_spaced_payload(&mut text, &[0, 255])?;
     push_spaced_payload(&mut text, &[])?;
-    push_spaced_numbers(&mut text, &[])?;
-    push_spaced_numbers(&mut text, &[1, u64::MAX])?;
+    end_line(&mut text)?;
+    assert!(rt; text.as_slice() == b"queue abc 7 00af 00ff -\n".as_slice());
+    Ok(())
+}
+
+/// Trace 10 in version 1, trace 11 in version 2, and traces 1 and 2 in version 1.
+const TRACES: &[u8] =
+    b" 000000000000000a 0000000000000000000000000000000b 0000000000000001 0000000000000002";
+
+#[test]
+fn traces_are_written(rt: HostRuntime) -> Result<(), Memory> {
+    let mut text = Vec::new(rt.alloc());
+    push_spaced_trace(&mut text, 1, TraceId(10))?;
+    push_spaced_trace(&mut text, 2, TraceId(11))?;
     push_spaced_traces(&mut text, 1, &[])?;
     push_spaced_traces(&mut text, 1, &[TraceId(1), TraceId(2)])?;
-    end_line(&mut text)?;
-    assert!(rt; text.as_slice() == LINE);
+    assert!(rt; text.as_slice() == TRACES);
+    Ok(())
+}
+
+#[test]
+fn numbers_are_written(rt: HostRuntime) -> Result<(), Memory> {
+    let mut text = Vec::new(rt.alloc());
+    push_spaced_numbers(&mut text, &[])?;
+    push_spaced_numbers(&mut text, &[1, u64::MAX])?;
+    assert!(rt; text.as_slice() == b" 1 18446744073709551615".as_slice());
     Ok(())
 }
 
@@ -87,9 +106,9 @@ fn payloads_come_back(rt: HostRuntime) -> Result<(), Fail> {
     Ok(())
 }
 
-/// 300,000 numbers, words of 32 digits and lines, and 100,000 numbers and traces in one line.
+/// 300,000 numbers and words of 32 digits, and as many of no digit.
 #[test]
-fn long_texts_are_written(rt: HostRuntime) -> Result<(), Fail> {
+fn many_words_are_written(rt: HostRuntime) -> Result<(), Fail> {
     let mut text = Vec::new(rt.alloc());
     for _time in 0..300_000u32 {
         push_number(&mut text, 0)?;
@@ -98,15 +117,29 @@ fn long_texts_are_written(rt: HostRuntime) -> Result<(), Fail> {
     }
     assert_eq!(rt; text.len(), 9_900_000);
     assert!(rt; text.iter().all(|digit| *digit == b'0'));
+    Ok(())
+}
+
+/// 100,000 numbers and traces on one line.
+#[test]
+fn a_long_line_is_written(rt: HostRuntime) -> Result<(), Fail> {
+    let mut text = Vec::new(rt.alloc());
     let numbers = vec![in rt.alloc(); u64::MAX; 100_000]?;
     push_spaced_numbers(&mut text, &numbers)?;
     let traces = vec![in rt.alloc(); TraceId(u128::MAX); 100_000]?;
     push_spaced_traces(&mut text, 2, &traces)?;
-    assert_eq!(rt; text.len(), 15_300_000);
+    assert_eq!(rt; text.len(), 5_400_000);
+    Ok(())
+}
+
+/// 300,000 lines.
+#[test]
+fn many_lines_are_written(rt: HostRuntime) -> Result<(), Fail> {
+    let mut text = Vec::new(rt.alloc());
     for _line in 0..300_000u32 {
         push_spaced(&mut text, b"")?;
         end_line(&mut text)?;
     }
-    assert_eq!(rt; text.len(), 15_900_000);
+    assert_eq!(rt; text.len(), 600_000);
     Ok(())
 }

@@ -61,21 +61,42 @@ fn stock_numbers_its_chunks(rt: HostRuntime) -> Result<(), Fail> {
     Ok(())
 }
 
+/// A chunk with the example's header and its piece.
+fn example_chunk(alloc: Global) -> Result<Chunk, Fail> {
+    let mut chunk = one_chunk(alloc)?;
+    start(&mut chunk, example_header());
+    add(&mut chunk, 5, &[0xaa]);
+    Ok(chunk)
+}
+
 #[test]
-fn example_page_is_written(rt: HostRuntime) -> Result<(), Fail> {
+fn a_page_is_started(rt: HostRuntime) -> Result<(), Fail> {
     let mut chunk = one_chunk(rt.alloc())?;
     assert!(rt; start(&mut chunk, example_header()));
     assert!(rt; has_bytes(&chunk, &EMPTY));
     assert_eq!(rt; add(&mut chunk, 5, &[0xaa]), Some(Added::Added));
+    Ok(())
+}
+
+#[test]
+fn example_page_is_written(rt: HostRuntime) -> Result<(), Fail> {
+    let mut chunk = example_chunk(rt.alloc())?;
     assert!(rt; has_bytes(&chunk, &EXAMPLE));
     assert_eq!(rt; chunk.used(), 35);
+    assert_eq!(rt; chunk.header(), Some(example_header()));
+    chunk.clear();
+    assert_eq!(rt; chunk.header(), None);
+    Ok(())
+}
+
+/// 20 bytes of payload are one too many for the room that is left.
+#[test]
+fn a_page_is_filled_to_its_end(rt: HostRuntime) -> Result<(), Fail> {
+    let mut chunk = example_chunk(rt.alloc())?;
     assert_eq!(rt; add(&mut chunk, 6, &EXAMPLE[..20]), Some(Added::NoRoom));
     assert!(rt; has_bytes(&chunk, &EXAMPLE));
     assert_eq!(rt; add(&mut chunk, 6, &EXAMPLE[..19]), Some(Added::Added));
     assert_eq!(rt; chunk.used(), 64);
-    assert_eq!(rt; chunk.header(), Some(example_header()));
-    chunk.clear();
-    assert_eq!(rt; chunk.header(), None);
     Ok(())
 }
 

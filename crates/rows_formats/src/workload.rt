@@ -1,7 +1,8 @@
-//! Which line and reason a text is refused with, and what a text is read as.
+//! What a text is read as, and the refusals of long texts and of cut ones. Each other reason has its files in
+//! `cases/refused`.
 
 use hs_base::TraceId;
-use hs_workload::{Op, ReadError, Reason, Refusal, read_workload};
+use hs_workload::{Op, ReadError, Reason, Refusal, Workload, read_workload};
 use std::alloc::{AllocError, Global};
 use std::process::Abort;
 use std::test::Fail;
@@ -14,261 +15,20 @@ const HEAD: &[u8] =
 const EXAMPLE: &[u8] =
     b"hindsight 1\nnodes 1\nclients 1\nbuffers 1\nsize 64\nthreshold 1\ntraces 4\npins 4\nstride 8\nclient 0 0\nbegin 0000000000000001\npoint 100 00112233445566778899\npoint 101 00112233445566778899\npoint 102 00112233445566778899\nend\ndone\n";
 
+/// The payload of its points.
+const PAYLOAD: [u8; 10] = [0, 17, 34, 51, 68, 85, 102, 119, 136, 153];
+
 /// Two nodes of two clients each, a trigger id and two autotriggers, twelve lines.
 const DECLARED: &[u8] =
     b"hindsight 1\nnodes 2\nclients 2\nbuffers 1\nsize 64\nthreshold 0\ntraces 1\npins 0\nstride 1\ntriggerid 3 1 2 0\nauto 0 exception 3\nauto 1 queue 3 16 9900 4\n";
 
-/// Texts that end in the head, with their first bad line and its reason.
-const HEADS: [(&[u8], u32, Reason); 30] = [
-    (b"", 1, Reason::Truncated),
-    (b"hindsight 1", 1, Reason::Truncated),
-    (b"hindsight 1\n", 2, Reason::Truncated),
-    (b"hindsight\t1\n", 1, Reason::Byte),
-    (b" hindsight 1\n", 1, Reason::Spaces),
-    (b"nodes 1\n", 1, Reason::Word),
-    (b"hindsight 0\n", 1, Reason::Range),
-    (b"hindsight 3\n", 1, Reason::Range),
-    (b"hindsight 01\n", 1, Reason::Number),
-    (b"hindsight 1 1\n", 1, Reason::Count),
-    (b"hindsight 1\nnodes 0\n", 2, Reason::Range),
-    (b"hindsight 1\nnodes 17\n", 2, Reason::Range),
-    (b"hindsight 1\nnodes 16\nclients 0\n", 3, Reason::Range),
-    (b"hindsight 1\nnodes 16\nclients 17\n", 3, Reason::Range),
-    (
-        b"hindsight 1\nnodes 16\nclients 16\nbuffers 0\n",
-        4,
-        Reason::Range,
-    ),
-    (
-        b"hindsight 1\nnodes 1\nclients 1\nbuffers 1025\n",
-        4,
-        Reason::Range,
-    ),
-    (
-        b"hindsight 1\nnodes 1\nclients 1\nbuffers 1024\nsize 63\n",
-        5,
-        Reason::Range,
-    ),
-    (
-        b"hindsight 1\nnodes 1\nclients 1\nbuffers 1\nsize 32769\n",
-        5,
-        Reason::Range,
-    ),
-    (
-        b"hindsight 1\nnodes 1\nclients 1\nbuffers 2\nsize 64\nthreshold 1025\n",
-        6,
-        Reason::Range,
-    ),
-    (
-        b"hindsight 1\nnodes 1\nclients 1\nbuffers 2\nsize 32768\nthreshold 0\ntraces 0\n",
-        7,
-        Reason::Range,
-    ),
-    (
-        b"hindsight 1\nnodes 1\nclients 1\nbuffers 2\nsize 64\nthreshold 1024\ntraces 65537\n",
-        7,
-        Reason::Range,
-    ),
-    (
-        b"hindsight 1\nnodes 1\nclients 1\nbuffers 2\nsize 64\nthreshold 0\ntraces 65536\npins 1025\n",
-        8,
-        Reason::Range,
-    ),
-    (
-        b"hindsight 1\nnodes 1\nclients 1\nbuffers 2\nsize 64\nthreshold 0\ntraces 1\npins 1024\nstride 0\n",
-        9,
-        Reason::Range,
-    ),
-    (
-        b"hindsight 1\nnodes 1\nclients 1\nbuffers 2\nsize 64\nthreshold 0\ntraces 1\npins 0\nstride 65\n",
-        9,
-        Reason::Range,
-    ),
-    (
-        b"hindsight 1\nnodes 1\nclients 1\nbuffers 2\nsize 64\nthreshold 0\ntraces 1\npins 0\nstride 64\n",
-        10,
-        Reason::Truncated,
-    ),
-    (b"hindsight 2\nnodes x\n", 2, Reason::Number),
-    (b"hindsight 2\nnodes\n", 2, Reason::Count),
-    (b"hindsight 2\nclients 1\n", 2, Reason::Word),
-    (b"hindsight 2\nclient 0 0\n", 2, Reason::Word),
-    // A fault on an early line is told before one on a later line.
-    (b"hindsight 0\nnodes\n", 1, Reason::Range),
-];
-
-/// Lines behind the head, with the first bad line and its reason.
-const BODIES: [(&[u8], u32, Reason); 40] = [
-    (b"triggerid 0 1 1 1\n", 10, Reason::Range),
-    (b"triggerid 65 1 1 1\n", 10, Reason::Range),
-    (b"triggerid 64 0 1 1\n", 10, Reason::Range),
-    (b"triggerid 64 101 1 1\n", 10, Reason::Range),
-    (b"triggerid 64 100 0 1\n", 10, Reason::Range),
-    (b"triggerid 64 100 1001 1\n", 10, Reason::Range),
-    (b"triggerid 64 100 1000 1000001\n", 10, Reason::Range),
-    (
-        b"triggerid 64 100 1000 1000000\ntriggerid 64 1 1 0\n",
-        11,
-        Reason::Order,
-    ),
-    (b"triggerid 2 1 1 0\ntriggerid 1 1 1 0\n", 11, Reason::Order),
-    (b"triggerid 1 1 1\n", 10, Reason::Count),
-    (b"triggerid 1 1 1 x\n", 10, Reason::Number),
-    (b"auto 0 exception 1\n", 10, Reason::Unknown),
-    (b"auto 1 exception 1\n", 10, Reason::Order),
-    (b"auto 16 exception 1\n", 10, Reason::Range),
-    (b"auto 0\n", 10, Reason::Count),
-    (b"auto x y z\n", 10, Reason::Word),
-    (b"auto 0 exception 1 2\n", 10, Reason::Count),
-    (b"auto 0 percentile 1 1 1\n", 10, Reason::Range),
-    (b"auto 0 percentile 1 1025 1\n", 10, Reason::Range),
-    (b"auto 0 category 1 1024 0\n", 10, Reason::Range),
-    (b"auto 0 category 1 1024 10000\n", 10, Reason::Range),
-    (b"auto 0 queue 1 2 9999 0\n", 10, Reason::Range),
-    (b"auto 0 queue 1 2 9999 33\n", 10, Reason::Range),
-    (b"client 0 1\n", 10, Reason::Order),
-    (b"client 0 18446744073709551616\n", 10, Reason::Number),
-    (b"point 1 aa\nzzz\n", 10, Reason::Word),
-    (b"client 0 0\nclient 0 1\n", 11, Reason::Word),
-    (b"client 0 0\ncrumb 0\n", 11, Reason::NoTrace),
-    (b"client 0 0\npoint 1 aa\nzzz\n", 11, Reason::NoTrace),
-    (b"client 0 0\nend\n", 11, Reason::NoTrace),
-    (b"client 0 0\nbegin 1\n", 11, Reason::Hex),
-    (
-        b"client 0 0\nbegin 0000000000000001\nbegin 0000000000000001\n",
-        12,
-        Reason::Open,
-    ),
-    (
-        b"client 0 0\nbegin 0000000000000001\npoint 1 AA\n",
-        12,
-        Reason::Hex,
-    ),
-    (
-        b"client 0 0\nbegin 0000000000000001\ndone\n",
-        12,
-        Reason::StillOpen,
-    ),
-    (b"client 0 0\ndone\ndone\n", 12, Reason::Word),
-    (b"client 0 0\ndone\n\n", 12, Reason::Spaces),
-    (b"client 0 0\ndone\nx", 12, Reason::Truncated),
-    // Of two reasons the earlier of the list is told.
-    (b"client 0 0\npoint x AA\n", 11, Reason::Number),
-    (b"client 0 0\nend  1\n", 11, Reason::Spaces),
-    (b"client 0 0\npoint 1\n", 11, Reason::Count),
-];
-
-/// Lines behind the declarations, with the first bad line and its reason.
-const OPERATIONS: [(&[u8], u32, Reason); 26] = [
-    (b"triggerid 4 1 1 1\n", 13, Reason::Word),
-    (b"auto 3 exception 3\n", 13, Reason::Order),
-    (b"auto 2 exception 4\n", 13, Reason::Unknown),
-    (b"client 0 0\nauto 2 exception 3\n", 14, Reason::Word),
-    (b"client 0 0\ndone\n", 14, Reason::Word),
-    (b"client 0 0\nclient 1 0\n", 14, Reason::Order),
-    (
-        b"client 0 0\nclient 0 1\nclient 1 0\nclient 1 1\nclient 2 0\n",
-        17,
-        Reason::Word,
-    ),
-    (
-        b"client 0 0\nbegin 0000000000000001\nclient 1 0\n",
-        15,
-        Reason::Order,
-    ),
-    (
-        b"client 0 0\nbegin 0000000000000001\nclient 0 1\n",
-        15,
-        Reason::StillOpen,
-    ),
-    (
-        b"client 0 0\nbegin 0000000000000001\ncrumb 2\n",
-        15,
-        Reason::Range,
-    ),
-    (
-        b"client 0 0\nbegin 0000000000000001\ncrumb 1\ncrumb\n",
-        16,
-        Reason::Count,
-    ),
-    (b"client 0 0\ncrumb 1\n", 14, Reason::NoTrace),
-    (b"client 0 0\ncrumb 2\n", 14, Reason::Range),
-    (b"client 0 0\nsample 1 0 2\n", 14, Reason::NoTrace),
-    (b"client 0 0\nsample 1 2 2\n", 14, Reason::Unknown),
-    (b"client 0 0\nsample 1 16 0\n", 14, Reason::Unknown),
-    (b"client 0 0\nsample 1 0\n", 14, Reason::Count),
-    (
-        b"client 0 0\nbegin 0000000000000001\nsample 1 1 18446744073709551615\nzzz\n",
-        16,
-        Reason::Word,
-    ),
-    (b"client 0 0\ntrigger 1 3\n", 14, Reason::Count),
-    (
-        b"client 0 0\ntrigger 1 x 0000000000000001\n",
-        14,
-        Reason::Number,
-    ),
-    (
-        b"client 0 0\ntrigger 1 65 000000000000001\n",
-        14,
-        Reason::Hex,
-    ),
-    (
-        b"client 0 0\ntrigger 1 65 0000000000000001\n",
-        14,
-        Reason::Unknown,
-    ),
-    (
-        b"client 0 0\ntrigger 1 3 0000000000000001 000000000000000A\n",
-        14,
-        Reason::Hex,
-    ),
-    (
-        b"client 0 0\ntrigger 1 3 0000000000000001 0000000000000001\nzzz\n",
-        15,
-        Reason::Word,
-    ),
-    (
-        b"client 0 0\ntrigger 1 259 0000000000000001\n",
-        14,
-        Reason::Unknown,
-    ),
-    (b"client 0 0\nsample 1 4294967296 0\n", 14, Reason::Unknown),
-];
-
-/// One client and a trigger id in version 2, ten lines.
-const WIDE: &[u8] =
-    b"hindsight 2\nnodes 1\nclients 1\nbuffers 1\nsize 64\nthreshold 0\ntraces 1\npins 0\nstride 1\ntriggerid 3 1 2 0\n";
-
-/// Lines behind them, with the first bad line and its reason. Traces have 32 digits there, and no fewer.
-const WIDE_OPERATIONS: [(&[u8], u32, Reason); 6] = [
-    (b"client 0 0\nbegin 0000000000000001\n", 12, Reason::Hex),
-    (
-        b"client 0 0\nbegin 0000000000000000000000000000000A\n",
-        12,
-        Reason::Hex,
-    ),
-    (
-        b"client 0 0\nbegin 00000000000000000000000000000001\nbegin 0000000000000001\n",
-        13,
-        Reason::Hex,
-    ),
-    (
-        b"client 0 0\ntrigger 1 3 0000000000000001\n",
-        12,
-        Reason::Hex,
-    ),
-    (
-        b"client 0 0\ntrigger 1 65 00000000000000000000000000000001 0000000000000001\n",
-        12,
-        Reason::Hex,
-    ),
-    (
-        b"client 0 0\ntrigger 1 65 00000000000000000000000000000001\n",
-        12,
-        Reason::Unknown,
-    ),
-];
+/// Whether an operation is a point with this moment and payload.
+fn is_point(operation: Option<&Op>, at: u64, bytes: &[u8]) -> bool {
+    match operation {
+        Some(Op::Point { moment, payload }) => *moment == at && payload.as_slice() == bytes,
+        _ => false,
+    }
+}
 
 fn expect_refusal(rt: &impl Abort, alloc: Global, text: &[u8], line: u32, reason: Reason) {
     match read_workload(alloc, text) {
@@ -283,19 +43,26 @@ fn expect_refusal(rt: &impl Abort, alloc: Global, text: &[u8], line: u32, reason
     }
 }
 
-/// Refuses lines behind the head.
-fn expect_behind(
-    rt: &impl Abort,
-    alloc: Global,
-    head: &[u8],
-    cases: &[(&[u8], u32, Reason)],
-) -> Result<(), AllocError> {
-    for (lines, line, reason) in cases {
-        let mut text = head.to_vec(alloc)?;
-        text.extend_from_slice(lines)?;
-        expect_refusal(rt, alloc, &text, *line, *reason);
+/// One more line where the byte ends one.
+pub(crate) fn line_behind(line: u32, byte: u8) -> u32 {
+    if byte == b'\n' {
+        line.saturating_add(1)
+    } else {
+        line
+    }
+}
+
+/// Pushes these bytes so often.
+pub(crate) fn push_often(text: &mut Vec<u8>, bytes: &[u8], count: u32) -> Result<(), AllocError> {
+    for _time in 0..count {
+        text.extend_from_slice(bytes)?;
     }
     Ok(())
+}
+
+/// The operation of this number at the first client.
+fn first_client(workload: &Workload, number: usize) -> Option<&Op> {
+    workload.clients.get(0)?.get(number)
 }
 
 #[test]
@@ -304,55 +71,25 @@ fn the_example_is_read(rt: HostRuntime) -> Result<(), Fail> {
     assert_eq!(rt; workload.version, 1);
     assert_eq!(rt; workload.settings.size, 64);
     assert_eq!(rt; workload.clients.len(), 1);
-    let client = workload.clients.get(0).ok_or("no client")?;
-    assert_eq!(rt; client.len(), 5);
-    match client.get(3).ok_or("no operation")? {
-        Op::Point { moment, payload } => {
-            assert_eq!(rt; *moment, 102);
-            assert_eq!(rt;
-                payload.as_slice(),
-                [0, 17, 34, 51, 68, 85, 102, 119, 136, 153].as_slice()
-            );
-        }
-        _ => assert!(rt; false, "not a point"),
-    }
+    assert!(rt; is_point(first_client(&workload, 3), 102, &PAYLOAD));
+    assert!(rt; first_client(&workload, 5).is_none());
     Ok(())
 }
+
+/// A workload of version 2 with a point of no bytes at the greatest moment.
+const VERSION_2: &[u8] =
+    b"hindsight 2\nnodes 1\nclients 1\nbuffers 2\nsize 64\nthreshold 2\ntraces 2\npins 0\nstride 64\nclient 0 0\nbegin 1000000000000000000000000000000a\npoint 18446744073709551615 -\nend\ndone\n";
+
+const WIDE_TRACE: TraceId = TraceId(0x1000_0000_0000_0000_0000_0000_0000_000a);
 
 #[test]
 fn version_2_is_read(rt: HostRuntime) -> Result<(), Fail> {
-    let text =
-        b"hindsight 2\nnodes 1\nclients 1\nbuffers 2\nsize 64\nthreshold 2\ntraces 2\npins 0\nstride 64\nclient 0 0\nbegin 1000000000000000000000000000000a\npoint 18446744073709551615 -\nend\ndone\n";
-    let workload = read_workload(rt.alloc(), text)?;
+    let workload = read_workload(rt.alloc(), VERSION_2)?;
     assert_eq!(rt; workload.version, 2);
-    let client = workload.clients.get(0).ok_or("no client")?;
-    match client.get(0).ok_or("no operation")? {
-        Op::Begin { trace } => assert_eq!(rt;
-            *trace,
-            TraceId(0x1000_0000_0000_0000_0000_0000_0000_000a)
-        ),
-        _ => assert!(rt; false, "not a begin"),
-    }
-    match client.get(1).ok_or("no operation")? {
-        Op::Point { moment, payload } => {
-            assert_eq!(rt; *moment, u64::MAX);
-            assert_eq!(rt; payload.len(), 0);
-        }
-        _ => assert!(rt; false, "not a point"),
-    }
-    Ok(())
-}
-
-#[test]
-fn the_head_is_refused(rt: HostRuntime) {
-    for (text, line, reason) in &HEADS {
-        expect_refusal(&rt, rt.alloc(), text, *line, *reason);
-    }
-}
-
-#[test]
-fn the_body_is_refused(rt: HostRuntime) -> Result<(), Fail> {
-    expect_behind(&rt, rt.alloc(), HEAD, &BODIES)?;
+    assert!(rt;
+        matches!(first_client(&workload, 0), Some(Op::Begin { trace }) if *trace == WIDE_TRACE)
+    );
+    assert!(rt; is_point(first_client(&workload, 1), u64::MAX, &[]));
     Ok(())
 }
 
@@ -361,9 +98,7 @@ fn every_prefix_of_the_example_is_truncated(rt: HostRuntime) {
     let mut line: u32 = 1;
     for (end, byte) in EXAMPLE.iter().enumerate() {
         expect_refusal(&rt, rt.alloc(), &EXAMPLE[..end], line, Reason::Truncated);
-        if *byte == b'\n' {
-            line = line.saturating_add(1);
-        }
+        line = line_behind(line, *byte);
     }
     assert_eq!(rt; line, 17);
 }
@@ -372,9 +107,7 @@ fn every_prefix_of_the_example_is_truncated(rt: HostRuntime) {
 fn a_long_payload_is_out_of_range(rt: HostRuntime) -> Result<(), Fail> {
     let mut text = HEAD.to_vec(rt.alloc())?;
     text.extend_from_slice(b"client 0 0\npoint 1 ")?;
-    for _ in 0..65_536 {
-        text.extend_from_slice(b"00")?;
-    }
+    push_often(&mut text, b"00", 65_536)?;
     text.extend_from_slice(b"\n")?;
     expect_refusal(&rt, rt.alloc(), &text, 11, Reason::Range);
     Ok(())
@@ -384,13 +117,9 @@ fn a_long_payload_is_out_of_range(rt: HostRuntime) -> Result<(), Fail> {
 pub(crate) fn points(alloc: Global, count: u32) -> Result<Vec<u8>, AllocError> {
     let mut text = HEAD.to_vec(alloc)?;
     text.extend_from_slice(b"client 0 0\nbegin 0000000000000001\npoint 1 ")?;
-    for _ in 0..65_520 {
-        text.extend_from_slice(b"00")?;
-    }
+    push_often(&mut text, b"00", 65_520)?;
     text.extend_from_slice(b"\n")?;
-    for _ in 0..count {
-        text.extend_from_slice(b"point 2 -\n")?;
-    }
+    push_often(&mut text, b"point 2 -\n", count)?;
     Ok(text)
 }
 
@@ -421,46 +150,41 @@ fn no_operation_is_read(rt: HostRuntime) -> Result<(), Fail> {
     Ok(())
 }
 
-#[test]
-fn operations_are_refused(rt: HostRuntime) -> Result<(), Fail> {
-    expect_behind(&rt, rt.alloc(), DECLARED, &OPERATIONS)?;
-    expect_behind(&rt, rt.alloc(), WIDE, &WIDE_OPERATIONS)?;
-    Ok(())
-}
-
 /// A trigger with so many laterals.
 fn trigger(alloc: Global, laterals: u32) -> Result<Vec<u8>, AllocError> {
     let mut text = DECLARED.to_vec(alloc)?;
     text.extend_from_slice(b"client 0 0\ntrigger 7 3 0000000000000001")?;
-    for _ in 0..laterals {
-        text.extend_from_slice(b" 000000000000000b")?;
-    }
+    push_often(&mut text, b" 000000000000000b", laterals)?;
     text.extend_from_slice(b"\nclient 0 1\nclient 1 0\nclient 1 1\ndone\n")?;
     Ok(text)
 }
 
+/// The greatest number of laterals.
 #[test]
-fn a_trigger_has_at_most_32_laterals(rt: HostRuntime) -> Result<(), Fail> {
+fn a_trigger_with_32_laterals_is_read(rt: HostRuntime) -> Result<(), Fail> {
     let workload = read_workload(rt.alloc(), &trigger(rt.alloc(), 32)?)?;
+    let Some(Op::Trigger { trigger }) = first_client(&workload, 0) else {
+        return Err("not a trigger".into());
+    };
+    assert_eq!(rt; trigger.moment, 7);
+    assert_eq!(rt; trigger.lead, TraceId(1));
+    assert_eq!(rt; trigger.laterals.len(), 32);
+    assert_eq!(rt; trigger.laterals.get(31), Some(TraceId(11)));
+    Ok(())
+}
+
+#[test]
+fn a_trigger_with_33_laterals_is_refused(rt: HostRuntime) -> Result<(), Fail> {
+    let text = trigger(rt.alloc(), 33)?;
+    expect_refusal(&rt, rt.alloc(), &text, 14, Reason::Count);
+    Ok(())
+}
+
+#[test]
+fn what_is_declared_is_read(rt: HostRuntime) -> Result<(), Fail> {
+    let workload = read_workload(rt.alloc(), &trigger(rt.alloc(), 1)?)?;
     assert_eq!(rt; workload.settings.triggers.len(), 1);
     assert_eq!(rt; workload.settings.autos.len(), 2);
     assert_eq!(rt; workload.clients.len(), 4);
-    let client = workload.clients.get(0).ok_or("no client")?;
-    match client.get(0).ok_or("no operation")? {
-        Op::Trigger { trigger } => {
-            assert_eq!(rt; trigger.moment, 7);
-            assert_eq!(rt; trigger.lead, TraceId(1));
-            assert_eq!(rt; trigger.laterals.len(), 32);
-            assert_eq!(rt; trigger.laterals.get(31), Some(TraceId(11)));
-        }
-        _ => assert!(rt; false, "not a trigger"),
-    }
-    expect_refusal(
-        &rt,
-        rt.alloc(),
-        &trigger(rt.alloc(), 33)?,
-        14,
-        Reason::Count,
-    );
     Ok(())
 }
