@@ -1,47 +1,13 @@
 //! What is the same in each run of a workload, whatever its threads decide.
 
-use crate::calls::{Row, assert_run, called};
+use crate::calls::{Row, assert_run};
 use crate::inputs::{
-    A_BUFFER_COMES_BACK, A_FULL_PAGE, A_TRIGGER_ALONE, AN_EMPTY_PAYLOAD, AN_EMPTY_SEGMENT, CRUMBS,
-    NO_OPERATIONS, NO_PINS, NO_TRACE, ONE_CLAIM, ONE_TOKEN, TWO_TRIGGERS,
+    A_BUFFER_COMES_BACK, A_FULL_PAGE, A_TRIGGER_ALONE, AN_EMPTY_PAYLOAD, CRUMBS, NO_PINS,
+    ONE_CLAIM, ONE_TOKEN, TWO_TRIGGERS,
 };
-use hs_base::OpenGate;
 use std::test::Fail;
 
-const ROWS: [Row; 11] = [
-    Row {
-        name: "no operations",
-        input: NO_OPERATIONS,
-        parts: &[
-            "journal 1 1 1
-draws 0 0
-log 0
-coordinator
-end
-reports 0
-ledger 0
-total 0 live 0 reported 0 null 0 evicted 0 abandoned 0
-done
-",
-        ],
-    },
-    Row {
-        name: "an empty segment",
-        input: AN_EMPTY_SEGMENT,
-        parts: &[
-            "journal 1 1 1
-draws 0 0
-log 0
-turn
-coordinator
-end
-reports 0
-ledger 0
-total 0 live 0 reported 0 null 0 evicted 0 abandoned 0
-done
-",
-        ],
-    },
+const ROWS: [Row; 9] = [
     Row {
         name: "an empty payload",
         input: AN_EMPTY_PAYLOAD,
@@ -239,20 +205,6 @@ fn reports_as_json(rt: HostRuntime) -> Result<(), Fail> {
         for line in words {
             assert_run(&rt, line, row)?;
         }
-    }
-    Ok(())
-}
-
-#[test]
-fn what_is_no_workload_is_not_run(rt: HostRuntime) -> Result<(), Fail> {
-    let table = [
-        ("", "refused line 1 Truncated\n"),
-        (NO_TRACE, "refused line 11 NoTrace\n"),
-    ];
-    for (input, wanted) in table {
-        let (status, written) = called(&rt, &["run"], input, &OpenGate)?;
-        assert_eq!(rt; status, 3);
-        assert_eq!(rt; written.as_slice(), wanted.as_bytes());
     }
     Ok(())
 }

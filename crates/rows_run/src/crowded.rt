@@ -5,18 +5,21 @@ use hs_base::OpenGate;
 use std::alloc::{AllocError, Global};
 use std::test::Fail;
 
-/// A workload in which each client has one record, of a trace of its own.
+/// A client with one record, of a trace of its own.
+fn push_client(alloc: Global, text: &mut String, node: u32, client: u32) -> Result<(), AllocError> {
+    let trace = 16 * u64::from(node) + u64::from(client);
+    let lines = format!(in alloc; "client {node} {client}\nbegin {trace:016x}\npoint 1 aa\nend\n")?;
+    text.push_str(lines.as_str())
+}
+
+/// A workload of such clients.
 fn segments(alloc: Global, nodes: u32, clients: u32, buffers: u32) -> Result<String, AllocError> {
     let mut text = format!(in alloc;
         "hindsight 1\nnodes {nodes}\nclients {clients}\nbuffers {buffers}\nsize 64\nthreshold {buffers}\ntraces 8\npins 4\nstride 16\n"
     )?;
     for node in 0..nodes {
         for client in 0..clients {
-            let trace = 16 * u64::from(node) + u64::from(client);
-            let lines = format!(in alloc;
-                "client {node} {client}\nbegin {trace:016x}\npoint 1 aa\nend\n"
-            )?;
-            text.push_str(lines.as_str())?;
+            push_client(alloc, &mut text, node, client)?;
         }
     }
     text.push_str("done\n")?;
@@ -45,8 +48,7 @@ const TABLE: [([u32; 3], &str); 3] = [
 fn many_threads_at_once(rt: HostRuntime) -> Result<(), Fail> {
     for ([nodes, clients, buffers], total) in TABLE {
         let input = segments(rt.alloc(), nodes, clients, buffers)?;
-        let (status, written) = called(&rt, &["run"], input.as_str(), &OpenGate)?;
-        assert_eq!(rt; status, 0);
+        let written = called(&rt, &["run"], input.as_str(), &OpenGate)?;
         assert!(rt; written.ends_with(total.as_bytes()));
         let text = str::from_utf8(&written).ok().ok_or("a text")?;
         let again = checked(&rt, input.as_str(), text)?;

@@ -1,34 +1,5 @@
 //! Workloads that are run.
 
-/// Nobody does anything.
-pub(crate) const NO_OPERATIONS: &str = "hindsight 1
-nodes 1
-clients 1
-buffers 4
-size 64
-threshold 4
-traces 8
-pins 4
-stride 16
-client 0 0
-done
-";
-
-pub(crate) const AN_EMPTY_SEGMENT: &str = "hindsight 1
-nodes 1
-clients 1
-buffers 4
-size 64
-threshold 4
-traces 8
-pins 4
-stride 16
-client 0 0
-begin 0000000000000001
-end
-done
-";
-
 pub(crate) const AN_EMPTY_PAYLOAD: &str = "hindsight 1
 nodes 1
 clients 1
@@ -62,21 +33,6 @@ point 101 00112233445566778899
 point 102 00112233445566778899
 end
 done
-";
-
-/// The input of a client ends before its first trace.
-pub(crate) const NO_TRACE: &str = "hindsight 1
-nodes 1
-clients 1
-buffers 4
-size 64
-threshold 4
-traces 8
-pins 4
-stride 16
-client 0 0
-point 1 aa
-zzz
 ";
 
 /// The only buffer comes back before the second draw: four rounds lie between its chunk and that draw.
