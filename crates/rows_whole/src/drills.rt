@@ -1,16 +1,13 @@
 //! Drills: one line for a made workload.
 
-use crate::calls::{Streams, WHOLE, called};
-use hs_workload::{Op, Workload, read_workload};
+use crate::calls::{BLIND, called};
+use crate::made::made;
+use hs_workload::{Op, Workload};
 use std::alloc::{AllocError, Global};
+use std::marker::Sync;
+use std::process::Abort;
 use std::test::Fail;
-
-/// A source that fails at once, since a drill reads nothing.
-const BLIND: Streams<'static> = Streams {
-    most: 1 << 20,
-    read_fails: &[0],
-    write_fails: &[],
-};
+use std::thread::Threads;
 
 /// The numbers of a line, in order.
 fn numbers(alloc: Global, line: &str) -> Result<Vec<u64>, AllocError> {
@@ -36,30 +33,52 @@ fn points(workload: &Workload) -> u64 {
     count
 }
 
-/// A drill writes one total line, twice the same. It counts the points of the workload that `make` writes, and its five fates
-/// sum to them.
+/// The sum of these numbers.
+fn sum(numbers: &[u64]) -> u64 {
+    let mut sum: u64 = 0;
+    for number in numbers {
+        sum = sum.saturating_add(*number);
+    }
+    sum
+}
+
+/// The line that a drill of this seed and size writes, which reads nothing.
+fn drilled<R: Threads + Sync + AllocGlobal + Abort>(
+    rt: &R,
+    seed: &str,
+    size: &str,
+) -> Result<String, Fail> {
+    let (status, line) = called(rt, &["drill", seed, size], &[], &BLIND)?;
+    assert_eq!(rt; status, 0);
+    let text = str::from_utf8(&line).ok().ok_or("a text")?;
+    assert!(rt; text.starts_with("total ") && text.lines().count() == 1);
+    Ok(text.to_string(rt.alloc())?)
+}
+
+/// Seeds and sizes.
+const TABLE: [[&str; 2]; 4] = [["7", "3"], ["0", "1"], ["1", "1000"], ["1", "10000"]];
+
+/// A drill counts the points of the workload that `make` writes, and its five fates sum to them.
 #[test]
 fn drills_count_the_records(rt: HostRuntime) -> Result<(), Fail> {
-    let alloc = rt.alloc();
-    let table: [[&str; 2]; 4] = [["7", "3"], ["0", "1"], ["1", "1000"], ["1", "10000"]];
-    for [seed, size] in table {
-        let (status, line) = called(&rt, &["drill", seed, size], &[], &BLIND)?;
-        assert_eq!(rt; status, 0);
-        let (_, again) = called(&rt, &["drill", seed, size], &[], &BLIND)?;
-        assert_eq!(rt; again.as_slice(), line.as_slice());
-        let (_, made) = called(&rt, &["make", seed, size], &[], &WHOLE)?;
-        let workload = read_workload(alloc, &made).ok().ok_or("a workload")?;
-        let text = str::from_utf8(&line).ok().ok_or("a text")?;
-        assert!(rt; text.starts_with("total "));
-        assert_eq!(rt; text.lines().count(), 1);
-        let counts = numbers(alloc, text)?;
+    for [seed, size] in TABLE {
+        let line = drilled(&rt, seed, size)?;
+        let workload = made(&rt, seed, size)?;
+        let counts = numbers(rt.alloc(), line.as_str())?;
         assert_eq!(rt; counts.len(), 6);
         assert_eq!(rt; counts.first().copied(), Some(points(&workload)));
-        let mut sum: u64 = 0;
-        for count in counts.iter().skip(1) {
-            sum = sum.saturating_add(*count);
-        }
-        assert_eq!(rt; Some(sum), counts.first().copied());
+        assert_eq!(rt; counts.first().copied(), counts.get(1..).map(sum));
+    }
+    Ok(())
+}
+
+/// A drill writes twice the same.
+#[test]
+fn drills_are_the_same_again(rt: HostRuntime) -> Result<(), Fail> {
+    for [seed, size] in TABLE {
+        let line = drilled(&rt, seed, size)?;
+        let again = drilled(&rt, seed, size)?;
+        assert_eq!(rt; line.as_str(), again.as_str());
     }
     Ok(())
 }

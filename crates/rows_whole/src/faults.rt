@@ -1,85 +1,139 @@
-//! Inputs that are too long, and streams that fail.
+//! Streams that fail: each call of the source in turn, and then each call of the sink.
 
-use crate::calls::{EXAMPLE, EXAMPLE_OUTPUT, Streams, called, replayed};
+use crate::calls::{EXAMPLE, EXAMPLE_OUTPUT, JOURNAL, Streams, called};
+use std::alloc::{AllocError, Global};
+use std::marker::Sync;
+use std::process::Abort;
 use std::test::Fail;
+use std::thread::Threads;
 
-const TOO_LONG: &str = "refused input longer than 16777216 bytes\n";
+/// The journal of the example without its turn.
+const NO_TURN: &str =
+    "journal 1 1 1\ndraws 0 0\ngot 0 0\nempty 1\nlog 0\nchunk 0\ncoordinator\nend\n";
 
-#[test]
-fn input_that_is_too_long(rt: HostRuntime) -> Result<(), Fail> {
-    let input = vec![in rt.alloc(); b'x'; 16_777_217]?;
-    let (status, written) = replayed(&rt, &input)?;
-    assert_eq!(rt; status, 7);
-    assert_eq!(rt; written.as_slice(), TOO_LONG.as_bytes());
-    Ok(())
+/// More calls than a stream gets here.
+const CALLS: u32 = 300;
+
+/// A call of the program over the example and a journal behind it, with what it ends with and writes where nothing fails.
+#[derive(Clone, Copy)]
+struct Row {
+    word: &'static str,
+    journal: &'static str,
+    status: u8,
+    output: &'static str,
+    /// The most bytes that a stream gives or takes at once.
+    most: usize,
+    /// How often the source is asked. The example has 221 bytes, its journal 75, that without a turn 70, and the end is asked for.
+    reads: u32,
 }
 
-/// The call behind that which gave one byte too many would fail. Nobody makes it: too much is told, and no fault.
-#[test]
-fn no_read_behind_too_much(rt: HostRuntime) -> Result<(), Fail> {
-    let input = vec![in rt.alloc(); b'x'; 16_777_217]?;
-    let streams = Streams {
-        most: 65_536,
-        read_fails: &[257],
-        write_fails: &[],
-    };
-    let (status, written) = called(&rt, &["replay"], &input, &streams)?;
-    assert_eq!(rt; status, 7);
-    assert_eq!(rt; written.as_slice(), TOO_LONG.as_bytes());
-    Ok(())
+const ROWS: [Row; 5] = [
+    Row {
+        word: "replay",
+        journal: "",
+        status: 0,
+        output: EXAMPLE_OUTPUT,
+        most: 1,
+        reads: 222,
+    },
+    Row {
+        word: "replay",
+        journal: "",
+        status: 0,
+        output: EXAMPLE_OUTPUT,
+        most: 10,
+        reads: 24,
+    },
+    Row {
+        word: "check",
+        journal: JOURNAL,
+        status: 0,
+        output: EXAMPLE_OUTPUT,
+        most: 10,
+        reads: 31,
+    },
+    Row {
+        word: "check",
+        journal: NO_TURN,
+        status: 8,
+        output: "unlawful L5\n",
+        most: 10,
+        reads: 31,
+    },
+    Row {
+        word: "check",
+        journal: "",
+        status: 3,
+        output: "refused journal line 1 Truncated\n",
+        most: 10,
+        reads: 24,
+    },
+];
+
+impl Row {
+    fn input(&self, alloc: Global) -> Result<String, AllocError> {
+        let journal = self.journal;
+        format!(in alloc; "{EXAMPLE}{journal}")
+    }
 }
 
-/// Each call of the source fails in turn, until a run meets no fault.
+/// Each call of the source fails in turn, until the program meets no fault. Answers how many it met.
+fn read_faults<R: Threads + Sync + AllocGlobal + Abort>(rt: &R, row: &Row) -> Result<u32, Fail> {
+    let input = row.input(rt.alloc())?;
+    for call in 0..CALLS {
+        let streams = Streams {
+            most: row.most.max(1),
+            read_fails: &[call],
+            write_fails: &[],
+        };
+        let (status, written) = called(rt, &[row.word], input.as_bytes(), &streams)?;
+        if status == row.status {
+            assert_eq!(rt; written.as_slice(), row.output.as_bytes());
+            return Ok(call);
+        }
+        assert_eq!(rt; status, 4, "{call}");
+        assert!(rt; written.is_empty(), "{call}");
+    }
+    Ok(CALLS)
+}
+
+/// The same for the sink. What was written by then begins the output.
+fn write_faults<R: Threads + Sync + AllocGlobal + Abort>(rt: &R, row: &Row) -> Result<u32, Fail> {
+    let input = row.input(rt.alloc())?;
+    for call in 0..CALLS {
+        let streams = Streams {
+            most: row.most.max(1),
+            read_fails: &[],
+            write_fails: &[call],
+        };
+        let (status, written) = called(rt, &[row.word], input.as_bytes(), &streams)?;
+        if status == row.status {
+            assert_eq!(rt; written.as_slice(), row.output.as_bytes());
+            return Ok(call);
+        }
+        assert_eq!(rt; status, 5, "{call}");
+        let whole = row.output.as_bytes();
+        assert_eq!(rt;
+            Some(written.as_slice()),
+            whole.get(..row.most * call as usize)
+        );
+    }
+    Ok(CALLS)
+}
+
 #[test]
 fn each_read_fails(rt: HostRuntime) -> Result<(), Fail> {
-    for most in [1, 10] {
-        let mut faults = 0u32;
-        for call in 0..300 {
-            let fails = [call];
-            let streams = Streams {
-                most,
-                read_fails: &fails,
-                write_fails: &[],
-            };
-            let (status, written) = called(&rt, &["replay"], EXAMPLE.as_bytes(), &streams)?;
-            if status == 0 {
-                assert_eq!(rt; written.as_slice(), EXAMPLE_OUTPUT.as_bytes());
-                break;
-            }
-            assert_eq!(rt; status, 4, "{call}");
-            assert_eq!(rt; written.len(), 0);
-            faults = faults.saturating_add(1);
-        }
-        // 221 bytes and the end are read in as many calls as they need
-        assert_eq!(rt; faults, if most == 1 { 222 } else { 24 });
+    for row in &ROWS {
+        assert_eq!(rt; read_faults(&rt, row)?, row.reads);
     }
     Ok(())
 }
 
-/// Each call of the sink fails in turn, until a run meets no fault.
 #[test]
 fn each_write_fails(rt: HostRuntime) -> Result<(), Fail> {
-    let output = EXAMPLE_OUTPUT.as_bytes();
-    for most in [1, 10] {
-        let mut faults = 0u32;
-        for call in 0..300 {
-            let fails = [call];
-            let streams = Streams {
-                most,
-                read_fails: &[],
-                write_fails: &fails,
-            };
-            let (status, written) = called(&rt, &["replay"], EXAMPLE.as_bytes(), &streams)?;
-            if status == 0 {
-                assert_eq!(rt; written.as_slice(), output);
-                break;
-            }
-            assert_eq!(rt; status, 5, "{call}");
-            assert!(rt; output.starts_with(&written), "{call}");
-            assert_eq!(rt; written.len(), most * call as usize);
-            faults = faults.saturating_add(1);
-        }
-        assert!(rt; faults > 1);
+    for row in &ROWS {
+        let writes = row.output.len().div_ceil(row.most);
+        assert_eq!(rt; write_faults(&rt, row)? as usize, writes);
     }
     Ok(())
 }

@@ -1,32 +1,22 @@
-//! Tables over the top call: what it writes and answers for whole inputs, words and faults, and for the greatest
-//! workloads and the least; and over the text of an outcome.
+//! The top call where no file can show it: words that are no command, streams that fail, inputs that are cut or too long, made
+//! workloads, and the greatest ones. What a text comes to as another text stands in `examples/` and `cases/`.
 #![tactic(auto)]
 
 #[cfg(test)]
-mod agents;
-#[cfg(test)]
 mod calls;
 #[cfg(test)]
-mod checking;
-#[cfg(test)]
-mod clauses;
+mod cut;
 #[cfg(test)]
 mod drills;
 #[cfg(test)]
 mod faults;
 #[cfg(test)]
-mod json;
+mod long;
 #[cfg(test)]
-mod pages;
+mod made;
 #[cfg(test)]
 mod realistic;
 #[cfg(test)]
-mod refusals;
-#[cfg(test)]
-mod row;
-#[cfg(test)]
 mod size;
-#[cfg(test)]
-mod together;
 #[cfg(test)]
 mod words;

@@ -1,11 +1,8 @@
 //! A workload as an operator may have it: three nodes of four clients each, and one slow request among 1,600.
 
-use crate::calls::{WHOLE, called, replayed};
+use crate::calls::{assert_lawful, outcome};
 use std::alloc::{AllocError, Global};
-use std::marker::Sync;
-use std::process::Abort;
 use std::test::Fail;
-use std::thread::Threads;
 
 const HEAD: &str = "hindsight 1
 nodes 3
@@ -31,6 +28,20 @@ const REQUESTS: u32 = 400;
 /// The request that is slow at client 0 of node 0.
 const SLOW: u32 = 300;
 
+/// Pushes so many records of this moment.
+fn push_points(
+    alloc: Global,
+    text: &mut String,
+    moment: u64,
+    count: u32,
+) -> Result<(), AllocError> {
+    let line = format!(in alloc; "point {moment} {PAYLOAD}\n")?;
+    for _point in 0..count {
+        text.push_str(line.as_str())?;
+    }
+    Ok(())
+}
+
 /// What a request does at a client: records, a crumb to the next node, and at node 0 a sample of how long it took.
 fn push_request(
     alloc: Global,
@@ -39,22 +50,18 @@ fn push_request(
     client: u32,
     request: u32,
 ) -> Result<(), AllocError> {
-    let trace = format!(in alloc; "{client:012x}{request:04x}")?;
     let moment = u64::from(request) * 1000;
-    text.push_str(format!(in alloc; "begin {trace}\n")?.as_str())?;
-    for _point in 0..2 + u32::from(node) {
-        text.push_str(format!(in alloc; "point {moment} {PAYLOAD}\n")?.as_str())?;
-    }
-    if node == 0 {
-        let value = if client == 0 && request == SLOW {
-            5000
-        } else {
-            1000
-        };
-        text.push_str(format!(in alloc; "crumb 1\nsample {moment} 0 {value}\n")?.as_str())?;
-    } else if node == 1 {
-        text.push_str("crumb 2\n")?;
-    }
+    let begin = format!(in alloc; "begin {client:012x}{request:04x}\n")?;
+    text.push_str(begin.as_str())?;
+    push_points(alloc, text, moment, 2 + u32::from(node))?;
+    let is_slow = client == 0 && request == SLOW;
+    let value = if is_slow { 5000 } else { 1000 };
+    let crumb = match node {
+        0 => format!(in alloc; "crumb 1\nsample {moment} 0 {value}\n")?,
+        1 => "crumb 2\n".to_string(alloc)?,
+        _ => String::new(alloc),
+    };
+    text.push_str(crumb.as_str())?;
     text.push_str("end\n")
 }
 
@@ -72,47 +79,39 @@ fn workload(alloc: Global) -> Result<String, AllocError> {
     Ok(text)
 }
 
-/// The reports of the slow request and of the eight before it, whole, from all nodes.
+/// The records of a request, from all nodes.
+fn push_report(alloc: Global, text: &mut String, request: u32) -> Result<(), AllocError> {
+    text.push_str(format!(in alloc; "report {request:016x}\n")?.as_str())?;
+    for node in 0u32..3 {
+        let each = 2 + node;
+        for point in 0..each {
+            let record = request * each + point;
+            let line = format!(in alloc; "{node} 0 {record} {request}000 {PAYLOAD}\n")?;
+            text.push_str(line.as_str())?;
+        }
+    }
+    Ok(())
+}
+
+/// The reports of the slow request and of the eight before it, whole.
 fn reports(alloc: Global) -> Result<String, AllocError> {
     let mut text = String::from_str(alloc, "reports 9\n")?;
     for request in SLOW - 8..SLOW + 1 {
-        text.push_str(format!(in alloc; "report {request:016x}\n")?.as_str())?;
-        for node in 0u32..3 {
-            let each = 2 + node;
-            for point in 0..each {
-                let record = request * each + point;
-                let line = format!(in alloc; "{node} 0 {record} {request}000 {PAYLOAD}\n")?;
-                text.push_str(line.as_str())?;
-            }
-        }
+        push_report(alloc, &mut text, request)?;
     }
     text.push_str("ledger 14400\n")?;
     Ok(text)
 }
 
-/// Behind its workload the output is lawful, and checking it writes it again.
-fn assert_lawful<R: Threads + Sync + AllocGlobal + Abort>(
-    rt: &R,
-    input: &str,
-    output: &str,
-) -> Result<(), Fail> {
-    let both = format!(in rt.alloc(); "{input}{output}")?;
-    let (status, written) = called(rt, &["check"], both.as_str().as_bytes(), &WHOLE)?;
-    assert_eq!(rt; status, 0);
-    assert!(rt; written.as_slice() == output.as_bytes());
-    Ok(())
-}
-
 #[test]
 fn the_slow_request_is_reported(rt: HostRuntime) -> Result<(), Fail> {
     let input = workload(rt.alloc())?;
-    let (status, written) = replayed(&rt, input.as_bytes())?;
-    assert_eq!(rt; status, 0);
+    let written = outcome(&rt, &["replay"], input.as_bytes())?;
     let text = str::from_utf8(&written).ok().ok_or("a text")?;
     assert!(rt; text.ends_with(TOTAL));
     let wanted = reports(rt.alloc())?;
     assert!(rt; text.contains(wanted.as_str()));
-    assert_lawful(&rt, input.as_str(), text)
+    assert_lawful(&rt, input.as_str(), &written)
 }
 
 /// The total lines that a run may have. The nodes are asked one after another, a few rounds apart, so the oldest of the nine
@@ -128,18 +127,22 @@ const TOTALS: [&str; 8] = [
     "total 14400 live 432 reported 78 null 0 evicted 13890 abandoned 0\ndone\n",
 ];
 
-/// The nine traces are reported of a run too, and as much is live at the end.
-#[test]
-fn the_slow_request_is_reported_of_a_run(rt: HostRuntime) -> Result<(), Fail> {
-    let input = workload(rt.alloc())?;
-    let (status, written) = called(&rt, &["run"], input.as_bytes(), &WHOLE)?;
-    assert_eq!(rt; status, 0);
-    let text = str::from_utf8(&written).ok().ok_or("a text")?;
-    assert!(rt; text.contains("\nreports 9\n"));
+/// Whether a text ends with one of them.
+fn ends_with_a_total(text: &str) -> bool {
     let mut found = false;
     for total in TOTALS {
         found = found || text.ends_with(total);
     }
-    assert!(rt; found);
-    assert_lawful(&rt, input.as_str(), text)
+    found
+}
+
+/// The nine traces are reported of a run too, and as much is live at the end.
+#[test]
+fn the_slow_request_is_reported_of_a_run(rt: HostRuntime) -> Result<(), Fail> {
+    let input = workload(rt.alloc())?;
+    let written = outcome(&rt, &["run"], input.as_bytes())?;
+    let text = str::from_utf8(&written).ok().ok_or("a text")?;
+    assert!(rt; text.contains("\nreports 9\n"));
+    assert!(rt; ends_with_a_total(text));
+    assert_lawful(&rt, input.as_str(), &written)
 }

@@ -1,6 +1,6 @@
 //! The greatest workload.
 
-use crate::calls::{WHOLE, called, replayed};
+use crate::calls::{assert_lawful, outcome};
 use std::alloc::{AllocError, Global};
 use std::test::Fail;
 
@@ -41,14 +41,11 @@ fn draws(alloc: Global) -> Result<String, AllocError> {
 fn log(alloc: Global) -> Result<String, AllocError> {
     let mut text = String::new(alloc);
     for round in 0..4096u32 {
-        let chunks = if round == 0 {
-            15
-        } else if round < 64 {
-            16
-        } else if round == 64 {
-            1
-        } else {
-            0
+        let chunks = match round {
+            0 => 15,
+            1..64 => 16,
+            64 => 1,
+            _ => 0,
         };
         for _chunk in 0..chunks {
             text.push_str("chunk 0\n")?;
@@ -74,16 +71,20 @@ fn ledger(alloc: Global) -> Result<String, AllocError> {
     Ok(text)
 }
 
+/// All that the replay writes.
+fn whole(alloc: Global) -> Result<String, AllocError> {
+    let mut text = draws(alloc)?;
+    text.push_str(log(alloc)?.as_str())?;
+    text.push_str(ledger(alloc)?.as_str())?;
+    Ok(text)
+}
+
 /// 262,144 operations of one client have 262,142 records.
 #[test]
 fn most_operations_are_replayed(rt: HostRuntime) -> Result<(), Fail> {
-    let alloc = rt.alloc();
-    let input = workload(alloc)?;
-    let (status, written) = replayed(&rt, input.as_bytes())?;
-    assert_eq!(rt; status, 0);
-    let mut wanted = draws(alloc)?;
-    wanted.push_str(log(alloc)?.as_str())?;
-    wanted.push_str(ledger(alloc)?.as_str())?;
+    let input = workload(rt.alloc())?;
+    let written = outcome(&rt, &["replay"], input.as_bytes())?;
+    let wanted = whole(rt.alloc())?;
     assert!(rt; written.as_slice() == wanted.as_bytes());
     Ok(())
 }
@@ -91,28 +92,17 @@ fn most_operations_are_replayed(rt: HostRuntime) -> Result<(), Fail> {
 /// The journal of the replay is lawful, and comes to the same.
 #[test]
 fn most_operations_are_checked(rt: HostRuntime) -> Result<(), Fail> {
-    let alloc = rt.alloc();
-    let mut wanted = draws(alloc)?;
-    wanted.push_str(log(alloc)?.as_str())?;
-    wanted.push_str(ledger(alloc)?.as_str())?;
-    let mut input = workload(alloc)?;
-    input.push_str(wanted.as_str())?;
-    let (status, written) = called(&rt, &["check"], input.as_bytes(), &WHOLE)?;
-    assert_eq!(rt; status, 0);
-    assert!(rt; written.as_slice() == wanted.as_bytes());
-    Ok(())
+    let input = workload(rt.alloc())?;
+    let wanted = whole(rt.alloc())?;
+    assert_lawful(&rt, input.as_str(), wanted.as_bytes())
 }
 
 /// The same come to the same in a run, but for when the agent took its chunks.
 #[test]
 fn most_operations_are_run(rt: HostRuntime) -> Result<(), Fail> {
-    let alloc = rt.alloc();
-    let input = workload(alloc)?;
-    let (status, written) = called(&rt, &["run"], input.as_bytes(), &WHOLE)?;
-    assert_eq!(rt; status, 0);
-    let first = draws(alloc)?;
-    assert!(rt; written.starts_with(first.as_bytes()));
-    let last = ledger(alloc)?;
-    assert!(rt; written.ends_with(last.as_bytes()));
+    let input = workload(rt.alloc())?;
+    let written = outcome(&rt, &["run"], input.as_bytes())?;
+    assert!(rt; written.starts_with(draws(rt.alloc())?.as_bytes()));
+    assert!(rt; written.ends_with(ledger(rt.alloc())?.as_bytes()));
     Ok(())
 }
