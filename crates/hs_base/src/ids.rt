@@ -4,7 +4,7 @@ use std::alloc::{AllocError, AllocFailed};
 use thiserror::Error;
 
 /// Want of memory.
-#[derive(Clone, Copy, Debug, PartialEq, Eq, Error)]
+#[derive(Clone, Copy, Debug, Error)]
 #[error("out of memory")]
 pub struct Memory;
 
@@ -30,7 +30,7 @@ pub struct Failed;
 pub struct TraceId(pub u128);
 
 /// A node, from 0.
-#[derive(Clone, Copy, Debug, PartialEq, Eq, PartialOrd, Ord, Hash)]
+#[derive(Clone, Copy, Debug, PartialEq, Eq)]
 pub struct NodeId(pub u16);
 
 /// A kind of trigger, from 1 to 64.
@@ -45,14 +45,14 @@ pub struct ClientId {
 }
 
 /// A record, by its client and its number among the client's records, from 0.
-#[derive(Clone, Copy, Debug, PartialEq, Eq, PartialOrd, Ord, Hash)]
+#[derive(Clone, Copy, Debug, PartialEq, Eq, Hash)]
 pub struct RecordId {
     pub client: ClientId,
     pub number: u32,
 }
 
 /// A trace's rank. Ranks are ordered by word, and equal words by trace.
-#[derive(Clone, Copy, Debug, PartialEq, Eq, PartialOrd, Ord)]
+#[derive(Clone, Copy, Debug, PartialEq, Eq)]
 pub struct Rank {
     pub word: u64,
     pub trace: u128,
@@ -60,7 +60,7 @@ pub struct Rank {
 
 /// A group: the node that admitted its trigger, and the trigger's number among those that this node
 /// admitted, from 0.
-#[derive(Clone, Copy, Debug, PartialEq, Eq, PartialOrd, Ord, Hash)]
+#[derive(Clone, Copy, Debug, PartialEq, Eq, Hash)]
 pub struct GroupId {
     pub node: u16,
     pub number: u32,

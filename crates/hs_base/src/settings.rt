@@ -4,7 +4,7 @@ use crate::ids::TriggerId;
 use crate::list::List;
 
 /// A trigger id with its rules. The rate is in tokens a second, the burst in tokens.
-#[derive(Clone, Copy, Debug, PartialEq, Eq)]
+#[derive(Clone, Copy)]
 pub struct TriggerRule {
     pub id: TriggerId,
     pub weight: u32,
@@ -14,7 +14,7 @@ pub struct TriggerRule {
 
 /// A trigger that fires by itself. A window is in samples, a share in hundredths of a percent
 /// (`docs/RULES.md`, "Autotriggers").
-#[derive(Clone, Copy, Debug, PartialEq, Eq)]
+#[derive(Clone, Copy)]
 pub enum AutoRule {
     Exception {
         trigger: TriggerId,

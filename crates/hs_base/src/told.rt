@@ -13,14 +13,14 @@ pub struct Group {
 }
 
 /// A hint that a trace went on to a node.
-#[derive(Clone, Copy, Debug, PartialEq, Eq)]
+#[derive(Clone, Copy, PartialEq, Eq)]
 pub struct Crumb {
     pub trace: TraceId,
     pub node: NodeId,
 }
 
 /// A trigger as a client sends it. The moment is in microseconds.
-#[derive(Clone, Copy, Debug, PartialEq, Eq)]
+#[derive(Clone, Copy, PartialEq, Eq)]
 pub struct Trigger {
     pub moment: u64,
     pub trigger: TriggerId,
@@ -29,7 +29,7 @@ pub struct Trigger {
 }
 
 /// What the coordinator asks an agent: to claim the group's lead and laterals.
-#[derive(Clone, Copy, Debug, PartialEq, Eq)]
+#[derive(Clone, Copy, PartialEq, Eq)]
 pub struct Ask {
     pub group: Group,
     pub laterals: Laterals,
@@ -47,7 +47,7 @@ pub enum Why {
 }
 
 /// What an agent tells the coordinator: a group and the nodes to which crumbs of its traces lead.
-#[derive(Clone, Copy, Debug, PartialEq, Eq)]
+#[derive(Clone, Copy)]
 pub struct Told {
     pub group: Group,
     pub laterals: Laterals,
