@@ -3,7 +3,7 @@
 use hs_base::Laterals;
 
 /// Whether a sample fires, and with which laterals.
-#[derive(Clone, Copy, Debug, PartialEq, Eq)]
+#[derive(Clone, Copy, PartialEq, Eq)]
 pub enum Sampled {
     Quiet,
     Fired { laterals: Laterals },

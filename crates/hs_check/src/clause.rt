@@ -4,7 +4,7 @@ ghost use Rattle.std.specs.Prelude.{◌≡◌};
 ghost use Rattle.hs_check.specs.Clauses.{number_of, clause_word};
 
 /// A clause of the lawful journal (`docs/RULES.md`, "The lawful journal").
-#[derive(Clone, Copy, Debug, PartialEq, Eq)]
+#[derive(Clone, Copy)]
 pub enum Clause {
     /// The journal has the shape of the workload.
     L1,

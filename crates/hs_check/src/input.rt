@@ -6,7 +6,7 @@ ghost use Rattle.hs_check.specs.Parts.{part_through, workload_part, journal_part
 use hs_text::split_line;
 
 /// How many bytes the two parts of an input have. What stands behind them belongs to neither.
-#[derive(Clone, Copy, Debug, PartialEq, Eq)]
+#[derive(Clone, Copy)]
 pub struct Split {
     pub workload: usize,
     pub journal: usize,

@@ -13,7 +13,7 @@ pub struct FoundClient {
 }
 
 /// The page of a chunk, by its client's number at the node and its own there.
-#[derive(Clone, Copy, Debug, PartialEq, Eq)]
+#[derive(Clone, Copy)]
 pub struct FoundPage {
     pub client: u16,
     pub page: u32,

@@ -4,7 +4,7 @@ use crate::journal::{Draw, Step};
 use hs_base::{Bytes, ClientId, Fate, Group, List, NodeId, TraceId};
 
 /// A page of a client: its trace, the number of its first record and its count of pieces.
-#[derive(Clone, Copy, Debug, PartialEq, Eq)]
+#[derive(Clone, Copy, PartialEq, Eq)]
 pub struct PageNote {
     pub trace: TraceId,
     pub first: u32,
@@ -20,7 +20,7 @@ pub struct ClientBook {
 }
 
 /// What became of a client's page at its node's agent.
-#[derive(Clone, Copy, Debug, PartialEq, Eq)]
+#[derive(Clone, Copy)]
 pub struct Standing {
     pub client: ClientId,
     pub page: u32,
@@ -28,7 +28,7 @@ pub struct Standing {
 }
 
 /// A trace that a node claimed, and the group for which it did.
-#[derive(Clone, Copy, Debug, PartialEq, Eq)]
+#[derive(Clone, Copy)]
 pub struct Claim {
     pub trace: TraceId,
     pub group: Group,

@@ -3,7 +3,7 @@
 use hs_base::{List, NodeId};
 
 /// A client's draw from its node's pool, with its stamp: its place among the events of that pool.
-#[derive(Clone, Copy, Debug, PartialEq, Eq)]
+#[derive(Clone, Copy, PartialEq, Eq)]
 pub enum Draw {
     /// This buffer was got, from 0 to 1023.
     Got { buffer: u32, stamp: u64 },
@@ -12,7 +12,7 @@ pub enum Draw {
 }
 
 /// A step of an agent. A client is named by its number at the agent's node.
-#[derive(Clone, Copy, Debug, PartialEq, Eq)]
+#[derive(Clone, Copy, PartialEq, Eq)]
 pub enum Step {
     /// It took the client's next chunk.
     Chunk { client: u16 },

@@ -8,7 +8,7 @@ use crate::refusal::JournalReason;
 use hs_text::{Stop, Words, number_in};
 
 /// The numbers behind the first word of a line, with 0 in the place of one that it does not have.
-#[derive(Clone, Copy, Debug, PartialEq, Eq)]
+#[derive(Clone, Copy)]
 pub struct Numbers {
     pub first: u64,
     pub second: u64,

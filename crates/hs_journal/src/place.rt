@@ -1,7 +1,7 @@
 //! Where in a journal the next line stands.
 
 /// What the newest line began or went on with.
-#[derive(Clone, Copy, Debug, PartialEq, Eq)]
+#[derive(Clone, Copy)]
 pub enum Place {
     /// No line was read.
     Start,

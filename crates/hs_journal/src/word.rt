@@ -6,7 +6,7 @@ ghost use Rattle.hs_journal.specs.Statements.{number_count};
 use hs_text::Spelled;
 
 /// The first word of a line.
-#[derive(Clone, Copy, Debug, PartialEq, Eq)]
+#[derive(Clone, Copy)]
 pub enum Keyword {
     Journal,
     Draws,

@@ -15,7 +15,7 @@ use std::marker::Model;
 use std::sync::Arc;
 
 /// What became of an item that was sent.
-#[derive(Clone, Copy, Debug, PartialEq, Eq, Drop)]
+#[derive(Clone, Copy, Drop)]
 pub enum Sent {
     /// It lies in the ring, and nothing waits.
     Through,

@@ -8,7 +8,7 @@ use hs_ring::{Drawer, Lease};
 use hs_words::Held;
 
 /// What a call of a client answers.
-#[derive(Clone, Copy, Debug, PartialEq, Eq)]
+#[derive(Clone, Copy)]
 pub enum Called {
     /// It was done.
     Done,

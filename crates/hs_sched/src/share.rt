@@ -3,7 +3,7 @@
 use hs_base::TriggerId;
 
 /// A trigger id with its weight, and the bytes that it may send beyond the next visit's own.
-#[derive(Clone, Copy, Debug, PartialEq, Eq)]
+#[derive(Clone, Copy)]
 pub struct Share {
     pub trigger: TriggerId,
     pub weight: u32,

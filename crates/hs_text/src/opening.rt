@@ -11,7 +11,7 @@ use crate::stop::Stop;
 use crate::words::Words;
 
 /// The reasons for which a line is refused before its words are looked at, and for its first word.
-#[derive(Clone, Copy, Debug, PartialEq, Eq)]
+#[derive(Clone, Copy)]
 pub struct LineReasons<R> {
     /// A byte does not print.
     pub byte: R,

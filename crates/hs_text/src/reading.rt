@@ -11,7 +11,7 @@ use memchr::memchr;
 use std::alloc::Global;
 
 /// What is wrong with a line, whatever its words are.
-#[derive(Clone, Copy, Debug, PartialEq, Eq)]
+#[derive(Clone, Copy)]
 pub enum LineFault {
     /// It has a byte that does not print.
     Byte,

@@ -6,7 +6,7 @@ ghost use Rattle.hs_text.specs.declared.stop.Stop.TheVariants.{Memory as OutOfMe
 use hs_base::Memory;
 
 /// What ends the reading of a line: want of memory, or the reason for which the line is refused.
-#[derive(Clone, Copy, Debug, PartialEq, Eq)]
+#[derive(Clone, Copy)]
 pub enum Stop<R> {
     Memory,
     Fault(R),

@@ -9,7 +9,7 @@ use crate::reading::{count_words, hex_number, is_payload, number, payload_len, s
 use crate::stop::Stop;
 
 /// The words of a line that were not taken yet.
-#[derive(Clone, Copy, Debug)]
+#[derive(Clone, Copy)]
 pub struct Words<'a> {
     rest: Option<&'a [u8]>,
 }

@@ -8,7 +8,7 @@ use crate::refusal::Reason;
 use hs_text::{Stop, Words, number_in};
 
 /// Numbers of a line in their order, with 0 in the place of one that it does not have.
-#[derive(Clone, Copy, Debug, PartialEq, Eq)]
+#[derive(Clone, Copy)]
 pub struct Numbers {
     pub first: u64,
     pub second: u64,

@@ -11,7 +11,7 @@ use hs_base::limits::{
 use hs_text::Spelled;
 
 /// A number of the head, which stands on lines 1 to 9.
-#[derive(Clone, Copy, Debug, PartialEq, Eq)]
+#[derive(Clone, Copy)]
 pub enum Setting {
     Version,
     Nodes,
@@ -25,7 +25,7 @@ pub enum Setting {
 }
 
 /// The first word of a line.
-#[derive(Clone, Copy, Debug, PartialEq, Eq)]
+#[derive(Clone, Copy)]
 pub enum Keyword {
     Setting(Setting),
     TriggerId,
@@ -41,7 +41,7 @@ pub enum Keyword {
 }
 
 /// The kind of an autotrigger.
-#[derive(Clone, Copy, Debug, PartialEq, Eq)]
+#[derive(Clone, Copy)]
 pub enum Kind {
     Exception,
     Percentile,
