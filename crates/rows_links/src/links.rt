@@ -44,6 +44,18 @@ impl Numbered for Box<u32> {
     }
 }
 
+/// Flushes until at most `left` items wait.
+fn flush_down<T: Numbered, R: Wait>(rt: &R, sender: &mut Sender<T, Anything>, left: u32)
+    ensures { sender.new.link ≡ sender.old.link }
+{
+    for _ in rt.forever() {
+        if sender.flush() <= left {
+            break;
+        }
+        thread::yield_now();
+    }
+}
+
 /// Sends the numbers from 0 below `count`, and then flushes until at most `left` wait.
 fn send_numbers<T: Numbered, R: Wait>(
     rt: &R,
@@ -58,13 +70,25 @@ fn send_numbers<T: Numbered, R: Wait>(
     for number in 0..count {
         sender.send(T::of(alloc, number)?);
     }
+    flush_down(rt, &mut sender, left);
+    Ok(sender)
+}
+
+/// Waits for an item, and adds its number.
+fn receive_one<T: Numbered, R: Wait>(
+    rt: &R,
+    receiver: &mut Receiver<T, Anything>,
+    numbers: &mut Vec<u32>,
+) -> Result<(), AllocError>
+    ensures { receiver.new.link ≡ receiver.old.link }
+{
     for _ in rt.forever() {
-        if sender.flush() <= left {
-            break;
+        if let Some(item) = receiver.receive() {
+            return Ok(numbers.push(item.number())?);
         }
         thread::yield_now();
     }
-    Ok(sender)
+    Ok(())
 }
 
 /// Receives so many items, and gives their numbers.
@@ -78,13 +102,7 @@ fn receive_numbers<T: Numbered, R: Wait>(
 {
     let mut numbers = Vec::with_capacity(alloc, count as usize)?;
     for _ in 0..count {
-        for _ in rt.forever() {
-            if let Some(item) = receiver.receive() {
-                numbers.push(item.number())?;
-                break;
-            }
-            thread::yield_now();
-        }
+        receive_one(rt, &mut receiver, &mut numbers)?;
     }
     Ok((receiver, numbers))
 }
@@ -100,6 +118,20 @@ fn add_rest<T: Numbered>(
         }
     }
     Ok(())
+}
+
+/// Closes a link. Gives the numbers that were received, then those of the rest, and how many were left.
+fn close_link<T: Numbered>(
+    sender: Sender<T, Anything>,
+    receiver: Receiver<T, Anything>,
+    mut numbers: Vec<u32>,
+) -> Result<(Vec<u32>, u32), AllocError>
+    requires { sender.link ≡ receiver.link }
+{
+    let rest = close_both(sender, receiver);
+    let left = rest.left();
+    add_rest(rest, &mut numbers)?;
+    Ok((numbers, left))
 }
 
 /// Sends the numbers below `count` from one thread to another, which stops after `stop` of them, and closes the link.
@@ -127,27 +159,49 @@ fn exchange<T: Numbered, R: Threads + Wait + Sync>(
         { receive_numbers(rt, alloc, receiver, stop) },
     );
     let sender = sender?;
-    let (receiver, mut numbers) = received?;
-    let rest = close_both(sender, receiver);
-    let left = rest.left();
-    add_rest(rest, &mut numbers)?;
-    Ok((numbers, left))
+    let (receiver, numbers) = received?;
+    Ok(close_link(sender, receiver, numbers)?)
+}
+
+/// What two sends, two receives, a send and a receive answer.
+type Told = (Sent, Sent, Option<u8>, Option<u8>, Sent, Option<u8>);
+
+/// Sends a and b, receives twice, sends c and receives.
+fn tell(sender: &mut Sender<u8, Anything>, receiver: &mut Receiver<u8, Anything>) -> Told
+    requires { (sent sender.old ≡ []) × (sender.old.room ≡ 3) }
+    ensures { (sender.new.link ≡ sender.old.link) × (receiver.new.link ≡ receiver.old.link) }
+{
+    (
+        sender.send(b'a'),
+        sender.send(b'b'),
+        receiver.receive(),
+        receiver.receive(),
+        sender.send(b'c'),
+        receiver.receive(),
+    )
+}
+
+/// The next two items that are left, between how many there are before and after.
+fn tell_rest(mut rest: Rest<u8, Anything>) -> (u32, Option<u8>, Option<u8>, u32) {
+    (rest.left(), rest.next(), rest.next(), rest.left())
 }
 
 #[test]
 fn a_ring_of_one_entry_keeps_the_order(rt: HostRuntime) -> Result<(), Fail> {
     let (mut sender, mut receiver) = link::<u8, Anything>(rt.alloc(), 1, 3, &Anything)?;
-    assert!(rt; sender.send(b'a') == Sent::Through);
-    assert!(rt; sender.send(b'b') == Sent::Kept);
-    assert!(rt; receiver.receive() == Some(b'a'));
-    assert!(rt; receiver.receive() == None);
-    assert!(rt; sender.send(b'c') == Sent::Kept);
-    assert!(rt; receiver.receive() == Some(b'b'));
-    let mut rest = close_both(sender, receiver);
-    assert_eq!(rt; rest.left(), 1);
-    assert!(rt; rest.next() == Some(b'c'));
-    assert!(rt; rest.next() == None);
-    assert_eq!(rt; rest.left(), 0);
+    let told = tell(&mut sender, &mut receiver);
+    let left = tell_rest(close_both(sender, receiver));
+    assert!(rt;
+        told == (
+            Sent::Through,
+            Sent::Kept,
+            Some(b'a'),
+            None,
+            Sent::Kept,
+            Some(b'b')
+        )
+    );
+    assert_eq!(rt; left, (1, Some(b'c'), None, 0));
     Ok(())
 }
 
@@ -167,14 +221,24 @@ fn no_box_is_lost_or_doubled(rt: HostRuntime) -> Result<(), Fail> {
     Ok(())
 }
 
+/// How many items are left, and the first of them, where a link of one entry is closed unused.
+fn close_least(alloc: Global) -> Result<(u32, Option<u32>), Fail> {
+    let (sender, receiver) = link::<u32, Anything>(alloc, 1, 0, &Anything)?;
+    let mut rest = close_both(sender, receiver);
+    Ok((rest.left(), rest.next()))
+}
+
+/// The first of 262,144 numbers on a link of 64 entries, and how many are left behind it.
+fn close_great<R: Wait>(rt: &R, alloc: Global) -> Result<(Option<u32>, u32), Fail> {
+    let (sender, mut receiver) = link::<u32, Anything>(alloc, 64, 262_144, &Anything)?;
+    let sender = send_numbers(rt, alloc, sender, 262_144, 262_080)?;
+    let first = receiver.receive();
+    Ok((first, close_both(sender, receiver).left()))
+}
+
 #[test]
 fn links_of_the_least_and_of_a_great_size_are_made(rt: HostRuntime) -> Result<(), Fail> {
-    let (sender, receiver) = link::<u32, Anything>(rt.alloc(), 1, 0, &Anything)?;
-    let mut rest = close_both(sender, receiver);
-    assert!(rt; rest.left() == 0 && rest.next() == None);
-    let (sender, mut receiver) = link::<u32, Anything>(rt.alloc(), 64, 262_144, &Anything)?;
-    let sender = send_numbers(&rt, rt.alloc(), sender, 262_144, 262_080)?;
-    assert!(rt; receiver.receive() == Some(0));
-    assert_eq!(rt; close_both(sender, receiver).left(), 262_143);
+    assert_eq!(rt; close_least(rt.alloc())?, (0, None));
+    assert_eq!(rt; close_great(&rt, rt.alloc())?, (Some(0), 262_143));
     Ok(())
 }

@@ -1,8 +1,5 @@
 use Rattle.std.proofs.Common.{◌≡◌}
 use Rattle.rows_links.proofs.links.receive_numbers.Given as goal
 
-abbrev pub invariant-loop-2 : goal.invariant-loop-2
-invariant-loop-2 g l = l.receiver.link ≡ l.initial.receiver.link
-
 abbrev pub invariant-loop : goal.invariant-loop
 invariant-loop g l = l.receiver.link ≡ l.initial.receiver.link

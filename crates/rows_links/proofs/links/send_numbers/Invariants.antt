@@ -4,6 +4,3 @@ use Rattle.rows_links.proofs.links.send_numbers.Given as goal
 
 abbrev pub invariant-loop-number : goal.invariant-loop-number
 invariant-loop-number g l = (length (sent l.sender) ≡ l.number) × (l.sender.room ≡ l.initial.sender.room) × (l.sender.link ≡ l.initial.sender.link)
-
-abbrev pub invariant-loop : goal.invariant-loop
-invariant-loop g l = l.sender.link ≡ l.initial.sender.link
