@@ -1,15 +1,13 @@
 //! The program: the top call over standard input and output.
 #![tactic(auto)]
 
-mod streams;
-
 use hs_base::{Memory, OpenGate};
 use hs_cli::{Status, hindsight};
+use hs_streams::{StdinSource, StdoutSink};
 use std::env;
 use std::io::ErrorKind;
 use std::process::ExitCode;
 use std::rt::Env;
-use streams::{StdinSource, StdoutSink};
 
 fn main(rt: HostRuntime) -> ExitCode {
     let status = match words(&rt) {

@@ -2,15 +2,15 @@
 use Rattle.std.proofs.Common.{◌≡◌, ◌≤◌, ℕ, List, Option, length, sym, subst, arith}
 use Rattle.hs_base.specs.declared.limits.TheConstants.{MAX_INPUT}
 use Rattle.hs_records.specs.Plain.{PlainWorkload}
-use Rattle.hs_cli.specs.Input.{ReadWhole}
+use Rattle.hs_streams.specs.Input.{ReadWhole}
 use Rattle.hs_cli.specs.Answers.{IsSubject, IsFoundIn, IsAnswer}
 use Rattle.hs_cli.specs.Endings.{IsReader, IsAbout, AreParts, Due}
 use Rattle.hs_cli.specs.declared.answer.Subject.{Subject}
 use Rattle.hs_cli.specs.declared.answer.Subject.TheVariants.{Found, Refused, TooLong, Fault, NoMemory}
 use Rattle.hs_cli.specs.declared.command.Command.{Command}
 use Rattle.hs_cli.specs.declared.command.Command.TheVariants.{Replay, Run, Convert, Make, Drill, Check}
-use Rattle.hs_cli.specs.declared.status.Status.{Status}
-use Rattle.hs_cli.specs.declared.status.Status.TheVariants.{Done}
+use Rattle.hs_streams.specs.declared.status.Status.{Status}
+use Rattle.hs_streams.specs.declared.status.Status.TheVariants.{Done}
 
 -- a command that read its input is about what stands in it
 about_parts : (command : Command) (left left' : Option (List ℕ)) (input : List ℕ) (W : PlainWorkload) (journal : List ℕ) → IsReader command → ReadWhole left left' input

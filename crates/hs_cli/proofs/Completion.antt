@@ -1,5 +1,5 @@
 -- A command over a valid workload ends as it has to, where neither the source nor the sink failed.
-use Rattle.std.proofs.Common.{◌≡◌, ℕ, ◌≤◌, List, ◌++◌, length, Option, Some, None, ◌⊎◌, inl, inr, refl, sym, ap, subst, ◌∙◌, arith, append-nil, length-append}
+use Rattle.std.proofs.Common.{◌≡◌, ℕ, ◌≤◌, List, length, Option, Some, None, ◌⊎◌, inl, inr, refl, sym, ap, subst, ◌∙◌, arith}
 use Rattle.hs_base.specs.Outside.{Rose}
 use Rattle.hs_base.specs.declared.limits.TheConstants.{MAX_INPUT}
 use Rattle.hs_records.specs.Plain.{PlainWorkload}
@@ -10,29 +10,14 @@ use Rattle.hs_journal.specs.Views.{PlainJournal}
 use Rattle.hs_lawful.specs.Lawful.{IsLawful}
 use Rattle.hs_check.specs.Parts.{workload_part, journal_part}
 use Rattle.hs_cli.specs.Commands.{command_in}
-use Rattle.hs_cli.specs.Input.{ReadWhole, ReadBeyond}
-use Rattle.hs_cli.specs.Endings.{WillBeAbout, IsAbout, AreParts, IsRefused, RefusesWorkload, RefusesJournal, Due, ComesTo, Owes, Ends, workload_in}
+use Rattle.hs_streams.specs.Input.{ReadWhole, ReadBeyond}
+use Rattle.hs_streams.specs.Refusals.{IsRefused}
+use Rattle.hs_streams.proofs.Taking.{taken_whole, taken_beyond}
+use Rattle.hs_cli.specs.Endings.{WillBeAbout, IsAbout, AreParts, RefusesWorkload, RefusesJournal, Due, ComesTo, Owes, Ends, workload_in}
 use Rattle.hs_cli.specs.declared.command.Command.{Command}
 use Rattle.hs_cli.specs.declared.command.Command.TheVariants.{Replay, Run, Convert, Make, Drill, Check}
-use Rattle.hs_cli.specs.declared.status.Status.{Status}
-use Rattle.hs_cli.specs.declared.status.Status.TheVariants.{Done, Usage, Refused, ReadFault, WriteFault, Memory, TooLong, Unlawful}
-
--- a known input that was read whole is what was read
-taken_whole : (left left' : Option (List ℕ)) (input bytes : List ℕ) → left ≡ Some input → ReadWhole left left' bytes → bytes ≡ input
-taken_whole None left' input bytes is whole = cc
-taken_whole (Some known) None input bytes is whole = absurd whole.taken
-taken_whole (Some known) (Some rest) input bytes is whole =
-    let same : known ≡ input = cc in
-    sym (append-nil bytes) ∙ ap (λ more. bytes ++ more) (sym whole.end) ∙ sym whole.taken ∙ same
-
--- no more was read of it than it has
-taken_beyond : (left left' : Option (List ℕ)) (input bytes : List ℕ) → left ≡ Some input → ReadBeyond left left' bytes → length bytes ≤ length input
-taken_beyond None left' input bytes is beyond = cc
-taken_beyond (Some known) None input bytes is beyond = absurd beyond.taken
-taken_beyond (Some known) (Some rest) input bytes is beyond =
-    let same : known ≡ input = cc in
-    let size = ap length (sym same ∙ beyond.taken) ∙ length-append bytes rest in
-    omega (arith, size)
+use Rattle.hs_streams.specs.declared.status.Status.{Status}
+use Rattle.hs_streams.specs.declared.status.Status.TheVariants.{Done, Usage, Refused, ReadFault, WriteFault, Memory, TooLong, Unlawful}
 
 -- a workload's text is not refused
 text_reads : (command : Command) (left left' : Option (List ℕ)) (W : PlainWorkload) (journal bytes text : List ℕ) → ReadWhole left left' bytes → IsRefused (workload_in command bytes) text

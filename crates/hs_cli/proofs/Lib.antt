@@ -1,5 +1,3 @@
-pub mod Streams
-pub mod Lines
 pub mod Answering
 pub mod EndingLemmas
 pub mod Completion

@@ -4,9 +4,7 @@ use Rattle.std.specs.Prelude.{◌≡◌, ⊤, ◌⊎◌, ℕ, ◌≤◌, List, [
 use Rattle.hs_base.specs.Outside.{Rose, Gains}
 use Rattle.hs_base.specs.declared.limits.TheConstants.{MAX_INPUT}
 use Rattle.hs_records.specs.Plain.{PlainWorkload}
-use Rattle.hs_workload.specs.declared.refusal.Refusal.{Refusal}
 use Rattle.hs_workload.specs.Validity.{Reads}
-use Rattle.hs_workload.specs.Faults.{first_fault}
 use Rattle.hs_workload.specs.Grammar.{workload_text}
 use Rattle.hs_make.specs.Made.{made_workload}
 use Rattle.hs_journal.specs.declared.refusal.JournalRefusal.{JournalRefusal}
@@ -21,14 +19,15 @@ use Rattle.hs_outcome.specs.OutcomeText.{outcome_text, total_line}
 use Rattle.hs_outcome.specs.declared.form.Form.TheVariants.{Text as Lines}
 use Rattle.hs_text.specs.Text.{text_of}
 use Rattle.hs_check.specs.Parts.{workload_part, journal_part}
-use Rattle.hs_cli.specs.Input.{ReadWhole, ReadBeyond, ReadFront}
-use Rattle.hs_cli.specs.Written.{GainsFront}
+use Rattle.hs_streams.specs.Input.{ReadWhole, ReadBeyond, ReadFront}
+use Rattle.hs_streams.specs.Refusals.{IsRefused, too_long_text}
+use Rattle.hs_streams.specs.Written.{GainsFront}
 use Rattle.hs_cli.specs.Commands.{command_in}
-use Rattle.hs_cli.specs.Messages.{usage_text, too_long_text, refusal_text, journal_refusal_text, unlawful_text}
+use Rattle.hs_cli.specs.Messages.{usage_text, journal_refusal_text, unlawful_text}
 use Rattle.hs_cli.specs.declared.command.Command.{Command}
 use Rattle.hs_cli.specs.declared.command.Command.TheVariants.{Replay, Run, Convert, Make, Drill, Check}
-use Rattle.hs_cli.specs.declared.status.Status.{Status}
-use Rattle.hs_cli.specs.declared.status.Status.TheVariants.{Done, Usage, Refused, ReadFault, WriteFault, Memory, TooLong, Unlawful}
+use Rattle.hs_streams.specs.declared.status.Status.{Status}
+use Rattle.hs_streams.specs.declared.status.Status.TheVariants.{Done, Usage, Refused, ReadFault, WriteFault, Memory, TooLong, Unlawful}
 
 -- ---- what a command owes
 
@@ -96,13 +95,6 @@ ComesTo Check W journal Unlawful = (J : PlainJournal) × ReadsJournal journal J 
 ComesTo Check W journal Refused = (J : PlainJournal) → ¬ ReadsJournal journal J
 ComesTo Check W journal status = ⊥
 ComesTo command W journal status = status ≡ Done
-
--- The input is no workload, and this text names its first bad line with the line's first reason.
-pub record IsRefused (input text : List ℕ) : Type 0 where
-  pub refusal : Refusal
-  pub first : first_fault input ≡ Some refusal
-  pub no_workload : (W : PlainWorkload) → Reads input W → ⊥
-  pub told : text ≡ refusal_text refusal.line refusal.reason
 
 -- The text is no journal's, and this other one names its first bad line with the line's first reason.
 pub record IsRefusedJournal (journal text : List ℕ) : Type 0 where

@@ -7,22 +7,19 @@ ghost use Rattle.hs_workload.specs.Views.{workload_of};
 ghost use Rattle.hs_cli.specs.Commands.{IsSized};
 ghost use Rattle.hs_cli.specs.Endings.{IsReader, IsUntouched, workload_in, journal_in};
 ghost use Rattle.hs_cli.specs.Answers.{IsSubject, IsFoundIn, IsAnswer};
-ghost use Rattle.hs_cli.specs.Messages.{refusal_text};
-ghost use Rattle.hs_cli.specs.declared.status.Status.TheVariants.{Done};
+ghost use Rattle.hs_streams.specs.declared.status.Status.TheVariants.{Done};
 
 use crate::checking::judge;
 use crate::command::Command;
-use crate::reading::{Input, read_all};
-use crate::status::Status;
 use hs_base::{Bytes, Gate, Memory, Source};
 use hs_check::split_input;
+use hs_json::write_outcome;
 use hs_lockstep::laws::schedule_is_lawful;
 use hs_make::make_workload;
-use hs_replay::{replay, write_outcome, write_total};
+use hs_replay::{replay, write_total};
 use hs_run::run;
-use hs_workload::{
-    ReadError, Refusal, Workload, read_workload, versions_are_exchanged, write_workload,
-};
+use hs_streams::{Input, Status, read_all, refusal_line};
+use hs_workload::{ReadError, Workload, read_workload, versions_are_exchanged, write_workload};
 use std::alloc::Global;
 use std::marker::Sync;
 use std::thread::Threads;
@@ -115,15 +112,6 @@ fn found_in(alloc: Global, command: Command, input: &[u8]) -> Subject
         },
         Err(ReadError::Memory) => Subject::NoMemory,
     }
-}
-
-/// The text that names a bad line and its reason.
-fn refusal_line(alloc: Global, refusal: Refusal) -> Result<Vec<u8>, Memory>
-    ensures { IfOk result (λ line. line.items ≡ refusal_text refusal.line refusal.reason) }
-{
-    let line = refusal.line;
-    let reason = refusal.reason.word();
-    Ok(format!(in alloc; "refused line {line} {reason}\n")?.into_bytes())
 }
 
 /// The command is done, and this is its output.

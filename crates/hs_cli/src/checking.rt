@@ -11,12 +11,13 @@ ghost use Rattle.hs_cli.specs.Messages.{journal_refusal_text, unlawful_text};
 ghost use Rattle.hs_cli.specs.declared.command.Command.TheVariants.{Check};
 
 use crate::answer::Answer;
-use crate::status::Status;
 use hs_base::{Bytes, Memory};
 use hs_check::{Clause, Verdict, check};
 use hs_journal::{Journal, JournalError, JournalRefusal, read_journal};
+use hs_json::write_outcome;
 use hs_lawful::laws::lawful_is_decided;
-use hs_replay::{Form, write_outcome};
+use hs_outcome::Form;
+use hs_streams::Status;
 use hs_workload::Workload;
 use std::alloc::Global;
 

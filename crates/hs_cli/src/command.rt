@@ -9,12 +9,12 @@ use clap::error::ErrorKind;
 use clap::{Arg, ArgAction, ArgMatches, Command as Parser};
 use hs_base::Memory;
 use hs_base::limits::MAX_REQUESTS;
-use hs_replay::Form;
+use hs_outcome::Form;
 use hs_text::number;
 use std::alloc::Global;
 
 /// What a call is to do.
-#[derive(Clone, Copy, Debug, PartialEq, Eq)]
+#[derive(Clone, Copy)]
 pub enum Command {
     /// Replays the workload that it reads, and writes the outcome in this form.
     Replay { form: Form },

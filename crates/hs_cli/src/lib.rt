@@ -4,11 +4,8 @@
 mod answer;
 mod checking;
 mod command;
-mod reading;
-mod status;
 mod top;
-mod writing;
 
 pub use command::Command;
-pub use status::Status;
+pub use hs_streams::Status;
 pub use top::hindsight;

@@ -1,19 +1,17 @@
 //! The top call.
 
 ghost use Rattle.std.specs.Prelude.{◌≡◌, ◌<◌, ◌⊎◌, ℕ, List, map, string_bytes, Some, None};
-ghost use Rattle.hs_base.specs.Outside.{Rose, Gains};
+ghost use Rattle.hs_base.specs.Outside.{Rose};
 ghost use Rattle.hs_records.specs.Plain.{PlainWorkload};
 ghost use Rattle.hs_cli.specs.Commands.{command_in, IsSized};
-ghost use Rattle.hs_cli.specs.Input.{ReadFront};
-ghost use Rattle.hs_cli.specs.Written.{GainsFront};
+ghost use Rattle.hs_streams.specs.Input.{ReadFront};
 ghost use Rattle.hs_cli.specs.Endings.{Ends, EndsWith, Wrote, WroteFront, IsReader, IsUntouched, Reading, WillBeAbout, ComesTo};
 
 use crate::answer::{Subject, answer_for, subject_of};
 use crate::command::{Command, command_in};
-use crate::status::Status;
-use crate::writing::write_all;
 use hs_base::{Gate, Sink, Source};
 use hs_journal::laws::texts_have_one_journal;
+use hs_streams::{Status, finish, refuse_too_long};
 use hs_workload::one_workload_a_text;
 use std::alloc::Global;
 use std::marker::Sync;
@@ -22,20 +20,6 @@ use std::thread::Threads;
 /// What is written where the words are no command.
 const USAGE: &[u8] =
     b"usage: hindsight replay [--json] | run [--json] | run --watch | make SEED SIZE | drill SEED SIZE | convert | check | compare H B\n";
-
-/// What is written of an input that is too long.
-const TOO_LONG: &[u8] = b"refused input longer than 16777216 bytes\n";
-
-/// Writes a text, and answers the status that goes with it, or `WriteFault`.
-fn finish<K: Sink>(sink: &mut K, text: &[u8], status: Status) -> Status
-    ensures { (result ≡ status × (K.faults sink.new ≡ K.faults sink.old) × Gains (K.written sink.old) (K.written sink.new) text.now)
-        ⊎ (result ≡ Status.WriteFault × Rose (K.faults sink.old) (K.faults sink.new) × GainsFront (K.written sink.old) (K.written sink.new) text.now) }
-{
-    match write_all(sink, text) {
-        Ok(()) => status,
-        Err(_) => Status::WriteFault,
-    }
-}
 
 /// Does what a command says.
 fn carry_out<R: Threads + Sync, S: Source, K: Sink, G: Gate>(
@@ -59,7 +43,7 @@ fn carry_out<R: Threads + Sync, S: Source, K: Sink, G: Gate>(
             }
         }
         Subject::Refused(text) => finish(sink, &text, Status::Refused),
-        Subject::TooLong => finish(sink, TOO_LONG, Status::TooLong),
+        Subject::TooLong => refuse_too_long(sink),
         Subject::Fault => Status::ReadFault,
         Subject::NoMemory => Status::Memory,
     }

@@ -4,5 +4,5 @@
 mod books;
 mod replaying;
 
-pub use hs_report::{Form, Outcome, write_outcome, write_total};
+pub use hs_report::{Outcome, write_lines, write_total};
 pub use replaying::replay;

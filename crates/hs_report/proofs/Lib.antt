@@ -2,8 +2,6 @@ pub mod Basics
 pub mod Stable
 pub mod LedgerLines
 pub mod Loops
-pub mod Plain
-pub mod Spelled
 pub mod Claimed
 pub mod ByTrace
 pub mod Seen

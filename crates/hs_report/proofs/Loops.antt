@@ -11,7 +11,7 @@ use Rattle.hs_collect.specs.declared.records.TraceRecord.{TraceRecord}
 use Rattle.hs_ledger.specs.declared.ledger.Entry.{Entry}
 use Rattle.hs_ledger.specs.Totals.{is_reported}
 use Rattle.hs_outcome.specs.CollectedReports.{reported_wholes, was_reported}
-use Rattle.hs_outcome.specs.OutcomeText.{placed_line, gap_line, report_lines, placed_json, gap_json, report_json}
+use Rattle.hs_outcome.specs.OutcomeText.{placed_line, gap_line, report_lines}
 use Rattle.hs_text.specs.Text.{text_of}
 use Rattle.hs_report.specs.Sources.{report_by}
 
@@ -49,18 +49,9 @@ gap_lines version entries = text_of (map (gap_line version) (unreported entries)
 abbrev pub trace_lines : ℕ → List Entry → (TraceId → List Placed) → List TraceId → List ℕ
 trace_lines version entries records traces = text_of (flat_map (report_lines version) (map (report_by entries records) traces))
 
-abbrev pub record_items : List Entry → List TraceRecord → List (List ℕ)
-record_items entries records = map placed_json (reported_wholes entries (map placed_of records))
-
-abbrev pub gap_items : ℕ → List Entry → List (List ℕ)
-gap_items version entries = map (gap_json version) (unreported entries)
-
-abbrev pub report_items : ℕ → List Entry → (TraceId → List Placed) → List TraceId → List (List ℕ)
-report_items version entries records traces = map (report_json version) (map (report_by entries records) traces)
-
 -- ---- they join
 
-shown_joins : (entries : List Entry) (xs ys : List TraceRecord)
+pub shown_joins : (entries : List Entry) (xs ys : List TraceRecord)
     → reported_wholes entries (map placed_of (xs ++ ys)) ≡ reported_wholes entries (map placed_of xs) ++ reported_wholes entries (map placed_of ys)
 shown_joins entries xs ys =
     ap (λ t. reported_wholes entries t) (map-append placed_of xs ys) ∙ filter-append (λ (whole : Placed). was_reported entries whole.id) (map placed_of xs) (map placed_of ys)
@@ -72,7 +63,7 @@ pub record_lines_join : (entries : List Entry) → Joins (record_lines entries)
 record_lines_join entries xs ys =
     ap (λ t. text_of (map placed_line t)) (shown_joins entries xs ys) ∙ lines_join placed_line (reported_wholes entries (map placed_of xs)) (reported_wholes entries (map placed_of ys))
 
-unreported_join : (xs ys : List Entry) → unreported (xs ++ ys) ≡ unreported xs ++ unreported ys
+pub unreported_join : (xs ys : List Entry) → unreported (xs ++ ys) ≡ unreported xs ++ unreported ys
 unreported_join xs ys = filter-append (λ (entry : Entry). not (is_reported entry.fate)) xs ys
 
 pub gap_lines_join : (version : ℕ) → Joins (gap_lines version)
@@ -83,17 +74,6 @@ trace_lines_join version entries records xs ys =
     ap (λ t. text_of (flat_map (report_lines version) t)) (map-append (report_by entries records) xs ys)
     ∙ ap text_of (flat_map-append (report_lines version) (map (report_by entries records) xs) (map (report_by entries records) ys))
     ∙ flat_map-append (λ line. line ++ 10 ∷ []) (flat_map (report_lines version) (map (report_by entries records) xs)) (flat_map (report_lines version) (map (report_by entries records) ys))
-
-pub record_items_join : (entries : List Entry) → Joins (record_items entries)
-record_items_join entries xs ys =
-    ap (λ t. map placed_json t) (shown_joins entries xs ys) ∙ map-append placed_json (reported_wholes entries (map placed_of xs)) (reported_wholes entries (map placed_of ys))
-
-pub gap_items_join : (version : ℕ) → Joins (gap_items version)
-gap_items_join version xs ys = ap (λ t. map (gap_json version) t) (unreported_join xs ys) ∙ map-append (gap_json version) (unreported xs) (unreported ys)
-
-pub report_items_join : (version : ℕ) (entries : List Entry) (records : TraceId → List Placed) → Joins (report_items version entries records)
-report_items_join version entries records xs ys =
-    ap (λ t. map (report_json version) t) (map-append (report_by entries records) xs ys) ∙ map-append (report_json version) (map (report_by entries records) xs) (map (report_by entries records) ys)
 
 -- the lines of one trace
 pub one_report : (version : ℕ) (entries : List Entry) (records : TraceId → List Placed) (trace : TraceId) (now next : List ℕ) → next ≡ now ++ text_of (report_lines version (report_by entries records trace))

@@ -1,6 +1,7 @@
 -- The text of an outcome, by its parts.
-use Rattle.std.proofs.Common.{◌≡◌, ℕ, List, ◌++◌, map, sym, ap, ◌∙◌, refl}
-use Rattle.std.specs.List.{filter}
+use Rattle.std.proofs.Common.{◌≡◌, ℕ, List, [], ◌∷◌, ◌++◌, length, map, sym, ap, ◌∙◌, refl, append_assoc}
+use Rattle.std.specs.List.{filter, flat_map}
+use Rattle.std.proofs.lemmas.List.{length-map}
 use Rattle.hs_base.specs.declared.ids.TraceId.{TraceId}
 use Rattle.hs_collect.specs.Collected.{Placed}
 use Rattle.hs_journal.specs.Grammar.{journal_text}
@@ -9,21 +10,21 @@ use Rattle.hs_lawful.specs.Lawful.{IsLawful}
 use Rattle.hs_ledger.specs.declared.ledger.Entry.{Entry}
 use Rattle.hs_outcome.specs.CollectedReports.{CollectedRecordsAreWhole, reported_wholes}
 use Rattle.hs_outcome.specs.declared.form.Form.{Form}
+use Rattle.hs_outcome.specs.declared.form.Form.TheVariants.{Text}
 use Rattle.hs_outcome.specs.Outcomes.{outcome_of}
-use Rattle.hs_outcome.specs.OutcomeText.{reports_text, ledger_text, outcome_text}
+use Rattle.hs_outcome.specs.OutcomeText.{report_lines, reports_text, ledger_text, outcome_text}
 use Rattle.hs_outcome.specs.Reports.{report_of, reports_in}
 use Rattle.hs_records.specs.Plain.{PlainWorkload}
+use Rattle.hs_text.specs.Text.{text_of}
 use Rattle.hs_workload.specs.Validity.{IsValid}
 use Rattle.hs_report.specs.declared.fates.Fates.{Fates}
+use Rattle.hs_report.specs.declared.fates.Sorted.{Sorted}
 use Rattle.hs_report.specs.declared.outcome.Outcome.{Outcome}
 use Rattle.hs_report.specs.Fates.{AreFatesOf, has_entry}
 use Rattle.hs_report.specs.Outcomes.{IsOutcome}
+use Rattle.hs_report.specs.Sorted.{AreSorted, count_line, records_by}
 use Rattle.hs_report.specs.Sources.{Hold, report_by}
 use Rattle.hs_report.proofs.Shapes.{ends_its_traces}
-
--- the records that the reports show
-abbrev pub records_by : PlainWorkload → List Entry → TraceId → List Placed
-records_by W entries trace = (report_of W entries trace).records
 
 pub hold : CollectedRecordsAreWhole → (W : PlainWorkload) (J : PlainJournal) (outcome : Outcome) (fates : Fates) → IsValid W → IsLawful W J → IsOutcome W J outcome → AreFatesOf outcome.ledger.entries.items fates
     → Hold outcome.ledger.entries.items (records_by W outcome.ledger.entries.items) fates outcome.collector
@@ -37,15 +38,30 @@ hold whole W J outcome fates valid lawful is are =
           ∙ ap (λ entries. records_by W entries trace) (sym is.entries);
     }
 
-pub outcome_written : (W : PlainWorkload) (J : PlainJournal) (outcome : Outcome) (form : Form) (traces : List TraceId) (o1 o2 o3 : List ℕ) → IsOutcome W J outcome
-    → traces ≡ filter (has_entry outcome.ledger.entries.items) outcome.claimed.items → o1 ≡ journal_text (journal_of outcome.journal)
-    → o2 ≡ o1 ++ reports_text outcome.version form (map (report_by outcome.ledger.entries.items (records_by W outcome.ledger.entries.items)) traces)
+-- the reports of the traces that were found are those of the workload and the journal
+pub reports_are : (W : PlainWorkload) (J : PlainJournal) (outcome : Outcome) (traces : List TraceId) → IsOutcome W J outcome
+    → traces ≡ filter (has_entry outcome.ledger.entries.items) outcome.claimed.items
+    → map (report_by outcome.ledger.entries.items (records_by W outcome.ledger.entries.items)) traces ≡ reports_in W (outcome_of W J)
+reports_are W J outcome traces is found =
+    ap (λ ts. map (report_of W outcome.ledger.entries.items) ts) (found ∙ ap (λ ts. filter (has_entry outcome.ledger.entries.items) ts) is.claimed)
+    ∙ ap (λ entries. map (report_of W entries) (filter (has_entry entries) (outcome_of W J).claimed)) is.entries
+
+-- the line that counts them, and their lines
+pub counted_lines : (version : ℕ) (entries : List Entry) (records : TraceId → List Placed) (traces : List TraceId)
+    → (count_line (length traces) ++ 10 ∷ []) ++ text_of (flat_map (report_lines version) (map (report_by entries records) traces)) ≡ reports_text version Text (map (report_by entries records) traces)
+counted_lines version entries records traces =
+    ap (λ n. (count_line n ++ 10 ∷ []) ++ text_of (flat_map (report_lines version) (map (report_by entries records) traces))) (sym (length-map traces (report_by entries records)))
+
+-- the journal, the line that counts the reports, the reports and the ledger are the whole text
+pub text_written : (W : PlainWorkload) (J : PlainJournal) (outcome : Outcome) (form : Form) (sorted : Sorted) (o1 o2 o3 body : List ℕ) → IsOutcome W J outcome → AreSorted W J outcome sorted
+    → o1 ≡ journal_text (journal_of outcome.journal) ++ (count_line (length sorted.traces.items) ++ 10 ∷ []) → o2 ≡ o1 ++ body
+    → (count_line (length sorted.traces.items) ++ 10 ∷ []) ++ body
+    ≡ reports_text outcome.version form (map (report_by outcome.ledger.entries.items (records_by W outcome.ledger.entries.items)) sorted.traces.items)
     → o3 ≡ o2 ++ ledger_text outcome.version outcome.ledger.entries.items outcome.ledger.totals → o3 ≡ outcome_text W J form
-outcome_written W J outcome form traces o1 o2 o3 is found e1 e2 e3 =
+text_written W J outcome form sorted o1 o2 o3 body is are e1 e2 whole e3 =
     let o = outcome_of W J in
-    let reports = ap (λ ts. map (report_of W outcome.ledger.entries.items) ts) (found ∙ ap (λ ts. filter (has_entry outcome.ledger.entries.items) ts) is.claimed)
-    ∙ ap (λ entries. map (report_of W entries) (filter (has_entry entries) o.claimed)) is.entries in
-    let second = ap (λ rs. reports_text outcome.version form rs) reports ∙ ap (λ v. reports_text v form (reports_in W o)) is.version in
-    let third = ap (λ v. ledger_text v outcome.ledger.entries.items outcome.ledger.totals) is.version ∙ ap (λ es. ledger_text W.version es outcome.ledger.totals) is.entries ∙ ap (λ ts. ledger_text W.version o.entries ts) is.totals in
-    e3 ∙ ap (λ t. t ++ ledger_text outcome.version outcome.ledger.entries.items outcome.ledger.totals) (e2 ∙ ap (λ t. t ++ reports_text outcome.version form (map (report_of W outcome.ledger.entries.items) traces)) (e1 ∙ ap journal_text is.journal))
-    ∙ ap (λ t. (journal_text J ++ t) ++ ledger_text outcome.version outcome.ledger.entries.items outcome.ledger.totals) second ∙ ap (λ t. (journal_text J ++ reports_text W.version form (reports_in W o)) ++ t) third
+    let head = count_line (length sorted.traces.items) ++ 10 ∷ [] in
+    let reports = whole ∙ ap (λ rs. reports_text outcome.version form rs) are.reports ∙ ap (λ v. reports_text v form (reports_in W o)) is.version in
+    let ledger = ap (λ v. ledger_text v outcome.ledger.entries.items outcome.ledger.totals) is.version ∙ ap (λ es. ledger_text W.version es outcome.ledger.totals) is.entries ∙ ap (λ ts. ledger_text W.version o.entries ts) is.totals in
+    let front = e2 ∙ ap (λ t. t ++ body) (e1 ∙ ap (λ j. journal_text j ++ head) is.journal) ∙ append_assoc (journal_text J) head body ∙ ap (λ t. journal_text J ++ t) reports in
+    e3 ∙ ap (λ t. t ++ ledger_text outcome.version outcome.ledger.entries.items outcome.ledger.totals) front ∙ ap (λ t. (journal_text J ++ reports_text W.version form (reports_in W o)) ++ t) ledger

@@ -4,6 +4,6 @@ pub mod Fates
 pub mod Claims
 pub mod Journals
 pub mod Sources
-pub mod Json
 pub mod Fitting
 pub mod Examples
+pub mod Sorted

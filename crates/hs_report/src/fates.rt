@@ -17,13 +17,21 @@ use std::collections::HashSet;
 
 /// The entries of each trace, and the records that were reported.
 #[derive(Drop)]
-pub(crate) struct Fates {
+pub struct Fates {
     by_trace: Vec<Entry>,
     reported: HashSet<RecordId>,
 }
 
+/// What the reports of an outcome are written from, beside its collector.
+#[derive(Drop)]
+pub struct Sorted {
+    pub fates: Fates,
+    /// The traces that have a report, rising.
+    pub traces: Vec<TraceId>,
+}
+
 /// Whether this fate is that of a reported record.
-pub(crate) fn is_reported(fate: Fate) -> bool
+pub fn is_reported(fate: Fate) -> bool
     ensures { result ≡ reported_by fate }
 {
     matches!(fate, Fate::Reported { .. })
@@ -62,7 +70,7 @@ impl Fates {
     }
 
     /// The entries of a trace.
-    pub(crate) fn of(&self, trace: TraceId) -> &[Entry]
+    pub fn of(&self, trace: TraceId) -> &[Entry]
         ensures { (entries : List Entry) → AreFatesOf entries self.now → result.now ≡ filter (is_of trace) entries }
     {
         let start = self
@@ -81,7 +89,7 @@ impl Fates {
     }
 
     /// Whether this record was reported.
-    pub(crate) fn was_reported(&self, id: RecordId) -> bool
+    pub fn was_reported(&self, id: RecordId) -> bool
         ensures { (entries : List Entry) → AreFatesOf entries self.now → result ≡ was_reported entries id }
     {
         self.reported.contains(&id)

@@ -48,8 +48,8 @@ fn push_entry(out: &mut Vec<u8>, version: u8, entry: &Entry) -> Result<(), Memor
     Ok(())
 }
 
-/// Appends the words of a fate.
-pub(crate) fn push_fate(out: &mut Vec<u8>, version: u8, fate: &Fate) -> Result<(), Memory>
+/// Appends the words of a fate. The one error is want of memory.
+pub fn push_fate(out: &mut Vec<u8>, version: u8, fate: &Fate) -> Result<(), Memory>
     ensures { OnOk result (out.new.items ≡ out.old.items ++ line_of (fate_words version fate.now)) }
 {
     match fate {

@@ -1,8 +1,7 @@
-//! What a run came to: an outcome, from the books of its clients and agents, and its text
-//! (`docs/RULES.md`, "The ledger" and "Reports"; `docs/FORMATS.md`, "The outcome").
+//! What a run came to: an outcome, from the books of its clients and agents, and its text in lines, with the parts of this
+//! text that its other form has too (`docs/RULES.md`, "The ledger" and "Reports"; `docs/FORMATS.md`, "The outcome").
 #![tactic(auto)]
 
-mod as_json;
 mod claims;
 mod fates;
 mod gathering;
@@ -13,8 +12,9 @@ mod pages;
 mod text;
 mod writing;
 
+pub use fates::{Fates, Sorted, is_reported};
 pub use gathering::gather;
-pub use hs_outcome::Form;
 pub use laws::journals_can_be_read;
+pub use ledger::push_fate;
 pub use outcome::{Books, Outcome};
-pub use writing::{write_outcome, write_total};
+pub use writing::{close_text, open_text, sort_out, write_lines, write_total};

@@ -1,29 +1,26 @@
 //! The text of an outcome.
 
-ghost use Rattle.std.specs.Prelude.{◌≡◌, [], ◌∷◌, ◌++◌, List, filter, map, IfOk, OnOk};
-ghost use Rattle.hs_base.specs.declared.ids.TraceId.{TraceId};
-ghost use Rattle.hs_collect.specs.Collected.{Placed};
-ghost use Rattle.hs_journal.specs.Views.{PlainJournal};
+ghost use Rattle.std.specs.Prelude.{◌≡◌, [], ◌∷◌, ◌++◌, List, filter, IfOk, OnOk};
+ghost use Rattle.hs_journal.specs.Grammar.{journal_text};
+ghost use Rattle.hs_journal.specs.Views.{PlainJournal, journal_of};
 ghost use Rattle.hs_lawful.specs.Lawful.{IsLawful};
 ghost use Rattle.hs_ledger.specs.declared.ledger.Entry.{Entry};
-ghost use Rattle.hs_outcome.specs.OutcomeText.{outcome_text, reports_text, total_line};
+ghost use Rattle.hs_outcome.specs.OutcomeText.{ledger_text, outcome_text, total_line};
+ghost use Rattle.hs_outcome.specs.declared.form.Form.TheVariants.{Text};
 ghost use Rattle.hs_records.specs.Plain.{PlainWorkload};
 ghost use Rattle.hs_report.specs.Fates.{AreFatesOf, has_entry};
 ghost use Rattle.hs_report.specs.Outcomes.{IsOutcome};
-ghost use Rattle.hs_report.specs.Sources.{Hold, report_by};
+ghost use Rattle.hs_report.specs.Sorted.{AreSorted, count_line};
 ghost use Rattle.hs_text.specs.Text.{text_of};
 ghost use Rattle.hs_workload.specs.Validity.{IsValid};
 
-use crate::as_json::push_json;
-use crate::fates::Fates;
+use crate::fates::{Fates, Sorted};
 use crate::laws::journals_can_be_read;
 use crate::ledger::{push_ledger, push_totals};
 use crate::outcome::Outcome;
 use crate::text::push_reports;
 use hs_base::{Bytes, Memory, TraceId};
-use hs_collect::Collector;
 use hs_journal::write_journal;
-use hs_outcome::Form;
 use hs_outcome::laws::collected_records_are_whole;
 use hs_text::{end_line, push_spaced_number};
 use std::alloc::Global;
@@ -56,53 +53,61 @@ fn reported_traces(
     Ok(traces)
 }
 
-/// Appends the reports of these traces behind the line that counts them.
-fn push_form(
-    out: &mut Vec<u8>,
-    alloc: Global,
-    form: Form,
-    version: u8,
-    fates: &Fates,
-    collector: &Collector,
-    traces: &[TraceId],
-) -> Result<(), Memory>
-    ensures { OnOk result ((entries : List Entry) (records : TraceId → List Placed) → Hold entries records fates.now collector.now
-        → out.new.items ≡ out.old.items ++ reports_text version form (map (report_by entries records) traces.now)) }
+/// The entries of an outcome by trace, and the traces that have a report. Sorting the entries is all that takes more than one pass.
+/// The one error is want of memory.
+pub fn sort_out(alloc: Global, outcome: &Outcome) -> Result<Sorted, Memory>
+    ensures { IfOk result (λ sorted. (W : PlainWorkload) (J : PlainJournal) → IsValid W → IsLawful W J → IsOutcome W J outcome.now
+        → AreSorted W J outcome.now sorted) }
 {
-    out.extend_from_slice(b"reports")?;
-    push_spaced_number(out, traces.len() as u64)?;
-    end_line(out)?;
-    match form {
-        Form::Text => push_reports(out, version, fates, collector, traces),
-        Form::Json => push_json(out, alloc, version, fates, collector, traces),
-    }
+    collected_records_are_whole();
+    let fates = Fates::make(alloc, outcome.ledger.entries.as_slice())?;
+    let traces = reported_traces(alloc, &fates, outcome.claimed.as_slice())?;
+    Ok(Sorted { fates, traces })
 }
 
-/// The text of an outcome: its journal, its reports and its ledger (`docs/FORMATS.md`, "The outcome"). Sorting
-/// the entries by trace is all that takes more than one pass. The one error is want of memory.
-pub fn write_outcome(alloc: Global, outcome: &Outcome, form: Form) -> Result<Bytes, Memory>
+/// The front of an outcome's text: its journal, and the line that counts the reports. The one error is want of memory.
+pub fn open_text(alloc: Global, outcome: &Outcome, count: usize) -> Result<Vec<u8>, Memory>
+    // Some valid workload and some lawful journal of it come to this outcome.
+    requires { (W : PlainWorkload) × (J : PlainJournal) × IsValid W × IsLawful W J × IsOutcome W J outcome.now }
+    ensures { IfOk result (λ out. out.items ≡ journal_text (journal_of outcome.now.journal) ++ (count_line count ++ 10 ∷ [])) }
+{
+    journals_can_be_read();
+    let mut out = write_journal(alloc, &outcome.journal)?.into_vec();
+    out.extend_from_slice(b"reports")?;
+    push_spaced_number(&mut out, count as u64)?;
+    end_line(&mut out)?;
+    Ok(out)
+}
+
+/// The whole of an outcome's text, from all of it in front of the ledger. The one error is want of memory.
+pub fn close_text(front: Vec<u8>, outcome: &Outcome) -> Result<Bytes, Memory>
+    ensures { IfOk result (λ bytes. bytes.items
+        ≡ front.items ++ ledger_text outcome.now.version outcome.now.ledger.entries.items outcome.now.ledger.totals) }
+{
+    let mut out = front;
+    push_ledger(&mut out, outcome.version, &outcome.ledger)?;
+    Ok(Bytes::from_vec(out))
+}
+
+/// The text of an outcome in lines: its journal, its reports and its ledger (`docs/FORMATS.md`, "The outcome"). The one error is
+/// want of memory.
+pub fn write_lines(alloc: Global, outcome: &Outcome) -> Result<Bytes, Memory>
     // Some valid workload and some lawful journal of it come to this outcome.
     requires { (W : PlainWorkload) × (J : PlainJournal) × IsValid W × IsLawful W J × IsOutcome W J outcome.now }
     ensures { IfOk result (λ bytes. (W : PlainWorkload) (J : PlainJournal) → IsValid W → IsLawful W J → IsOutcome W J outcome.now
-        → bytes.items ≡ outcome_text W J form) }
+        → bytes.items ≡ outcome_text W J Text) }
 {
-    collected_records_are_whole();
-    journals_can_be_read();
-    let version = outcome.version;
-    let fates = Fates::make(alloc, outcome.ledger.entries.as_slice())?;
-    let traces = reported_traces(alloc, &fates, outcome.claimed.as_slice())?;
-    let mut out = write_journal(alloc, &outcome.journal)?.into_vec();
-    push_form(
+    let sorted = sort_out(alloc, outcome)?;
+    let traces = sorted.traces.as_slice();
+    let mut out = open_text(alloc, outcome, traces.len())?;
+    push_reports(
         &mut out,
-        alloc,
-        form,
-        version,
-        &fates,
+        outcome.version,
+        &sorted.fates,
         &outcome.collector,
-        traces.as_slice(),
+        traces,
     )?;
-    push_ledger(&mut out, version, &outcome.ledger)?;
-    Ok(Bytes::from_vec(out))
+    close_text(out, outcome)
 }
 
 /// The total line of an outcome alone. The one error is want of memory.

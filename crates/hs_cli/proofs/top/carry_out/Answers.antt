@@ -2,8 +2,8 @@ use Rattle.std.proofs.Common.{List, ℕ, inl, refl, sym, subst}
 use Rattle.hs_workload.specs.Views.{workload_of}
 use Rattle.hs_cli.specs.Answers.{IsAnswer}
 use Rattle.hs_cli.specs.Endings.{IsAbout, RefusesWorkload}
-use Rattle.hs_cli.specs.Messages.{too_long_text}
-use Rattle.hs_cli.specs.declared.status.Status.TheVariants.{Refused, TooLong}
+use Rattle.hs_streams.specs.Refusals.{too_long_text}
+use Rattle.hs_streams.specs.declared.status.Status.TheVariants.{Refused, TooLong}
 use Rattle.hs_cli.proofs.EndingLemmas.{answered, finished}
 use Rattle.hs_cli.proofs.top.carry_out.Goals as goal
 
@@ -31,4 +31,4 @@ returns-in-Refused-clause-ends g c =
 pub returns-in-TooLong-clause-ends : goal.returns-in-TooLong-clause-ends
 returns-in-TooLong-clause-ends g c =
     let (reader, (input, beyond), still) = c.in-TooLong.ensures.subject in
-    finished c.args.command _ _ _ _ _ _ _ _ TooLong c.finish-in-TooLong.result too_long_text (reader, (input, beyond, refl)) still c.finish-in-TooLong.ensures
+    finished c.args.command _ _ _ _ _ _ _ _ TooLong c.refuse_too_long.result too_long_text (reader, (input, beyond, refl)) still c.refuse_too_long.ensures

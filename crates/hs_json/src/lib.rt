@@ -1,0 +1,8 @@
+//! The text of an outcome in either form: in lines, or with its reports as one line of JSON (`docs/FORMATS.md`, "The outcome").
+#![tactic(auto)]
+
+mod values;
+mod writing;
+
+pub use hs_outcome::Form;
+pub use writing::write_outcome;

@@ -1,0 +1,50 @@
+//! The text of an outcome in either form.
+
+ghost use Rattle.std.specs.Prelude.{◌≡◌, IfOk};
+ghost use Rattle.hs_journal.specs.Views.{PlainJournal};
+ghost use Rattle.hs_lawful.specs.Lawful.{IsLawful};
+ghost use Rattle.hs_outcome.specs.OutcomeText.{outcome_text};
+ghost use Rattle.hs_outcome.specs.declared.form.Form.TheVariants.{Json};
+ghost use Rattle.hs_records.specs.Plain.{PlainWorkload};
+ghost use Rattle.hs_report.specs.Outcomes.{IsOutcome};
+ghost use Rattle.hs_workload.specs.Validity.{IsValid};
+
+use crate::values::push_json;
+use hs_base::{Bytes, Memory};
+use hs_outcome::Form;
+use hs_report::{Outcome, close_text, open_text, sort_out, write_lines};
+use std::alloc::Global;
+
+/// The text of an outcome with its reports as JSON.
+fn write_json(alloc: Global, outcome: &Outcome) -> Result<Bytes, Memory>
+    requires { (W : PlainWorkload) × (J : PlainJournal) × IsValid W × IsLawful W J × IsOutcome W J outcome.now }
+    ensures { IfOk result (λ bytes. (W : PlainWorkload) (J : PlainJournal) → IsValid W → IsLawful W J → IsOutcome W J outcome.now
+        → bytes.items ≡ outcome_text W J Json) }
+{
+    let sorted = sort_out(alloc, outcome)?;
+    let traces = sorted.traces.as_slice();
+    let mut out = open_text(alloc, outcome, traces.len())?;
+    push_json(
+        &mut out,
+        alloc,
+        outcome.version,
+        &sorted.fates,
+        &outcome.collector,
+        traces,
+    )?;
+    close_text(out, outcome)
+}
+
+/// The text of an outcome: its journal, its reports and its ledger (`docs/FORMATS.md`, "The outcome"). Sorting
+/// the entries by trace is all that takes more than one pass. The one error is want of memory.
+pub fn write_outcome(alloc: Global, outcome: &Outcome, form: Form) -> Result<Bytes, Memory>
+    // Some valid workload and some lawful journal of it come to this outcome.
+    requires { (W : PlainWorkload) × (J : PlainJournal) × IsValid W × IsLawful W J × IsOutcome W J outcome.now }
+    ensures { IfOk result (λ bytes. (W : PlainWorkload) (J : PlainJournal) → IsValid W → IsLawful W J → IsOutcome W J outcome.now
+        → bytes.items ≡ outcome_text W J form) }
+{
+    match form {
+        Form::Text => write_lines(alloc, outcome),
+        Form::Json => write_json(alloc, outcome),
+    }
+}

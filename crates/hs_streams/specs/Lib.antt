@@ -1,0 +1,5 @@
+pub mod Input
+pub mod Reading
+pub mod Written
+pub mod Statuses
+pub mod Refusals

@@ -1,0 +1,54 @@
+-- What each status says of a call: of what it took from its source and of what its sink gained. `left`, `written` and the faults of
+-- source and sink are before and after the call.
+use Rattle.std.specs.Prelude.{◌≡◌, ℕ, List, Option}
+use Rattle.hs_base.specs.Outside.{Rose, Gains}
+use Rattle.hs_journal.specs.Views.{PlainJournal}
+use Rattle.hs_lawful.specs.Lawful.{IsLawful}
+use Rattle.hs_lockstep.specs.Lockstep.{lockstep}
+use Rattle.hs_outcome.specs.OutcomeText.{outcome_text}
+use Rattle.hs_outcome.specs.declared.form.Form.TheVariants.{Text as Lines}
+use Rattle.hs_records.specs.Plain.{PlainWorkload}
+use Rattle.hs_streams.specs.Input.{ReadWhole, ReadBeyond, ReadFront}
+use Rattle.hs_streams.specs.Refusals.{IsRefused, too_long_text}
+use Rattle.hs_streams.specs.Written.{GainsFront}
+use Rattle.hs_streams.specs.declared.status.Status.{Status}
+use Rattle.hs_streams.specs.declared.status.Status.TheVariants.{Done, Usage, Refused, ReadFault, WriteFault, Memory, TooLong, Unlawful}
+use Rattle.hs_workload.specs.Validity.{Reads}
+
+-- The text is the outcome of the workload and a journal that is lawful for it, and this journal is that of the lockstep schedule.
+abbrev pub Due : PlainWorkload → List ℕ → Type 0
+Due W text = (J : PlainJournal) × IsLawful W J × (J ≡ lockstep W) × (text ≡ outcome_text W J Lines)
+
+-- Of an input that was read whole this status is due, with this text.
+abbrev pub IsAnswer : (input : List ℕ) → Status → List ℕ → Type 0
+IsAnswer input Done text = (W : PlainWorkload) × Reads input W × Due W text
+IsAnswer input Refused text = IsRefused input text
+IsAnswer input status text = ⊥
+
+-- Before anything is written, this status is due, with this text.
+abbrev pub IsDue : (left left' : Option (List ℕ)) → Status → List ℕ → Type 0
+IsDue left left' TooLong text = (input : List ℕ) × ReadBeyond left left' input × (text ≡ too_long_text)
+IsDue left left' status text = (input : List ℕ) × ReadWhole left left' input × IsAnswer input status text
+
+-- This status was due, and its text was written whole.
+abbrev pub Wrote : (left left' written written' : Option (List ℕ)) → Status → Type 0
+Wrote left left' written written' status = (text : List ℕ) × IsDue left left' status text × Gains written written' text
+
+-- Some status was due, and of its text a front was written.
+abbrev pub WroteFront : (left left' written written' : Option (List ℕ)) → Type 0
+WroteFront left left' written written' = (status : Status) × (text : List ℕ) × IsDue left left' status text × GainsFront written written' text
+
+-- Neither the source nor the sink failed.
+abbrev pub NoneFailed : (source source' sink sink' : ℕ) → Type 0
+NoneFailed source source' sink sink' = (source' ≡ source) × (sink' ≡ sink)
+
+-- what a status says
+abbrev pub Ends : (left left' written written' : Option (List ℕ)) (source source' sink sink' : ℕ) → Status → Type 0
+Ends left left' written written' source source' sink sink' Done = NoneFailed source source' sink sink' × Wrote left left' written written' Done
+Ends left left' written written' source source' sink sink' Refused = NoneFailed source source' sink sink' × Wrote left left' written written' Refused
+Ends left left' written written' source source' sink sink' TooLong = NoneFailed source source' sink sink' × Wrote left left' written written' TooLong
+Ends left left' written written' source source' sink sink' ReadFault = Rose source source' × (sink' ≡ sink) × (written' ≡ written) × ((input : List ℕ) × ReadFront left left' input)
+Ends left left' written written' source source' sink sink' WriteFault = (source' ≡ source) × Rose sink sink' × WroteFront left left' written written'
+Ends left left' written written' source source' sink sink' Memory = NoneFailed source source' sink sink' × (written' ≡ written)
+Ends left left' written written' source source' sink sink' Usage = ⊥
+Ends left left' written written' source source' sink sink' Unlawful = ⊥
