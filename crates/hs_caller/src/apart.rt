@@ -1,6 +1,6 @@
 //! What the clients of a node leave when all their operations are done.
 
-ghost use Rattle.std.specs.Prelude.{◌≡◌, map, IfOk};
+ghost use Rattle.std.specs.Prelude.{◌≡◌, ◌∷◌, ◌++◌, [], map, IfOk, OnOk};
 ghost use Rattle.std.specs.List.{AllByRecursion};
 ghost use Rattle.hs_journal.specs.Books.{client_book_of};
 ghost use Rattle.hs_live.specs.Live.{outgoing};
@@ -12,7 +12,7 @@ use crate::caller::Caller;
 use hs_base::{Crumb, List, Memory, Trigger};
 use hs_journal::ClientBook;
 use hs_link::Sender;
-use hs_live::ClientKey;
+use hs_live::{ClientKey, Closed};
 use hs_ring::{Drawer, Lease};
 use hs_words::Held;
 use std::alloc::Global;
@@ -25,6 +25,24 @@ pub struct Apart {
     pub chunks: List<Sender<Held<Lease>, ClientKey>>,
     pub crumbs: List<Sender<Crumb, ClientKey>>,
     pub triggers: List<Sender<Trigger, ClientKey>>,
+}
+
+impl Apart {
+    /// What a closed client noted, and its ends, go behind those of the others.
+    fn add(&mut self, closed: Closed) -> Result<(), Memory>
+        ensures books { OnOk result (self.new.books.items ≡ self.old.books.items ++ closed.book ∷ []) }
+        ensures drawers { OnOk result (self.new.drawers.items ≡ self.old.drawers.items ++ closed.drawer ∷ []) }
+        ensures chunks { OnOk result (self.new.chunks.items ≡ self.old.chunks.items ++ closed.chunks ∷ []) }
+        ensures crumbs { OnOk result (self.new.crumbs.items ≡ self.old.crumbs.items ++ closed.crumbs ∷ []) }
+        ensures triggers { OnOk result (self.new.triggers.items ≡ self.old.triggers.items ++ closed.triggers ∷ []) }
+    {
+        self.books.append(closed.book)?;
+        self.drawers.append(closed.drawer)?;
+        self.chunks.append(closed.chunks)?;
+        self.crumbs.append(closed.crumbs)?;
+        self.triggers.append(closed.triggers)?;
+        Ok(())
+    }
 }
 
 /// Takes clients apart that have done all their operations.
@@ -45,11 +63,7 @@ pub fn take_apart(alloc: Global, callers: List<Caller>) -> Result<Apart, Memory>
     };
     for caller in callers.into_vec() {
         let closed = caller.close();
-        apart.books.append(closed.book)?;
-        apart.drawers.append(closed.drawer)?;
-        apart.chunks.append(closed.chunks)?;
-        apart.crumbs.append(closed.crumbs)?;
-        apart.triggers.append(closed.triggers)?;
+        apart.add(closed)?;
     }
     Ok(apart)
 }

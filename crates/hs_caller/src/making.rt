@@ -4,17 +4,18 @@ ghost use Rattle.std.specs.Prelude.{map, IfOk};
 ghost use Rattle.hs_base.specs.Rules.{AreAutoRules};
 ghost use Rattle.hs_records.specs.Plain.{settings_of};
 ghost use Rattle.hs_workload.specs.Views.{operation_of};
+ghost use Rattle.hs_link.specs.Contents.{AreNewEnds};
 ghost use Rattle.hs_player.specs.Places.{IsPlayable};
 ghost use Rattle.hs_caller.specs.Making.{IsConnected, AreNewFor};
 ghost use Rattle.hs_caller.specs.Standing.{IsDrawerFor};
 
-use crate::amounts::amounts_of;
+use crate::amounts::{Amounts, amounts_of};
 use crate::caller::Caller;
 use hs_auto::Auto;
 use hs_base::limits::MAX_TAKEN;
 use hs_base::{ClientId, Crumb, List, Memory, Settings, Trigger};
 use hs_client::ClientCore;
-use hs_link::{Receiver, link};
+use hs_link::{Receiver, Sender, link};
 use hs_live::{Client, ClientKey};
 use hs_ring::{Drawer, Giver, Lease};
 use hs_words::Held;
@@ -48,33 +49,63 @@ impl Caller {
     {
         let amounts = amounts_of(settings.size, operations);
         let key = ClientKey::new(client, giver, settings.nodes, &settings.triggers);
-        let (chunks, chunk_end) = link::<Held<Lease>, ClientKey>(
-            alloc,
-            MAX_TAKEN,
-            amounts.calls,
-            &key,
-        )?;
-        let (crumbs, crumb_end) = link::<Crumb, ClientKey>(alloc, MAX_TAKEN, amounts.crumbs, &key)?;
-        let (triggers, trigger_end) = link::<Trigger, ClientKey>(
-            alloc,
-            MAX_TAKEN,
-            amounts.triggers,
-            &key,
-        )?;
         let autos = autos_of(alloc, settings)?;
         let core = ClientCore::make(alloc, client, settings.size, amounts.calls)?;
-        let client = Client::make(core, autos, drawer, chunks, crumbs, triggers);
+        let links = links_of(alloc, &amounts, &key)?;
+        let client = Client::make(
+            core,
+            autos,
+            drawer,
+            links.chunks,
+            links.crumbs,
+            links.triggers,
+        );
         Ok(Connected {
             caller: Caller {
                 client,
                 actor,
                 done: 0,
             },
-            chunks: chunk_end,
-            crumbs: crumb_end,
-            triggers: trigger_end,
+            chunks: links.chunk_end,
+            crumbs: links.crumb_end,
+            triggers: links.trigger_end,
         })
     }
+}
+
+/// The ends of a client's links at the client and at its agent.
+#[derive(Drop)]
+struct Links {
+    chunks: Sender<Held<Lease>, ClientKey>,
+    chunk_end: Receiver<Held<Lease>, ClientKey>,
+    crumbs: Sender<Crumb, ClientKey>,
+    crumb_end: Receiver<Crumb, ClientKey>,
+    triggers: Sender<Trigger, ClientKey>,
+    trigger_end: Receiver<Trigger, ClientKey>,
+}
+
+/// New links for these amounts of operations.
+fn links_of(alloc: Global, amounts: &Amounts, key: &ClientKey) -> Result<Links, Memory>
+    ensures chunks { IfOk result (λ links. AreNewEnds key.now MAX_TAKEN amounts.now.calls links.chunks links.chunk_end) }
+    ensures crumbs { IfOk result (λ links. AreNewEnds key.now MAX_TAKEN amounts.now.crumbs links.crumbs links.crumb_end) }
+    ensures triggers { IfOk result (λ links. AreNewEnds key.now MAX_TAKEN amounts.now.triggers links.triggers links.trigger_end) }
+{
+    let (chunks, chunk_end) = link::<Held<Lease>, ClientKey>(alloc, MAX_TAKEN, amounts.calls, key)?;
+    let (crumbs, crumb_end) = link::<Crumb, ClientKey>(alloc, MAX_TAKEN, amounts.crumbs, key)?;
+    let (triggers, trigger_end) = link::<Trigger, ClientKey>(
+        alloc,
+        MAX_TAKEN,
+        amounts.triggers,
+        key,
+    )?;
+    Ok(Links {
+        chunks,
+        chunk_end,
+        crumbs,
+        crumb_end,
+        triggers,
+        trigger_end,
+    })
 }
 
 /// An autotrigger for each rule of the settings, without a sample.

@@ -22,16 +22,17 @@ loop-caller-preserved c =
     let yielded = c.loop-caller.yielded in
     let caller = c.in-Some.caller in
     let closed = c.close-closed.ensures in
-    let apart = c.loop-caller.apart in (
+    let apart = c.loop-caller.apart in
+    let added = c.in_ok-add.ensures in (
       tt,
       tt,
-      subst (λ (books : List PlainClientBook). AreNotes (yielded ++ caller ∷ []) books) (sym (ap (map client_book_of) c.in_ok-append.ensures.ok ∙ map-append client_book_of apart.books.items (c.close-closed.result.book ∷ [])))
+      subst (λ (books : List PlainClientBook). AreNotes (yielded ++ caller ∷ []) books) (sym (ap (map client_book_of) added.books ∙ map-append client_book_of apart.books.items (c.close-closed.result.book ∷ [])))
           (one_noted yielded (map client_book_of apart.books.items) caller (client_book_of c.close-closed.result.book) is.2 closed.book),
-      one_more (λ (k : Calling). k.client.drawer) yielded caller apart.drawers.items c.close-closed.result.drawer c.append-in-loop-caller.new.self.items c.in_ok-append-2.ensures.ok is.3 closed.drawer,
-      ap (map outgoing) c.in_ok-append-3.ensures.ok ∙ map-append outgoing apart.chunks.items (c.close-closed.result.chunks ∷ [])
+      one_more (λ (k : Calling). k.client.drawer) yielded caller apart.drawers.items c.close-closed.result.drawer _ added.drawers is.3 closed.drawer,
+      ap (map outgoing) added.chunks ∙ map-append outgoing apart.chunks.items (c.close-closed.result.chunks ∷ [])
           ∙ one_more (λ (k : Calling). k.client.chunks) yielded caller (map outgoing apart.chunks.items) (outgoing c.close-closed.result.chunks) _ refl is.4 closed.chunks,
-      one_more (λ (k : Calling). k.client.crumbs) yielded caller apart.crumbs.items c.close-closed.result.crumbs c.append-in-loop-caller-3.new.self.items c.in_ok-append-4.ensures.ok is.5 closed.crumbs,
-      one_more (λ (k : Calling). k.client.triggers) yielded caller apart.triggers.items c.close-closed.result.triggers c.append-in-loop-caller-4.new.self.items c.in_ok-append-5.ensures.ok is.6 closed.triggers,
+      one_more (λ (k : Calling). k.client.crumbs) yielded caller apart.crumbs.items c.close-closed.result.crumbs _ added.crumbs is.5 closed.crumbs,
+      one_more (λ (k : Calling). k.client.triggers) yielded caller apart.triggers.items c.close-closed.result.triggers _ added.triggers is.6 closed.triggers,
     )
 
 pub returns-clause-books : goal.returns-clause-books

@@ -14,8 +14,8 @@ make-client-requires c =
     let settings = settings_of c.args.settings.now in
     let ops = map operation_of c.args.operations.now in
     is_new settings c.args.client ops c.args.giver.now _ _ _ _ c.requires.playable
-    (are_parts settings c.args.client ops c.args.giver.now c.in_ok-core.core c.in_ok-autos.autos.items c.args.drawer c.in_ok-chunks.chunks c.in_ok-chunks.chunk_end c.in_ok-crumbs.crumbs c.in_ok-crumbs.crumb_end
-    c.in_ok-triggers.triggers c.in_ok-triggers.trigger_end
+    (are_parts settings c.args.client ops c.args.giver.now c.in_ok-core.core c.in_ok-autos.autos.items c.args.drawer c.in_ok-links.links.chunks c.in_ok-links.links.chunk_end c.in_ok-links.links.crumbs c.in_ok-links.links.crumb_end
+    c.in_ok-links.links.triggers c.in_ok-links.links.trigger_end
     (record {
       key = c.new-key.result;
       key_is = c.new-key.ensures;
@@ -25,9 +25,9 @@ make-client-requires c =
       crumbs_are = c.amounts_of-amounts.ensures.crumbs;
       triggers = c.amounts_of-amounts.result.triggers;
       triggers_are = c.amounts_of-amounts.ensures.triggers;
-      new_chunks = c.in_ok-chunks.ensures;
-      new_crumbs = c.in_ok-crumbs.ensures;
-      new_triggers = c.in_ok-triggers.ensures;
+      new_chunks = c.in_ok-links.ensures.chunks;
+      new_crumbs = c.in_ok-links.ensures.crumbs;
+      new_triggers = c.in_ok-links.ensures.triggers;
     })
     c.in_ok-core.ensures.core c.in_ok-autos.ensures c.requires.drawer)
 
@@ -36,10 +36,10 @@ returns c =
     let settings = settings_of c.args.settings.now in
     let ops = map operation_of c.args.operations.now in
     let made : Live =
-    record { core = c.in_ok-core.core; autos = c.in_ok-autos.autos.items; drawer = c.args.drawer; chunks = outgoing c.in_ok-chunks.chunks; crumbs = c.in_ok-crumbs.crumbs; triggers = c.in_ok-triggers.triggers } in
+    record { core = c.in_ok-core.core; autos = c.in_ok-autos.autos.items; drawer = c.args.drawer; chunks = outgoing c.in_ok-links.links.chunks; crumbs = c.in_ok-links.links.crumbs; triggers = c.in_ok-links.links.triggers } in
     let parts =
-    are_parts settings c.args.client ops c.args.giver.now c.in_ok-core.core c.in_ok-autos.autos.items c.args.drawer c.in_ok-chunks.chunks c.in_ok-chunks.chunk_end c.in_ok-crumbs.crumbs c.in_ok-crumbs.crumb_end
-    c.in_ok-triggers.triggers c.in_ok-triggers.trigger_end
+    are_parts settings c.args.client ops c.args.giver.now c.in_ok-core.core c.in_ok-autos.autos.items c.args.drawer c.in_ok-links.links.chunks c.in_ok-links.links.chunk_end c.in_ok-links.links.crumbs c.in_ok-links.links.crumb_end
+    c.in_ok-links.links.triggers c.in_ok-links.links.trigger_end
     (record {
       key = c.new-key.result;
       key_is = c.new-key.ensures;
@@ -49,13 +49,13 @@ returns c =
       crumbs_are = c.amounts_of-amounts.ensures.crumbs;
       triggers = c.amounts_of-amounts.result.triggers;
       triggers_are = c.amounts_of-amounts.ensures.triggers;
-      new_chunks = c.in_ok-chunks.ensures;
-      new_crumbs = c.in_ok-crumbs.ensures;
-      new_triggers = c.in_ok-triggers.ensures;
+      new_chunks = c.in_ok-links.ensures.chunks;
+      new_crumbs = c.in_ok-links.ensures.crumbs;
+      new_triggers = c.in_ok-links.ensures.triggers;
     })
     c.in_ok-core.ensures.core c.in_ok-autos.ensures c.requires.drawer in
     let is = c.make-client.ensures.client in
     let with : Live → Connected =
-    λ client. record { caller = record { done = 0; client = client }; chunks = c.in_ok-chunks.chunk_end; crumbs = c.in_ok-crumbs.crumb_end; triggers = c.in_ok-triggers.trigger_end } in
+    λ client. record { caller = record { done = 0; client = client }; chunks = c.in_ok-links.links.chunk_end; crumbs = c.in_ok-links.links.crumb_end; triggers = c.in_ok-links.links.trigger_end } in
     subst (λ (client : Live). IsConnected settings c.args.client ops c.args.giver.now c.args.drawer (with client)) (sym is)
     (connected settings c.args.client ops c.args.giver.now c.args.drawer (with made) made c.requires.playable parts refl refl (subst (λ (client : Live). HasDone (made_of client) [] client) is c.make-client.ensures.done))
