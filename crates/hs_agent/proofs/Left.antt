@@ -1,11 +1,14 @@
 -- What is left at the end, with the leases that are kept, is what the model has left, each chunk as it came last.
 use Rattle.std.proofs.Common.{◌≡◌, ℕ, List, [], ◌∷◌, ◌++◌, map, Option, Some, None, option_map, slice_get, refl, sym, ap, subst, ◌∙◌}
-use Rattle.std.specs.Prelude.{filter_map, flat_map}
+use Rattle.std.specs.Prelude.{Result, Ok, Err, IfOk, filter_map, flat_map}
 use Rattle.std.specs.List.{AllByRecursion, cons_option}
 use Rattle.std.specs.Option.{option_and_then, option_to_list}
 use Rattle.std.proofs.lemmas.List.{append_assoc, map-append}
 use Rattle.hs_index.specs.Index.{chunks_left}
 use Rattle.hs_words.specs.Buffers.{Buffer}
+use Rattle.hs_journal.specs.Books.{PlainAgentBook}
+use Rattle.hs_journal.specs.declared.journal.Step.{Step}
+use Rattle.hs_model.specs.Books.{book_of}
 use Rattle.hs_model.specs.Standings.{Taken, indexed_places}
 use Rattle.hs_model.specs.State.{AgentState}
 use Rattle.hs_agent.specs.Placing.{Placed, Pledged, place_of, leased, lent, IsPledged}
@@ -27,7 +30,19 @@ places-left taken [] h = refl
 places-left taken (t ∷ ts) h =
     map-append place_of t.noted.chunks (chunks_left ts) ∙ (λ i. h.0 i ++ places-left taken ts h.1 i)
 
+-- what follows from an answer
+pub if_ok-then : {A E : Type 0} {P Q : A → Type 0} (r : Result A E) → ((x : A) → P x → Q x) → IfOk r P → IfOk r Q
+if_ok-then (Ok x) f p = f x p
+if_ok-then (Err e) f p = tt
+
+-- the book of what is kept, with this log
+abbrev pub book_in : {L : Type 0} → List Step → Kept L → PlainAgentBook
+book_in log kept = record { node = record { 0 = kept.node }; log = log; standings = kept.standings; claims = kept.claims; sent = kept.pages }
+
 module _ {L : Type 0} (kept : Kept L) (point : Point L) (h : Holds kept point) where
+  pub book_left : (log : List Step) → book_in log kept ≡ record (book_of point.node point.state) { log = log }
+  book_left log i = record { node = record { 0 = h.node_is i }; log = log; standings = h.standings i; claims = h.claims i; sent = h.pages i }
+
   each_left : AllByRecursion (IsKept kept.leases point.buffers) (chunks_left kept.index.touched ++ kept.hand)
   each_left =
       let P = IsKept kept.leases point.buffers in

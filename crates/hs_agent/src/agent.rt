@@ -56,9 +56,11 @@ impl<L: Token> Agent<L> {
         requires nodes { settings.now.nodes ≤ MAX_NODES }
         ensures { IfOk result (λ agent. Follows agent (new_run (settings_of settings.now) node.0)) }
     {
+        let scheduler = Scheduler::make(alloc, &settings.triggers, settings.size)?;
+        let holdings = Holdings::make(alloc, node, settings)?;
         Ok(Agent {
-            holdings: Holdings::make(alloc, node, settings)?,
-            scheduler: Scheduler::make(alloc, &settings.triggers, settings.size)?,
+            holdings,
+            scheduler,
             log: List::new(alloc),
             spent: false,
         })

@@ -1,6 +1,6 @@
 //! The chunks of an agent, wherever they are, and what it notes of them.
 
-ghost use Rattle.std.specs.Prelude.{◌≡◌, ◌+◌, ◌<◌, ◌^◌, ℕ, true, List, [], ◌∷◌, ◌++◌, length, None, Some, Option, IfOk, IfSome, IfNone, OnOk, OnErr, IsSome, All, map, filter_map, slice_get, slice_set, ◌≤◌};
+ghost use Rattle.std.specs.Prelude.{◌≡◌, ◌+◌, ◌<◌, ◌^◌, ℕ, true, List, [], ◌∷◌, ◌++◌, length, None, Some, Option, IfOk, IfSome, IfNone, OnOk, OnErr, IsSome, All, Ok, map, filter_map, slice_get, slice_set, ◌≤◌};
 ghost use Rattle.std.specs.List.{AllByRecursion};
 ghost use Rattle.hs_base.specs.Rules.{AreRules, is_declared};
 ghost use Rattle.hs_records.specs.Plain.{PlainSettings, settings_of};
@@ -12,7 +12,7 @@ ghost use Rattle.hs_model.specs.State.{AgentState, start};
 ghost use Rattle.hs_pins.specs.Remembered.{Remembered, claim_of, claim_for, pin_of};
 ghost use Rattle.hs_pins.specs.Abandoning.{drops, relieved};
 ghost use Rattle.hs_pins.specs.PinsLayout.{Remembers, KnowsThat};
-ghost use Rattle.hs_index.specs.Index.{leaving_of};
+ghost use Rattle.hs_index.specs.Index.{leaving_of, chunks_left};
 ghost use Rattle.hs_model.specs.Messages.{told_of, crumb_nodes};
 ghost use Rattle.hs_model.specs.Claiming.{traces_of, claim_unclaimed};
 ghost use Rattle.hs_model.specs.Stepping as model;
@@ -382,32 +382,15 @@ impl<L: Token> Holdings<L> {
         ensures book { (point : Point L) → Holds self point → IfOk result (λ finished. agent_book_of finished.book ≡ record (book_of point.node point.state) { log = log.items }) }
         ensures rest { (point : Point L) → Holds self point → point.offered ≡ None → IfOk result (λ finished. map buffer_of finished.rest.items ≡ buffers_left point) }
     {
-        let Holdings {
-            alloc,
-            node,
-            index,
-            pins: _,
-            sent: _,
-            mut hand,
-            offered: _,
-            standings,
-            claims,
-            pages,
-            leases,
-        } = self;
-        let mut indexed = index.finish()?;
-        while let Some(held) = indexed.pop() {
-            hand.push_front(held)?;
-        }
-        let rest = with_leases(alloc, leases, hand)?;
         let book = AgentBook {
-            node,
+            node: self.node,
             log,
-            standings,
-            claims,
-            sent: pages,
+            standings: self.standings,
+            claims: self.claims,
+            sent: self.pages,
         };
-        Ok(Finished { book, rest })
+        let rest = rest_of(self.alloc, self.index, self.hand, self.leases);
+        finished(book, rest)
     }
 }
 
@@ -499,6 +482,50 @@ fn with_lease<L: Token>(leases: &mut List<Option<Pledge<L>>>, held: Held<Place>)
         Some(Pledge { lease, number: _ }) => Held { chunk, lease },
         None => unreachable!(),
     }
+}
+
+/// A book with what is left, where memory was found for that.
+fn finished<L: Token>(
+    book: AgentBook,
+    rest: Result<List<Held<L>>, Memory>,
+) -> Result<Finished<L>, Memory>
+    ensures book { IfOk result (λ finished. finished.book ≡ book) }
+    ensures rest { IfOk result (λ finished. rest ≡ Ok finished.rest) }
+{
+    match rest {
+        Ok(rest) => Ok(Finished { book, rest }),
+        Err(_) => Err(Memory),
+    }
+}
+
+/// What is left: the chunks of the index and then those of the hand, each with the lease with which it came last. No two
+/// have one place.
+fn rest_of<L: Token>(
+    alloc: Global,
+    index: TraceIndex<Place>,
+    hand: VecDeque<Held<Place>>,
+    leases: List<Option<Pledge<L>>>,
+) -> Result<List<Held<L>>, Memory>
+    requires apart { HaveOwnPlaces (chunks_left index.touched ++ map buffer_of hand.items) }
+    requires pledged { AllByRecursion (IsPledged (pledges_in leases.items)) (chunks_left index.touched ++ map buffer_of hand.items) }
+    ensures { IfOk result (λ rest. map buffer_of rest.items ≡ filter_map (lent (pledges_in leases.items)) (chunks_left index.touched ++ map buffer_of hand.items)) }
+{
+    let indexed = index.finish()?;
+    let all = put_before(indexed, hand)?;
+    with_leases(alloc, leases, all)
+}
+
+/// Puts chunks before those of the hand.
+fn put_before(
+    mut chunks: List<Held<Place>>,
+    mut hand: VecDeque<Held<Place>>,
+) -> Result<VecDeque<Held<Place>>, Memory>
+    ensures { IfOk result (λ all. map buffer_of all.items ≡ map buffer_of chunks.items ++ map buffer_of hand.items) }
+{
+    while let Some(held) = chunks.pop() {
+        hand.push_front(held)?;
+    }
+    Ok(hand)
 }
 
 /// The chunks, each with the lease with which it came last. No two have one place.
