@@ -115,7 +115,7 @@ fn write_faults<R: Threads + Sync + AllocGlobal + Abort>(rt: &R, row: &Row) -> R
         let whole = row.output.as_bytes();
         assert_eq!(rt;
             Some(written.as_slice()),
-            whole.get(..row.most * call as usize)
+            whole.get(..row.most.saturating_mul(call as usize))
         );
     }
     Ok(CALLS)

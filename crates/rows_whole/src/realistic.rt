@@ -85,7 +85,7 @@ fn push_report(alloc: Global, text: &mut String, request: u32) -> Result<(), All
     for node in 0u32..3 {
         let each = 2 + node;
         for point in 0..each {
-            let record = request * each + point;
+            let record = request.saturating_mul(each).saturating_add(point);
             let line = format!(in alloc; "{node} 0 {record} {request}000 {PAYLOAD}\n")?;
             text.push_str(line.as_str())?;
         }

@@ -2,7 +2,7 @@ use Rattle.std.proofs.Common.{◌≡◌, ℕ, ◌+◌, ◌-◌, ◌*◌, ◌≤�
 use Rattle.fixtures_live.specs.Pairs.{CanCall}
 use Rattle.fixtures_live.specs.PairLaws.{keeps_both}
 use Rattle.rows_live.proofs.calls.do_calls.Goals as goal
-use Rattle.rows_live.proofs.calls.do_calls.Goals.{then-ne, else-ne}
+use Rattle.rows_live.proofs.calls.do_calls.Goals.{then-do_call-answer, else-do_call-answer}
 
 pub loop-call-preserved : goal.loop-call-preserved
 loop-call-preserved c =
@@ -13,7 +13,7 @@ loop-call-preserved c =
           let more : 2 * (length c.args.calls.now - c.loop-call.call-index) + n ≡ (2 * (length c.args.calls.now - (c.loop-call.call-index + 1)) + n) + 2 = omega (arith, within) in
           c.do_call.ensures.left (2 * (length c.args.calls.now - (c.loop-call.call-index + 1)) + n) (subst (λ m. CanCall 64 m c.loop-call.client) more (c.loop-call.invariant.left n can));
       same = keeps_both c.args.client.now c.loop-call.client c.do_call.new.client c.loop-call.invariant.same c.do_call.ensures.same;
-      few = elim c.if-ne.branch [ then-ne w ↦ omega (arith, w.others-is, c.loop-call.invariant.few) | else-ne w ↦ omega (arith, w.others-is, c.loop-call.invariant.few) ];
+      few = elim c.if-do_call-answer.branch [ then-do_call-answer w ↦ omega (arith, w.others-is, c.loop-call.invariant.few) | else-do_call-answer w ↦ omega (arith, w.others-is, c.loop-call.invariant.few) ];
     }
 
 pub returns-clause-left : goal.returns-clause-left
