@@ -151,6 +151,13 @@ impl<L: Token> Agent<L> {
         self.log.push(step);
     }
 
+    /// The steps that were noted so far, in order: one for each input, and one for each answer of the pool.
+    pub fn log(&self) -> &List<Step>
+        ensures { result.now.items ≡ self.now.log }
+    {
+        &self.log
+    }
+
     /// How many chunks are pinned.
     pub fn pinned(&self) -> u32
         ensures { (run : Run L) → Follows self.now run → result ≡ length (state_of run).pinned }

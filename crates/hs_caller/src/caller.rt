@@ -1,7 +1,8 @@
 //! The caller.
 
-ghost use Rattle.std.specs.Prelude.{◌≡◌, List, map};
+ghost use Rattle.std.specs.Prelude.{◌≡◌, List, map, count_by};
 ghost use Rattle.hs_base.specs.declared.ids.ClientId.{ClientId};
+ghost use Rattle.hs_client.specs.Core.{is_null};
 ghost use Rattle.hs_journal.specs.Books.{client_book_of};
 ghost use Rattle.hs_live.specs.Calls.{AreMates, MeetsAt};
 ghost use Rattle.hs_live.specs.Live.{outgoing};
@@ -57,6 +58,20 @@ impl Caller {
         ensures { TellsLeft (map operation_of operations.now) self.now result }
     {
         self.done < operations.len()
+    }
+
+    /// How many of its operations are done.
+    pub fn done(&self) -> usize
+        ensures { result ≡ self.now.done }
+    {
+        self.done
+    }
+
+    /// The number of draws so far that found the pool empty.
+    pub fn nulls(&self) -> u32
+        ensures { result ≡ count_by is_null self.now.client.core.draws }
+    {
+        self.client.nulls()
     }
 
     /// Brings the client together with the port of its node's agent, which has it by this number.

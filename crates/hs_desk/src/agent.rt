@@ -18,6 +18,7 @@ use crate::steps::Steps;
 use hs_agent::Agent;
 use hs_base::{Ask, Gate, Memory, NodeId, Settings, Told};
 use hs_caller::Caller;
+use hs_journal::Step;
 use hs_live::AgentPort;
 use hs_model::laws::{crumbs_lead_below, events_add_few, events_go_on, steps_say_what_they_tell};
 use std::alloc::Global;
@@ -89,6 +90,13 @@ impl AgentActor {
         ensures at { (settings : PlainSettings) (client : ClientId) (ops : List Operation) → IsAt settings client ops caller.old → IsAt settings client ops caller.new }
     {
         caller.meet(&mut self.port, number);
+    }
+
+    /// The steps that the agent noted so far, in order.
+    pub fn log(&self) -> &[Step]
+        ensures { result.now ≡ self.now.agent.log }
+    {
+        self.desk.agent.log().as_slice()
     }
 
     /// The first message that waits is fetched, if there is one.
