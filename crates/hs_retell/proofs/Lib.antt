@@ -13,3 +13,4 @@ pub mod Whole
 pub mod Further
 pub mod Recounted
 pub mod Kept
+pub mod Noted

@@ -1,6 +1,8 @@
 -- What rounds, and the passes behind them, come to.
-use Rattle.std.specs.Prelude.{◌≡◌, ℕ, suc, ◌≤◌, List, [], ◌++◌, length, map, slice_get, Some}
-use Rattle.std.specs.List.{range_with_len}
+use Rattle.std.specs.Prelude.{◌≡◌, ℕ, suc, ◌<◌, ◌≤◌, List, [], ◌++◌, length, map, slice_get, take, Some}
+use Rattle.std.specs.List.{range_with_len, flat_map}
+use Rattle.hs_actors.specs.Doings.{steps_of}
+use Rattle.hs_lawful.specs.Passes.{passes_of}
 use Rattle.hs_base.specs.declared.limits.TheConstants.{MAX_TAKEN}
 use Rattle.hs_coord.specs.Messages.{Message, Messages}
 use Rattle.hs_journal.specs.Views.{PlainJournal}
@@ -92,3 +94,9 @@ abbrev pub RunsAreLawful : Type 0
 RunsAreLawful =
     (W : PlainWorkload) (rounds : ℕ) (m : Moment) (passes : ℕ) (nodes : ℕ → Post) (heard : Messages) → IsValid W → (came : Came W rounds m) → AllBegin W (came.at 0) → Closing W rounds m passes nodes heard
     → IsOver W m nodes heard → (J : PlainJournal) × IsRecounted W m nodes heard J
+
+-- Behind each round the log of a node, as it is in the end, has noted in its first so many passes what was done by then.
+abbrev pub RoundsAreNoted : Type 0
+RoundsAreNoted =
+    (W : PlainWorkload) (rounds : ℕ) (m : Moment) (passes : ℕ) (nodes : ℕ → Post) (heard : Messages) → IsValid W → (came : Came W rounds m) → Closing W rounds m passes nodes heard
+    → (node : ℕ) → node < W.settings.nodes → (k : ℕ) → k ≤ rounds → flat_map (λ pass. pass) (take k (passes_of (steps_of (nodes node).work.events))) ≡ steps_of ((came.at k).works node).events

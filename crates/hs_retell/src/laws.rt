@@ -1,6 +1,6 @@
 //! Why the journal of a run in threads is lawful. These functions do nothing: their contracts say it.
 
-ghost use Rattle.hs_retell.specs.Laws.{ClosingBegins, ClosingGoesOn, DesksArePosts, PoolsAreKept, RunsAreLawful};
+ghost use Rattle.hs_retell.specs.Laws.{ClosingBegins, ClosingGoesOn, DesksArePosts, PoolsAreKept, RunsAreLawful, RoundsAreNoted};
 
 use hs_caller::{callers_have_sent, callers_sent_all};
 use hs_gathered::laws::stories_are_lawful;
@@ -35,3 +35,8 @@ pub fn runs_are_lawful()
     events_add_this();
     stories_are_lawful();
 }
+
+/// Behind each round a node's log has noted what was done by then.
+pub fn rounds_are_noted()
+    ensures { RoundsAreNoted }
+{}

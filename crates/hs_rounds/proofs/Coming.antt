@@ -6,7 +6,7 @@ use Rattle.hs_rounds.specs.Standing.{Moment, IsBegun}
 use Rattle.hs_rounds.specs.Acting.{Acts}
 use Rattle.hs_rounds.specs.Meeting.{AllMeet}
 use Rattle.hs_rounds.specs.Moving.{Moves}
-use Rattle.hs_rounds.specs.Coming.{Came, NoRoundsCome, RoundsGoOn}
+use Rattle.hs_rounds.specs.Coming.{Came, NoRoundsCome, RoundsGoOn, RoundsKeepWhatCame}
 
 -- the sequence with this item at the place n
 put_at : {A : Type 0} → (ℕ → A) → ℕ → A → ℕ → A
@@ -104,6 +104,13 @@ module _ (W : PlainWorkload) (rounds : ℕ) (m acted met m' : Moment) (came : Ca
     },
     at_old 0 (omega arith),
   )
+
+  keeps : Acts W m acted → AllMeet W acted met → Moves W met m' → (next : Came W (suc rounds) m') × ((k : ℕ) → k < suc rounds → next.at k ≡ came.at k)
+  unfolding goes_on at
+  keeps act meet move = ((goes_on act meet move).0, at_old)
+
+pub rounds_keep_what_came : RoundsKeepWhatCame
+rounds_keep_what_came W rounds m acted met m' came = keeps W rounds m acted met m' came
 
 pub rounds_go_on : RoundsGoOn
 rounds_go_on W rounds m acted met m' came = goes_on W rounds m acted met m' came

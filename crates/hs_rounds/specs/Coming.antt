@@ -25,3 +25,9 @@ NoRoundsCome = (W : PlainWorkload) (m : Moment) → IsBegun W m → (came : Came
 abbrev pub RoundsGoOn : Type 0
 RoundsGoOn =
     (W : PlainWorkload) (rounds : ℕ) (m acted met m' : Moment) (came : Came W rounds m) → Acts W m acted → AllMeet W acted met → Moves W met m' → (next : Came W (suc rounds) m') × (next.at 0 ≡ came.at 0)
+
+-- And it keeps what led to it.
+abbrev pub RoundsKeepWhatCame : Type 0
+RoundsKeepWhatCame =
+    (W : PlainWorkload) (rounds : ℕ) (m acted met m' : Moment) (came : Came W rounds m) → Acts W m acted → AllMeet W acted met → Moves W met m'
+    → (next : Came W (suc rounds) m') × ((k : ℕ) → k < suc rounds → next.at k ≡ came.at k)
