@@ -8,7 +8,6 @@ pub mod Pace
 pub mod Answers
 pub mod Pools
 pub mod Spent
-pub mod Unasked
 pub mod DrawPlaces
 pub mod Unread
 pub mod Counted

@@ -122,17 +122,6 @@ EndOffersFrom W n place (pass ∷ passes) = EndsItsOffers W n place pass × EndO
 abbrev pub HaveOffers : PlainWorkload → Doings → Type 0
 HaveOffers W d = AllByRecursion (λ (n : NodeDoings). EndOffersFrom W n 0 n.passes) d.nodes
 
--- whether an event is no unread offer
-abbrev pub IsRead : Event → Type 0
-IsRead (Took input) = Unit {0}
-IsRead (Gave (Given stamp)) = Unit {0}
-IsRead (Gave (Missed stamp)) = Unit {0}
-IsRead (Gave Unread) = ⊥
-
--- A pool behind a lock answers each offer.
-abbrev pub HaveNoUnread : Doings → Type 0
-HaveNoUnread d = AllByRecursion (λ (n : NodeDoings). AllByRecursion IsRead (all_events n)) d.nodes
-
 -- ---- the pace
 
 -- the pages that the clients of a node draw for

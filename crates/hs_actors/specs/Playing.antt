@@ -14,7 +14,7 @@ use Rattle.hs_lawful.specs.Unreads.{has_unreads}
 use Rattle.hs_words.specs.PoolHistory.{IsPoolHistory}
 use Rattle.hs_actors.specs.Doings.{Doings, journal_of, run_of}
 use Rattle.hs_actors.specs.Pools.{ArePooled}
-use Rattle.hs_actors.specs.Facts.{ArePlayable, HaveDrawn, HavePasses, HaveRounds, HaveNothingPinned, HaveOffers, HaveNoUnread, KeepPace}
+use Rattle.hs_actors.specs.Facts.{ArePlayable, HaveDrawn, HavePasses, HaveRounds, HaveNothingPinned, HaveOffers, KeepPace}
 
 abbrev pub DoingsAreFollowed : Type 0
 DoingsAreFollowed = (W : PlainWorkload) (d : Doings) → ArePlayable W d → followed W (journal_of W d) ≡ run_of W d
@@ -59,10 +59,6 @@ AreHistories =
 -- L4: a give answers the draw of its chunk
 abbrev pub GivesAnswer : Type 0
 GivesAnswer = (W : PlainWorkload) (d : Doings) → ArePlayable W d → ArePooled W d → has_answers (played W (journal_of W d)) ≡ true
-
--- L7: where no offer was unread, nothing is asked
-abbrev pub NothingUnreadIsAsked : Type 0
-NothingUnreadIsAsked = (W : PlainWorkload) (d : Doings) → ArePlayable W d → HaveNoUnread d → has_unreads (played W (journal_of W d)) ≡ true
 
 -- ---- all clauses
 

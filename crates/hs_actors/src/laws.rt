@@ -1,7 +1,7 @@
 //! Why what is done is lawful. These functions do nothing: their contracts say it.
 
 ghost use Rattle.hs_actors.specs.Unread.{UnreadCouldBe};
-ghost use Rattle.hs_actors.specs.Playing.{DoingsAreFollowed, CanBeFollowed, HaveShape, AreWholePasses, AreEnough, AreBare, MakeTheirOffers, AreInPace, AreStamped, AreHistories, GivesAnswer, NothingUnreadIsAsked, DoingsAreLawful};
+ghost use Rattle.hs_actors.specs.Playing.{DoingsAreFollowed, CanBeFollowed, HaveShape, AreWholePasses, AreEnough, AreBare, MakeTheirOffers, AreInPace, AreStamped, AreHistories, GivesAnswer, DoingsAreLawful};
 
 use hs_lawful::laws::{done_is_at_rest, orders_agree};
 use hs_model::laws::{events_add_this, events_go_on, steps_say_what_they_tell};
@@ -79,14 +79,6 @@ pub fn doings_are_histories()
 /// L4: by what closing the pools tells, each give answers the draw of its chunk.
 pub fn doings_answer_draws()
     ensures { GivesAnswer }
-{
-    doings_are_followed();
-    events_add_this();
-}
-
-/// L7: where no offer was unread, as with a pool behind a lock, nothing is asked.
-pub fn nothing_unread_is_asked()
-    ensures { NothingUnreadIsAsked }
 {
     doings_are_followed();
     events_add_this();

@@ -27,7 +27,7 @@ in_rising_priority = (refl, refl)
 later_chunks_stand_behind : (chunks_of (pinned two_groups low (chunk 5 ∷ [])) low ≡ chunk 4 ∷ chunk 5 ∷ []) × (pinned {L = Unit {0}} [] low [] ≡ [])
 later_chunks_stand_behind = (refl, refl)
 
--- the next chunk is the first of the group of greatest priority, which goes with its last chunk
+-- what comes out next is the oldest chunk of the greatest group, and a group without chunks is gone
 first_of_the_greatest : (next_of two_groups ≡ Some (high, chunk 2)) × (without_next two_groups (greatest_of two_groups) ≡ (low, chunk 4 ∷ []) ∷ (high, chunk 3 ∷ []) ∷ [])
 first_of_the_greatest = (refl, refl)
 
