@@ -12,7 +12,7 @@ pub struct Split {
     pub journal: usize,
 }
 
-/// How many bytes a text has up to and with its first line that is this one; all of them where there is none.
+/// How many bytes a text has through its first line that is this one; all of them if there is none.
 fn length_through(text: &[u8], word: &[u8]) -> usize
     ensures within { result ≤ length text.now }
     ensures part { take result text.now ≡ part_through word.now text.now }

@@ -37,7 +37,7 @@ pub(crate) fn judge(alloc: Global, workload: &Workload, text: &[u8]) -> Result<A
     }
 }
 
-/// The outcome of a workload and a journal that is lawful for it, or the first clause that fails.
+/// The outcome of a workload and its lawful journal, or the first clause that fails.
 fn verdict_on(alloc: Global, workload: &Workload, journal: &Journal) -> Result<Answer, Memory>
     requires { IsValid (workload_of workload.now) }
     ensures { IfOk result (λ answer. IsJudged (workload_of workload.now) (journal_of journal.now) answer.status answer.text.items) }

@@ -20,7 +20,7 @@ pub enum JournalReason {
     Word,
     /// There are too few or too many words.
     Count,
-    /// A word in the place of a number is none.
+    /// A number is expected, and the word is none.
     Number,
     /// A number is outside its range.
     Range,

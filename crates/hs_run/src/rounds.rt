@@ -96,7 +96,7 @@ fn act_and_hear<R: Threads + Sync, G: Gate>(
     heard
 }
 
-/// Each of these nodes acts, in a thread of its own where threads can be made.
+/// Each of these nodes acts, each in its own thread if one can be started.
 fn act_all<R: Threads + Sync, G: Gate>(rt: &R, gate: &G, workload: &Workload, nodes: &mut [Node])
     requires { AllMayAct workload.now nodes.old }
     ensures { AllHaveActed workload.now nodes.old nodes.new }

@@ -34,7 +34,7 @@ impl Model for Site {
     ghost view = { site_of };
 }
 
-/// Each of these clients does its next operations, in a thread of its own where threads can be made.
+/// Each of these clients does its next operations, each in its own thread if one can be started.
 fn go_all<R: Threads + Sync, G: Gate>(
     rt: &R,
     gate: &G,

@@ -20,11 +20,11 @@ pub enum Reason {
     Word,
     /// There are too few or too many words.
     Count,
-    /// A word in the place of a number is none.
+    /// A number is expected, and the word is none.
     Number,
-    /// A word in the place of a trace or of a payload is none.
+    /// A trace or a payload is expected, and the word is none.
     Hex,
-    /// A number is outside its range, or a payload is too long.
+    /// A number is too small or too great, or a payload is too long.
     Range,
     /// A client is not the next one.
     Order,
