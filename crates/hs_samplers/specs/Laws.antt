@@ -1,8 +1,64 @@
--- How the records that the samplers keep lie within one another.
-use Rattle.std.specs.Prelude.{ℕ, All, Contains}
+-- How the records that the samplers keep lie within one another. Of a lawful journal each record of a named trace has one of three ends:
+-- it was reported, or it stands in a gap line, or no node claimed its trace. Of other traces none has any of these. So the records that tail
+-- keeps are those that Hindsight keeps, those in gap lines and the limited ones, each once; and a ring keeps no others.
+use Rattle.std.specs.Prelude.{◌≡◌, ℕ, ◌+◌, ◌≤◌, true, List, map, All, Contains, if◌then◌else◌}
+use Rattle.std.specs.List.{AllByRecursion}
+use Rattle.hs_base.specs.declared.ids.TraceId.{TraceId}
+use Rattle.hs_journal.specs.Views.{PlainJournal}
+use Rattle.hs_ledger.specs.declared.ledger.Entry.{Entry}
+use Rattle.hs_ledger.specs.Totals.{is_reported}
 use Rattle.hs_records.specs.Plain.{PlainWorkload}
-use Rattle.hs_samplers.specs.Samplers.{tail_keeps, ring_keeps}
+use Rattle.hs_lawful.specs.Lawful.{IsLawful}
+use Rattle.hs_outcome.specs.Origins.{HasItsClients}
+use Rattle.hs_outcome.specs.Outcomes.{PlainOutcome, outcome_of}
+use Rattle.hs_outcome.specs.Records.{EndsItsTraces, Named, name_of}
+use Rattle.hs_samplers.specs.Coming.{Coming, all_comings, named_in}
+use Rattle.hs_samplers.specs.Lines.{PlainComparison, is_gap, is_limited, comparison_of}
+use Rattle.hs_samplers.specs.Samplers.{is_among, tail_keeps, ring_keeps}
 
 -- Each record that a ring keeps is one that tail keeps.
 abbrev pub RingKeepsLess : Type 0
 RingKeepsLess = (W : PlainWorkload) (room : ℕ) → All (Contains (tail_keeps W)) (ring_keeps room W)
+
+-- Clients end the traces that they begin, each node has its clients, and a round has an operation at least. Every valid workload keeps this.
+pub record CanBeCompared (W : PlainWorkload) : Type 0 where
+  pub ends : EndsItsTraces W
+  pub clients : HasItsClients W
+  pub stride : 1 ≤ W.settings.stride
+
+-- Each trace that some node claimed is a named one.
+abbrev pub ClaimedTracesAreNamed : Type 0
+ClaimedTracesAreNamed =
+    (W : PlainWorkload) (J : PlainJournal) → 1 ≤ W.settings.stride → AllByRecursion (λ (trace : TraceId). is_among (named_in W) trace ≡ true) (outcome_of W J).claimed
+
+-- ---- the entries
+
+-- which record comes
+abbrev pub name_of_coming : Coming → Named
+name_of_coming coming = record { id = coming.id; trace = coming.trace }
+
+-- The entries stand one for one with the records that come.
+abbrev pub EntriesStandByTheRecords : Type 0
+EntriesStandByTheRecords = (W : PlainWorkload) (J : PlainJournal) → EndsItsTraces W → IsLawful W J → map name_of_coming (all_comings W) ≡ map name_of (outcome_of W J).entries
+
+-- An entry of a named trace is reported, or in a gap line, or limited, and only one of these. One of another trace is none of them.
+abbrev pub IsParted : PlainWorkload → List TraceId → Entry → Type 0
+IsParted W claimed entry =
+    (if is_reported entry.fate then 1 else 0) + (if is_gap claimed entry then 1 else 0) + (if is_limited (named_in W) claimed entry then 1 else 0)
+    ≡ (if is_among (named_in W) entry.trace then 1 else 0)
+
+abbrev pub KeptIsParted : Type 0
+KeptIsParted = (W : PlainWorkload) (J : PlainJournal) → CanBeCompared W → IsLawful W J → AllByRecursion (IsParted W (outcome_of W J).claimed) (outcome_of W J).entries
+
+-- ---- the sum
+
+-- what is compared of the outcome of a workload and a journal
+abbrev pub compared_by : PlainWorkload → PlainJournal → ℕ → ℕ → PlainComparison
+compared_by W J one_in room = let outcome = outcome_of W J in comparison_of W outcome.entries outcome.claimed one_in room
+
+abbrev pub SumsToTail : PlainComparison → Type 0
+SumsToTail c = c.tail.records ≡ c.hindsight.records + c.gap + c.limited
+
+-- Tail keeps as many records as Hindsight keeps, as stand in gap lines, and as are limited.
+abbrev pub TailIsTheSum : Type 0
+TailIsTheSum = (W : PlainWorkload) (J : PlainJournal) (one_in room : ℕ) → CanBeCompared W → IsLawful W J → SumsToTail (compared_by W J one_in room)
