@@ -5,3 +5,6 @@ pub mod Standing
 pub mod Claimed
 pub mod Parting
 pub mod Summing
+pub mod Sent
+pub mod Performing
+pub mod AllNamed

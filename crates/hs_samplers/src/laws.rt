@@ -1,8 +1,47 @@
 //! What holds of the samplers over any workload. These functions do nothing: their contracts say it.
 
-ghost use Rattle.hs_samplers.specs.Laws.{RingKeepsLess};
+ghost use Rattle.hs_samplers.specs.Laws.{RingKeepsLess, ClaimedTracesAreNamed, EntriesStandByTheRecords, KeptIsParted, TailIsTheSum};
+
+use hs_claims::laws::claims_are_of_what_is_brought;
+use hs_lawful::laws::following_plays_out;
+use hs_outcome::laws::{
+    agents_keep_their_model, each_fate_has_its_cause, each_record_has_one_entry,
+    reported_pages_are_of_clients,
+};
+use hs_records::pages_carry_the_records;
+use hs_sent::laws::all_is_sent_in_the_end;
 
 /// A ring keeps no record that tail does not keep, whatever room it has.
 pub fn ring_keeps_less()
     ensures { RingKeepsLess }
 {}
+
+/// Each trace that a node claimed is the lead or a lateral of some trigger of the workload.
+pub fn claimed_traces_are_named()
+    ensures { ClaimedTracesAreNamed }
+{
+    following_plays_out();
+    all_is_sent_in_the_end();
+    claims_are_of_what_is_brought();
+}
+
+/// The entries of an outcome stand one for one with the records of the workload. Each entry of a named trace is
+/// reported, or in a gap line, or limited, and only one of these; each entry of another trace is none of them.
+pub fn kept_is_parted()
+    ensures beside { EntriesStandByTheRecords }
+    ensures parted { KeptIsParted }
+{
+    each_fate_has_its_cause();
+    each_record_has_one_entry();
+    agents_keep_their_model();
+    reported_pages_are_of_clients();
+    pages_carry_the_records();
+    claimed_traces_are_named();
+}
+
+/// Tail keeps as many records as Hindsight keeps, as stand in gap lines, and as are limited.
+pub fn tail_is_the_sum()
+    ensures { TailIsTheSum }
+{
+    kept_is_parted();
+}
