@@ -37,7 +37,7 @@ module _ (trace : TraceId) where
   put_among (other ∷ traces) x =
       put_before other x traces (cond (eqb trace.0 other.0) (other ∷ traces) (other ∷ put_trace trace traces)) (ltb trace.0 other.0) (put_case other x traces (eqb trace.0 other.0) refl (put_among traces x))
 
-  put_all : (P : TraceId → Type 0) (traces : List TraceId) → P trace → AllByRecursion P traces → AllByRecursion P (put_trace trace traces)
+  pub put_all : (P : TraceId → Type 0) (traces : List TraceId) → P trace → AllByRecursion P traces → AllByRecursion P (put_trace trace traces)
   put_all P [] here all = (here, tt)
   put_all P (other ∷ traces) here all = first (ltb trace.0 other.0) (eqb trace.0 other.0) (put_all P traces here all.1)
     where

@@ -8,3 +8,4 @@ pub mod Summing
 pub mod Sent
 pub mod Performing
 pub mod AllNamed
+pub mod Gaps

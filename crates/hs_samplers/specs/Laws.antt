@@ -1,7 +1,7 @@
 -- How the records that the samplers keep lie within one another. Of a lawful journal each record of a named trace has one of three ends:
 -- it was reported, or it stands in a gap line, or no node claimed its trace. Of other traces none has any of these. So the records that tail
 -- keeps are those that Hindsight keeps, those in gap lines and the limited ones, each once; and a ring keeps no others.
-use Rattle.std.specs.Prelude.{◌≡◌, ℕ, ◌+◌, ◌≤◌, true, List, map, All, Contains, if◌then◌else◌}
+use Rattle.std.specs.Prelude.{◌≡◌, ℕ, ◌+◌, ◌≤◌, true, List, length, map, sum_by, All, Contains, if◌then◌else◌}
 use Rattle.std.specs.List.{AllByRecursion}
 use Rattle.hs_base.specs.declared.ids.TraceId.{TraceId}
 use Rattle.hs_journal.specs.Views.{PlainJournal}
@@ -12,6 +12,7 @@ use Rattle.hs_lawful.specs.Lawful.{IsLawful}
 use Rattle.hs_outcome.specs.Origins.{HasItsClients}
 use Rattle.hs_outcome.specs.Outcomes.{PlainOutcome, outcome_of}
 use Rattle.hs_outcome.specs.Records.{EndsItsTraces, Named, name_of}
+use Rattle.hs_outcome.specs.Reports.{Report, reports_of}
 use Rattle.hs_samplers.specs.Coming.{Coming, all_comings, named_in}
 use Rattle.hs_samplers.specs.Lines.{PlainComparison, is_gap, is_limited, comparison_of}
 use Rattle.hs_samplers.specs.Samplers.{is_among, tail_keeps, ring_keeps}
@@ -50,11 +51,15 @@ IsParted W claimed entry =
 abbrev pub KeptIsParted : Type 0
 KeptIsParted = (W : PlainWorkload) (J : PlainJournal) → CanBeCompared W → IsLawful W J → AllByRecursion (IsParted W (outcome_of W J).claimed) (outcome_of W J).entries
 
--- ---- the sum
+-- ---- the counts
 
 -- what is compared of the outcome of a workload and a journal
 abbrev pub compared_by : PlainWorkload → PlainJournal → ℕ → ℕ → PlainComparison
 compared_by W J one_in room = let outcome = outcome_of W J in comparison_of W outcome.entries outcome.claimed one_in room
+
+-- The records that are counted as gaps are those in the gap lines of the reports.
+abbrev pub GapsAreInGapLines : Type 0
+GapsAreInGapLines = (W : PlainWorkload) (J : PlainJournal) (one_in room : ℕ) → (compared_by W J one_in room).gap ≡ sum_by (λ (report : Report). length report.gaps) (reports_of W J)
 
 abbrev pub SumsToTail : PlainComparison → Type 0
 SumsToTail c = c.tail.records ≡ c.hindsight.records + c.gap + c.limited

@@ -1,6 +1,6 @@
 //! What holds of the samplers over any workload. These functions do nothing: their contracts say it.
 
-ghost use Rattle.hs_samplers.specs.Laws.{RingKeepsLess, ClaimedTracesAreNamed, EntriesStandByTheRecords, KeptIsParted, TailIsTheSum};
+ghost use Rattle.hs_samplers.specs.Laws.{RingKeepsLess, ClaimedTracesAreNamed, EntriesStandByTheRecords, KeptIsParted, GapsAreInGapLines, TailIsTheSum};
 
 use hs_claims::laws::claims_are_of_what_is_brought;
 use hs_lawful::laws::following_plays_out;
@@ -38,6 +38,11 @@ pub fn kept_is_parted()
     pages_carry_the_records();
     claimed_traces_are_named();
 }
+
+/// As many records are counted as gaps as stand in the gap lines of the reports.
+pub fn gaps_are_in_gap_lines()
+    ensures { GapsAreInGapLines }
+{}
 
 /// Tail keeps as many records as Hindsight keeps, as stand in gap lines, and as are limited.
 pub fn tail_is_the_sum()
