@@ -1,7 +1,6 @@
 -- Each claimed trace is named: agents claim what triggers name, and triggers are named in their clients' turns.
-use Rattle.std.proofs.Common.{◌≡◌, ℕ, List, [], ◌∷◌, ◌++◌, true}
+use Rattle.std.proofs.Common.{List, [], ◌∷◌}
 use Rattle.std.specs.List.{AllByRecursion, flat_map}
-use Rattle.hs_base.specs.declared.ids.TraceId.{TraceId}
 use Rattle.hs_model.specs.State.{ClaimedTrace}
 use Rattle.hs_sent.specs.SoFar.{AllTriggersAreSent}
 use Rattle.hs_claims.specs.Bringing.{IsClaimOf, ClaimsOnly, ClaimsAreOfWhatIsBrought}

@@ -1,6 +1,6 @@
 -- Claimed traces rise, so no entry is in two gap lines, and the gaps of all claimed traces are counted by one test. A claimed trace without
 -- a record has no report, and no gap either.
-use Rattle.std.proofs.Common.{◌≡◌, ◌⊎◌, inl, inr, ℕ, ◌+◌, ◌<◌, ◌≤◌, Bool, true, false, not, ◌&&◌, ◌||◌, cond, List, [], ◌∷◌, length, refl, sym, ap, subst, ◌∙◌, arith, map, filter, count_by, sum_by, eqb, eqb-true, eq-eqb, ltb, ltb-true, ltb-false, eq-or-lt_of_le}
+use Rattle.std.proofs.Common.{◌≡◌, ◌⊎◌, inl, inr, ℕ, ◌+◌, ◌<◌, ◌≤◌, Bool, true, false, not, ◌&&◌, ◌||◌, cond, List, [], ◌∷◌, length, refl, sym, ap, arith, map, filter, count_by, sum_by, eqb, eqb-true, ltb, ltb-true, ltb-false, eq-or-lt_of_le}
 use Rattle.std.specs.List.{AllByRecursion, flat_map, list_any}
 use Rattle.std.proofs.lemmas.Bool.{eqb-false}
 use Rattle.std.proofs.lemmas.List.Sums.{sum_by-cons}

@@ -1,5 +1,5 @@
 -- What stands in lists that are joined, filtered or mapped.
-use Rattle.std.proofs.Common.{◌≡◌, ◌⊎◌, inl, inr, ℕ, zero, suc, ◌+◌, ◌<◌, ◌≤◌, Bool, true, false, ◌||◌, cond, List, [], ◌∷◌, ◌++◌, length, drop, refl, sym, ap, subst, ◌∙◌, Option, Some, None, arith, map, filter, slice_get, find, unwrap_or, option_map, eq-or-lt_of_le, Contains}
+use Rattle.std.proofs.Common.{◌≡◌, ℕ, zero, suc, ◌+◌, ◌<◌, Bool, true, false, ◌||◌, cond, List, [], ◌∷◌, ◌++◌, length, drop, refl, sym, ap, subst, ◌∙◌, Option, Some, None, arith, map, filter, slice_get, find, unwrap_or, option_map}
 use Rattle.std.specs.List.{AllByRecursion, flat_map, range_with_len, list_any}
 
 pub some_same : {X : Type 0} (a b : X) → Some a ≡ Some b → a ≡ b

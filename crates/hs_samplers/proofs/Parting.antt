@@ -1,12 +1,11 @@
 -- A record that was reported is of a claimed trace: the chunk of a page with a piece of it stands as reported for the group that claimed
 -- the page's trace. With that, and as claimed traces are named, an entry is parted by three tests.
-use Rattle.std.proofs.Common.{◌≡◌, ℕ, zero, suc, ◌+◌, ◌<◌, ◌≤◌, Bool, true, false, not, ◌&&◌, ◌||◌, cond, List, [], ◌∷◌, length, refl, sym, ap, subst, ◌∙◌, Option, Some, None, arith, map, option_map, slice_get, unwrap_or, eqb, eqb-true, find, eq-or-lt_of_le, inl, inr}
-use Rattle.std.specs.List.{AllByRecursion, flat_map}
+use Rattle.std.proofs.Common.{◌≡◌, ℕ, zero, suc, ◌+◌, ◌<◌, ◌≤◌, Bool, true, false, not, ◌&&◌, ◌||◌, cond, List, [], ◌∷◌, length, refl, sym, ap, subst, ◌∙◌, Option, Some, None, arith, map, option_map, slice_get, unwrap_or, eqb, eqb-true, eq-or-lt_of_le, inl, inr}
+use Rattle.std.specs.List.{AllByRecursion}
 use Rattle.std.proofs.lemmas.Nat.{div-add-mod'}
 use Rattle.hs_base.specs.declared.ids.ClientId.{ClientId}
 use Rattle.hs_base.specs.declared.ids.TraceId.{TraceId}
 use Rattle.hs_base.specs.declared.limits.TheConstants.{MIN_SIZE}
-use Rattle.hs_base.specs.declared.told.Fate.{Fate}
 use Rattle.hs_base.specs.declared.told.Group.{Group}
 use Rattle.hs_journal.specs.declared.journal.Draw.{Draw}
 use Rattle.hs_journal.specs.declared.journal.Draw.TheVariants.{Got, Empty}
@@ -24,17 +23,15 @@ use Rattle.hs_records.specs.Records.{AreBracketed, Piece, records_of}
 use Rattle.hs_sent.specs.Sending.{operations_at, place_of}
 use Rattle.hs_words.specs.Pages.{Sheet}
 use Rattle.hs_lawful.specs.Following.{NodeRun, Run, followed}
-use Rattle.hs_lawful.specs.Lawful.{IsLawful}
 use Rattle.hs_outcome.specs.Causes.{KeepsItsModel, AgentsKeepTheirModel}
 use Rattle.hs_outcome.specs.CollectedReports.{IsClientsPage, TakenPagesAreOfClients}
 use Rattle.hs_outcome.specs.Origins.{WasTaken, Gives, HasItsCause, EachFateHasItsCause}
-use Rattle.hs_outcome.specs.Outcomes.{client_at, claimed_at, outcome_of}
+use Rattle.hs_outcome.specs.Outcomes.{claimed_at, outcome_of}
 use Rattle.hs_outcome.specs.Records.{EachRecordHasOneEntry, name_of}
 use Rattle.hs_samplers.specs.Coming.{named_in}
 use Rattle.hs_samplers.specs.Laws.{CanBeCompared, ClaimedTracesAreNamed, IsParted, KeptIsParted}
-use Rattle.hs_samplers.specs.Lines.{is_gap, is_limited}
 use Rattle.hs_samplers.specs.Samplers.{is_among}
-use Rattle.hs_samplers.proofs.Lists.{some_same, IsIn, all_at, is_first, is_later, in_flat, in_map}
+use Rattle.hs_samplers.proofs.Lists.{some_same, all_at, is_first}
 use Rattle.hs_samplers.proofs.Naming.{Among, among_same, among_all, among_in}
 use Rattle.hs_samplers.proofs.Claimed.{claimed_somewhere}
 use Rattle.hs_samplers.proofs.Standing.{IsRecord, entries_are_records}

@@ -1,6 +1,6 @@
 -- A journal's steps, as long as all triggers that clients send are of traces that pass a test: whatever an agent takes brings such traces,
 -- whatever it tells and so whatever the coordinator asks is of such traces, and so is all that is claimed.
-use Rattle.std.proofs.Common.{◌≡◌, ◌⊎◌, inl, inr, ℕ, zero, suc, Bool, true, false, cond, List, [], ◌∷◌, ◌++◌, set, refl, sym, subst, Option, Some, None, map, slice_get, option_map, count_by}
+use Rattle.std.proofs.Common.{◌≡◌, inl, inr, ℕ, zero, suc, Bool, true, false, cond, List, [], ◌∷◌, ◌++◌, set, refl, sym, subst, Option, Some, None, slice_get, option_map, count_by}
 use Rattle.std.specs.List.{AllByRecursion, range_with_len}
 use Rattle.std.specs.Option.{option_and_then}
 use Rattle.hs_base.specs.declared.ids.NodeId.{NodeId}
@@ -12,11 +12,11 @@ use Rattle.hs_coord.specs.Following.{Message, Messages, message, is_of, first_of
 use Rattle.hs_journal.specs.declared.journal.Step.{Step}
 use Rattle.hs_journal.specs.declared.journal.Step.TheVariants as steps
 use Rattle.hs_journal.specs.Views.{PlainJournal}
-use Rattle.hs_model.specs.Stepping.{Answered, Given, Missed, Unread, Chunk, Crumbed, Triggered, Asked, Turn, Event, Took, Gave}
+use Rattle.hs_model.specs.Stepping.{Given, Missed, Unread, Chunk, Crumbed, Triggered, Asked, Turn, Event, Took, Gave}
 use Rattle.hs_records.specs.Plain.{PlainWorkload}
 use Rattle.hs_sent.specs.Sending.{Sent, ClientSends, client_sends, node_sends, operations_at, place_of, sent_triggers}
 use Rattle.hs_claims.specs.Bringing.{AllPass, TellsOf, ClaimsOnly, BringsOnly, ClaimsAreOfWhatIsBrought}
-use Rattle.hs_lawful.specs.Following.{Chunks, Crumbs, Triggers, Asks, taken, asks_behind, asks_to, NodeRun, Run, node_start, run_start, next_of, event_of, perform, step_of, step_node, message_of, hear, is_from, followed}
+use Rattle.hs_lawful.specs.Following.{Chunks, Crumbs, Triggers, Asks, taken, asks_behind, asks_to, NodeRun, Run, node_start, run_start, next_of, event_of, perform, step_of, message_of, hear, is_from}
 use Rattle.hs_lawful.specs.Orders.{Performs, Leads, Stays, Goes}
 use Rattle.hs_samplers.specs.Coming.{names_in}
 use Rattle.hs_samplers.proofs.Lists.{some_same, mapped_from, IsIn, all_at, all_append, all_map, found_or}

@@ -1,5 +1,5 @@
 -- What a client sends as triggers is named: an operation's trigger comes with the operation's turn, in the round of its number.
-use Rattle.std.proofs.Common.{◌≡◌, ◌⊎◌, inl, inr, ℕ, zero, suc, ◌+◌, ◌-◌, ◌*◌, ◌/◌, ◌%◌, ◌<◌, ◌≤◌, Bool, true, List, [], ◌∷◌, length, refl, sym, ap, subst, ◌∙◌, Option, Some, None, arith, map, filter, fold, slice_get, unwrap_or, eqb, eq-eqb, ltb, ltb-true, max}
+use Rattle.std.proofs.Common.{◌≡◌, ℕ, zero, suc, ◌+◌, ◌-◌, ◌*◌, ◌/◌, ◌%◌, ◌<◌, ◌≤◌, true, List, [], ◌∷◌, length, refl, sym, subst, Option, Some, None, arith, map, filter, fold, slice_get, unwrap_or, eqb, eq-eqb, ltb, ltb-true, max}
 use Rattle.std.specs.List.{AllByRecursion, flat_map, range_with_len}
 use Rattle.std.proofs.lemmas.Nat.{div-add-mod'}
 use Rattle.std.proofs.Math.Nat.{div-lt_iff_lt-mul, mod-lt}
@@ -7,7 +7,7 @@ use Rattle.hs_base.specs.declared.ids.ClientId.{ClientId}
 use Rattle.hs_base.specs.declared.ids.TraceId.{TraceId}
 use Rattle.hs_base.specs.declared.told.Trigger.{Trigger}
 use Rattle.hs_records.specs.Plain.{Operation, PlainWorkload}
-use Rattle.hs_sent.specs.Sending.{Sent, operations_at, sent_triggers, sent_within}
+use Rattle.hs_sent.specs.Sending.{Sent, operations_at, sent_triggers}
 use Rattle.hs_sent.specs.SoFar.{AllTriggersAreSent}
 use Rattle.hs_lawful.specs.Ends.{rounds_for, rounds_of}
 use Rattle.hs_outcome.specs.Outcomes.{client_at}

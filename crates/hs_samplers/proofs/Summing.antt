@@ -1,5 +1,5 @@
 -- Entries that are parted are counted in three parts, beside the records that tail keeps.
-use Rattle.std.proofs.Common.{◌≡◌, ℕ, ◌+◌, Bool, true, false, cond, List, [], ◌∷◌, length, refl, sym, ap, ap₂, ◌∙◌, arith, map, filter, zip, count_by}
+use Rattle.std.proofs.Common.{◌≡◌, ℕ, ◌+◌, Bool, true, false, cond, List, [], ◌∷◌, length, refl, sym, ap, ◌∙◌, arith, map, filter, zip, count_by}
 use Rattle.std.specs.List.{AllByRecursion}
 use Rattle.std.proofs.lemmas.List.{length-map}
 use Rattle.std.proofs.lemmas.List.Sums.{sum_by-cons}
@@ -12,7 +12,7 @@ use Rattle.hs_outcome.specs.Records.{Named, name_of}
 use Rattle.hs_samplers.specs.Coming.{Coming, all_comings, named_in}
 use Rattle.hs_samplers.specs.Laws.{name_of_coming, EntriesStandByTheRecords, IsParted, KeptIsParted, TailIsTheSum}
 use Rattle.hs_samplers.specs.Lines.{is_gap, is_limited}
-use Rattle.hs_samplers.specs.Samplers.{is_among, chosen}
+use Rattle.hs_samplers.specs.Samplers.{is_among}
 
 abbrev one : Bool → ℕ
 one b = cond b 1 0

@@ -1,16 +1,19 @@
 -- How the records that the samplers keep lie within one another. Of a lawful journal each record of a named trace has one of three ends:
 -- it was reported, or it stands in a gap line, or no node claimed its trace. Of other traces none has any of these. So the records that tail
 -- keeps are those that Hindsight keeps, those in gap lines and the limited ones, each once; and a ring keeps no others.
-use Rattle.std.specs.Prelude.{◌≡◌, ℕ, ◌+◌, ◌≤◌, true, List, length, map, sum_by, All, Contains, if◌then◌else◌}
+use Rattle.std.specs.Prelude.{◌≡◌, ℕ, ◌+◌, ◌≤◌, true, List, length, map, sum_by, All, Contains, if◌then◌else◌, refl}
+use Rattle.std.proofs.Common.{lit≤}
 use Rattle.std.specs.List.{AllByRecursion}
 use Rattle.hs_base.specs.declared.ids.TraceId.{TraceId}
 use Rattle.hs_journal.specs.Views.{PlainJournal}
 use Rattle.hs_ledger.specs.declared.ledger.Entry.{Entry}
 use Rattle.hs_ledger.specs.Totals.{is_reported}
 use Rattle.hs_records.specs.Plain.{PlainWorkload}
+use Rattle.hs_lawful.specs.Journals
 use Rattle.hs_lawful.specs.Lawful.{IsLawful}
+use Rattle.hs_lawful.specs.Workloads.{evicted_then_claimed, one_token}
 use Rattle.hs_outcome.specs.Origins.{HasItsClients}
-use Rattle.hs_outcome.specs.Outcomes.{PlainOutcome, outcome_of}
+use Rattle.hs_outcome.specs.Outcomes.{outcome_of}
 use Rattle.hs_outcome.specs.Records.{EndsItsTraces, Named, name_of}
 use Rattle.hs_outcome.specs.Reports.{Report, reports_of}
 use Rattle.hs_samplers.specs.Coming.{Coming, all_comings, named_in}
@@ -67,3 +70,22 @@ SumsToTail c = c.tail.records ≡ c.hindsight.records + c.gap + c.limited
 -- Tail keeps as many records as Hindsight keeps, as stand in gap lines, and as are limited.
 abbrev pub TailIsTheSum : Type 0
 TailIsTheSum = (W : PlainWorkload) (J : PlainJournal) (one_in room : ℕ) → CanBeCompared W → IsLawful W J → SumsToTail (compared_by W J one_in room)
+
+-- ---- examples
+
+-- one record is reported, and the other was evicted before its trace was claimed
+can_be_compared : CanBeCompared evicted_then_claimed
+can_be_compared = record { ends = record { size = lit≤ tt; ends = ((refl, (refl, (refl, (refl, (refl, (refl, refl)))))), tt) }; clients = refl; stride = lit≤ tt }
+
+abbrev compared : PlainComparison
+compared = compared_by evicted_then_claimed Journals.of_evicted_then_claimed 1 1
+
+a_gap_and_a_record : (SumsToTail compared) × (compared.tail.records ≡ 2) × (compared.hindsight.records ≡ 1) × (compared.gap ≡ 1)
+a_gap_and_a_record = (refl, refl, refl, refl)
+
+-- of three traces one is limited
+two_and_a_limited_one : SumsToTail (compared_by one_token Journals.of_one_token 1 1)
+two_and_a_limited_one = refl
+
+three_are_parted : AllByRecursion (IsParted one_token (outcome_of one_token Journals.of_one_token).claimed) (outcome_of one_token Journals.of_one_token).entries
+three_are_parted = (refl, (refl, (refl, tt)))

@@ -1,6 +1,6 @@
 -- What each sampler keeps. Head keeps a trace by its rank alone, tail keeps the traces that are named somewhere. A ring keeps what waits in
 -- it when its trace is first named, and what comes behind that. Hindsight keeps what was reported.
-use Rattle.std.specs.Prelude.{ℕ, ◌-◌, ◌%◌, ◌==◌, Bool, not, List, [], ◌∷◌, ◌++◌, length, map, filter, drop, fold, zip, if◌then◌else◌}
+use Rattle.std.specs.Prelude.{◌≡◌, ℕ, ◌-◌, ◌%◌, ◌==◌, Bool, true, false, not, List, [], ◌∷◌, ◌++◌, length, map, filter, drop, fold, zip, if◌then◌else◌, refl}
 use Rattle.std.specs.List.{list_any}
 use Rattle.hs_base.specs.declared.ids.TraceId.{TraceId}
 use Rattle.hs_base.specs.Ranks.{word_of}
@@ -62,3 +62,28 @@ chosen passes records entries = map (λ (c : Coming × Entry). c.0) (filter (λ 
 
 abbrev pub hindsight_keeps : PlainWorkload → List Entry → List Coming
 hindsight_keeps W entries = chosen (λ (e : Entry). is_reported e.fate) (all_comings W) entries
+
+-- ---- examples
+
+abbrev t : ℕ → TraceId
+t trace = record { 0 = trace }
+
+-- the record of this number, of one client
+abbrev of_trace : (trace number : ℕ) → Coming
+of_trace trace number = record { id = record { client = record { node = 0; number = 0 }; number = number }; trace = t trace; bytes = 1 }
+
+abbrev kept_numbers : ℕ → List Event → List ℕ
+kept_numbers room events = map (λ (c : Coming). c.id.number) (fold (ring_step room) empty_ring events).kept
+
+-- the records 0 and 2 of the trace 7, with record 1 of the trace 8 between them; then the trace 7 is named, has one more record, and is named
+-- again; at last the trace 8 is named
+abbrev two_traces : List Event
+two_traces = Comes (of_trace 7 0) ∷ Comes (of_trace 8 1) ∷ Comes (of_trace 7 2) ∷ Names (t 7) ∷ Comes (of_trace 7 3) ∷ Names (t 7) ∷ Names (t 8) ∷ []
+
+-- with room for three all are kept; with room for two the first leaves; with room for one only the last waits, and the record of the trace 8 is gone
+rings : (kept_numbers 3 two_traces ≡ 0 ∷ 2 ∷ 3 ∷ 1 ∷ []) × (kept_numbers 2 two_traces ≡ 2 ∷ 3 ∷ 1 ∷ []) × (kept_numbers 1 two_traces ≡ 2 ∷ 3 ∷ [])
+rings = (refl, refl, refl)
+
+-- the rank words of these two traces end with the digits af and f4
+heads : (kept_by_rank 1 (t 0) ≡ true) × (kept_by_rank 2 (t 0) ≡ false) × (kept_by_rank 4 (t 0x9e3779b97f4a7c15) ≡ true) × (kept_by_rank 8 (t 0x9e3779b97f4a7c15) ≡ false)
+heads = (refl, refl, refl, refl)
