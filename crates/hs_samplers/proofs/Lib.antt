@@ -9,3 +9,6 @@ pub mod Sent
 pub mod Performing
 pub mod AllNamed
 pub mod Gaps
+pub mod Same
+pub mod Order
+pub mod RingOnce

@@ -21,14 +21,14 @@ use Rattle.hs_samplers.proofs.Naming.{Among, among_same, among_all, among_in, Na
 
 module _ (all : List Coming) (named : List TraceId) where
   -- a record that came, of a named trace
-  record IsNamed (coming : Coming) : Type 0 where
-    came : IsIn all coming
-    of : Among named coming.trace
+  pub record IsNamed (coming : Coming) : Type 0 where
+    pub came : IsIn all coming
+    pub of : Among named coming.trace
 
-  record Holds (ring : Ring) : Type 0 where
-    waiting : AllByRecursion (IsIn all) ring.waiting
-    known : AllByRecursion (Among named) ring.named
-    kept : AllByRecursion IsNamed ring.kept
+  pub record Holds (ring : Ring) : Type 0 where
+    pub waiting : AllByRecursion (IsIn all) ring.waiting
+    pub known : AllByRecursion (Among named) ring.named
+    pub kept : AllByRecursion IsNamed ring.kept
 
   abbrev IsRight : Event → Type 0
   IsRight (Comes coming) = IsIn all coming
@@ -123,7 +123,7 @@ module _ (W : PlainWorkload) where
   both_right (Comes coming ∷ events) came named = (came.0, both_right events came.1 named.1)
   both_right (Names trace ∷ events) came named = (named.0, both_right events came.1 named.1)
 
-  ring_holds : (room : ℕ) → Holds (all_comings W) (named_in W) (fold (ring_step room) empty_ring (events_in_order W))
+  pub ring_holds : (room : ℕ) → Holds (all_comings W) (named_in W) (fold (ring_step room) empty_ring (events_in_order W))
   ring_holds room =
       steps_right (all_comings W) (named_in W) room (events_in_order W) empty_ring (both_right (events_in_order W) all_came all_are_named) (record { waiting = tt; known = tt; kept = tt })
 

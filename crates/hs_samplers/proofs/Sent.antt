@@ -21,7 +21,7 @@ max_grows : (xs : List ℕ) (a : ℕ) → a ≤ fold max a xs
 max_grows [] a = omega arith
 max_grows (x ∷ xs) a = let more = max_grows xs (max a x) in omega (arith, more)
 
-max_has : (xs : List ℕ) (a place x : ℕ) → slice_get xs place ≡ Some x → x ≤ fold max a xs
+pub max_has : (xs : List ℕ) (a place x : ℕ) → slice_get xs place ≡ Some x → x ≤ fold max a xs
 max_has [] a place x h = let no : None ≡ Some x = h in absurd cc
 max_has (y ∷ xs) a zero x h = let more = max_grows xs (max a y) in let same : y ≡ x = cc in omega (arith, more, same)
 max_has (y ∷ xs) a (suc place) x h = max_has xs (max a y) place x h
@@ -44,7 +44,7 @@ module _ (sent : AllTriggersAreSent) (W : PlainWorkload) (some : 1 ≤ W.setting
   abbrev triggers : List (Sent Trigger)
   triggers = sent_triggers W.settings.autos ops
 
-  numbers_low : AllByRecursion (λ (item : Sent Trigger). ltb item.number (length ops) ≡ true) triggers
+  pub numbers_low : AllByRecursion (λ (item : Sent Trigger). ltb item.number (length ops) ≡ true) triggers
   numbers_low =
       subst (AllByRecursion (λ (item : Sent Trigger). ltb item.number (length ops) ≡ true)) (sent W.settings.autos ops)
       (all_filtered (IsIn triggers) (λ (item : Sent Trigger). ltb item.number (length ops) ≡ true) (λ (item : Sent Trigger). ltb item.number (length ops)) (λ item h passes. passes) triggers (all_themselves triggers))

@@ -1,14 +1,17 @@
--- How the records that the samplers keep lie within one another. Of a lawful journal each record of a named trace has one of three ends:
--- it was reported, or it stands in a gap line, or no node claimed its trace. Of other traces none has any of these. So the records that tail
--- keeps are those that Hindsight keeps, those in gap lines and the limited ones, each once; and a ring keeps no others.
-use Rattle.std.specs.Prelude.{◌≡◌, ℕ, ◌+◌, ◌≤◌, true, List, length, map, sum_by, All, Contains, if◌then◌else◌, refl}
+-- How the records that the samplers keep lie within one another. In operation order each record comes once, so no sampler keeps one twice.
+-- Of a lawful journal each record of a named trace has one of three ends: it was reported, or it stands in a gap line, or no node claimed
+-- its trace. A record of another trace has none of these. So the records that tail keeps are those that Hindsight keeps, those in gap lines
+-- and the limited ones, each once; and a ring keeps no others.
+use Rattle.std.specs.Prelude.{◌≡◌, ℕ, ◌+◌, ◌≤◌, true, List, [], ◌∷◌, ◌++◌, length, map, sum_by, All, Contains, IsPermutation, if◌then◌else◌, refl}
 use Rattle.std.proofs.Common.{lit≤}
-use Rattle.std.specs.List.{AllByRecursion}
+use Rattle.std.specs.List.{AllByRecursion, flat_map, range_with_len}
 use Rattle.hs_base.specs.declared.ids.TraceId.{TraceId}
+use Rattle.hs_base.specs.declared.told.Trigger.{Trigger}
 use Rattle.hs_journal.specs.Views.{PlainJournal}
 use Rattle.hs_ledger.specs.declared.ledger.Entry.{Entry}
 use Rattle.hs_ledger.specs.Totals.{is_reported}
 use Rattle.hs_records.specs.Plain.{PlainWorkload}
+use Rattle.hs_sent.specs.Sending.{Sent, operations_at, sent_triggers}
 use Rattle.hs_lawful.specs.Journals
 use Rattle.hs_lawful.specs.Lawful.{IsLawful}
 use Rattle.hs_lawful.specs.Workloads.{evicted_then_claimed, one_token}
@@ -16,13 +19,39 @@ use Rattle.hs_outcome.specs.Origins.{HasItsClients}
 use Rattle.hs_outcome.specs.Outcomes.{outcome_of}
 use Rattle.hs_outcome.specs.Records.{EndsItsTraces, Named, name_of}
 use Rattle.hs_outcome.specs.Reports.{Report, reports_of}
-use Rattle.hs_samplers.specs.Coming.{Coming, all_comings, named_in}
+use Rattle.hs_samplers.specs.Coming.{Coming, Event, Comes, Names, names_in, events_in_order, all_comings, named_in}
 use Rattle.hs_samplers.specs.Lines.{PlainComparison, is_gap, is_limited, comparison_of}
 use Rattle.hs_samplers.specs.Samplers.{is_among, tail_keeps, ring_keeps}
 
 -- Each record that a ring keeps is one that tail keeps.
 abbrev pub RingKeepsLess : Type 0
 RingKeepsLess = (W : PlainWorkload) (room : ℕ) → All (Contains (tail_keeps W)) (ring_keeps room W)
+
+-- ---- the operation order
+
+-- the record that an event brings
+abbrev pub brought_by : Event → List Coming
+brought_by (Comes coming) = coming ∷ []
+brought_by (Names trace) = []
+
+-- what all triggers name, client by client
+abbrev pub all_names : PlainWorkload → List TraceId
+all_names W =
+    flat_map (λ place. flat_map (λ (item : Sent Trigger). names_in item.item) (sent_triggers W.settings.autos (operations_at W place))) (range_with_len 0 (length W.clients))
+
+-- In the operation order each record comes once, and each trigger names its traces once.
+pub record HasAllInOrder (W : PlainWorkload) : Type 0 where
+  pub records : IsPermutation (all_comings W) (flat_map brought_by (events_in_order W))
+  pub names : IsPermutation (all_names W) (named_in W)
+
+abbrev pub TheOrderHasAll : Type 0
+TheOrderHasAll = (W : PlainWorkload) → 1 ≤ W.settings.stride → HasAllInOrder W
+
+-- So a ring keeps no record twice: what tail keeps is what the ring keeps, and others.
+abbrev pub RingKeepsEachOnce : Type 0
+RingKeepsEachOnce = (W : PlainWorkload) (room : ℕ) → 1 ≤ W.settings.stride → (others : List Coming) × IsPermutation (tail_keeps W) (ring_keeps room W ++ others)
+
+-- ---- claims
 
 -- Clients end the traces that they begin, each node has its clients, and a round has an operation at least. Every valid workload keeps this.
 pub record CanBeCompared (W : PlainWorkload) : Type 0 where

@@ -1,6 +1,6 @@
 //! What holds of the samplers over any workload. These functions do nothing: their contracts say it.
 
-ghost use Rattle.hs_samplers.specs.Laws.{RingKeepsLess, ClaimedTracesAreNamed, EntriesStandByTheRecords, KeptIsParted, GapsAreInGapLines, TailIsTheSum};
+ghost use Rattle.hs_samplers.specs.Laws.{RingKeepsLess, TheOrderHasAll, RingKeepsEachOnce, ClaimedTracesAreNamed, EntriesStandByTheRecords, KeptIsParted, GapsAreInGapLines, TailIsTheSum};
 
 use hs_claims::laws::claims_are_of_what_is_brought;
 use hs_lawful::laws::following_plays_out;
@@ -14,6 +14,19 @@ use hs_sent::laws::all_is_sent_in_the_end;
 /// A ring keeps no record that tail does not keep, whatever room it has.
 pub fn ring_keeps_less()
     ensures { RingKeepsLess }
+{}
+
+/// In the operation order each record of the workload comes once, and each trigger names its lead and its laterals
+/// once.
+pub fn the_order_has_all()
+    ensures { TheOrderHasAll }
+{
+    all_is_sent_in_the_end();
+}
+
+/// A ring keeps no record twice, so it keeps no more records than tail.
+pub fn ring_keeps_each_once()
+    ensures { RingKeepsEachOnce }
 {}
 
 /// Each trace that a node claimed is the lead or a lateral of some trigger of the workload.
