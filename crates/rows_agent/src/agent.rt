@@ -1,9 +1,12 @@
 //! A node's agent at the empty lease: what it evicts, pins, abandons, reports and tells, and how it hands buffers back.
 
+ghost use Rattle.std.specs.Prelude.{◌≤◌};
+
 use fixtures_agent::{Act, Answer, Ending, Limits, Seen, Site, end, play};
-use hs_base::limits::{MAX_PINS, MAX_THRESHOLD, MAX_TRACES};
-use hs_base::{Fate, Laterals, Rank, TraceId, TriggerId, Why};
+use hs_base::limits::{MAX_BURST, MAX_PINS, MAX_RATE, MAX_THRESHOLD, MAX_TRACES};
+use hs_base::{Fate, Laterals, Memory, Rank, TraceId, TriggerId, Why};
 use hs_journal::Step;
+use std::alloc::Global;
 use std::test::Fail;
 
 /// Leads whose ranks rise otherwise than they do: that of twice this is the least, and that of 0 the greatest.
@@ -62,16 +65,20 @@ const GREATEST: Limits = Limits {
     rate: 0,
 };
 
-fn reported(lead: u128) -> Fate {
-    Fate::Reported {
-        trigger: TriggerId(1),
-        lead: TraceId(lead),
-    }
-}
+const REPORTED: Fate = Fate::Reported {
+    trigger: TriggerId(1),
+    lead: TraceId(0),
+};
 
-fn evicted(chunks: u32, traces: u32) -> Fate {
-    Fate::Evicted { chunks, traces }
-}
+const REPORTED_G: Fate = Fate::Reported {
+    trigger: TriggerId(1),
+    lead: TraceId(G),
+};
+
+const REPORTED_1: Fate = Fate::Reported {
+    trigger: TriggerId(1),
+    lead: TraceId(1),
+};
 
 /// The group that `TWICE_G` leads is abandoned.
 const ABANDONED: Fate = Fate::Abandoned {
@@ -128,85 +135,123 @@ fn nothing_to_give() -> (Act, Seen) {
     (Act::Offer(Answer::Unread), Seen::Empty)
 }
 
+/// Has a script happen at a new agent of these limits. Answers the place of the first act of which something else is seen, and
+/// whether the agent leaves this behind.
+fn leads_to(
+    alloc: Global,
+    limits: Limits,
+    script: &[(Act, Seen)],
+    wanted: &Ending,
+) -> Result<(Option<usize>, bool), Memory>
+    requires some { 1 ≤ limits.burst }
+    requires burst { limits.burst ≤ MAX_BURST }
+    requires rate { limits.rate ≤ MAX_RATE }
+{
+    let (otherwise, ending) = play(alloc, limits, script)?;
+    Ok((otherwise, ending == *wanted))
+}
+
 /// Over the threshold the trace that was touched first goes, and its buffer is handed back.
-#[test]
-fn the_first_trace_is_evicted(rt: HostRuntime) -> Result<(), Fail> {
-    let script = [
+fn first_goes() -> [(Act, Seen); 6] {
+    [
         chunk(1, 0),
         chunk(2, 1),
         chunk(3, 2),
         turn(),
         gives(3, 0),
         nothing_to_give(),
-    ];
-    let wanted = Ending {
-        rest: 2,
-        reported: 0,
-        claims: 0,
-        steps: 5,
-        last: Some(Step::Given { stamp: 3 }),
-        chunks: 3,
-        fates: [
-            Some(evicted(3, 3)),
-            Some(Fate::Live),
-            Some(Fate::Live),
-            None,
-        ],
-    };
-    let (otherwise, ending) = play(rt.alloc(), FEW, &script)?;
-    assert_eq!(rt; otherwise, None);
-    assert!(rt; ending == wanted);
+    ]
+}
+
+const FIRST_GONE: Ending = Ending {
+    rest: 2,
+    reported: 0,
+    claims: 0,
+    steps: 5,
+    last: Some(Step::Given { stamp: 3 }),
+    chunks: 3,
+    fates: [
+        Some(Fate::Evicted {
+            chunks: 3,
+            traces: 3,
+        }),
+        Some(Fate::Live),
+        Some(Fate::Live),
+        None,
+    ],
+};
+
+#[test]
+fn the_first_trace_is_evicted(rt: HostRuntime) -> Result<(), Fail> {
+    let led = leads_to(rt.alloc(), FEW, &first_goes(), &FIRST_GONE)?;
+    assert_eq!(rt; led, (None, true));
     Ok(())
 }
 
 /// A second chunk touches its trace, so that another one goes.
+fn untouched_goes() -> [(Act, Seen); 4] {
+    [chunk(1, 0), chunk(2, 1), chunk(1, 2), chunk(3, 3)]
+}
+
+const UNTOUCHED_GONE: Ending = Ending {
+    rest: 4,
+    reported: 0,
+    claims: 0,
+    steps: 4,
+    last: Some(Step::Chunk { client: 0 }),
+    chunks: 4,
+    fates: [
+        Some(Fate::Live),
+        Some(Fate::Evicted {
+            chunks: 4,
+            traces: 3,
+        }),
+        Some(Fate::Live),
+        Some(Fate::Live),
+    ],
+};
+
 #[test]
 fn the_longest_untouched_is_evicted(rt: HostRuntime) -> Result<(), Fail> {
-    let script = [chunk(1, 0), chunk(2, 1), chunk(1, 2), chunk(3, 3)];
-    let wanted = Ending {
-        rest: 4,
-        reported: 0,
-        claims: 0,
-        steps: 4,
-        last: Some(Step::Chunk { client: 0 }),
-        chunks: 4,
-        fates: [
-            Some(Fate::Live),
-            Some(evicted(4, 3)),
-            Some(Fate::Live),
-            Some(Fate::Live),
-        ],
-    };
-    let (otherwise, ending) = play(rt.alloc(), THREE, &script)?;
-    assert_eq!(rt; otherwise, None);
-    assert!(rt; ending == wanted);
+    let led = leads_to(rt.alloc(), THREE, &untouched_goes(), &UNTOUCHED_GONE)?;
+    assert_eq!(rt; led, (None, true));
     Ok(())
 }
 
 /// A trace with a crumb and no chunk counts.
+fn crumb_counts() -> [(Act, Seen); 3] {
+    [chunk(1, 0), chunk(2, 1), crumb(3, 1)]
+}
+
+const CRUMB_COUNTED: Ending = Ending {
+    rest: 2,
+    reported: 0,
+    claims: 0,
+    steps: 3,
+    last: Some(Step::Crumb { client: 0 }),
+    chunks: 2,
+    fates: [
+        Some(Fate::Evicted {
+            chunks: 2,
+            traces: 3,
+        }),
+        Some(Fate::Live),
+        None,
+        None,
+    ],
+};
+
 #[test]
 fn a_crumb_alone_counts(rt: HostRuntime) -> Result<(), Fail> {
-    let script = [chunk(1, 0), chunk(2, 1), crumb(3, 1)];
-    let wanted = Ending {
-        rest: 2,
-        reported: 0,
-        claims: 0,
-        steps: 3,
-        last: Some(Step::Crumb { client: 0 }),
-        chunks: 2,
-        fates: [Some(evicted(2, 3)), Some(Fate::Live), None, None],
-    };
-    let (otherwise, ending) = play(rt.alloc(), TWO_TRACES, &script)?;
-    assert_eq!(rt; otherwise, None);
-    assert!(rt; ending == wanted);
+    let led = leads_to(rt.alloc(), TWO_TRACES, &crumb_counts(), &CRUMB_COUNTED)?;
+    assert_eq!(rt; led, (None, true));
     Ok(())
 }
 
 /// Of three groups the one of the least rank goes, with its later chunk; and the others are reported turn by turn, the one of
 /// the greatest rank first.
-#[test]
-fn the_least_rank_is_abandoned(rt: HostRuntime) -> Result<(), Fail> {
-    let script = [
+fn least_rank_goes() -> [(Act, Seen); 18] {
+    [
         chunk(0, 0),
         chunk(G, 1),
         chunk(TWICE_G, 2),
@@ -225,74 +270,80 @@ fn the_least_rank_is_abandoned(rt: HostRuntime) -> Result<(), Fail> {
         turn(),
         pinned(0),
         gives(7, 1),
-    ];
-    let wanted = Ending {
-        rest: 0,
-        reported: 2,
-        claims: 3,
-        steps: 13,
-        last: Some(Step::Given { stamp: 7 }),
-        chunks: 4,
-        fates: [
-            Some(reported(0)),
-            Some(reported(G)),
-            Some(ABANDONED),
-            Some(ABANDONED),
-        ],
-    };
-    let (otherwise, ending) = play(rt.alloc(), TWO_PINS, &script)?;
-    assert_eq!(rt; otherwise, None);
-    assert!(rt; ending == wanted);
+    ]
+}
+
+const LEAST_RANK_GONE: Ending = Ending {
+    rest: 0,
+    reported: 2,
+    claims: 3,
+    steps: 13,
+    last: Some(Step::Given { stamp: 7 }),
+    chunks: 4,
+    fates: [
+        Some(REPORTED),
+        Some(REPORTED_G),
+        Some(ABANDONED),
+        Some(ABANDONED),
+    ],
+};
+
+#[test]
+fn the_least_rank_is_abandoned(rt: HostRuntime) -> Result<(), Fail> {
+    let led = leads_to(rt.alloc(), TWO_PINS, &least_rank_goes(), &LEAST_RANK_GONE)?;
+    assert_eq!(rt; led, (None, true));
     Ok(())
+}
+
+fn fires_in_a_second() -> [(Act, Seen); 3] {
+    let refused = Act::Trigger {
+        moment: 999_999,
+        lead: 2,
+    };
+    [
+        fires(0, 1, 0, 0),
+        (refused, Seen::Quiet),
+        fires(1_000_000, 3, 1, 0),
+    ]
 }
 
 /// The bucket admits one trigger a second.
 #[test]
 fn one_trigger_a_second(rt: HostRuntime) -> Result<(), Fail> {
-    let refused = Act::Trigger {
-        moment: 999_999,
-        lead: 2,
-    };
-    let script = [
-        fires(0, 1, 0, 0),
-        (refused, Seen::Quiet),
-        fires(1_000_000, 3, 1, 0),
-    ];
-    let (otherwise, ending) = play(rt.alloc(), ONE_A_SECOND, &script)?;
-    assert_eq!(rt; otherwise, None);
-    assert_eq!(rt; ending.claims, 2);
-    assert_eq!(rt; ending.steps, 3);
+    let (otherwise, ending) = play(rt.alloc(), ONE_A_SECOND, &fires_in_a_second())?;
+    assert_eq!(rt; (otherwise, ending.claims, ending.steps), (None, 2, 3));
     Ok(())
 }
 
 /// A trigger tells the crumbs of its lead; a crumb that comes later is told once; and an ask is answered with the crumbs of a
 /// lateral that another group holds.
-#[test]
-fn crumbs_are_told(rt: HostRuntime) -> Result<(), Fail> {
+fn tells_crumbs() -> [(Act, Seen); 5] {
     let late = Act::Crumb { trace: 1, node: 0 };
     let ask = Act::Ask {
         lead: 7,
         lateral: 1,
     };
-    let script = [
+    [
         crumb(1, 2),
         fires(0, 1, 0, 4),
         (late, tells(0, 1, 1, Why::Late)),
         crumb(1, 0),
         (ask, tells(5, 7, 5, Why::Answer)),
-    ];
-    let (otherwise, ending) = play(rt.alloc(), FEW, &script)?;
-    assert_eq!(rt; otherwise, None);
-    assert_eq!(rt; ending.claims, 2);
+    ]
+}
+
+#[test]
+fn crumbs_are_told(rt: HostRuntime) -> Result<(), Fail> {
+    let (otherwise, ending) = play(rt.alloc(), FEW, &tells_crumbs())?;
+    assert_eq!(rt; (otherwise, ending.claims), (None, 2));
     Ok(())
 }
 
 /// A trigger comes before its chunk, which is reported; and a chunk that misses or is unread comes first again.
-#[test]
-fn chunks_come_back(rt: HostRuntime) -> Result<(), Fail> {
+fn comes_back() -> [(Act, Seen); 9] {
     let missed = Act::Offer(Answer::Missed { stamp: 9 });
     let unread = Act::Offer(Answer::Unread);
-    let script = [
+    [
         fires(0, 1, 0, 0),
         chunk(1, 0),
         pinned(1),
@@ -302,55 +353,93 @@ fn chunks_come_back(rt: HostRuntime) -> Result<(), Fail> {
         (unread, Seen::Page(0)),
         gives(10, 0),
         nothing_to_give(),
-    ];
-    let wanted = Ending {
-        rest: 0,
-        reported: 1,
-        claims: 1,
-        steps: 6,
-        last: Some(Step::Given { stamp: 10 }),
-        chunks: 1,
-        fates: [Some(reported(1)), None, None, None],
-    };
-    let (otherwise, ending) = play(rt.alloc(), FEW, &script)?;
-    assert_eq!(rt; otherwise, None);
-    assert!(rt; ending == wanted);
+    ]
+}
+
+const CAME_BACK: Ending = Ending {
+    rest: 0,
+    reported: 1,
+    claims: 1,
+    steps: 6,
+    last: Some(Step::Given { stamp: 10 }),
+    chunks: 1,
+    fates: [Some(REPORTED_1), None, None, None],
+};
+
+#[test]
+fn chunks_come_back(rt: HostRuntime) -> Result<(), Fail> {
+    let led = leads_to(rt.alloc(), FEW, &comes_back(), &CAME_BACK)?;
+    assert_eq!(rt; led, (None, true));
     Ok(())
+}
+
+/// Gives chunks of trace 1 with the pages from 0 on. Answers whether nothing is told of any.
+fn fills(site: &mut Site) -> Result<bool, Memory> {
+    let mut quiet = true;
+    for page in 0..MAX_THRESHOLD {
+        quiet &= site.chunk(1, page)?.is_none();
+    }
+    Ok(quiet)
+}
+
+/// Triggers trace 1, and then gives a chunk more of it. Answers whether the trigger is told of and the chunk is not, and how
+/// many chunks are pinned before and after that chunk.
+fn lets_go(site: &mut Site) -> Result<(bool, u32, bool, u32), Memory> {
+    let told = site.trigger(0, 1, Laterals::none())?.is_some();
+    let before = site.pinned();
+    let quiet = site.chunk(1, MAX_THRESHOLD)?.is_none();
+    Ok((told, before, quiet, site.pinned()))
+}
+
+/// How many chunks an agent has left, and how many it had.
+fn counts(site: Site) -> Result<(usize, usize), Memory> {
+    let ending = end(site)?;
+    Ok((ending.rest, ending.chunks))
+}
+
+/// Fills an agent, and lets go. Answers as the two calls do.
+fn fills_and_lets_go(site: &mut Site) -> Result<(bool, bool, u32, bool, u32), Memory> {
+    let filled = fills(site)?;
+    let (told, before, quiet, after) = lets_go(site)?;
+    Ok((filled, told, before, quiet, after))
 }
 
 /// As many chunks are pinned as may be, and one more lets all of them go.
 #[test]
 fn the_most_is_pinned(rt: HostRuntime) -> Result<(), Fail> {
     let mut site = Site::make(rt.alloc(), GREATEST)?;
-    for page in 0..MAX_THRESHOLD {
-        assert!(rt; site.chunk(1, page)?.is_none());
-    }
-    assert!(rt; site.trigger(0, 1, Laterals::none())?.is_some());
-    assert_eq!(rt; site.pinned(), MAX_PINS);
-    assert!(rt; site.chunk(1, MAX_THRESHOLD)?.is_none());
-    assert_eq!(rt; site.pinned(), 0);
-    let ending = end(site)?;
-    assert_eq!(rt; ending.rest, 1025);
-    assert_eq!(rt; ending.chunks, 1025);
+    let gone = fills_and_lets_go(&mut site)?;
+    let counted = counts(site)?;
+    assert_eq!(rt; gone, (true, true, MAX_PINS, true, 0));
+    assert_eq!(rt; counted, (1025, 1025));
     Ok(())
 }
 
+fn does_nothing() -> [(Act, Seen); 2] {
+    [turn(), nothing_to_give()]
+}
+
+const NOTHING: Ending = Ending {
+    rest: 0,
+    reported: 0,
+    claims: 0,
+    steps: 1,
+    last: Some(Step::Turn),
+    chunks: 0,
+    fates: [None, None, None, None],
+};
+
 #[test]
 fn nothing_is_left_of_nothing(rt: HostRuntime) -> Result<(), Fail> {
-    let script = [turn(), nothing_to_give()];
-    let wanted = Ending {
-        rest: 0,
-        reported: 0,
-        claims: 0,
-        steps: 1,
-        last: Some(Step::Turn),
-        chunks: 0,
-        fates: [None, None, None, None],
-    };
-    let (otherwise, ending) = play(rt.alloc(), FEW, &script)?;
-    assert_eq!(rt; otherwise, None);
-    assert!(rt; ending == wanted);
+    let led = leads_to(rt.alloc(), FEW, &does_nothing(), &NOTHING)?;
+    assert_eq!(rt; led, (None, true));
     Ok(())
+}
+
+/// Leaves a crumb and offers a chunk. Answers whether memory was wanting for each.
+fn fails(site: &mut Site, trace: u32) -> (bool, bool) {
+    let crumb = site.crumb(u128::from(trace), 1).is_err();
+    (crumb, site.offer(Answer::Unread).is_err())
 }
 
 /// Where a call answers that memory is wanting, each later one does. With memory enough none does.
@@ -359,12 +448,9 @@ fn memory_stays_wanting(rt: HostRuntime) -> Result<(), Fail> {
     let mut site = Site::make(rt.alloc(), FEW)?;
     let mut wanting = false;
     for trace in 0u32..20 {
-        let failed = site.crumb(u128::from(trace), 1).is_err();
-        assert!(rt; failed || !wanting);
-        wanting = failed;
-        let failed = site.offer(Answer::Unread).is_err();
-        assert!(rt; failed || !wanting);
-        wanting = failed;
+        let (crumb, offer) = fails(&mut site, trace);
+        assert!(rt; wanting <= crumb && crumb <= offer);
+        wanting = offer;
     }
     Ok(())
 }
