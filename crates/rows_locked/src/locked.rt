@@ -1,5 +1,5 @@
 //! Locked pools: the calls of one thread, one after another, and four drawers and a giver in threads of their own.
-ghost use Rattle.std.specs.Prelude.{◌≡◌, ◌≤◌, ◌∷◌, [], length, sum, IfOk};
+ghost use Rattle.std.specs.Prelude.{◌≡◌, ◌+◌, ◌≤◌, ◌∷◌, [], length, sum, IfOk};
 ghost use Rattle.std.specs.Thread.{IsSync};
 ghost use Rattle.hs_link.specs.Contents.{sent};
 ghost use Rattle.hs_ring.specs.Parts.{AreNewEnds, AreAllEnds};
@@ -40,36 +40,94 @@ fn one_drawer(alloc: Global) -> Result<(LockedGiver, LockedDrawer), Memory>
     Ok((giver, drawer))
 }
 
+/// Draws a chunk. Gives it with the draw's stamp.
+fn draw_chunk<R: Wait>(rt: &R, drawer: &mut LockedDrawer) -> Result<(Held<LockedLease>, u64), Fail>
+    requires { 1 ≤ drawer.old.left }
+    ensures same { (drawer.new.pool ≡ drawer.old.pool) × (drawer.new.size ≡ drawer.old.size) × (drawer.new.number ≡ drawer.old.number) }
+    ensures left { drawer.new.left + 1 ≡ drawer.old.left }
+    ensures held { IfOk result (λ got. (got.0.lease.pool ≡ drawer.old.pool) × (got.0.chunk.size ≡ drawer.old.size)) }
+{
+    match drawer.draw(rt) {
+        Drawn::Got { held, stamp } => Ok((held, stamp)),
+        Drawn::Empty { .. } => Err(Fail::from("no chunk was left")),
+    }
+}
+
+/// Draws where no chunk is left. Gives the stamp.
+fn draw_nothing<R: Wait>(rt: &R, drawer: &mut LockedDrawer) -> Result<u64, Fail>
+    requires { 1 ≤ drawer.old.left }
+    ensures same { (drawer.new.pool ≡ drawer.old.pool) × (drawer.new.size ≡ drawer.old.size) × (drawer.new.number ≡ drawer.old.number) }
+    ensures left { drawer.new.left + 1 ≡ drawer.old.left }
+{
+    match drawer.draw(rt) {
+        Drawn::Got { .. } => Err(Fail::from("a chunk was left")),
+        Drawn::Empty { stamp } => Ok(stamp),
+    }
+}
+
+/// Gives a chunk. Gives the stamp.
+fn give_chunk<R: Wait>(
+    rt: &R,
+    giver: &mut LockedGiver,
+    held: Held<LockedLease>,
+) -> Result<u64, Fail>
+    requires { (held.lease.pool ≡ giver.old.pool) × (held.chunk.size ≡ giver.old.size) }
+    ensures { (giver.new.pool ≡ giver.old.pool) × (giver.new.size ≡ giver.old.size) × (giver.new.drawers ≡ giver.old.drawers) }
+{
+    match giver.give(rt, held) {
+        Given::Given { stamp } => Ok(stamp),
+        _ => Err(Fail::from("the chunk was not given")),
+    }
+}
+
+/// Draws twice, gives, and draws again, on one chunk. Gives the chunk with its numbers after the draws, and all stamps.
+fn play<R: Wait>(
+    rt: &R,
+    giver: &mut LockedGiver,
+    drawer: &mut LockedDrawer,
+) -> Result<(Held<LockedLease>, [u32; 2], [u64; 4]), Fail>
+    requires drawer { (drawer.old.pool ≡ giver.old.pool) × (drawer.old.size ≡ giver.old.size) × (drawer.old.left ≡ 3) }
+    ensures giver { (giver.new.pool ≡ giver.old.pool) × (giver.new.drawers ≡ giver.old.drawers) }
+    ensures drawer { (drawer.new.pool ≡ drawer.old.pool) × (drawer.new.number ≡ drawer.old.number) }
+    ensures held { IfOk result (λ end. end.0.lease.pool ≡ giver.old.pool) }
+{
+    let (held, first) = draw_chunk(rt, drawer)?;
+    let number = held.chunk.number();
+    let second = draw_nothing(rt, drawer)?;
+    let third = give_chunk(rt, giver, held)?;
+    let (held, fourth) = draw_chunk(rt, drawer)?;
+    let numbers = [number, held.chunk.number()];
+    Ok((held, numbers, [first, second, third, fourth]))
+}
+
+/// Closes a pool with one drawer while a chunk is leased, behind a meeting. Gives the draws that got a chunk and those that
+/// did not, and the gives that were taken and those that missed.
+fn close_one(
+    alloc: Global,
+    mut giver: LockedGiver,
+    mut drawer: LockedDrawer,
+    held: Held<LockedLease>,
+) -> Result<(u64, u64, u64, u64), Memory>
+    requires drawer { (drawer.pool ≡ giver.pool) × (drawer.number ≡ 0) × (giver.drawers ≡ 1) }
+    requires held { held.lease.pool ≡ giver.pool }
+{
+    giver.meet(&mut drawer);
+    let mut rest = List::with_room(alloc, 1)?;
+    rest.push(held);
+    let mut drawers = List::with_room(alloc, 1)?;
+    drawers.push(drawer);
+    let tally = close(giver, drawers, rest);
+    Ok((tally.gots, tally.empties, tally.gives, tally.misses))
+}
+
 #[test]
 fn no_miss_for_an_empty_draw(rt: HostRuntime) -> Result<(), Fail> {
     let (mut giver, mut drawer) = one_drawer(rt.alloc())?;
-    let Drawn::Got { held, stamp } = drawer.draw(&rt) else {
-        return Err(Fail::from("the chunk was got"));
-    };
-    assert_eq!(rt; (held.chunk.number(), stamp), (0, 0));
-    let Drawn::Empty { stamp } = drawer.draw(&rt) else {
-        return Err(Fail::from("no chunk was left"));
-    };
-    assert_eq!(rt; stamp, 1);
-    let Given::Given { stamp } = giver.give(&rt, held) else {
-        return Err(Fail::from("the chunk was given"));
-    };
-    assert_eq!(rt; stamp, 2);
-    let Drawn::Got { held, stamp } = drawer.draw(&rt) else {
-        return Err(Fail::from("the chunk was got again"));
-    };
-    assert_eq!(rt; (held.chunk.number(), stamp), (0, 3));
-    assert_eq!(rt; drawer.left(), 0);
-    giver.meet(&mut drawer);
-    let mut rest = List::with_room(rt.alloc(), 1)?;
-    rest.push(held);
-    let mut drawers = List::with_room(rt.alloc(), 1)?;
-    drawers.push(drawer);
-    let tally = close(giver, drawers, rest);
-    assert_eq!(rt;
-        (tally.gots, tally.empties, tally.gives, tally.misses),
-        (2, 1, 1, 0)
-    );
+    let (held, numbers, stamps) = play(&rt, &mut giver, &mut drawer)?;
+    let left = drawer.left();
+    let tally = close_one(rt.alloc(), giver, drawer, held)?;
+    assert_eq!(rt; (numbers, stamps, left), ([0, 0], [0, 1, 2, 3], 0));
+    assert_eq!(rt; tally, (2, 1, 1, 0));
     Ok(())
 }
 
@@ -96,18 +154,33 @@ struct Job {
     ghost room: { (sent chunks ≡ []) × (drawer.left ≤ chunks.room) },
 }
 
+/// Two drawers.
+type Two = (LockedDrawer, LockedDrawer);
+
+/// Two jobs.
+#[derive(Drop)]
+struct Jobs {
+    one: Job,
+    two: Job,
+}
+
+/// The links on which the chunks of two drawers come.
+#[derive(Drop)]
+struct Links {
+    one: Chunks,
+    two: Chunks,
+}
+
 /// The giver, and the links on which chunks come.
 #[derive(Drop)]
 struct Work {
     giver: LockedGiver,
-    one: Chunks,
-    two: Chunks,
-    three: Chunks,
-    four: Chunks,
-    ghost of_one: { (one.key.giver.value.pool ≡ giver.pool) × (one.key.giver.value.size ≡ giver.size) },
-    ghost of_two: { (two.key.giver.value.pool ≡ giver.pool) × (two.key.giver.value.size ≡ giver.size) },
-    ghost of_three: { (three.key.giver.value.pool ≡ giver.pool) × (three.key.giver.value.size ≡ giver.size) },
-    ghost of_four: { (four.key.giver.value.pool ≡ giver.pool) × (four.key.giver.value.size ≡ giver.size) },
+    front: Links,
+    back: Links,
+    ghost of_one: { (front.one.key.giver.value.pool ≡ giver.pool) × (front.one.key.giver.value.size ≡ giver.size) },
+    ghost of_two: { (front.two.key.giver.value.pool ≡ giver.pool) × (front.two.key.giver.value.size ≡ giver.size) },
+    ghost of_three: { (back.one.key.giver.value.pool ≡ giver.pool) × (back.one.key.giver.value.size ≡ giver.size) },
+    ghost of_four: { (back.two.key.giver.value.pool ≡ giver.pool) × (back.two.key.giver.value.size ≡ giver.size) },
 }
 
 /// Draws as often as the allowance says, and sends what was got. Gives the stamps.
@@ -160,6 +233,22 @@ fn serve<R: Wait>(
     Ok(())
 }
 
+/// Gives back what two drawers sent, as far as it has come.
+fn serve_two<R: Wait>(
+    rt: &R,
+    giver: &mut LockedGiver,
+    links: &mut Links,
+    stamps: &mut Vec<u64>,
+) -> Result<(), AllocError>
+    requires one { (links.old.one.key.giver.value.pool ≡ giver.old.pool) × (links.old.one.key.giver.value.size ≡ giver.old.size) }
+    requires two { (links.old.two.key.giver.value.pool ≡ giver.old.pool) × (links.old.two.key.giver.value.size ≡ giver.old.size) }
+    ensures giver { (giver.new.pool ≡ giver.old.pool) × (giver.new.size ≡ giver.old.size) × (giver.new.drawers ≡ giver.old.drawers) }
+    ensures links { (links.new.one.key ≡ links.old.one.key) × (links.new.two.key ≡ links.old.two.key) }
+{
+    serve(rt, giver, &mut links.one, stamps)?;
+    serve(rt, giver, &mut links.two, stamps)
+}
+
 /// Gives back what comes, in so many rounds over all links.
 fn give_all<R: Wait>(
     rt: &R,
@@ -171,17 +260,13 @@ fn give_all<R: Wait>(
 {
     let Work {
         mut giver,
-        mut one,
-        mut two,
-        mut three,
-        mut four,
+        mut front,
+        mut back,
     } = work;
     let mut stamps = Vec::new(alloc);
     for _round in 0..rounds {
-        serve(rt, &mut giver, &mut one, &mut stamps)?;
-        serve(rt, &mut giver, &mut two, &mut stamps)?;
-        serve(rt, &mut giver, &mut three, &mut stamps)?;
-        serve(rt, &mut giver, &mut four, &mut stamps)?;
+        serve_two(rt, &mut giver, &mut front, &mut stamps)?;
+        serve_two(rt, &mut giver, &mut back, &mut stamps)?;
         thread::yield_now();
     }
     Ok((giver, stamps))
@@ -191,12 +276,12 @@ fn give_all<R: Wait>(
 fn draw_two<R: Threads + Wait + Sync>(
     rt: &R,
     alloc: Global,
-    one: Job,
-    two: Job,
-) -> Result<(LockedDrawer, LockedDrawer, Vec<u64>), AllocError>
-    ensures one { IfOk result (λ end. (end.0.pool ≡ one.drawer.pool) × (end.0.number ≡ one.drawer.number)) }
-    ensures two { IfOk result (λ end. (end.1.pool ≡ two.drawer.pool) × (end.1.number ≡ two.drawer.number)) }
+    jobs: Jobs,
+) -> Result<(Two, Vec<u64>), AllocError>
+    ensures one { IfOk result (λ end. (end.0.0.pool ≡ jobs.one.drawer.pool) × (end.0.0.number ≡ jobs.one.drawer.number)) }
+    ensures two { IfOk result (λ end. (end.0.1.pool ≡ jobs.two.drawer.pool) × (end.0.1.number ≡ jobs.two.drawer.number)) }
 {
+    let Jobs { one, two } = jobs;
     let (first, second) = join(
         rt,
         move || -> Result<(LockedDrawer, Vec<u64>), AllocError>
@@ -211,45 +296,34 @@ fn draw_two<R: Threads + Wait + Sync>(
     let (first, mut stamps) = first?;
     let (second, more) = second?;
     stamps.extend_from_slice(more.as_slice())?;
-    Ok((first, second, stamps))
+    Ok(((first, second), stamps))
 }
 
 /// Four drawers in threads of their own.
 fn draw_four<R: Threads + Wait + Sync>(
     rt: &R,
     alloc: Global,
-    one: Job,
-    two: Job,
-    three: Job,
-    four: Job,
-) -> Result<
-    (
-        LockedDrawer,
-        LockedDrawer,
-        LockedDrawer,
-        LockedDrawer,
-        Vec<u64>,
-    ),
-    AllocError,
->
-    ensures { IfOk result (λ end. (end.0.pool ≡ one.drawer.pool) × (end.0.number ≡ one.drawer.number) × (end.1.pool ≡ two.drawer.pool) × (end.1.number ≡ two.drawer.number)
-        × (end.2.pool ≡ three.drawer.pool) × (end.2.number ≡ three.drawer.number) × (end.3.pool ≡ four.drawer.pool) × (end.3.number ≡ four.drawer.number)) }
+    front: Jobs,
+    back: Jobs,
+) -> Result<(Two, Two, Vec<u64>), AllocError>
+    ensures front { IfOk result (λ end. (end.0.0.pool ≡ front.one.drawer.pool) × (end.0.0.number ≡ front.one.drawer.number) × (end.0.1.pool ≡ front.two.drawer.pool) × (end.0.1.number ≡ front.two.drawer.number)) }
+    ensures back { IfOk result (λ end. (end.1.0.pool ≡ back.one.drawer.pool) × (end.1.0.number ≡ back.one.drawer.number) × (end.1.1.pool ≡ back.two.drawer.pool) × (end.1.1.number ≡ back.two.drawer.number)) }
 {
-    let (front, back) = join(
+    let (ahead, behind) = join(
         rt,
-        move || -> Result<(LockedDrawer, LockedDrawer, Vec<u64>), AllocError>
+        move || -> Result<(Two, Vec<u64>), AllocError>
             requires { IsSync R.row }
-            ensures { IfOk result (λ end. (end.0.pool ≡ one.drawer.pool) × (end.0.number ≡ one.drawer.number) × (end.1.pool ≡ two.drawer.pool) × (end.1.number ≡ two.drawer.number)) }
-        { draw_two(rt, alloc, one, two) },
-        move || -> Result<(LockedDrawer, LockedDrawer, Vec<u64>), AllocError>
+            ensures { IfOk result (λ end. (end.0.0.pool ≡ front.one.drawer.pool) × (end.0.0.number ≡ front.one.drawer.number) × (end.0.1.pool ≡ front.two.drawer.pool) × (end.0.1.number ≡ front.two.drawer.number)) }
+        { draw_two(rt, alloc, front) },
+        move || -> Result<(Two, Vec<u64>), AllocError>
             requires { IsSync R.row }
-            ensures { IfOk result (λ end. (end.0.pool ≡ three.drawer.pool) × (end.0.number ≡ three.drawer.number) × (end.1.pool ≡ four.drawer.pool) × (end.1.number ≡ four.drawer.number)) }
-        { draw_two(rt, alloc, three, four) },
+            ensures { IfOk result (λ end. (end.0.0.pool ≡ back.one.drawer.pool) × (end.0.0.number ≡ back.one.drawer.number) × (end.0.1.pool ≡ back.two.drawer.pool) × (end.0.1.number ≡ back.two.drawer.number)) }
+        { draw_two(rt, alloc, back) },
     );
-    let (one, two, mut stamps) = front?;
-    let (three, four, more) = back?;
+    let (ahead, mut stamps) = ahead?;
+    let (behind, more) = behind?;
     stamps.extend_from_slice(more.as_slice())?;
-    Ok((one, two, three, four, stamps))
+    Ok((ahead, behind, stamps))
 }
 
 /// A link for the chunks of a drawer.
@@ -269,23 +343,29 @@ fn job_of(alloc: Global, giver: &LockedGiver, drawer: LockedDrawer) -> Result<(J
     Ok((job, receiver))
 }
 
+/// Jobs of two drawers, and the links for their chunks.
+fn jobs_of(alloc: Global, giver: &LockedGiver, drawers: Two) -> Result<(Jobs, Links), Fail>
+    requires one { (drawers.0.pool ≡ giver.now.pool) × (drawers.0.size ≡ giver.now.size) }
+    requires two { (drawers.1.pool ≡ giver.now.pool) × (drawers.1.size ≡ giver.now.size) }
+    ensures jobs { IfOk result (λ made. (made.0.one.drawer ≡ drawers.0) × (made.0.two.drawer ≡ drawers.1)) }
+    ensures one { IfOk result (λ made. (made.1.one.key.giver.value.pool ≡ giver.now.pool) × (made.1.one.key.giver.value.size ≡ giver.now.size)) }
+    ensures two { IfOk result (λ made. (made.1.two.key.giver.value.pool ≡ giver.now.pool) × (made.1.two.key.giver.value.size ≡ giver.now.size)) }
+{
+    let (one, first) = job_of(alloc, giver, drawers.0)?;
+    let (two, second) = job_of(alloc, giver, drawers.1)?;
+    let links = Links {
+        one: first,
+        two: second,
+    };
+    Ok((Jobs { one, two }, links))
+}
+
 /// Eight chunks of 64 bytes, and four drawers with so many draws each.
-fn four_drawers(
-    alloc: Global,
-    allowance: u32,
-) -> Result<
-    (
-        LockedGiver,
-        LockedDrawer,
-        LockedDrawer,
-        LockedDrawer,
-        LockedDrawer,
-    ),
-    Memory,
->
+fn four_drawers(alloc: Global, allowance: u32) -> Result<(LockedGiver, Two, Two), Memory>
     requires { allowance ≤ 65536 }
-    ensures ends { IfOk result (λ ends. AreAllEnds ends.0 (ends.1 ∷ ends.2 ∷ ends.3 ∷ ends.4 ∷ [])) }
-    ensures sizes { IfOk result (λ ends. (ends.1.size ≡ ends.0.size) × (ends.2.size ≡ ends.0.size) × (ends.3.size ≡ ends.0.size) × (ends.4.size ≡ ends.0.size)) }
+    ensures ends { IfOk result (λ ends. AreAllEnds ends.0 (ends.1.0 ∷ ends.1.1 ∷ ends.2.0 ∷ ends.2.1 ∷ [])) }
+    ensures front { IfOk result (λ ends. (ends.1.0.size ≡ ends.0.size) × (ends.1.1.size ≡ ends.0.size)) }
+    ensures back { IfOk result (λ ends. (ends.2.0.size ≡ ends.0.size) × (ends.2.1.size ≡ ends.0.size)) }
 {
     let (giver, mut drawers) = pool_of(alloc, 8, &[allowance, allowance, allowance, allowance])?;
     let Some(four) = drawers.pop() else {
@@ -300,7 +380,19 @@ fn four_drawers(
     let Some(one) = drawers.pop() else {
         unreachable!()
     };
-    Ok((giver, one, two, three, four))
+    Ok((giver, (one, two), (three, four)))
+}
+
+/// The giver's work and two jobs twice, on eight chunks.
+fn four_jobs(alloc: Global, allowance: u32) -> Result<(Work, Jobs, Jobs), Fail>
+    requires { allowance ≤ 65536 }
+    ensures { IfOk result (λ made. AreAllEnds made.0.giver (made.1.one.drawer ∷ made.1.two.drawer ∷ made.2.one.drawer ∷ made.2.two.drawer ∷ [])) }
+{
+    let (giver, ahead, behind) = four_drawers(alloc, allowance)?;
+    let (first, front) = jobs_of(alloc, &giver, ahead)?;
+    let (second, back) = jobs_of(alloc, &giver, behind)?;
+    let work = Work { giver, front, back };
+    Ok((work, first, second))
 }
 
 /// Whether the stamps, sorted, count up from 0 and leave none out.
@@ -314,22 +406,46 @@ fn are_all(stamps: &mut Vec<u64>) -> bool {
 }
 
 /// Closes a pool with four drawers.
-fn close_four(
-    alloc: Global,
-    giver: LockedGiver,
-    one: LockedDrawer,
-    two: LockedDrawer,
-    three: LockedDrawer,
-    four: LockedDrawer,
-) -> Result<Tally, Memory>
-    requires { AreAllEnds giver (one ∷ two ∷ three ∷ four ∷ []) }
+fn close_four(alloc: Global, giver: LockedGiver, front: Two, back: Two) -> Result<Tally, Memory>
+    requires { AreAllEnds giver (front.0 ∷ front.1 ∷ back.0 ∷ back.1 ∷ []) }
 {
     let mut drawers = List::with_room(alloc, 4)?;
-    drawers.push(one);
-    drawers.push(two);
-    drawers.push(three);
-    drawers.push(four);
+    drawers.push(front.0);
+    drawers.push(front.1);
+    drawers.push(back.0);
+    drawers.push(back.1);
     Ok(close(giver, drawers, List::new(alloc)))
+}
+
+/// The giver and four drawers, each in a thread of its own. Gives all of them with the stamps that were answered.
+fn work_all<R: Threads + Wait + Sync>(
+    rt: &R,
+    alloc: Global,
+    rounds: u32,
+    work: Work,
+    front: Jobs,
+    back: Jobs,
+) -> Result<(LockedGiver, Two, Two, Vec<u64>), AllocError>
+    ensures giver { IfOk result (λ end. (end.0.pool ≡ work.giver.pool) × (end.0.drawers ≡ work.giver.drawers)) }
+    ensures front { IfOk result (λ end. (end.1.0.pool ≡ front.one.drawer.pool) × (end.1.0.number ≡ front.one.drawer.number) × (end.1.1.pool ≡ front.two.drawer.pool) × (end.1.1.number ≡ front.two.drawer.number)) }
+    ensures back { IfOk result (λ end. (end.2.0.pool ≡ back.one.drawer.pool) × (end.2.0.number ≡ back.one.drawer.number) × (end.2.1.pool ≡ back.two.drawer.pool) × (end.2.1.number ≡ back.two.drawer.number)) }
+{
+    let (given, drawn) = join(
+        rt,
+        move || -> Result<(LockedGiver, Vec<u64>), AllocError>
+            requires { IsSync R.row }
+            ensures { IfOk result (λ end. (end.0.pool ≡ work.giver.pool) × (end.0.drawers ≡ work.giver.drawers)) }
+        { give_all(rt, alloc, work, rounds) },
+        move || -> Result<(Two, Two, Vec<u64>), AllocError>
+            requires { IsSync R.row }
+            ensures { IfOk result (λ end. (end.0.0.pool ≡ front.one.drawer.pool) × (end.0.0.number ≡ front.one.drawer.number) × (end.0.1.pool ≡ front.two.drawer.pool) × (end.0.1.number ≡ front.two.drawer.number)
+                × (end.1.0.pool ≡ back.one.drawer.pool) × (end.1.0.number ≡ back.one.drawer.number) × (end.1.1.pool ≡ back.two.drawer.pool) × (end.1.1.number ≡ back.two.drawer.number)) }
+        { draw_four(rt, alloc, front, back) },
+    );
+    let (giver, mut stamps) = given?;
+    let (ahead, behind, more) = drawn?;
+    stamps.extend_from_slice(more.as_slice())?;
+    Ok((giver, ahead, behind, stamps))
 }
 
 /// Four drawers and a giver on eight chunks, each in a thread of its own. Gives the stamps that were answered, and the tally.
@@ -341,55 +457,23 @@ fn draw_and_give<R: Threads + Wait + Sync>(
 ) -> Result<(Vec<u64>, Tally), Fail>
     requires { allowance ≤ 65536 }
 {
-    let (giver, one, two, three, four) = four_drawers(alloc, allowance)?;
-    let (job1, chunks1) = job_of(alloc, &giver, one)?;
-    let (job2, chunks2) = job_of(alloc, &giver, two)?;
-    let (job3, chunks3) = job_of(alloc, &giver, three)?;
-    let (job4, chunks4) = job_of(alloc, &giver, four)?;
-    let work = Work {
-        giver,
-        one: chunks1,
-        two: chunks2,
-        three: chunks3,
-        four: chunks4,
-    };
-    let (given, drawn) = join(
-        rt,
-        move || -> Result<(LockedGiver, Vec<u64>), AllocError>
-            requires { IsSync R.row }
-            ensures { IfOk result (λ end. (end.0.pool ≡ work.giver.pool) × (end.0.drawers ≡ work.giver.drawers)) }
-        { give_all(rt, alloc, work, rounds) },
-        move || -> Result<
-            (
-                LockedDrawer,
-                LockedDrawer,
-                LockedDrawer,
-                LockedDrawer,
-                Vec<u64>,
-            ),
-            AllocError,
-        >
-            requires { IsSync R.row }
-            ensures { IfOk result (λ end. (end.0.pool ≡ job1.drawer.pool) × (end.0.number ≡ job1.drawer.number) × (end.1.pool ≡ job2.drawer.pool) × (end.1.number ≡ job2.drawer.number)
-                × (end.2.pool ≡ job3.drawer.pool) × (end.2.number ≡ job3.drawer.number) × (end.3.pool ≡ job4.drawer.pool) × (end.3.number ≡ job4.drawer.number)) }
-        { draw_four(rt, alloc, job1, job2, job3, job4) },
-    );
-    let (giver, mut stamps) = given?;
-    let (one, two, three, four, more) = drawn?;
-    stamps.extend_from_slice(more.as_slice())?;
-    let tally = close_four(alloc, giver, one, two, three, four)?;
+    let (work, front, back) = four_jobs(alloc, allowance)?;
+    let (giver, ahead, behind, stamps) = work_all(rt, alloc, rounds, work, front, back)?;
+    let tally = close_four(alloc, giver, ahead, behind)?;
     Ok((stamps, tally))
+}
+
+/// Whether the stamps leave no gap, whether they are as many as the tally counts, and how many of these are draws.
+fn sum_up(mut stamps: Vec<u64>, tally: Tally) -> (bool, bool, u64) {
+    let draws = u64::saturating_add(tally.gots, tally.empties);
+    let gives = u64::saturating_add(tally.gives, tally.misses);
+    let is_counted = stamps.len() as u64 == u64::saturating_add(draws, gives);
+    (are_all(&mut stamps), is_counted, draws)
 }
 
 #[test]
 fn four_drawers_and_a_giver_leave_no_gap_under_a_lock(rt: HostRuntime) -> Result<(), Fail> {
-    let (mut stamps, tally) = draw_and_give(&rt, rt.alloc(), 500, 5000)?;
-    assert!(rt; are_all(&mut stamps));
-    let total = u64::saturating_add(
-        u64::saturating_add(tally.gots, tally.empties),
-        u64::saturating_add(tally.gives, tally.misses),
-    );
-    assert_eq!(rt; stamps.len() as u64, total);
-    assert_eq!(rt; u64::saturating_add(tally.gots, tally.empties), 2000);
+    let (stamps, tally) = draw_and_give(&rt, rt.alloc(), 500, 5000)?;
+    assert_eq!(rt; sum_up(stamps, tally), (true, true, 2000));
     Ok(())
 }
