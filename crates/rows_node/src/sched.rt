@@ -1,14 +1,14 @@
 //! Turns over two queues of equal items.
 
-ghost use Rattle.std.specs.Prelude.{◌≡◌, ◌+◌, ℕ, [], replicate, if◌then◌else◌, ◌==◌, IfOk, IsSome};
+ghost use Rattle.std.specs.Prelude.{◌≡◌, ◌+◌, ◌≤◌, ℕ, [], replicate, if◌then◌else◌, ◌==◌, IfOk, IsSome};
 ghost use Rattle.hs_base.specs.Rules.{AreRules};
-ghost use Rattle.hs_sched.specs.Turns.{share_of, shares_of};
+ghost use Rattle.hs_sched.specs.Turns.{IsSchedule, share_of, shares_of};
 
 use fixtures::{Shelf, greatest_rules, turn_shelf};
 use hs_base::limits::{MAX_SIZE, MAX_TRIGGER};
 use hs_base::{List, Memory, TriggerId, TriggerRule};
 use hs_sched::{Queues, Scheduler, visits_are_fair};
-use std::alloc::Global;
+use std::alloc::{AllocError, Global};
 use std::collections::VecDeque;
 use std::test::Fail;
 
@@ -67,17 +67,28 @@ fn two_rules(alloc: Global) -> Result<List<TriggerRule>, Memory>
     Ok(rules)
 }
 
+/// A scheduler of these two ids with pages of 64 bytes.
+fn two_shares(alloc: Global) -> Result<Scheduler, Memory>
+    ensures schedule { IfOk result IsSchedule }
+    ensures size { IfOk result (λ scheduler. scheduler.size ≡ 64) }
+    ensures declared { IfOk result (λ scheduler. IsSome (share_of scheduler 1) × IsSome (share_of scheduler 2)) }
+{
+    let rules = two_rules(alloc)?;
+    Scheduler::make(alloc, &rules, 64)
+}
+
+/// What waits for the ids 1 and 2, and their deficits, after each turn.
+const TURNS: [(u32, u32, u64, u64); 3] = [(4, 2, 40, 20), (1, 1, 36, 40), (0, 0, 0, 0)];
+
 #[test]
 fn turns_share_by_weight(rt: HostRuntime) -> Result<(), Fail> {
-    let rules = two_rules(rt.alloc())?;
-    let mut scheduler = Scheduler::make(rt.alloc(), &rules, 64)?;
+    let mut scheduler = two_shares(rt.alloc())?;
     let mut waiting = Waiting { one: 6, two: 3 };
-    for (one, two, first, second) in [(4, 2, 40, 20), (1, 1, 36, 40), (0, 0, 0, 0)] {
+    for turn in TURNS {
         scheduler.turn(&mut waiting);
-        assert_eq!(rt; waiting.one, one);
-        assert_eq!(rt; waiting.two, two);
-        assert_eq!(rt; scheduler.deficit(TriggerId(1)), first);
-        assert_eq!(rt; scheduler.deficit(TriggerId(2)), second);
+        let first = scheduler.deficit(TriggerId(1));
+        let second = scheduler.deficit(TriggerId(2));
+        assert_eq!(rt; (waiting.one, waiting.two, first, second), turn);
     }
     visits_are_fair();
     Ok(())
@@ -88,36 +99,43 @@ const ONE: [u32; 3] = [44, 45, 46];
 
 const TWO: [u32; 2] = [50, 51];
 
+/// A queue of these items.
+fn queue_of(alloc: Global, items: &[u32]) -> Result<VecDeque<u32>, AllocError> {
+    let mut queue = VecDeque::new(alloc);
+    for item in items {
+        queue.push_back(*item)?;
+    }
+    Ok(queue)
+}
+
 /// With pages of 64 bytes, weight 2 pays for two items of the first id, and weight 1 for one of the second.
 #[test]
 fn a_turn_moves_the_first_items(rt: HostRuntime) -> Result<(), Fail> {
-    let rules = two_rules(rt.alloc())?;
-    let mut scheduler = Scheduler::make(rt.alloc(), &rules, 64)?;
-    let mut one = VecDeque::new(rt.alloc());
-    for item in ONE {
-        one.push_back(item)?;
-    }
-    let mut two = VecDeque::new(rt.alloc());
-    for item in TWO {
-        two.push_back(item)?;
-    }
+    let mut scheduler = two_shares(rt.alloc())?;
+    let one = queue_of(rt.alloc(), &ONE)?;
+    let two = queue_of(rt.alloc(), &TWO)?;
     assert!(rt; one.len() < 4 && two.len() < 4);
     let sent = List::with_room(rt.alloc(), 8)?;
     let mut shelf = Shelf { one, two, sent };
     turn_shelf(&mut scheduler, &mut shelf);
     assert_eq!(rt; shelf.sent.as_slice(), [44, 45, 50].as_slice());
-    assert_eq!(rt; shelf.one.len(), 1);
-    assert_eq!(rt; shelf.two.len(), 1);
+    assert_eq!(rt; (shelf.one.len(), shelf.two.len()), (1, 1));
     Ok(())
+}
+
+/// How many rules there are where a scheduler of as many of the greatest is made.
+fn makes(alloc: Global, count: u8) -> Result<usize, Memory>
+    requires { count ≤ MAX_TRIGGER }
+{
+    let rules = greatest_rules(alloc, count)?;
+    Scheduler::make(alloc, &rules, MAX_SIZE)?;
+    Ok(rules.len())
 }
 
 /// As many trigger ids as there may be, and none.
 #[test]
 fn most_rules_and_none(rt: HostRuntime) -> Result<(), Fail> {
-    for count in [0, MAX_TRIGGER] {
-        let rules = greatest_rules(rt.alloc(), count)?;
-        assert_eq!(rt; rules.len(), usize::from(count));
-        Scheduler::make(rt.alloc(), &rules, MAX_SIZE)?;
-    }
+    assert_eq!(rt; makes(rt.alloc(), 0)?, 0);
+    assert_eq!(rt; makes(rt.alloc(), MAX_TRIGGER)?, usize::from(MAX_TRIGGER));
     Ok(())
 }

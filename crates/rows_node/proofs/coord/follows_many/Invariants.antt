@@ -1,5 +1,5 @@
 use Rattle.std.proofs.Common.{◌≡◌}
-use Rattle.rows_node.proofs.coord.follows_many_groups.Given as goal
+use Rattle.rows_node.proofs.coord.follows_many.Given as goal
 
 abbrev pub invariant-loop-number : goal.invariant-loop-number
 invariant-loop-number g l = l.coordinator.nodes ≡ 16
