@@ -1,0 +1,4 @@
+//! The headline in one place.
+#![tactic(auto)]
+
+pub mod laws;
