@@ -193,7 +193,7 @@ take_more [] n x h = absurd cc
 take_more (y ∷ xs) zero x h = let same : y ≡ x = cc in ap (λ z. z ∷ []) same
 take_more (y ∷ xs) (suc n) x h = ap (λ rest. y ∷ rest) (take_more xs n x h)
 
-all_each : {X : Type 0} (P Q : X → Type 0) (xs : List X) → ((x : X) → P x → Q x) → AllByRecursion P xs → AllByRecursion Q xs
+pub all_each : {X : Type 0} (P Q : X → Type 0) (xs : List X) → ((x : X) → P x → Q x) → AllByRecursion P xs → AllByRecursion Q xs
 all_each P Q [] on all = tt
 all_each P Q (x ∷ xs) on all = (on x all.0, all_each P Q xs on all.1)
 

@@ -1,1 +1,3 @@
 pub mod Abandonment
+pub mod Asking
+pub mod Headline
