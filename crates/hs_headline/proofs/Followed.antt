@@ -1,12 +1,12 @@
 -- What a valid workload is, and a journal of which nothing is left when it was followed.
-use Rattle.std.proofs.Common.{◌≡◌, ℕ, zero, suc, Bool, true, false, ◌&&◌, List, [], ◌∷◌, ◌++◌, length, refl, sym, ap, subst, ◌∙◌, append-nil, nat_eq}
+use Rattle.std.proofs.Common.{◌≡◌, ℕ, true, false, List, [], ◌∷◌, ◌++◌, length, sym, ap, subst, ◌∙◌, append-nil, nat_eq}
 use Rattle.std.specs.List.{AllByRecursion, list_all}
 use Rattle.std.proofs.lemmas.Bool.{and_parts, eqb-true}
 use Rattle.std.proofs.lemmas.List.{nil_from_length}
 use Rattle.hs_journal.specs.Views.{PlainJournal}
 use Rattle.hs_records.specs.Plain.{Operation, PlainSettings, PlainWorkload}
 use Rattle.hs_records.specs.Records.{AreBracketed}
-use Rattle.hs_words.specs.PoolHistory.{Event, Got, IsPoolHistory}
+use Rattle.hs_words.specs.PoolHistory.{IsPoolHistory}
 use Rattle.hs_workload.specs.Validity.{IsClient, IsValid}
 use Rattle.hs_workload.specs.declared.word.Setting.TheVariants as settings
 use Rattle.hs_lawful.specs.Extending.{IsOfJournal}

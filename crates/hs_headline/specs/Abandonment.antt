@@ -2,15 +2,21 @@
 -- a trigger that is admitted, an ask. Then groups are abandoned, one after another, until no more is pinned than may be. Each time it
 -- is the group that is next to go: of the trigger id with most pinned chunks, the smallest of those that have as many, the group of
 -- least priority that has one. It goes with all its pinned chunks. No event abandons anything else.
-use Rattle.std.specs.Prelude.{◌≡◌, ℕ, ◌+◌, ◌≤◌, List, [], length, Some, slice_get}
+use Rattle.std.specs.Prelude.{◌≡◌, ℕ, ◌+◌, ◌<◌, ◌≤◌, List, [], ◌∷◌, length, map, Option, Some, slice_get, option_map, refl}
 use Rattle.std.specs.List.{AllByRecursion}
+use Rattle.std.specs.Option.{option_and_then}
+use Rattle.hs_base.specs.declared.told.Group.{Group}
 use Rattle.hs_journal.specs.Views.{PlainJournal}
-use Rattle.hs_model.specs.Laws.{Abandons}
+use Rattle.hs_model.specs.Abandoning.{pinned_groups, next_to_go, abandon_group}
+use Rattle.hs_model.specs.Laws.{IsNextToGo, Abandons}
+use Rattle.hs_model.specs.Standings.{ChunkStanding, Indexed, Pinned, Reported, Evicted, Abandoned, Taken}
 use Rattle.hs_model.specs.State.{AgentState}
 use Rattle.hs_model.specs.Stepping.{Event, after_event}
 use Rattle.hs_records.specs.Plain.{PlainSettings, PlainWorkload}
 use Rattle.hs_lawful.specs.Following.{NodeRun, followed}
+use Rattle.hs_lawful.specs.Journals.{of_short_of_pins}
 use Rattle.hs_lawful.specs.Played.{state_behind}
+use Rattle.hs_lawful.specs.Workloads.{short_of_pins, twice}
 
 -- One event, from the state before it to the state behind it.
 pub record AbandonsTheLeast (settings : PlainSettings) (node : ℕ) (before : AgentState) (event : Event) (behind : AgentState) : Type 0 where
@@ -22,6 +28,23 @@ pub record AbandonsTheLeast (settings : PlainSettings) (node : ℕ) (before : Ag
   -- from there groups go while more is pinned than may be, and no longer, each time the one next to go
   pub goes : Abandons settings over behind
 
+-- In an event of the node a group was chosen: more was pinned than may be, the group was the one next to go, and it went.
+pub record WasChosen (settings : PlainSettings) (run : NodeRun) (group : Group) : Type 0 where
+  pub n : ℕ
+  pub there : n < length run.events
+  pub over : AgentState
+  pub many : settings.pins < length over.pinned
+  pub next : IsNextToGo (pinned_groups over) group
+  pub goes : Abandons settings (abandon_group group over) (state_behind settings run (n + 1))
+
+-- a chunk that was abandoned was so for a group that was chosen
+abbrev pub StandsForChosen : PlainSettings → NodeRun → ChunkStanding → Type 0
+StandsForChosen settings run Indexed = Unit {0}
+StandsForChosen settings run (Pinned group) = Unit {0}
+StandsForChosen settings run (Reported group) = Unit {0}
+StandsForChosen settings run (Evicted chunks traces) = Unit {0}
+StandsForChosen settings run (Abandoned group) = WasChosen settings run group
+
 -- All events of a node, from its start to its end.
 pub record GivesWayInOrder (settings : PlainSettings) (run : NodeRun) : Type 0 where
   pub first : (state_behind settings run 0).abandoned ≡ []
@@ -29,7 +52,40 @@ pub record GivesWayInOrder (settings : PlainSettings) (run : NodeRun) : Type 0 w
   pub last : state_behind settings run (length run.events) ≡ run.state
   -- and behind each of them no more is pinned than may be
   pub within : (n : ℕ) → length (state_behind settings run n).pinned ≤ settings.pins
+  -- each chunk that stands abandoned in the end does so for a group that was chosen in one of them
+  pub chosen : AllByRecursion (λ (chunk : Taken). StandsForChosen settings run chunk.standing) run.state.taken
 
 -- Each node of a journal gives way so.
 abbrev pub OnlyTheLeastIsAbandoned : Type 0
 OnlyTheLeastIsAbandoned = (W : PlainWorkload) (J : PlainJournal) → AllByRecursion (GivesWayInOrder W.settings) (followed W J).nodes
+
+-- ---- examples
+
+-- Two nodes that may pin two chunks each, and three groups of one chunk. The sixth event of a node is its third trigger.
+abbrev nodes : List NodeRun
+nodes = (followed short_of_pins of_short_of_pins).nodes
+
+abbrev settings : PlainSettings
+settings = short_of_pins.settings
+
+-- the leads of the groups that were abandoned behind so many events
+abbrev gone_behind : ℕ → NodeRun → List ℕ
+gone_behind n run = map (λ (group : Group). group.lead.0) (state_behind settings run n).abandoned
+
+-- where that trigger leads if any number of chunks may be pinned
+abbrev over_at : NodeRun → Option AgentState
+over_at run = option_map (λ (event : Event). after_event (record settings { pins = 9 }) run.node (state_behind settings run 5) event) (slice_get run.events 5)
+
+three_are_pinned : map (λ run. option_map (λ (over : AgentState). length over.pinned) (over_at run)) nodes ≡ Some 3 ∷ Some 3 ∷ []
+three_are_pinned = refl
+
+-- at both nodes the same one is next, though they admitted the three in opposite orders
+one_is_next : map (λ run. option_and_then (λ (over : AgentState). option_map (λ (group : Group). group.lead.0) (next_to_go (pinned_groups over))) (over_at run)) nodes ≡ Some twice ∷ Some twice ∷ []
+one_is_next = refl
+
+and_goes_in_that_event : (map (gone_behind 5) nodes ≡ [] ∷ [] ∷ []) × (map (gone_behind 6) nodes ≡ (twice ∷ []) ∷ (twice ∷ []) ∷ [])
+and_goes_in_that_event = (refl, refl)
+
+-- nothing more goes, up to the end
+no_other_goes : map (λ (run : NodeRun). map (λ (group : Group). group.lead.0) run.state.abandoned) nodes ≡ (twice ∷ []) ∷ (twice ∷ []) ∷ []
+no_other_goes = refl

@@ -54,7 +54,8 @@ pub record ReportsHold (W : PlainWorkload) (J : PlainJournal) : Type 0 where
   pub pages : AllByRecursion (λ (entry : Entry). is_reported entry.fate ≡ true → HasAllItsPages W (outcome_of W J).reported entry) (outcome_of W J).entries
   -- Each page that was reported is whole, as its client filled it.
   pub sheets : AllByRecursion (IsClientsPage W) (outcome_of W J).reported
-  -- Whoever collects these pages, in whatever order the clients' pages come between each other, has the records of each report.
+  -- Whoever collects these pages, in any order that keeps each client's own, has the records of each report, beside parts of records
+  -- of which another piece was lost.
   pub collected : (sheets : List Sheet) (trace : TraceId) (wholes : List Placed) → KeepsRuns (outcome_of W J).reported sheets → AreWholes (pieces_of trace sheets) wholes
       → reported_wholes (outcome_of W J).entries wholes ≡ (report_of W (outcome_of W J).entries trace).records
 
@@ -67,7 +68,8 @@ pub record AgentsHold (W : PlainWorkload) (J : PlainJournal) : Type 0 where
   pub evicted : AllByRecursion (λ (run : NodeRun). AllWereOver W.settings run.state.taken) (followed W J).nodes
   -- Nothing that a trigger claimed is evicted behind the claim.
   pub claimed : AllByRecursion (KeepsItsClaims W.settings) (followed W J).nodes
-  -- Only while more is pinned than may be, groups are abandoned: of the trigger id that has most pinned, the one of least priority.
+  -- Only while more is pinned than may be a group is abandoned: of the trigger id that has most pinned, the one of least priority, with
+  -- all that is pinned for it. So it went, event by event, and each abandoned chunk is of a group that was chosen so.
   pub abandoned : AllByRecursion (GivesWayInOrder W.settings) (followed W J).nodes
 
 -- ---- who is asked
