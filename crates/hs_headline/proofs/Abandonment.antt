@@ -1,11 +1,10 @@
 -- An event leads on with another limit on pins as it does with the own one, as far as all may be pinned; then abandonment follows,
 -- and where it stops no more is pinned than may be, since nothing more is behind any event.
-use Rattle.std.proofs.Common.{◌≡◌, ℕ, zero, suc, ◌+◌, ◌<◌, ◌≤◌, Bool, true, false, ◌&&◌, ◌||◌, cond, List, [], ◌∷◌, ◌++◌, length, refl, sym, ap, subst, ◌∙◌, arith, Option, Some, None, take, filter, nat_eq}
+use Rattle.std.proofs.Common.{◌≡◌, inl, inr, ℕ, zero, suc, ◌<◌, ◌≤◌, Bool, true, false, ◌&&◌, ◌||◌, cond, List, [], ◌∷◌, ◌++◌, length, refl, sym, ap, subst, ◌∙◌, arith, Option, Some, None, take, filter, nat_eq}
 use Rattle.std.specs.Prelude.{fold, nat_lt, slice_get}
 use Rattle.std.specs.List.{AllByRecursion, list_any}
 use Rattle.std.specs.Option.{option_map_or}
 use Rattle.std.proofs.lemmas.Bool.{le-ltb, ltb-true, and_parts, eqb-true}
-use Rattle.std.proofs.lemmas.Option.{slice_get_within}
 use Rattle.std.proofs.lemmas.List.{take_all}
 use Rattle.hs_base.specs.declared.ids.TraceId.{TraceId}
 use Rattle.hs_base.specs.declared.told.Ask.{Ask}
@@ -26,10 +25,10 @@ use Rattle.hs_model.specs.Abandoning.{pinned_groups, next_to_go, abandon_group, 
 use Rattle.hs_model.specs.Turning.{reported_standing, visit}
 use Rattle.hs_model.specs.Messages.{has_crumb, say, told_of}
 use Rattle.hs_model.specs.Stepping.{Input, Chunk, Crumbed, Triggered, Asked, Turn, Answered, Given, Missed, Unread, Event, Took, Gave, with_taken, with_indexed, with_pinned, with_abandoned, pin_chunk, with_touched, tell_late, late_crumb, admits, group_of, claim_for, note_trigger, count_admitted, admit, note, take_input, step_of, give_back, take_answer, after_event, after}
-use Rattle.hs_model.specs.Laws.{TheLeastGoes, LimitsHold, EventsGoOn, MatchNextToGo, IsNextToGo, Abandons, Remains, Leaves}
+use Rattle.hs_model.specs.Laws.{TheLeastGoes, LimitsHold, EventsGoOn, MatchNextToGo, Abandons, Remains, Leaves}
 use Rattle.hs_lawful.specs.Following.{NodeRun, followed}
 use Rattle.hs_lawful.specs.Laws.{ComesByEvents, AgentsComeByEvents}
-use Rattle.hs_headline.specs.Abandonment.{AbandonsTheLeast, WasChosen, GivesWayInOrder, OnlyTheLeastIsAbandoned}
+use Rattle.hs_headline.specs.Abandonment.{AbandonsTheLeast, IsOneToGo, WasChosen, StandsForChosen, GivesWayInOrder, OnlyTheLeastIsAbandoned}
 
 -- ---- abandonment, where it ends within the limit
 
@@ -113,33 +112,25 @@ same_is a b e =
       lead = record { 0 = eqb-true a.lead.0 b.lead.0 third.1 i };
     }
 
--- An abandoned chunk is of a group that keeps something, and nothing else is said.
-abbrev Marked : (Group → Type 0) → ChunkStanding → Type 0
-Marked C Indexed = Unit {0}
-Marked C (Pinned group) = Unit {0}
-Marked C (Reported group) = Unit {0}
-Marked C (Evicted chunks traces) = Unit {0}
-Marked C (Abandoned group) = C group
-
 module _ (C : Group → Type 0) where
   abbrev AllMarked : List Taken → Type 0
-  AllMarked taken = AllByRecursion (λ (chunk : Taken). Marked C chunk.standing) taken
+  AllMarked taken = AllByRecursion (λ (chunk : Taken). StandsForChosen C chunk.standing) taken
 
   -- all groups that were abandoned keep it, and all chunks
   abbrev Keeps : AgentState → Type 0
   Keeps s = AllMarked s.taken × AllByRecursion C s.abandoned
 
-  move_case : (chunk : Taken) (change : ChunkStanding → ChunkStanding) (b : Bool) → ((standing : ChunkStanding) → Marked C standing → Marked C (change standing)) → Marked C chunk.standing
-      → Marked C (cond b (record chunk { standing = change chunk.standing }) chunk).standing
+  move_case : (chunk : Taken) (change : ChunkStanding → ChunkStanding) (b : Bool) → ((standing : ChunkStanding) → StandsForChosen C standing → StandsForChosen C (change standing)) → StandsForChosen C chunk.standing
+      → StandsForChosen C (cond b (record chunk { standing = change chunk.standing }) chunk).standing
   move_case chunk change true on h = on chunk.standing h
   move_case chunk change false on h = h
 
-  moves : (from : ℕ) (places : List ℕ) (change : ChunkStanding → ChunkStanding) (taken : List Taken) → ((standing : ChunkStanding) → Marked C standing → Marked C (change standing)) → AllMarked taken
+  moves : (from : ℕ) (places : List ℕ) (change : ChunkStanding → ChunkStanding) (taken : List Taken) → ((standing : ChunkStanding) → StandsForChosen C standing → StandsForChosen C (change standing)) → AllMarked taken
       → AllMarked (moved_from from places change taken)
   moves from places change [] on all = tt
   moves from places change (chunk ∷ taken) on all = (move_case chunk change (is_among places from) on all.0, moves (suc from) places change taken on all.1)
 
-  reports : (standing : ChunkStanding) → Marked C standing → Marked C (reported_standing standing)
+  reports : (standing : ChunkStanding) → StandsForChosen C standing → StandsForChosen C (reported_standing standing)
   reports Indexed h = tt
   reports (Pinned group) h = tt
   reports (Reported group) h = tt
@@ -150,8 +141,8 @@ module _ (C : Group → Type 0) where
   one_more P [] x all h = (h, tt)
   one_more P (first ∷ xs) x all h = (all.0, one_more P xs x all.1 h)
 
-  chunk_more : (sheet : Sheet) (standing : ChunkStanding) (s : AgentState) → Keeps s → Marked C standing → Keeps (with_taken sheet standing s)
-  chunk_more sheet standing s k h = (one_more (λ (chunk : Taken). Marked C chunk.standing) s.taken (record { sheet = sheet; standing = standing }) k.0 h, k.1)
+  chunk_more : (sheet : Sheet) (standing : ChunkStanding) (s : AgentState) → Keeps s → StandsForChosen C standing → Keeps (with_taken sheet standing s)
+  chunk_more sheet standing s k h = (one_more (λ (chunk : Taken). StandsForChosen C chunk.standing) s.taken (record { sheet = sheet; standing = standing }) k.0 h, k.1)
 
   -- a group that was abandoned keeps it
   any_group : (group : Group) (groups : List Group) → AllByRecursion C groups → list_any (same_group group) groups ≡ true → C group
@@ -184,35 +175,34 @@ module _ (C : Group → Type 0) where
   visits_keep settings (share ∷ shares) s k = visits_keep settings shares (visit settings s share) (moves 0 _ reported_standing s.taken reports k.0, k.1)
 
   -- where groups go that keep it, all still do
-  goes_keep : (settings : PlainSettings) (s later : AgentState) → Abandons settings s later
-      → ((u : AgentState) (group : Group) → settings.pins < length u.pinned → IsNextToGo (pinned_groups u) group → Abandons settings (abandon_group group u) later → C group) → Keeps s → Keeps later
+  goes_keep : (settings : PlainSettings) (s later : AgentState) (goes : Abandons settings s later) → ((group : Group) → IsOneToGo settings s later goes group → C group) → Keeps s → Keeps later
   goes_keep settings s later (Remains u few) on k = k
   goes_keep settings s later (Leaves u last group many next rest) on k =
-      let own = on u group many next rest in
-      goes_keep settings (abandon_group group u) last rest on
+      let own = on group (inl refl) in
+      goes_keep settings (abandon_group group u) last rest (λ other one. on other (inr one))
       (moves 0 (filter (is_pinned_for u.taken group) u.pinned) (λ _. Abandoned group) u.taken (λ standing h. own) k.0, one_more C u.abandoned group k.1 own)
 
 -- ---- one event
 
 -- What leads to a state, by the limit on pins.
-record Leads (C : Group → Type 0) (settings : PlainSettings) (before : AgentState) (to : ℕ → AgentState) : Type 0 where
+record Leads (settings : PlainSettings) (before : AgentState) (to : ℕ → AgentState) : Type 1 where
   over : AgentState
   free : (limit : ℕ) → length over.pinned ≤ limit → to limit ≡ over
   none : over.abandoned ≡ before.abandoned
-  keeps : Keeps C before → Keeps C over
+  keeps : (C : Group → Type 0) → Keeps C before → Keeps C over
   goes : length (to settings.pins).pinned ≤ settings.pins → Abandons settings over (to settings.pins)
 
-module _ (C : Group → Type 0) (least : TheLeastGoes) (settings : PlainSettings) (node : ℕ) (s : AgentState) where
+module _ (least : TheLeastGoes) (settings : PlainSettings) (node : ℕ) (s : AgentState) where
   abbrev with : ℕ → PlainSettings
   with limit = record settings { pins = limit }
 
-  plainly : (to : ℕ → AgentState) → ((limit : ℕ) → to limit ≡ to settings.pins) → (to settings.pins).abandoned ≡ s.abandoned → (Keeps C s → Keeps C (to settings.pins)) → Leads C settings s to
+  plainly : (to : ℕ → AgentState) → ((limit : ℕ) → to limit ≡ to settings.pins) → (to settings.pins).abandoned ≡ s.abandoned → ((C : Group → Type 0) → Keeps C s → Keeps C (to settings.pins)) → Leads settings s to
   plainly to same none keeps = record { over = to settings.pins; free = λ limit few. same limit; none = none; keeps = keeps; goes = λ few. Remains (to settings.pins) few }
 
-  by_abandoning : (u : AgentState) → u.abandoned ≡ s.abandoned → (Keeps C s → Keeps C u) → Leads C settings s (λ limit. abandon (with limit) u)
+  by_abandoning : (u : AgentState) → u.abandoned ≡ s.abandoned → ((C : Group → Type 0) → Keeps C s → Keeps C u) → Leads settings s (λ limit. abandon (with limit) u)
   by_abandoning u none keeps = record { over = u; free = λ limit few. within (with limit) u.pinned u few; none = none; keeps = keeps; goes = ends least settings u.pinned u }
 
-  saying : (m : Told) (to : ℕ → AgentState) → Leads C settings s to → Leads C settings s (λ limit. say m (to limit))
+  saying : (m : Told) (to : ℕ → AgentState) → Leads settings s to → Leads settings s (λ limit. say m (to limit))
   saying m to l =
       record {
         over = say m l.over;
@@ -222,7 +212,7 @@ module _ (C : Group → Type 0) (least : TheLeastGoes) (settings : PlainSettings
         goes = λ few. said settings m l.over (to settings.pins) (l.goes few);
       }
 
-  noting : (step : Step) (to : ℕ → AgentState) → Leads C settings s to → Leads C settings s (λ limit. note step (to limit))
+  noting : (step : Step) (to : ℕ → AgentState) → Leads settings s to → Leads settings s (λ limit. note step (to limit))
   noting step to l =
       record {
         over = note step l.over;
@@ -232,45 +222,45 @@ module _ (C : Group → Type 0) (least : TheLeastGoes) (settings : PlainSettings
         goes = λ few. noted settings step l.over (to settings.pins) (l.goes few);
       }
 
-  evicting : (u : AgentState) → u.abandoned ≡ s.abandoned → (Keeps C s → Keeps C u) → Leads C settings s (λ limit. evict (with limit) u)
+  evicting : (u : AgentState) → u.abandoned ≡ s.abandoned → ((C : Group → Type 0) → Keeps C s → Keeps C u) → Leads settings s (λ limit. evict (with limit) u)
   evicting u none keeps =
-      plainly (λ limit. evict (with limit) u) (λ limit. evicts_alike settings limit u.touched u) (evicts_none settings u.touched u ∙ none) (λ k. evicts_keep C settings u.touched u (keeps k))
+      plainly (λ limit. evict (with limit) u) (λ limit. evicts_alike settings limit u.touched u) (evicts_none settings u.touched u ∙ none) (λ C k. evicts_keep C settings u.touched u (keeps C k))
 
-  pinning : (sheet : Sheet) (group : Group) (b : Bool) → is_abandoned s.abandoned group ≡ b → Leads C settings s (λ limit. cond b (with_abandoned sheet group s) (abandon (with limit) (with_pinned sheet group s)))
-  pinning sheet group true gone = plainly (λ limit. with_abandoned sheet group s) (λ limit. refl) refl (λ k. chunk_more C sheet (Abandoned group) s k (any_group C group s.abandoned k.1 gone))
-  pinning sheet group false gone = by_abandoning (with_pinned sheet group s) refl (λ k. chunk_more C sheet (Pinned group) s k tt)
+  pinning : (sheet : Sheet) (group : Group) (b : Bool) → is_abandoned s.abandoned group ≡ b → Leads settings s (λ limit. cond b (with_abandoned sheet group s) (abandon (with limit) (with_pinned sheet group s)))
+  pinning sheet group true gone = plainly (λ limit. with_abandoned sheet group s) (λ limit. refl) refl (λ C k. chunk_more C sheet (Abandoned group) s k (any_group C group s.abandoned k.1 gone))
+  pinning sheet group false gone = by_abandoning (with_pinned sheet group s) refl (λ C k. chunk_more C sheet (Pinned group) s k tt)
 
-  chunk : (sheet : Sheet) (o : Option ClaimedTrace) → Leads C settings s (λ limit. option_map_or (λ (claim : ClaimedTrace). pin_chunk (with limit) sheet claim.group s) o (evict (with limit) (with_indexed sheet s)))
-  chunk sheet None = evicting (with_indexed sheet s) refl (λ k. chunk_more C sheet Indexed s k tt)
+  chunk : (sheet : Sheet) (o : Option ClaimedTrace) → Leads settings s (λ limit. option_map_or (λ (claim : ClaimedTrace). pin_chunk (with limit) sheet claim.group s) o (evict (with limit) (with_indexed sheet s)))
+  chunk sheet None = evicting (with_indexed sheet s) refl (λ C k. chunk_more C sheet Indexed s k tt)
   chunk sheet (Some claim) = pinning sheet claim.group (is_abandoned s.abandoned claim.group) refl
 
-  late : (crumb : Crumb) (claim : ClaimedTrace) (b : Bool) → Leads C settings s (λ limit. cond b s (tell_late crumb claim s))
-  late crumb claim true = plainly (λ limit. s) (λ limit. refl) refl (λ k. k)
-  late crumb claim false = plainly (λ limit. tell_late crumb claim s) (λ limit. refl) refl (λ k. k)
+  late : (crumb : Crumb) (claim : ClaimedTrace) (b : Bool) → Leads settings s (λ limit. cond b s (tell_late crumb claim s))
+  late crumb claim true = plainly (λ limit. s) (λ limit. refl) refl (λ C k. k)
+  late crumb claim false = plainly (λ limit. tell_late crumb claim s) (λ limit. refl) refl (λ C k. k)
 
-  crumbed : (crumb : Crumb) (o : Option ClaimedTrace) → Leads C settings s (λ limit. option_map_or (λ claim. late_crumb crumb claim s) o (evict (with limit) (with_touched crumb s)))
-  crumbed crumb None = evicting (with_touched crumb s) refl (λ k. k)
+  crumbed : (crumb : Crumb) (o : Option ClaimedTrace) → Leads settings s (λ limit. option_map_or (λ claim. late_crumb crumb claim s) o (evict (with limit) (with_touched crumb s)))
+  crumbed crumb None = evicting (with_touched crumb s) refl (λ C k. k)
   crumbed crumb (Some claim) = late crumb claim (has_crumb s.crumbs crumb)
 
-  claiming : (ask : Ask) (u : AgentState) → u.abandoned ≡ s.abandoned → (Keeps C s → Keeps C u) → Leads C settings s (λ limit. claim_for (with limit) ask u)
-  claiming ask u none keeps = by_abandoning (claim_each ask u) (claims_none ask (traces_of ask) u ∙ none) (λ k. claims_keep C ask (traces_of ask) u (keeps k))
+  claiming : (ask : Ask) (u : AgentState) → u.abandoned ≡ s.abandoned → ((C : Group → Type 0) → Keeps C s → Keeps C u) → Leads settings s (λ limit. claim_for (with limit) ask u)
+  claiming ask u none keeps = by_abandoning (claim_each ask u) (claims_none ask (traces_of ask) u ∙ none) (λ C k. claims_keep C ask (traces_of ask) u (keeps C k))
 
-  triggered : (trigger : Trigger) (b : Bool) → Leads C settings s (λ limit. cond b (admit (with limit) node trigger (note_trigger trigger s)) (note_trigger trigger s))
+  triggered : (trigger : Trigger) (b : Bool) → Leads settings s (λ limit. cond b (admit (with limit) node trigger (note_trigger trigger s)) (note_trigger trigger s))
   triggered trigger true =
       let ask = group_of node s trigger in
-      saying (told_of s.crumbs ask Fired) (λ limit. claim_for (with limit) ask (count_admitted (note_trigger trigger s))) (claiming ask (count_admitted (note_trigger trigger s)) refl (λ k. k))
-  triggered trigger false = plainly (λ limit. note_trigger trigger s) (λ limit. refl) refl (λ k. k)
+      saying (told_of s.crumbs ask Fired) (λ limit. claim_for (with limit) ask (count_admitted (note_trigger trigger s))) (claiming ask (count_admitted (note_trigger trigger s)) refl (λ C k. k))
+  triggered trigger false = plainly (λ limit. note_trigger trigger s) (λ limit. refl) refl (λ C k. k)
 
-  taking : (input : Input) → Leads C settings s (λ limit. take_input (with limit) node s input)
+  taking : (input : Input) → Leads settings s (λ limit. take_input (with limit) node s input)
   taking (Chunk client sheet) = chunk sheet (claim_of s.claims sheet.header.trace)
   taking (Crumbed client crumb) = crumbed crumb (claim_of s.claims crumb.trace)
   taking (Triggered client trigger) = triggered trigger (admits settings s.tried trigger)
-  taking (Asked ask) = saying (told_of s.crumbs ask Answer) (λ limit. claim_for (with limit) ask s) (claiming ask s refl (λ k. k))
+  taking (Asked ask) = saying (told_of s.crumbs ask Answer) (λ limit. claim_for (with limit) ask s) (claiming ask s refl (λ C k. k))
   taking Turn =
       plainly (λ limit. take_input (with limit) node s Turn)
       (λ limit. ap (λ (u : AgentState). record u { shares = (take_input settings node s Turn).shares }) (visits_alike settings limit s.shares s))
       (visits_none settings s.shares s)
-      (λ k. visits_keep C settings s.shares s k)
+      (λ C k. visits_keep C settings s.shares s k)
 
   given_none : (stamp : ℕ) (hand : List ℕ) → (give_back stamp hand s).abandoned ≡ s.abandoned
   given_none stamp [] = refl
@@ -281,16 +271,16 @@ module _ (C : Group → Type 0) (least : TheLeastGoes) (settings : PlainSettings
   answer_none (Missed stamp) = refl
   answer_none Unread = refl
 
-  given_keeps : (stamp : ℕ) (hand : List ℕ) → Keeps C s → Keeps C (give_back stamp hand s)
-  given_keeps stamp [] k = k
-  given_keeps stamp (place ∷ hand) k = k
+  given_keeps : (stamp : ℕ) (hand : List ℕ) (C : Group → Type 0) → Keeps C s → Keeps C (give_back stamp hand s)
+  given_keeps stamp [] C k = k
+  given_keeps stamp (place ∷ hand) C k = k
 
-  answer_keeps : (answer : Answered) → Keeps C s → Keeps C (take_answer s answer)
-  answer_keeps (Given stamp) k = given_keeps stamp s.hand k
-  answer_keeps (Missed stamp) k = k
-  answer_keeps Unread k = k
+  answer_keeps : (answer : Answered) (C : Group → Type 0) → Keeps C s → Keeps C (take_answer s answer)
+  answer_keeps (Given stamp) C k = given_keeps stamp s.hand C k
+  answer_keeps (Missed stamp) C k = k
+  answer_keeps Unread C k = k
 
-  one_event : (event : Event) → Leads C settings s (λ limit. after_event (with limit) node s event)
+  one_event : (event : Event) → Leads settings s (λ limit. after_event (with limit) node s event)
   one_event (Took input) = noting (step_of input) (λ limit. take_input (with limit) node s input) (taking input)
   one_event (Gave answer) = plainly (λ limit. after_event (with limit) node s (Gave answer)) (λ limit. refl) (answer_none answer) (answer_keeps answer)
 
@@ -311,9 +301,6 @@ all_each P Q [] on all = tt
 all_each P Q (x ∷ xs) on all = (on x all.0, all_each P Q xs on all.1)
 
 module _ (least : TheLeastGoes) (limits : LimitsHold) (goes : EventsGoOn) (settings : PlainSettings) (run : NodeRun) where
-  abbrev Chosen : Group → Type 0
-  Chosen group = WasChosen settings run group
-
   abbrev before : ℕ → AgentState
   before n = after settings run.node (take n run.events)
 
@@ -321,39 +308,33 @@ module _ (least : TheLeastGoes) (limits : LimitsHold) (goes : EventsGoOn) (setti
     behind : before (suc n) ≡ after_event settings run.node (before n) event
     behind = ap (after settings run.node) (take_more run.events n event there) ∙ goes settings run.node (take n run.events) (event ∷ [])
 
-    lead : Leads Chosen settings (before n) (λ limit. after_event (record settings { pins = limit }) run.node (before n) event)
-    lead = one_event Chosen least settings run.node (before n) event
+    lead : Leads settings (before n) (λ limit. after_event (record settings { pins = limit }) run.node (before n) event)
+    lead = one_event least settings run.node (before n) event
 
     gone : Abandons settings lead.over (before (suc n))
     gone =
         let few = subst (λ (s : AgentState). length s.pinned ≤ settings.pins) behind (limits settings run.node (take (suc n) run.events)).pins in
         subst (λ (s : AgentState). Abandons settings lead.over s) (sym behind) (lead.goes few)
 
-    one_is : before (suc n) ≡ before (n + 1)
-    one_is = let one : suc n ≡ n + 1 = omega arith in ap before one
+    at_event : AbandonsTheLeast settings run.node (before n) event (before (suc n))
+    at_event = record { over = lead.over; free = lead.free; none = lead.none; goes = gone }
 
-    at_event : AbandonsTheLeast settings run.node (before n) event (before (n + 1))
-    at_event = record { over = lead.over; free = lead.free; none = lead.none; goes = subst (λ (s : AgentState). Abandons settings lead.over s) one_is gone }
-
-    keeps_on : Keeps Chosen (before n) → Keeps Chosen (before (suc n))
-    keeps_on k =
-        goes_keep Chosen settings lead.over (before (suc n)) gone
-        (λ u group many next rest.
-        record {
-          n = n;
-          there = slice_get_within run.events n event there;
-          over = u;
-          many = many;
-          next = next;
-          goes = subst (λ (s : AgentState). Abandons settings (abandon_group group u) s) one_is rest;
-        })
-        (lead.keeps k)
+    keeps_over : (C : Group → Type 0) → Keeps C (before n) → Keeps C at_event.over
+    unfolding at_event
+    keeps_over C k = lead.keeps C k
 
   -- behind any of the events each abandoned chunk is of a group that was chosen
+  abbrev Chosen : Group → Type 0
+  Chosen group = WasChosen settings run at_event group
+
   keeps_at : (n : ℕ) (o : Option Event) → slice_get run.events n ≡ o → Keeps Chosen (before n) → Keeps Chosen (before (suc n))
   keeps_at n None past k =
-      subst (λ (events : List Event). Keeps Chosen (after settings run.node events)) (take_all n run.events (none_there run.events n past) ∙ sym (take_all (suc n) run.events (omega (arith, none_there run.events n past)))) k
-  keeps_at n (Some event) there k = keeps_on n event there k
+      let all = take_all n run.events (none_there run.events n past) in
+      let more = take_all (suc n) run.events (omega (arith, none_there run.events n past)) in
+      subst (λ (events : List Event). Keeps Chosen (after settings run.node events)) (all ∙ sym more) k
+  keeps_at n (Some event) there k =
+      let one = at_event n event there in
+      goes_keep Chosen settings one.over (before (suc n)) one.goes (λ group went. record { n = n; event = event; there = there; went = went }) (keeps_over n event there Chosen k)
 
   keeps_all : (n : ℕ) → Keeps Chosen (before n)
   keeps_all zero = (tt, tt)

@@ -2,13 +2,13 @@
 -- a trigger that is admitted, an ask. Then groups are abandoned, one after another, until no more is pinned than may be. Each time it
 -- is the group that is next to go: of the trigger id with most pinned chunks, the smallest of those that have as many, the group of
 -- least priority that has one. It goes with all its pinned chunks. No event abandons anything else.
-use Rattle.std.specs.Prelude.{◌≡◌, ℕ, ◌+◌, ◌<◌, ◌≤◌, List, [], ◌∷◌, length, map, Option, Some, slice_get, option_map, refl}
+use Rattle.std.specs.Prelude.{◌≡◌, ◌⊎◌, ℕ, suc, ◌≤◌, List, [], ◌∷◌, length, map, Option, Some, slice_get, option_map, refl}
 use Rattle.std.specs.List.{AllByRecursion}
 use Rattle.std.specs.Option.{option_and_then}
 use Rattle.hs_base.specs.declared.told.Group.{Group}
 use Rattle.hs_journal.specs.Views.{PlainJournal}
 use Rattle.hs_model.specs.Abandoning.{pinned_groups, next_to_go, abandon_group}
-use Rattle.hs_model.specs.Laws.{IsNextToGo, Abandons}
+use Rattle.hs_model.specs.Laws.{Abandons, Remains, Leaves}
 use Rattle.hs_model.specs.Standings.{ChunkStanding, Indexed, Pinned, Reported, Evicted, Abandoned, Taken}
 use Rattle.hs_model.specs.State.{AgentState}
 use Rattle.hs_model.specs.Stepping.{Event, after_event}
@@ -28,32 +28,40 @@ pub record AbandonsTheLeast (settings : PlainSettings) (node : ℕ) (before : Ag
   -- from there groups go while more is pinned than may be, and no longer, each time the one next to go
   pub goes : Abandons settings over behind
 
--- In an event of the node a group was chosen: more was pinned than may be, the group was the one next to go, and it went.
-pub record WasChosen (settings : PlainSettings) (run : NodeRun) (group : Group) : Type 0 where
-  pub n : ℕ
-  pub there : n < length run.events
-  pub over : AgentState
-  pub many : settings.pins < length over.pinned
-  pub next : IsNextToGo (pinned_groups over) group
-  pub goes : Abandons settings (abandon_group group over) (state_behind settings run (n + 1))
+-- a group is one of those that go from one state to another
+abbrev pub IsOneToGo : (settings : PlainSettings) (s later : AgentState) → Abandons settings s later → Group → Type 0
+IsOneToGo settings s later (Remains u few) group = ⊥
+IsOneToGo settings s later (Leaves u last other many next rest) group = (group ≡ other) ⊎ IsOneToGo settings (abandon_group other u) last rest group
 
--- a chunk that was abandoned was so for a group that was chosen
-abbrev pub StandsForChosen : PlainSettings → NodeRun → ChunkStanding → Type 0
-StandsForChosen settings run Indexed = Unit {0}
-StandsForChosen settings run (Pinned group) = Unit {0}
-StandsForChosen settings run (Reported group) = Unit {0}
-StandsForChosen settings run (Evicted chunks traces) = Unit {0}
-StandsForChosen settings run (Abandoned group) = WasChosen settings run group
+-- how each event of a node abandons
+abbrev pub EachAbandonsTheLeast : PlainSettings → NodeRun → Type 0
+EachAbandonsTheLeast settings run =
+    (n : ℕ) (event : Event) → slice_get run.events n ≡ Some event → AbandonsTheLeast settings run.node (state_behind settings run n) event (state_behind settings run (suc n))
+
+-- A group is one of those that went in some event of the node.
+pub record WasChosen (settings : PlainSettings) (run : NodeRun) (each : EachAbandonsTheLeast settings run) (group : Group) : Type 0 where
+  pub n : ℕ
+  pub event : Event
+  pub there : slice_get run.events n ≡ Some event
+  pub went : IsOneToGo settings (each n event there).over (state_behind settings run (suc n)) (each n event there).goes group
+
+-- a chunk stands abandoned only for such a group
+abbrev pub StandsForChosen : (Group → Type 0) → ChunkStanding → Type 0
+StandsForChosen chosen Indexed = Unit {0}
+StandsForChosen chosen (Pinned group) = Unit {0}
+StandsForChosen chosen (Reported group) = Unit {0}
+StandsForChosen chosen (Evicted chunks traces) = Unit {0}
+StandsForChosen chosen (Abandoned group) = chosen group
 
 -- All events of a node, from its start to its end.
 pub record GivesWayInOrder (settings : PlainSettings) (run : NodeRun) : Type 0 where
   pub first : (state_behind settings run 0).abandoned ≡ []
-  pub each : (n : ℕ) (event : Event) → slice_get run.events n ≡ Some event → AbandonsTheLeast settings run.node (state_behind settings run n) event (state_behind settings run (n + 1))
+  pub each : EachAbandonsTheLeast settings run
   pub last : state_behind settings run (length run.events) ≡ run.state
-  -- and behind each of them no more is pinned than may be
+  -- behind each of them no more is pinned than may be
   pub within : (n : ℕ) → length (state_behind settings run n).pinned ≤ settings.pins
-  -- each chunk that stands abandoned in the end does so for a group that was chosen in one of them
-  pub chosen : AllByRecursion (λ (chunk : Taken). StandsForChosen settings run chunk.standing) run.state.taken
+  -- and each chunk that stands abandoned in the end does so for a group that was chosen in one of them
+  pub chosen : AllByRecursion (λ (chunk : Taken). StandsForChosen (WasChosen settings run each) chunk.standing) run.state.taken
 
 -- Each node of a journal gives way so.
 abbrev pub OnlyTheLeastIsAbandoned : Type 0
