@@ -1,3 +1,4 @@
 pub mod Abandonment
 pub mod Asking
 pub mod Followed
+pub mod Reporting

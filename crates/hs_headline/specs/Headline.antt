@@ -1,7 +1,7 @@
 -- What whoever reads an outcome may rely on, in one place. The program prints the outcome of a valid workload and of a journal that is
 -- lawful for it; all that is said here holds of any two such. Each sentence is in words that are defined where its subject is: of the
 -- ledger and the reports in `hs_outcome`, of what agents keep in `hs_model`, of who is asked in `hs_coord`.
-use Rattle.std.specs.Prelude.{◌≡◌, ℕ, true, List, ◌∷◌, ◌++◌, length, map, count_by, if◌then◌else◌, All}
+use Rattle.std.specs.Prelude.{◌≡◌, ℕ, Bool, true, false, ◌==◌, ◌&&◌, List, [], ◌∷◌, ◌++◌, length, map, count_by, if◌then◌else◌, All, refl}
 use Rattle.std.specs.List.{AllByRecursion, list_any, range_with_len}
 use Rattle.hs_base.specs.declared.ids.GroupId.{GroupId}
 use Rattle.hs_base.specs.declared.ids.TraceId.{TraceId}
@@ -12,23 +12,27 @@ use Rattle.hs_journal.specs.Views.{PlainJournal}
 use Rattle.hs_ledger.specs.Books.{HaveStandings, IsOfGotPage}
 use Rattle.hs_ledger.specs.declared.ledger.Entry.{Entry}
 use Rattle.hs_ledger.specs.Totals.{is_reported, totals_of, parts_of}
-use Rattle.hs_model.specs.Laws.{AllWereOver}
+use Rattle.hs_model.specs.Laws.{AllWereOver, AreRising}
+use Rattle.hs_model.specs.Standings.{same_trace}
+use Rattle.hs_model.specs.State.{is_claimed}
 use Rattle.hs_orderly.specs.Speaking.{IsLeastClosed}
 use Rattle.hs_records.specs.Plain.{PlainWorkload}
 use Rattle.hs_words.specs.Pages.{Sheet}
 use Rattle.hs_words.specs.PoolHistory.{Event, Got, is_got, is_given, IsPoolHistory}
 use Rattle.hs_workload.specs.Validity.{IsValid}
 use Rattle.hs_lawful.specs.Following.{NodeRun, log_at, followed}
+use Rattle.hs_lawful.specs.Journals.{of_short_of_pins, of_three_traces}
 use Rattle.hs_lawful.specs.Lawful.{IsLawful}
 use Rattle.hs_lawful.specs.Pooled.{pool_history}
+use Rattle.hs_lawful.specs.Workloads.{short_of_pins, three_traces, golden, twice}
 use Rattle.hs_outcome.specs.Causes.{KeepsItsModel, GaveWhatWasLetGo, KeepsItsClaims}
 use Rattle.hs_outcome.specs.ClientBooks.{ClientBooksFit}
 use Rattle.hs_outcome.specs.CollectedReports.{HasAllItsPages, IsClientsPage, reported_wholes}
 use Rattle.hs_outcome.specs.Nulls.{NullsFoundNothing}
 use Rattle.hs_outcome.specs.Origins.{HasItsCause}
 use Rattle.hs_outcome.specs.Outcomes.{client_books, agent_books, outcome_of}
-use Rattle.hs_outcome.specs.Records.{ShowsItsTrace, name_of, all_records}
-use Rattle.hs_outcome.specs.Reports.{report_of, reports_of}
+use Rattle.hs_outcome.specs.Records.{ShowsItsTrace, Named, name_of, all_records}
+use Rattle.hs_outcome.specs.Reports.{Report, report_of, reports_of}
 use Rattle.hs_headline.specs.Abandonment.{GivesWayInOrder}
 use Rattle.hs_headline.specs.Asking.{asks_for}
 
@@ -47,7 +51,17 @@ pub record LedgerHolds (W : PlainWorkload) (J : PlainJournal) : Type 0 where
 
 -- ---- reports
 
+-- whether a node claimed the trace, and whether it has a record
+abbrev pub is_claimed_in : List NodeRun → TraceId → Bool
+is_claimed_in nodes trace = list_any (λ (run : NodeRun). is_claimed run.state.claims trace) nodes
+
+abbrev pub has_record : PlainWorkload → TraceId → Bool
+has_record W trace = list_any (λ (r : Named). r.trace.0 == trace.0) (all_records W)
+
 pub record ReportsHold (W : PlainWorkload) (J : PlainJournal) : Type 0 where
+  -- A trace has a report where some node claimed it and it has a record, and else none. They come by rising trace.
+  pub traces : (trace : TraceId) → list_any (λ (report : Report). same_trace trace report.trace) (reports_of W J) ≡ (is_claimed_in (followed W J).nodes trace && has_record W trace)
+  pub rising : AreRising (map (λ (report : Report). report.trace.0) (reports_of W J))
   -- A report has every record of its trace, of all clients, in order: whole, or named by a gap line with the fate that it had instead.
   pub reports : AllByRecursion (ShowsItsTrace W) (reports_of W J)
   -- Of a record that was reported no piece is missing: each page with a piece of it was reported.
@@ -131,3 +145,16 @@ pub record Headline (W : PlainWorkload) (J : PlainJournal) : Type 0 where
 
 abbrev pub HeadlineHolds : Type 0
 HeadlineHolds = (W : PlainWorkload) (J : PlainJournal) → IsValid W → IsLawful W J → Headline W J
+
+-- ---- examples
+
+-- all three traces were claimed, and the one that was abandoned has a report too; they go by trace
+three_reports : map (λ (report : Report). report.trace.0) (reports_of short_of_pins of_short_of_pins) ≡ 0 ∷ twice ∷ golden ∷ []
+three_reports = refl
+
+claimed_with_a_record : (is_claimed_in (followed short_of_pins of_short_of_pins).nodes (record { 0 = twice }) ≡ true) × (has_record short_of_pins (record { 0 = twice }) ≡ true)
+claimed_with_a_record = (refl, refl)
+
+-- without a trigger nothing is claimed, and there is no report
+records_alone : (is_claimed_in (followed three_traces of_three_traces).nodes (record { 0 = 1 }) ≡ false) × (has_record three_traces (record { 0 = 1 }) ≡ true) × (reports_of three_traces of_three_traces ≡ [])
+records_alone = (refl, refl, refl)

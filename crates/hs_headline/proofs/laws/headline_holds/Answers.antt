@@ -1,5 +1,6 @@
 use Rattle.hs_lawful.specs.Following.{followed}
 use Rattle.hs_headline.proofs.Followed.{ends_its_traces, all_did_their_logs, have_one_writer}
+use Rattle.hs_headline.proofs.Reporting.{reports_are_of_claimed, reports_rise}
 use Rattle.hs_headline.proofs.laws.headline_holds.Goals as goal
 
 pub returns : goal.returns
@@ -14,6 +15,8 @@ returns c = λ W J valid lawful.
         nulls = c.empty_draws_found_nothing.ensures W J ends lawful;
       };
       reports = record {
+        traces = reports_are_of_claimed W J (c.each_record_has_one_entry.ensures W J ends lawful.L1);
+        rising = reports_rise W J;
         reports = c.reports_show_their_traces.ensures W J ends lawful.L1;
         pages = c.reported_records_have_all_pages.ensures W J ends valid.count lawful;
         sheets = c.reported_pages_are_of_clients.ensures.reported W J ends;
