@@ -9,7 +9,6 @@ use Rattle.hs_journal.specs.Laws.{TextsHaveOneJournal}
 use Rattle.hs_journal.specs.Views.{PlainJournal}
 use Rattle.hs_lawful.specs.Lawful.{IsLawful}
 use Rattle.hs_check.specs.Parts.{workload_part, journal_part}
-use Rattle.hs_cli.specs.Commands.{command_in}
 use Rattle.hs_streams.specs.Input.{ReadWhole, ReadBeyond}
 use Rattle.hs_streams.specs.Refusals.{IsRefused}
 use Rattle.hs_streams.proofs.Taking.{taken_whole, taken_beyond}
@@ -50,8 +49,8 @@ not_too_long Convert left left' text W journal will (reader, (bytes, beyond, tol
 not_too_long Check left left' text W journal will (reader, (bytes, beyond, told)) = fits Check left left' W journal bytes beyond will
 
 -- words are one command
-same_command : (words : List (List ℕ)) (command other : Command) → command_in words ≡ Some command → command_in words ≡ Some other → other ≡ command
-same_command words command other is also =
+same_command : (asked : Option Command) (command other : Command) → asked ≡ Some command → asked ≡ Some other → other ≡ command
+same_command asked command other is also =
     let both : Some other ≡ Some command = sym also ∙ is in
     cc
 
@@ -151,13 +150,13 @@ module _ (once : (text : List ℕ) (V W : PlainWorkload) → Reads text V → Re
   refused_so command W journal will status comes text (inl refused) = absurd (not_refused command left left' text W journal will refused)
   refused_so command W journal will status comes text (inr refuses) = when_refused command W journal will status comes text refuses
 
-  module _ (words : List (List ℕ)) (written written' : Option (List ℕ)) (source source' sink sink' : ℕ) (command : Command) (W : PlainWorkload) (journal : List ℕ) (status : Status)
-      (is : command_in words ≡ Some command) (will : WillBeAbout command left W journal) (comes : ComesTo command W journal status) (steady : ¬ Rose source source') (still : ¬ Rose sink sink') where
+  module _ (asked : Option Command) (written written' : Option (List ℕ)) (source source' sink sink' : ℕ) (command : Command) (W : PlainWorkload) (journal : List ℕ) (status : Status)
+      (is : asked ≡ Some command) (will : WillBeAbout command left W journal) (comes : ComesTo command W journal status) (steady : ¬ Rose source source') (still : ¬ Rose sink sink') where
     -- what is owed of words is owed of the command that they are
-    of_command : (due : Status) (text : List ℕ) (other : Command) → command_in words ≡ Some other → Owes other left left' due text → Owes command left left' due text
-    of_command due text other also owes = subst (λ (c : Command). Owes c left left' due text) (same_command words command other is also) owes
+    of_command : (due : Status) (text : List ℕ) (other : Command) → asked ≡ Some other → Owes other left left' due text → Owes command left left' due text
+    of_command due text other also owes = subst (λ (c : Command). Owes c left left' due text) (same_command asked command other is also) owes
 
-    pub completed : (result : Status) → Ends words left left' written written' source source' sink sink' result → (result ≡ status) ⊎ (result ≡ Memory)
+    pub completed : (result : Status) → Ends asked left left' written written' source source' sink sink' result → (result ≡ status) ⊎ (result ≡ Memory)
     completed Done (none, (text, (other, also, owes), gains)) = inl (when_done command W journal will status comes text (of_command Done text other also owes))
     completed Unlawful (none, (text, (other, also, owes), gains)) = inl (when_unlawful command W journal will status comes text (of_command Unlawful text other also owes))
     completed Memory ends = inr refl

@@ -3,7 +3,6 @@ use Rattle.std.proofs.Common.{◌≡◌, ℕ, List, Option, Some, ◌⊎◌, inl
 use Rattle.hs_base.specs.Outside.{Rose, Gains}
 use Rattle.hs_records.specs.Plain.{PlainWorkload}
 use Rattle.hs_streams.specs.Written.{GainsFront}
-use Rattle.hs_cli.specs.Commands.{command_in}
 use Rattle.hs_cli.specs.Answers.{IsAnswer}
 use Rattle.hs_cli.specs.Endings.{IsAbout, Owes, IsDue, NoneFailed, EndsWith, Ends}
 use Rattle.hs_cli.specs.declared.command.Command.{Command}
@@ -46,8 +45,8 @@ module _ (command : Command) (left left' written written' : Option (List ℕ)) (
       subst (λ (s : Status). EndsWith command left left' written written' source source' sink sink' s) (sym e) (read, rose, (due, text, owes, front))
 
   -- words that are the command
-  module _ (words : List (List ℕ)) (is : command_in words ≡ Some command) where
-    due_of : (status : Status) (text : List ℕ) → Owes command left left' status text → IsDue words left left' status text
+  module _ (asked : Option Command) (is : asked ≡ Some command) where
+    due_of : (status : Status) (text : List ℕ) → Owes command left left' status text → IsDue asked left left' status text
     due_of Done text owes = (command, is, owes)
     due_of Refused text owes = (command, is, owes)
     due_of TooLong text owes = (command, is, owes)
@@ -57,7 +56,7 @@ module _ (command : Command) (left left' written written' : Option (List ℕ)) (
     due_of WriteFault text owes = absurd owes
     due_of Memory text owes = absurd owes
 
-    pub worded : (result : Status) → EndsWith command left left' written written' source source' sink sink' result → Ends words left left' written written' source source' sink sink' result
+    pub worded : (result : Status) → EndsWith command left left' written written' source source' sink sink' result → Ends asked left left' written written' source source' sink sink' result
     worded Done (none, (text, owes, gains)) = (none, (text, (command, is, owes), gains))
     worded Refused (none, (text, owes, gains)) = (none, (text, (command, is, owes), gains))
     worded TooLong (none, (text, owes, gains)) = (none, (text, (command, is, owes), gains))
@@ -68,9 +67,9 @@ module _ (command : Command) (left left' written written' : Option (List ℕ)) (
     worded Memory ends = ends
 
 -- words that are none
-pub finished_usage : (words : List (List ℕ)) (left written written' : Option (List ℕ)) (source sink sink' : ℕ) (result : Status) (text : List ℕ) → IsDue words left left Usage text
-    → Finishes Usage text written written' sink sink' result → Ends words left left written written' source source sink sink' result
-finished_usage words left written written' source sink sink' result text due (inl (e, wrote, gains)) =
-    subst (λ (s : Status). Ends words left left written written' source source sink sink' s) (sym e) ((refl, wrote), (text, due, gains))
-finished_usage words left written written' source sink sink' result text due (inr (e, rose, front)) =
-    subst (λ (s : Status). Ends words left left written written' source source sink sink' s) (sym e) (refl, rose, (Usage, text, due, front))
+pub finished_usage : (asked : Option Command) (left written written' : Option (List ℕ)) (source sink sink' : ℕ) (result : Status) (text : List ℕ) → IsDue asked left left Usage text
+    → Finishes Usage text written written' sink sink' result → Ends asked left left written written' source source sink sink' result
+finished_usage asked left written written' source sink sink' result text due (inl (e, wrote, gains)) =
+    subst (λ (s : Status). Ends asked left left written written' source source sink sink' s) (sym e) ((refl, wrote), (text, due, gains))
+finished_usage asked left written written' source sink sink' result text due (inr (e, rose, front)) =
+    subst (λ (s : Status). Ends asked left left written written' source source sink sink' s) (sym e) (refl, rose, (Usage, text, due, front))

@@ -1,5 +1,5 @@
--- What each status says of a call: of its words, of what it took from its source and of what its sink gained.
--- `left` and `written` are before and after the call.
+-- What each status says of a call: of the command that its words are, of what it took from its source and of what its sink gained.
+-- `asked` is this command, and None where they are none. `left` and `written` are before and after the call.
 use Rattle.std.specs.Prelude.{◌≡◌, ⊤, ◌⊎◌, ℕ, ◌≤◌, List, [], ◌∷◌, length, Option, Some, None}
 use Rattle.hs_base.specs.Outside.{Rose, Gains}
 use Rattle.hs_base.specs.declared.limits.TheConstants.{MAX_INPUT}
@@ -22,7 +22,6 @@ use Rattle.hs_check.specs.Parts.{workload_part, journal_part}
 use Rattle.hs_streams.specs.Input.{ReadWhole, ReadBeyond, ReadFront}
 use Rattle.hs_streams.specs.Refusals.{IsRefused, too_long_text}
 use Rattle.hs_streams.specs.Written.{GainsFront}
-use Rattle.hs_cli.specs.Commands.{command_in}
 use Rattle.hs_cli.specs.Messages.{usage_text, journal_refusal_text, unlawful_text}
 use Rattle.hs_cli.specs.declared.command.Command.{Command}
 use Rattle.hs_cli.specs.declared.command.Command.TheVariants.{Replay, Run, Convert, Make, Drill, Check}
@@ -138,25 +137,25 @@ Owes command left left' WriteFault text = ⊥
 Owes command left left' Memory text = ⊥
 
 -- Before anything is written, this status is due, with this text.
-abbrev pub IsDue : List (List ℕ) → Option (List ℕ) → Option (List ℕ) → Status → List ℕ → Type 0
-IsDue words left left' Usage text = (command_in words ≡ None) × (left' ≡ left) × (text ≡ usage_text)
-IsDue words left left' status text = (command : Command) × (command_in words ≡ Some command) × Owes command left left' status text
+abbrev pub IsDue : Option Command → Option (List ℕ) → Option (List ℕ) → Status → List ℕ → Type 0
+IsDue asked left left' Usage text = (asked ≡ None) × (left' ≡ left) × (text ≡ usage_text)
+IsDue asked left left' status text = (command : Command) × (asked ≡ Some command) × Owes command left left' status text
 
 -- This status was due, and its text was written whole.
-abbrev pub Wrote : List (List ℕ) → Option (List ℕ) → Option (List ℕ) → Option (List ℕ) → Option (List ℕ) → Status → Type 0
-Wrote words left left' written written' status = (text : List ℕ) × IsDue words left left' status text × Gains written written' text
+abbrev pub Wrote : Option Command → Option (List ℕ) → Option (List ℕ) → Option (List ℕ) → Option (List ℕ) → Status → Type 0
+Wrote asked left left' written written' status = (text : List ℕ) × IsDue asked left left' status text × Gains written written' text
 
 -- Some status was due, and of its text a front was written.
-abbrev pub WroteFront : List (List ℕ) → Option (List ℕ) → Option (List ℕ) → Option (List ℕ) → Option (List ℕ) → Type 0
-WroteFront words left left' written written' = (status : Status) × (text : List ℕ) × IsDue words left left' status text × GainsFront written written' text
+abbrev pub WroteFront : Option Command → Option (List ℕ) → Option (List ℕ) → Option (List ℕ) → Option (List ℕ) → Type 0
+WroteFront asked left left' written written' = (status : Status) × (text : List ℕ) × IsDue asked left left' status text × GainsFront written written' text
 
 -- Neither the source nor the sink failed.
 abbrev pub NoneFailed : (source source' sink sink' : ℕ) → Type 0
 NoneFailed source source' sink sink' = (source' ≡ source) × (sink' ≡ sink)
 
 -- The words are a command that reads.
-abbrev pub Reading : List (List ℕ) → Type 0
-Reading words = (command : Command) × (command_in words ≡ Some command) × IsReader command
+abbrev pub Reading : Option Command → Type 0
+Reading asked = (command : Command) × (asked ≡ Some command) × IsReader command
 
 -- what a status says of a command
 abbrev pub EndsWith : Command → Option (List ℕ) → Option (List ℕ) → Option (List ℕ) → Option (List ℕ) → (source source' sink sink' : ℕ) → Status → Type 0
@@ -166,12 +165,12 @@ EndsWith command left left' written written' source source' sink sink' Memory = 
 EndsWith command left left' written written' source source' sink sink' status = NoneFailed source source' sink sink' × ((text : List ℕ) × Owes command left left' status text × Gains written written' text)
 
 -- what a status says of any words
-abbrev pub Ends : List (List ℕ) → Option (List ℕ) → Option (List ℕ) → Option (List ℕ) → Option (List ℕ) → (source source' sink sink' : ℕ) → Status → Type 0
-Ends words left left' written written' source source' sink sink' Done = NoneFailed source source' sink sink' × Wrote words left left' written written' Done
-Ends words left left' written written' source source' sink sink' Usage = NoneFailed source source' sink sink' × Wrote words left left' written written' Usage
-Ends words left left' written written' source source' sink sink' Refused = NoneFailed source source' sink sink' × Wrote words left left' written written' Refused
-Ends words left left' written written' source source' sink sink' TooLong = NoneFailed source source' sink sink' × Wrote words left left' written written' TooLong
-Ends words left left' written written' source source' sink sink' Unlawful = NoneFailed source source' sink sink' × Wrote words left left' written written' Unlawful
-Ends words left left' written written' source source' sink sink' ReadFault = Reading words × Rose source source' × (sink' ≡ sink) × (written' ≡ written) × ((input : List ℕ) × ReadFront left left' input)
-Ends words left left' written written' source source' sink sink' WriteFault = (source' ≡ source) × Rose sink sink' × WroteFront words left left' written written'
-Ends words left left' written written' source source' sink sink' Memory = NoneFailed source source' sink sink' × (written' ≡ written)
+abbrev pub Ends : Option Command → Option (List ℕ) → Option (List ℕ) → Option (List ℕ) → Option (List ℕ) → (source source' sink sink' : ℕ) → Status → Type 0
+Ends asked left left' written written' source source' sink sink' Done = NoneFailed source source' sink sink' × Wrote asked left left' written written' Done
+Ends asked left left' written written' source source' sink sink' Usage = NoneFailed source source' sink sink' × Wrote asked left left' written written' Usage
+Ends asked left left' written written' source source' sink sink' Refused = NoneFailed source source' sink sink' × Wrote asked left left' written written' Refused
+Ends asked left left' written written' source source' sink sink' TooLong = NoneFailed source source' sink sink' × Wrote asked left left' written written' TooLong
+Ends asked left left' written written' source source' sink sink' Unlawful = NoneFailed source source' sink sink' × Wrote asked left left' written written' Unlawful
+Ends asked left left' written written' source source' sink sink' ReadFault = Reading asked × Rose source source' × (sink' ≡ sink) × (written' ≡ written) × ((input : List ℕ) × ReadFront left left' input)
+Ends asked left left' written written' source source' sink sink' WriteFault = (source' ≡ source) × Rose sink sink' × WroteFront asked left left' written written'
+Ends asked left left' written written' source source' sink sink' Memory = NoneFailed source source' sink sink' × (written' ≡ written)

@@ -58,9 +58,9 @@ fn call<R: Threads + Sync, S: Source, K: Sink, G: Gate>(
     sink: &mut K,
     gate: &G,
 ) -> Status
-    ensures ends { Ends (map (λ word. string_bytes word) words.now) (S.left source.old) (S.left source.new) (K.written sink.old) (K.written sink.new)
+    ensures ends { Ends (command_in (map (λ word. string_bytes word) words.now)) (S.left source.old) (S.left source.new) (K.written sink.old) (K.written sink.new)
         (S.faults source.old) (S.faults source.new) (K.faults sink.old) (K.faults sink.new) result }
-    ensures untouched { Reading (map (λ word. string_bytes word) words.now) ⊎ IsUntouched (S.left source.old) (S.left source.new) (S.faults source.old) (S.faults source.new) }
+    ensures untouched { Reading (command_in (map (λ word. string_bytes word) words.now)) ⊎ IsUntouched (S.left source.old) (S.left source.new) (S.faults source.old) (S.faults source.new) }
 {
     match command_in(alloc, words) {
         Ok(Some(command)) => carry_out(rt, alloc, command, source, sink, gate),
@@ -86,12 +86,12 @@ pub fn hindsight<R: Threads + Sync, S: Source, K: Sink, G: Gate>(
     // one part reads as one workload, and that behind it as one journal, which is lawful for it: `check` the outcome of the two.
     // Of the workload that it makes, with nothing read: `make` its text, and `drill` the total line.
     ensures done { result ≡ Status.Done
-        → Wrote (map (λ word. string_bytes word) words.now) (S.left source.old) (S.left source.new)
+        → Wrote (command_in (map (λ word. string_bytes word) words.now)) (S.left source.old) (S.left source.new)
         (K.written sink.old) (K.written sink.new) Status.Done }
 
     // The words are no command. Nothing was read, and the sink gained the usage line.
     ensures usage { result ≡ Status.Usage
-        → Wrote (map (λ word. string_bytes word) words.now) (S.left source.old) (S.left source.new)
+        → Wrote (command_in (map (λ word. string_bytes word) words.now)) (S.left source.old) (S.left source.new)
         (K.written sink.old) (K.written sink.new) Status.Usage }
 
     ensures no_command { command_in (map (λ word. string_bytes word) words.now) ≡ None
@@ -101,18 +101,18 @@ pub fn hindsight<R: Threads + Sync, S: Source, K: Sink, G: Gate>(
     // the part that is to be a workload; or that part reads as one, and the part behind it is no journal, whose first bad line
     // and reason the sink gained.
     ensures refused { result ≡ Status.Refused
-        → Wrote (map (λ word. string_bytes word) words.now) (S.left source.old) (S.left source.new)
+        → Wrote (command_in (map (λ word. string_bytes word) words.now)) (S.left source.old) (S.left source.new)
         (K.written sink.old) (K.written sink.new) Status.Refused }
 
     // The words are `check`, the input was read whole, and its parts read as one workload and one journal, which is not lawful for
     // it. The sink gained the first clause that fails.
     ensures unlawful { result ≡ Status.Unlawful
-        → Wrote (map (λ word. string_bytes word) words.now) (S.left source.old) (S.left source.new)
+        → Wrote (command_in (map (λ word. string_bytes word) words.now)) (S.left source.old) (S.left source.new)
         (K.written sink.old) (K.written sink.new) Status.Unlawful }
 
     // The source gave one byte more than an input may have, and the sink gained the text that says so.
     ensures too_long { result ≡ Status.TooLong
-        → Wrote (map (λ word. string_bytes word) words.now) (S.left source.old) (S.left source.new)
+        → Wrote (command_in (map (λ word. string_bytes word) words.now)) (S.left source.old) (S.left source.new)
         (K.written sink.old) (K.written sink.new) Status.TooLong }
 
     // Where the source failed in this call, it ends so.
@@ -120,7 +120,7 @@ pub fn hindsight<R: Threads + Sync, S: Source, K: Sink, G: Gate>(
 
     // The words are a command that reads, the source failed in this call, and nothing was written.
     ensures read_fault { result ≡ Status.ReadFault
-        → Reading (map (λ word. string_bytes word) words.now) × Rose (S.faults source.old) (S.faults source.new) }
+        → Reading (command_in (map (λ word. string_bytes word) words.now)) × Rose (S.faults source.old) (S.faults source.new) }
     ensures read_fault_writes { result ≡ Status.ReadFault → K.written sink.new ≡ K.written sink.old }
 
     // And before it failed the source had given no more than an input may have: where it gave more, that is what is told.
@@ -133,14 +133,14 @@ pub fn hindsight<R: Threads + Sync, S: Source, K: Sink, G: Gate>(
     // The sink failed in this call, and gained a front of the text that was due.
     ensures write_fault { result ≡ Status.WriteFault → Rose (K.faults sink.old) (K.faults sink.new) }
     ensures write_fault_writes { result ≡ Status.WriteFault
-        → WroteFront (map (λ word. string_bytes word) words.now) (S.left source.old) (S.left source.new)
+        → WroteFront (command_in (map (λ word. string_bytes word) words.now)) (S.left source.old) (S.left source.new)
         (K.written sink.old) (K.written sink.new) }
 
     // Want of memory comes with any words, and then nothing was written.
     ensures memory_writes { result ≡ Status.Memory → K.written sink.new ≡ K.written sink.old }
 
     // The words are a command that reads, or the source was left alone.
-    ensures untouched { Reading (map (λ word. string_bytes word) words.now)
+    ensures untouched { Reading (command_in (map (λ word. string_bytes word) words.now))
         ⊎ IsUntouched (S.left source.old) (S.left source.new) (S.faults source.old) (S.faults source.new) }
 
     // A command over any valid workload, which it makes or reads whole from a short enough input, is done where nothing
