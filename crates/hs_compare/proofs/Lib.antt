@@ -1,0 +1,4 @@
+pub mod Firsts
+pub mod Queued
+pub mod Rings
+pub mod Tails

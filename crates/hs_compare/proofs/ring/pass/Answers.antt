@@ -1,0 +1,43 @@
+use Rattle.std.proofs.Common.{◌≡◌, ◌≤◌, ◌+◌, List, [], ◌∷◌, ◌++◌, length, take, drop, sym, ap, ◌∙◌, arith}
+use Rattle.std.proofs.lemmas.List.{append-nil, length_push}
+use Rattle.circular_buffer.specs.Buffer.{Buffer, keep_last}
+use Rattle.hs_compare.specs.declared.ring.Noted.{Noted}
+use Rattle.hs_compare.specs.Ringing.{alive}
+use Rattle.hs_compare.proofs.Firsts.{first_some, kept_whole, drop-less}
+use Rattle.hs_compare.proofs.Rings.{passed, alive_at}
+use Rattle.hs_compare.proofs.ring.pass.Goals as goal
+
+pub returns-then-not-contains-clause-passes : goal.returns-then-not-contains-clause-passes
+returns-then-not-contains-clause-passes c =
+    let named = c.args.named.now.keys in
+    let ring = c.args.ring.now.items in
+    let noted = c.in-Some.noted in
+    let rest = drop 1 ring in
+    let popped = ap (λ (b : Buffer Noted). b.items) c.pop_front.ensures.items in
+    let capacity = ap (λ (b : Buffer Noted). b.capacity) c.pop_front.ensures.items in
+    let fits : length (c.pop_front.new.self.items ++ noted ∷ []) ≤ c.pop_front.new.self.capacity =
+    omega (arith, length_push c.pop_front.new.self.items noted, ap length popped, ap length (first_some ring noted c.in-Some.ensures.value), capacity, c.requires) in
+    ap (λ (b : Buffer Noted). b.items) c.push_back.ensures.items ∙ kept_whole c.pop_front.new.self.capacity (c.pop_front.new.self.items ++ noted ∷ []) fits
+    ∙ ap (λ xs. xs ++ noted ∷ []) popped
+    ∙ ap (λ xs. rest ++ xs) (ap (λ b. alive_at b noted []) (sym c.if-not-contains.true) ∙ sym (passed named ring noted c.contains.result c.in-Some.ensures.value c.contains.ensures))
+
+pub returns-then-not-contains-clause-shorter : goal.returns-then-not-contains-clause-shorter
+returns-then-not-contains-clause-shorter c =
+    let ring = c.args.ring.now.items in
+    let noted = c.in-Some.noted in
+    let popped = ap (λ (b : Buffer Noted). b.items) c.pop_front.ensures.items in
+    let capacity = ap (λ (b : Buffer Noted). b.capacity) c.pop_front.ensures.items in
+    let long = ap length (first_some ring noted c.in-Some.ensures.value) in
+    let fits : length (c.pop_front.new.self.items ++ noted ∷ []) ≤ c.pop_front.new.self.capacity =
+    omega (arith, length_push c.pop_front.new.self.items noted, ap length popped, long, capacity, c.requires) in
+    let items = ap (λ (b : Buffer Noted). b.items) c.push_back.ensures.items ∙ kept_whole c.pop_front.new.self.capacity (c.pop_front.new.self.items ++ noted ∷ []) fits in
+    omega (arith, ap length items, length_push c.pop_front.new.self.items noted, ap length popped, long)
+
+pub returns-else-not-contains-clause-passes : goal.returns-else-not-contains-clause-passes
+returns-else-not-contains-clause-passes c =
+    let named = c.args.named.now.keys in
+    let ring = c.args.ring.now.items in
+    let noted = c.in-Some.noted in
+    let rest = drop 1 ring in
+    ap (λ (b : Buffer Noted). b.items) c.pop_front.ensures.items ∙ sym (append-nil rest)
+    ∙ ap (λ xs. rest ++ xs) (ap (λ b. alive_at b noted []) (sym c.if-not-contains.false) ∙ sym (passed named ring noted c.contains.result c.in-Some.ensures.value c.contains.ensures))

@@ -1,0 +1,3 @@
+pub mod Ringing
+pub mod Queues
+pub mod RingTails

@@ -1,0 +1,11 @@
+//! What other samplers would have kept of a workload (`docs/RULES.md`, "Samplers").
+#![tactic(auto)]
+
+mod by_rank;
+mod queue;
+mod ring;
+mod ring_tail;
+
+pub use by_rank::head;
+pub use ring::Noted;
+pub use ring_tail::RingTail;

@@ -1,0 +1,114 @@
+//! The waiting records of each trace.
+
+ghost use Rattle.std.specs.Prelude.{◌≡◌, [], ◌∷◌, ◌++◌, ◌==◌, length, drop, IfSome, OnOk, OnErr, if◌then◌else◌};
+ghost use Rattle.std.specs.Option.{option_to_list};
+ghost use Rattle.hs_base.specs.declared.ids.TraceId.{TraceId};
+ghost use Rattle.hs_compare.specs.Queues.{queued};
+
+use hs_base::{Memory, RecordId, TraceId};
+use indexmap::IndexMap;
+use std::alloc::Global;
+use std::collections::VecDeque;
+use std::marker::Model;
+
+/// Records in the order in which they came. Contracts see them as a list.
+#[derive(Drop)]
+pub struct Queue {
+    records: VecDeque<RecordId>,
+}
+
+impl Model for Queue {
+    ghost use Rattle.std.specs.Prelude.{List};
+    ghost use Rattle.hs_base.specs.declared.ids.RecordId.{RecordId};
+
+    ghost Value = { List RecordId };
+
+    ghost view = { λ a. a.records.items };
+}
+
+/// The queue of each trace.
+pub type Queues = IndexMap<TraceId, Queue>;
+
+impl Queue {
+    /// No record. It takes no memory.
+    pub fn new(alloc: Global) -> Queue
+        ensures { result ≡ [] }
+    {
+        Queue {
+            records: VecDeque::new(alloc),
+        }
+    }
+
+    /// How many records there are.
+    pub fn len(&self) -> usize
+        ensures { result ≡ length self.now }
+    {
+        self.records.len()
+    }
+
+    /// Adds a record at the end.
+    pub fn push(&mut self, id: RecordId) -> Result<(), Memory>
+        ensures ok { OnOk result (self.new ≡ self.old ++ id ∷ []) }
+        ensures err { OnErr result (self.new ≡ self.old) }
+    {
+        match self.records.push_back(id) {
+            Ok(()) => Ok(()),
+            Err(_) => Err(Memory),
+        }
+    }
+
+    /// Takes the first record out, if there is one.
+    pub fn pop(&mut self) -> Option<RecordId>
+        ensures first { self.old ≡ option_to_list result ++ self.new }
+        ensures rest { self.new ≡ drop 1 self.old }
+    {
+        self.records.pop_front()
+    }
+}
+
+/// How many records of a trace wait.
+pub fn count_of(queues: &Queues, trace: TraceId) -> usize
+    ensures { result ≡ length (queued queues.now.entries trace) }
+{
+    match queues.get(&trace) {
+        Some(queue) => queue.len(),
+        None => 0,
+    }
+}
+
+/// Adds a record to the queue of its trace.
+pub fn add(alloc: Global, queues: &mut Queues, id: RecordId, trace: TraceId) -> Result<(), Memory>
+    ensures ok { OnOk result ((t : TraceId) → queued queues.new.entries t
+        ≡ (if trace.0 == t.0 then queued queues.old.entries t ++ id ∷ [] else queued queues.old.entries t)) }
+    ensures err { OnErr result ((t : TraceId) → queued queues.new.entries t ≡ queued queues.old.entries t) }
+{
+    if let Some(queue) = queues.get_mut(&trace) {
+        return queue.push(id);
+    }
+    let mut queue = Queue::new(alloc);
+    queue.push(id)?;
+    queues.insert(trace, queue)?;
+    Ok(())
+}
+
+/// Lets the first record of a trace's queue go.
+pub fn leave(queues: &mut Queues, trace: TraceId)
+    ensures { (t : TraceId) → queued queues.new.entries t
+        ≡ (if trace.0 == t.0 then drop 1 (queued queues.old.entries t) else queued queues.old.entries t) }
+{
+    if let Some(queue) = queues.get_mut(&trace) {
+        queue.pop();
+    }
+}
+
+/// Takes the queue of a trace out.
+pub fn take(alloc: Global, queues: &mut Queues, trace: TraceId) -> Queue
+    ensures queue { result ≡ queued queues.old.entries trace }
+    ensures rest { (t : TraceId) → queued queues.new.entries t
+        ≡ (if trace.0 == t.0 then [] else queued queues.old.entries t) }
+{
+    match queues.swap_remove(&trace) {
+        Some(queue) => queue,
+        None => Queue::new(alloc),
+    }
+}
