@@ -2,3 +2,4 @@ pub mod Firsts
 pub mod Queued
 pub mod Rings
 pub mod Tails
+pub mod Counted

@@ -1,3 +1,4 @@
 pub mod Ringing
 pub mod Queues
 pub mod RingTails
+pub mod Counting

@@ -2,10 +2,12 @@
 #![tactic(auto)]
 
 mod by_rank;
+mod lines;
 mod queue;
 mod ring;
 mod ring_tail;
 
 pub use by_rank::head;
+pub use lines::Line;
 pub use ring::Noted;
 pub use ring_tail::RingTail;

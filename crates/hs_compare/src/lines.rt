@@ -1,0 +1,108 @@
+//! What a sampler keeps, in numbers.
+
+ghost use Rattle.std.specs.Prelude.{◌≡◌, ◌+◌, ◌<◌, ◌^◌, ℕ, [], ◌++◌, ◌∷◌, List, length, count_by, IfOk, OnOk};
+ghost use Rattle.hs_base.specs.declared.ids.TraceId.{TraceId};
+ghost use Rattle.hs_compare.specs.Counting.{AreCounted, times, times_in, is_whole_by, line_by};
+
+use hs_base::{Memory, TraceId};
+use indexmap::IndexMap;
+use std::alloc::Global;
+
+/// What one sampler keeps.
+#[derive(Clone, Copy, Debug, PartialEq, Eq)]
+pub struct Line {
+    /// The kept records.
+    pub records: u32,
+    /// The traces with a kept record.
+    pub traces: u32,
+    /// The named traces that have a record, and all of whose records are kept.
+    pub whole: u32,
+    /// The bytes of the payloads that are sent to keep these.
+    pub shipped: u64,
+}
+
+/// How often each trace stands in a list.
+pub(crate) type Counts = IndexMap<TraceId, usize>;
+
+/// How often each of these traces stands here.
+pub(crate) fn counted(alloc: Global, traces: &[TraceId]) -> Result<Counts, Memory>
+    ensures { IfOk result (λ counts. AreCounted traces.now counts.entries) }
+{
+    let mut counts = IndexMap::new(alloc);
+    for place in 0..traces.len() {
+        count_one(&mut counts, traces[place])?;
+    }
+    Ok(counts)
+}
+
+/// Counts a trace once more.
+fn count_one(counts: &mut Counts, trace: TraceId) -> Result<(), Memory>
+    requires { times_in counts.old.entries trace + 1 < 2 ^ 64 }
+    ensures { (traces : List TraceId) → AreCounted traces counts.old.entries
+        → OnOk result (AreCounted (traces ++ trace ∷ []) counts.new.entries) }
+{
+    let count = times_of(counts, trace);
+    counts.insert(trace, count + 1)?;
+    Ok(())
+}
+
+/// How often a trace was counted.
+fn times_of(counts: &Counts, trace: TraceId) -> usize
+    ensures { result ≡ times_in counts.now.entries trace }
+{
+    match counts.get(&trace) {
+        Some(count) => *count,
+        None => 0,
+    }
+}
+
+/// Whether a trace has records, and all of them are kept.
+fn is_whole(all: &Counts, kept: &Counts, trace: TraceId) -> bool
+    ensures { result ≡ is_whole_by (times_in all.now.entries) (times_in kept.now.entries) trace }
+{
+    let count = times_of(all, trace);
+    0 < count && times_of(kept, trace) == count
+}
+
+/// How many of these traces have records of which all are kept.
+fn count_whole(all: &Counts, kept: &Counts, named: &[TraceId]) -> usize
+    ensures { result ≡ count_by (is_whole_by (times_in all.now.entries) (times_in kept.now.entries)) named.now }
+{
+    let mut whole = 0;
+    for trace in named {
+        if is_whole(all, kept, *trace) {
+            whole += 1;
+        }
+    }
+    whole
+}
+
+/// A count in fewer bits. No workload has so many records that one has no place there.
+pub(crate) fn small(count: usize) -> Result<u32, Memory>
+    ensures { IfOk result (λ n. n ≡ count) }
+{
+    match u32::try_from(count) {
+        Ok(n) => Ok(n),
+        Err(_) => Err(Memory),
+    }
+}
+
+/// The numbers of a sampler that keeps records of these traces, one for each record. `named` has each named trace once.
+pub(crate) fn line_of(
+    alloc: Global,
+    all: &Counts,
+    named: &[TraceId],
+    kept: &[TraceId],
+    shipped: u64,
+) -> Result<Line, Memory>
+    ensures { (traces : List TraceId) → AreCounted traces all.now.entries
+        → IfOk result (λ line. line ≡ line_by traces named.now kept.now shipped) }
+{
+    let counts = counted(alloc, kept)?;
+    Ok(Line {
+        records: small(kept.len())?,
+        traces: small(counts.len())?,
+        whole: small(count_whole(all, &counts, named))?,
+        shipped,
+    })
+}
