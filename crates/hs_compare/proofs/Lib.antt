@@ -3,3 +3,4 @@ pub mod Queued
 pub mod Rings
 pub mod Tails
 pub mod Counted
+pub mod Marking

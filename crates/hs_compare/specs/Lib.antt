@@ -2,3 +2,4 @@ pub mod Ringing
 pub mod Queues
 pub mod RingTails
 pub mod Counting
+pub mod Marked

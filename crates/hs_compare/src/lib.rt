@@ -2,7 +2,9 @@
 #![tactic(auto)]
 
 mod by_rank;
+mod coming;
 mod lines;
+mod marks;
 mod queue;
 mod ring;
 mod ring_tail;

@@ -1,7 +1,7 @@
 //! Tail sampling over a ring of records.
 
 ghost use Rattle.std.specs.Prelude.{◌≡◌, ◌≤◌, ◌+◌, ◌++◌, [], ◌∷◌, length, map, IfOk, OnOk, OnErr};
-ghost use Rattle.hs_compare.specs.Ringing.{new_ring, comes, names};
+ghost use Rattle.hs_compare.specs.Ringing.{new_ring, comes, names, is_among};
 
 use crate::queue::{Queue, Queues, add, count_of, take};
 use crate::ring::{Noted, Records, join, make_way};
@@ -96,6 +96,20 @@ impl RingTail {
         let queue = take(self.alloc, &mut self.queues, trace);
         keep_all(&mut self.kept, &mut self.traces, queue, trace);
         Ok(())
+    }
+
+    /// Whether a trace was named.
+    pub fn is_named(&self, trace: TraceId) -> bool
+        ensures { result ≡ is_among self.now.named trace }
+    {
+        self.named.contains(&trace)
+    }
+
+    /// The named traces, each once, in the order in which they were first named.
+    pub fn named(&self) -> &[TraceId]
+        ensures { result.now ≡ self.now.named }
+    {
+        self.named.as_slice()
     }
 
     /// The kept records, in the order in which they were kept.

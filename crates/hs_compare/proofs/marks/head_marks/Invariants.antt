@@ -1,0 +1,9 @@
+use Rattle.std.proofs.Common.{◌≡◌, map, take}
+use Rattle.hs_ledger.specs.declared.ledger.Entry.{Entry}
+use Rattle.hs_ledger.specs.Totals.{is_reported}
+use Rattle.hs_compare.specs.declared.coming.Coming.{Coming}
+use Rattle.hs_compare.specs.Ringing.{is_among, kept_by_rank}
+use Rattle.hs_compare.proofs.marks.head_marks.Given as goal
+
+abbrev pub invariant-loop-coming : goal.invariant-loop-coming
+invariant-loop-coming l = l.marks.items ≡ map (λ (x : Coming). kept_by_rank l.one_in x.trace) (take l.coming-index l.all)
