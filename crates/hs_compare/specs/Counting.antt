@@ -1,5 +1,6 @@
 -- Records that are counted by trace.
-use Rattle.std.specs.Prelude.{◌≡◌, ℕ, ◌==◌, nat_lt, Bool, ◌&&◌, List, [], ◌∷◌, length, count_by, Option, Some, None, unwrap_or, if◌then◌else◌}
+pub use Rattle.hs_samplers.specs.Lines.{each_once}
+use Rattle.std.specs.Prelude.{◌≡◌, ℕ, ◌==◌, nat_lt, Bool, ◌&&◌, List, [], ◌∷◌, length, count_by, Option, Some, None, unwrap_or, is_some, if◌then◌else◌}
 use Rattle.std.specs.Map.{lookup}
 use Rattle.hs_base.specs.declared.ids.TraceId.{TraceId}
 use Rattle.hs_compare.specs.Ringing.{is_among}
@@ -10,11 +11,6 @@ is_same trace other = other.0 == trace.0
 
 abbrev pub times : List TraceId → TraceId → ℕ
 times traces trace = count_by (is_same trace) traces
-
--- these traces, each once
-abbrev pub each_once : List TraceId → List TraceId
-each_once [] = []
-each_once (trace ∷ traces) = if is_among traces trace then each_once traces else trace ∷ each_once traces
 
 abbrev pub times_in : List (TraceId × ℕ) → TraceId → ℕ
 times_in counts trace = unwrap_or (lookup (λ (other : TraceId). trace.0 == other.0) counts) 0
@@ -32,3 +28,6 @@ is_whole_by all kept trace = nat_lt 0 (all trace) && kept trace == all trace
 abbrev pub line_by : List TraceId → List TraceId → List TraceId → ℕ → Line
 line_by all named kept shipped =
     record { records = length kept; traces = length (each_once kept); whole = count_by (is_whole_by (times all) (times kept)) named; shipped = shipped }
+
+abbrev pub is_counted : List (TraceId × ℕ) → TraceId → Bool
+is_counted counts trace = is_some (lookup (λ (other : TraceId). trace.0 == other.0) counts)

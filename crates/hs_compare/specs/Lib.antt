@@ -3,3 +3,4 @@ pub mod Queues
 pub mod RingTails
 pub mod Counting
 pub mod Marked
+pub mod Comparing

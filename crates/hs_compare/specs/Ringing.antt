@@ -1,18 +1,10 @@
 -- A ring of records, without their payloads. A record of a trace that was not named waits in the ring, which has the last ones that there
 -- is room for. Where a trace is first named its waiting records are kept, and what comes of it later is kept as it comes.
-use Rattle.std.specs.Prelude.{ℕ, ◌-◌, ◌%◌, ◌==◌, Bool, not, List, [], ◌∷◌, ◌++◌, length, map, filter, drop, if◌then◌else◌}
-use Rattle.std.specs.List.{list_any}
+pub use Rattle.hs_samplers.specs.Samplers.{is_among, kept_by_rank}
+use Rattle.std.specs.Prelude.{ℕ, ◌-◌, ◌==◌, Bool, not, List, [], ◌∷◌, ◌++◌, length, map, filter, drop, if◌then◌else◌}
 use Rattle.hs_base.specs.declared.ids.TraceId.{TraceId}
 use Rattle.hs_base.specs.declared.ids.RecordId.{RecordId}
-use Rattle.hs_base.specs.Ranks.{word_of}
 use Rattle.hs_compare.specs.declared.ring.Noted.{Noted}
-
--- whether the trace is one of these
-abbrev pub is_among : List TraceId → TraceId → Bool
-is_among traces trace = list_any (λ (other : TraceId). other.0 == trace.0) traces
-
-abbrev pub kept_by_rank : ℕ → TraceId → Bool
-kept_by_rank one_in trace = word_of trace.0 % one_in == 0
 
 abbrev pub is_noted_of : TraceId → Noted → Bool
 is_noted_of trace noted = noted.trace.0 == trace.0

@@ -3,6 +3,7 @@
 
 mod by_rank;
 mod coming;
+mod comparison;
 mod lines;
 mod marks;
 mod queue;
@@ -10,6 +11,7 @@ mod ring;
 mod ring_tail;
 
 pub use by_rank::head;
+pub use comparison::Comparison;
 pub use lines::Line;
 pub use ring::Noted;
 pub use ring_tail::RingTail;

@@ -1,0 +1,209 @@
+//! What the samplers keep of the same records.
+
+ghost use Rattle.std.specs.Prelude.{◌≡◌, ◌≤◌, ◌<◌, ◌^◌, ℕ, List, length, count_by, IfOk};
+ghost use Rattle.hs_base.specs.declared.ids.TraceId.{TraceId};
+ghost use Rattle.hs_samplers.specs.Lines.{is_gap, is_limited};
+ghost use Rattle.hs_compare.specs.Counting.{AreCounted};
+ghost use Rattle.hs_compare.specs.declared.coming.Coming.{Coming};
+ghost use Rattle.hs_compare.specs.Marked.{marked, bytes_in, traces_of};
+ghost use Rattle.hs_compare.specs.Comparing.{comparison_by, line_of_marked, line_of_sent, marks_of_head, marks_of_named, marks_of_reported, is_gap_in, is_limited_in};
+
+use crate::coming::Coming;
+use crate::lines::{Counts, Line, counted, line_of, small};
+use crate::marks::{
+    all_bytes, all_traces, head_marks, marked_bytes, marked_traces, named_marks, reported_marks,
+};
+use crate::ring_tail::RingTail;
+use hs_base::{Memory, TraceId};
+use hs_ledger::Entry;
+use hs_report::is_reported;
+use std::alloc::Global;
+
+/// What each of four samplers keeps of one workload, and what Hindsight does not report of the records that
+/// tail sampling keeps.
+#[derive(Clone, Copy, Debug, PartialEq, Eq)]
+pub struct Comparison {
+    pub head: Line,
+    pub tail: Line,
+    pub ring: Line,
+    pub hindsight: Line,
+    /// The records in gap lines.
+    pub gap: u32,
+    /// The records of named traces that no node claimed.
+    pub limited: u32,
+}
+
+/// The records in gap lines, and those of named traces without a claim.
+#[derive(Clone, Copy)]
+struct Rest {
+    gap: u32,
+    limited: u32,
+}
+
+/// The line of a sampler that keeps the marked records, and sends these alone.
+fn marked_line(
+    alloc: Global,
+    all: &[Coming],
+    counts: &Counts,
+    named: &[TraceId],
+    marks: &[bool],
+) -> Result<Line, Memory>
+    requires each { length marks.now ≡ length all.now }
+    requires few { bytes_in all.now < 2 ^ 64 }
+    ensures { AreCounted (traces_of all.now) counts.now.entries
+        → IfOk result (λ line. line ≡ line_of_marked all.now named.now marks.now) }
+{
+    let traces = marked_traces(alloc, all, marks)?;
+    let bytes = marked_bytes(all, marks);
+    line_of(alloc, counts, named, &traces, bytes)
+}
+
+/// The line of head sampling of one trace in `one_in`.
+fn head_line(
+    alloc: Global,
+    all: &[Coming],
+    counts: &Counts,
+    named: &[TraceId],
+    one_in: u32,
+) -> Result<Line, Memory>
+    requires some { 1 ≤ one_in }
+    requires few { bytes_in all.now < 2 ^ 64 }
+    ensures { AreCounted (traces_of all.now) counts.now.entries
+        → IfOk result (λ line. line ≡ line_of_marked all.now named.now (marks_of_head one_in all.now)) }
+{
+    let marks = head_marks(alloc, all, one_in)?;
+    marked_line(alloc, all, counts, named, &marks)
+}
+
+/// The line of tail sampling, which sends all records.
+fn tail_line(
+    alloc: Global,
+    all: &[Coming],
+    counts: &Counts,
+    ring: &RingTail,
+    shipped: u64,
+) -> Result<Line, Memory>
+    requires { shipped ≡ bytes_in all.now }
+    ensures { AreCounted (traces_of all.now) counts.now.entries
+        → IfOk result (λ line. line ≡ line_of_sent all.now ring.now.named (traces_of (marked (marks_of_named ring.now.named all.now) all.now))) }
+{
+    let marks = named_marks(alloc, all, ring)?;
+    let traces = marked_traces(alloc, all, &marks)?;
+    line_of(alloc, counts, ring.named(), &traces, shipped)
+}
+
+/// The line of tail sampling with a ring, to which all records are sent.
+fn ring_line(alloc: Global, counts: &Counts, ring: &RingTail, shipped: u64) -> Result<Line, Memory>
+    ensures { (all : List Coming) → AreCounted (traces_of all) counts.now.entries → shipped ≡ bytes_in all
+        → IfOk result (λ line. line ≡ line_of_sent all ring.now.named ring.now.traces) }
+{
+    line_of(
+        alloc,
+        counts,
+        ring.named(),
+        ring.traces().as_slice(),
+        shipped,
+    )
+}
+
+/// The line of Hindsight, which sends what it reports.
+fn hindsight_line(
+    alloc: Global,
+    all: &[Coming],
+    counts: &Counts,
+    named: &[TraceId],
+    entries: &[Entry],
+) -> Result<Line, Memory>
+    requires each { length entries.now ≡ length all.now }
+    requires few { bytes_in all.now < 2 ^ 64 }
+    ensures { AreCounted (traces_of all.now) counts.now.entries
+        → IfOk result (λ line. line ≡ line_of_marked all.now named.now (marks_of_reported entries.now)) }
+{
+    let marks = reported_marks(alloc, entries)?;
+    marked_line(alloc, all, counts, named, &marks)
+}
+
+/// Whether a record is of a claimed trace, and was not reported.
+fn is_in_gap(entry: &Entry, claims: &Counts) -> bool
+    ensures { result ≡ is_gap_in claims.now.entries entry.now }
+{
+    claims.contains_key(&entry.trace) && !is_reported(entry.fate)
+}
+
+/// How many of these records are in gap lines.
+fn count_gaps(entries: &[Entry], claims: &Counts) -> usize
+    ensures { result ≡ count_by (is_gap_in claims.now.entries) entries.now }
+{
+    let mut gaps = 0;
+    for entry in entries {
+        if is_in_gap(entry, claims) {
+            gaps += 1;
+        }
+    }
+    gaps
+}
+
+/// Whether a record is of a named trace that no node claimed.
+fn is_unclaimed(entry: &Entry, ring: &RingTail, claims: &Counts) -> bool
+    ensures { result ≡ is_limited_in ring.now.named claims.now.entries entry.now }
+{
+    ring.is_named(entry.trace) && !claims.contains_key(&entry.trace)
+}
+
+/// How many of these records are of named traces that no node claimed.
+fn count_limited(entries: &[Entry], ring: &RingTail, claims: &Counts) -> usize
+    ensures { result ≡ count_by (is_limited_in ring.now.named claims.now.entries) entries.now }
+{
+    let mut limited = 0;
+    for entry in entries {
+        if is_unclaimed(entry, ring, claims) {
+            limited += 1;
+        }
+    }
+    limited
+}
+
+/// What of the records of named traces was not reported, where these are the claimed traces.
+fn rest_of(
+    alloc: Global,
+    entries: &[Entry],
+    ring: &RingTail,
+    claimed: &[TraceId],
+) -> Result<Rest, Memory>
+    ensures gap { IfOk result (λ rest. rest.gap ≡ count_by (is_gap claimed.now) entries.now) }
+    ensures limited { IfOk result (λ rest. rest.limited ≡ count_by (is_limited ring.now.named claimed.now) entries.now) }
+{
+    let claims = counted(alloc, claimed)?;
+    Ok(Rest {
+        gap: small(count_gaps(entries, &claims))?,
+        limited: small(count_limited(entries, ring, &claims))?,
+    })
+}
+
+/// What the samplers keep of these records, where the ring went through them and `claimed` are the claimed
+/// traces.
+pub(crate) fn compared(
+    alloc: Global,
+    all: &[Coming],
+    entries: &[Entry],
+    ring: &RingTail,
+    claimed: &[TraceId],
+    one_in: u32,
+) -> Result<Comparison, Memory>
+    requires each { length entries.now ≡ length all.now }
+    requires some { 1 ≤ one_in }
+    ensures { IfOk result (λ comparison. comparison ≡ comparison_by one_in all.now ring.now.named ring.now.traces entries.now claimed.now) }
+{
+    let rest = rest_of(alloc, entries, ring, claimed)?;
+    let traces = all_traces(alloc, all)?;
+    let counts = counted(alloc, &traces)?;
+    let shipped = all_bytes(all)?;
+    Ok(Comparison {
+        head: head_line(alloc, all, &counts, ring.named(), one_in)?,
+        tail: tail_line(alloc, all, &counts, ring, shipped)?,
+        ring: ring_line(alloc, &counts, ring, shipped)?,
+        hindsight: hindsight_line(alloc, all, &counts, ring.named(), entries)?,
+        gap: rest.gap,
+        limited: rest.limited,
+    })
+}
