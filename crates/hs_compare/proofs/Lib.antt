@@ -4,3 +4,4 @@ pub mod Rings
 pub mod Tails
 pub mod Counted
 pub mod Marking
+pub mod Walked

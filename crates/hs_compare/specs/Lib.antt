@@ -4,3 +4,5 @@ pub mod RingTails
 pub mod Counting
 pub mod Marked
 pub mod Comparing
+pub mod Walking
+pub mod Rounds

@@ -4,11 +4,14 @@
 mod by_rank;
 mod coming;
 mod comparison;
+mod happening;
 mod lines;
 mod marks;
 mod queue;
 mod ring;
 mod ring_tail;
+mod script;
+mod walk;
 
 pub use by_rank::head;
 pub use comparison::Comparison;

@@ -1,0 +1,18 @@
+//! What happens in an operation.
+
+use crate::ring::Noted;
+use hs_base::TraceId;
+
+/// A record comes, or a trace is named.
+#[derive(Clone, Copy)]
+pub(crate) enum Event {
+    Comes { noted: Noted },
+    Names { trace: TraceId },
+}
+
+/// An event with the number of its operation.
+#[derive(Clone, Copy)]
+pub(crate) struct Happening {
+    pub(crate) number: usize,
+    pub(crate) event: Event,
+}
