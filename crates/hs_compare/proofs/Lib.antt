@@ -5,3 +5,6 @@ pub mod Tails
 pub mod Counted
 pub mod Marking
 pub mod Walked
+pub mod Rounded
+pub mod Pointed
+pub mod Named

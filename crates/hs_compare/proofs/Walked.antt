@@ -96,7 +96,7 @@ run_ends hs next n past = let none : drop next hs ≡ [] = past_end hs next past
 -- ---- one operation more
 
 pub range-append : (a m n : ℕ) → range_with_len a (m + n) ≡ range_with_len a m ++ range_with_len (a + m) n
-range-append a zero n = ap (λ k. range_with_len k n) (let e : a ≡ a + 0 = omega arith in e)
+range-append a zero n = ap (range_with_len a) (let e : 0 + n ≡ n = omega arith in e) ∙ ap (λ k. range_with_len k n) (let e : a ≡ a + 0 = omega arith in e)
 range-append a (suc m) n =
     ap (range_with_len a) (let e : suc m + n ≡ suc (m + n) = omega arith in e) ∙ ap (λ r. a ∷ r) (range-append (a + 1) m n) ∙ ap (λ k. a ∷ range_with_len (a + 1) m ++ range_with_len k n) (let e : a + 1 + m ≡ a + suc m = omega arith in e)
 
@@ -104,7 +104,9 @@ pub events-append : (points names : List Happening) (a m n : ℕ) → events_fro
 events-append points names a m n = ap (flat_map (both_of points names)) (range-append a m n) ∙ flat_map-append (both_of points names) (range_with_len a m) (range_with_len (a + m) n)
 
 pub events_more : (points names : List Happening) (n : ℕ) → events_from points names 0 (n + 1) ≡ events_from points names 0 n ++ both_of points names n
-events_more points names n = events-append points names 0 n 1 ∙ ap (λ es. events_from points names 0 n ++ es) (append-nil (both_of points names n))
+events_more points names n =
+    events-append points names 0 n 1 ∙ ap (λ k. events_from points names 0 n ++ events_from points names k 1) (let e : 0 + n ≡ n = omega arith in e)
+    ∙ ap (λ es. events_from points names 0 n ++ es) (append-nil (both_of points names n))
 
 pub script_next : (points names : List Happening) (n : ℕ) (script next : Script) → IsScript points names n script → next.events.items ≡ (script.events.items ++ events_of points n) ++ events_of names n
     → next.ends.items ≡ script.ends.items ++ length next.events.items ∷ [] → IsScript points names (n + 1) next

@@ -6,3 +6,5 @@ pub mod Marked
 pub mod Comparing
 pub mod Walking
 pub mod Rounds
+pub mod Happens
+pub mod Points

@@ -7,6 +7,8 @@ mod comparison;
 mod happening;
 mod lines;
 mod marks;
+mod names;
+mod points;
 mod queue;
 mod ring;
 mod ring_tail;

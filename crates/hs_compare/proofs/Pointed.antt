@@ -1,0 +1,201 @@
+-- One operation more.
+use Rattle.std.proofs.Common.{◌≡◌, ℕ, zero, suc, ◌+◌, ◌<◌, ◌≤◌, List, [], ◌∷◌, ◌++◌, length, map, Option, Some, None, refl, sym, ap, ap₂, ◌∙◌, subst, arith, append_assoc, length-append}
+use Rattle.std.specs.Prelude.{zip}
+use Rattle.std.specs.List.{flat_map, range_with_len}
+use Rattle.std.proofs.lemmas.Option.{same_Some}
+use Rattle.std.proofs.lemmas.List.{append-nil, map-append, length_push}
+use Rattle.std.proofs.lemmas.List.Concat.{flat_map-append}
+use Rattle.std.proofs.lemmas.List.FromFn.{length-range_with_len}
+use Rattle.hs_base.specs.declared.ids.ClientId.{ClientId}
+use Rattle.hs_base.specs.declared.ids.TraceId.{TraceId}
+use Rattle.hs_records.specs.Plain.{Operation, Begin, Point, Crumb, End, Fire, Sample}
+use Rattle.hs_records.specs.Records.{Record, NumberedOperation, numbered_of, record_at, record_in, records_of, open_behind}
+use Rattle.hs_sent.specs.OneMore.{OneMoreOperation, open_after, next_behind}
+use Rattle.hs_sent.specs.Sending.{Sent}
+use Rattle.hs_sent.specs.Timing.{point_numbers}
+use Rattle.hs_samplers.specs.Coming.{comings_of, sent_comings}
+use Rattle.hs_samplers.specs.Coming as samplers
+use Rattle.hs_compare.specs.Happens.{coming_of, comes_at, points_by}
+use Rattle.hs_compare.specs.Walking.{AreInTurn, AreOf}
+use Rattle.hs_compare.specs.Points.{HasGone, Gone, record_seen}
+use Rattle.hs_compare.specs.declared.coming.Coming.{Coming}
+use Rattle.hs_compare.specs.declared.happening.Event.TheVariants.{Comes}
+use Rattle.hs_compare.specs.declared.happening.Happening.{Happening}
+use Rattle.hs_compare.specs.declared.points.Seen.{Seen}
+use Rattle.hs_compare.specs.declared.points.Walk.{Walk}
+use Rattle.hs_compare.proofs.Walked.{range-append}
+
+zip-push : {X Y : Type 0} (xs : List X) (ys : List Y) (x : X) (y : Y) → length xs ≡ length ys → zip (xs ++ x ∷ []) (ys ++ y ∷ []) ≡ zip xs ys ++ (x, y) ∷ []
+zip-push [] [] x y same = refl
+zip-push [] (b ∷ ys) x y same = absurd (omega arith)
+zip-push (a ∷ xs) [] x y same = absurd (omega arith)
+zip-push (a ∷ xs) (b ∷ ys) x y same = ap (λ r. (a, b) ∷ r) (zip-push xs ys x y (omega arith))
+
+length-zip : {X Y : Type 0} (xs : List X) (ys : List Y) → length xs ≡ length ys → length (zip xs ys) ≡ length ys
+length-zip [] [] same = refl
+length-zip [] (b ∷ ys) same = absurd (omega arith)
+length-zip (a ∷ xs) [] same = absurd (omega arith)
+length-zip (a ∷ xs) (b ∷ ys) same = ap suc (length-zip xs ys (omega arith))
+
+length_of_map : {X Y : Type 0} (f : X → Y) (xs : List X) → length (map f xs) ≡ length xs
+length_of_map f [] = refl
+length_of_map f (x ∷ xs) = ap suc (length_of_map f xs)
+
+-- as many points as records
+points_each : (ops : List NumberedOperation) → length (flat_map (λ (op : NumberedOperation). map (λ _. op.number) (record_at op)) ops) ≡ length (flat_map record_at ops)
+points_each [] = refl
+points_each (op ∷ ops) =
+    let ih = points_each ops in
+    let here = length_of_map (λ (r : Record). op.number) (record_at op) in
+    let a = length-append (map (λ _. op.number) (record_at op)) (flat_map (λ (o : NumberedOperation). map (λ _. o.number) (record_at o)) ops) in
+    let b = length-append (record_at op) (flat_map record_at ops) in
+    omega (arith, ih, here, a, b)
+
+abbrev pub coming_by : ClientId → ℕ × Record → samplers.Coming
+coming_by client r = record { id = record { client = client; number = r.0 }; trace = r.1.trace; bytes = length r.1.payload }
+
+abbrev pub sent_by : ℕ × samplers.Coming → Sent samplers.Coming
+sent_by c = record { number = c.0; item = c.1 }
+
+-- an operation that is no point
+pub same_records : OneMoreOperation → (ops : List Operation) (op : Operation) → record_in (open_after None ops) op ≡ [] → records_of (ops ++ op ∷ []) ≡ records_of ops
+same_records one ops op none =
+    ap (flat_map record_at) (one ops op) ∙ flat_map-append record_at (numbered_of ops) (next_behind ops op ∷ []) ∙ ap (λ rs. records_of ops ++ (rs ++ [])) none ∙ append-nil (records_of ops)
+
+same_numbers : OneMoreOperation → (ops : List Operation) (op : Operation) → record_in (open_after None ops) op ≡ [] → point_numbers (ops ++ op ∷ []) ≡ point_numbers ops
+same_numbers one ops op none =
+    ap (flat_map (λ (o : NumberedOperation). map (λ _. o.number) (record_at o))) (one ops op)
+    ∙ flat_map-append (λ (o : NumberedOperation). map (λ _. o.number) (record_at o)) (numbered_of ops) (next_behind ops op ∷ [])
+    ∙ ap (λ (rs : List Record). point_numbers ops ++ (map (λ _. length ops) rs ++ [])) none ∙ append-nil (point_numbers ops)
+
+pub same_comings : OneMoreOperation → (client : ClientId) (ops : List Operation) (op : Operation) → record_in (open_after None ops) op ≡ [] → comings_of client (ops ++ op ∷ []) ≡ comings_of client ops
+same_comings one client ops op none = ap (λ rs. map (coming_by client) (zip (range_with_len 0 (length rs)) rs)) (same_records one ops op none)
+
+pub same_points : OneMoreOperation → (client : ClientId) (ops : List Operation) (op : Operation) → record_in (open_after None ops) op ≡ [] → points_by client (ops ++ op ∷ []) ≡ points_by client ops
+same_points one client ops op none =
+    ap₂ (λ ns cs. map comes_at (map sent_by (zip ns cs))) (same_numbers one ops op none) (same_comings one client ops op none)
+
+-- an operation that is a point
+more_records : OneMoreOperation → (ops : List Operation) (op : Operation) (r : Record) → record_in (open_after None ops) op ≡ r ∷ [] → records_of (ops ++ op ∷ []) ≡ records_of ops ++ r ∷ []
+more_records one ops op r some =
+    ap (flat_map record_at) (one ops op) ∙ flat_map-append record_at (numbered_of ops) (next_behind ops op ∷ []) ∙ ap (λ rs. records_of ops ++ (rs ++ [])) some
+
+more_numbers : OneMoreOperation → (ops : List Operation) (op : Operation) (r : Record) → record_in (open_after None ops) op ≡ r ∷ [] → point_numbers (ops ++ op ∷ []) ≡ point_numbers ops ++ length ops ∷ []
+more_numbers one ops op r some =
+    ap (flat_map (λ (o : NumberedOperation). map (λ _. o.number) (record_at o))) (one ops op)
+    ∙ flat_map-append (λ (o : NumberedOperation). map (λ _. o.number) (record_at o)) (numbered_of ops) (next_behind ops op ∷ [])
+    ∙ ap (λ (rs : List Record). point_numbers ops ++ (map (λ _. length ops) rs ++ [])) some
+
+pub more_comings : OneMoreOperation → (client : ClientId) (ops : List Operation) (op : Operation) (r : Record) → record_in (open_after None ops) op ≡ r ∷ []
+    → comings_of client (ops ++ op ∷ []) ≡ comings_of client ops ++ coming_by client (length (records_of ops), r) ∷ []
+more_comings one client ops op r some =
+    let rs = records_of ops in
+    let n = length rs in
+    let numbers : range_with_len 0 (length (rs ++ r ∷ [])) ≡ range_with_len 0 n ++ n ∷ [] =
+    ap (range_with_len 0) (length_push rs r) ∙ range-append 0 n 1 ∙ ap (λ k. range_with_len 0 n ++ k ∷ []) (let e : 0 + n ≡ n = omega arith in e) in
+    ap (λ xs. map (coming_by client) (zip (range_with_len 0 (length xs)) xs)) (more_records one ops op r some)
+    ∙ ap (λ ns. map (coming_by client) (zip ns (rs ++ r ∷ []))) numbers
+    ∙ ap (map (coming_by client)) (zip-push (range_with_len 0 n) rs n r (length-range_with_len 0 n))
+    ∙ map-append (coming_by client) (zip (range_with_len 0 n) rs) ((n, r) ∷ [])
+
+comings_each : (client : ClientId) (ops : List Operation) → length (point_numbers ops) ≡ length (comings_of client ops)
+comings_each client ops =
+    let rs = records_of ops in
+    points_each (numbered_of ops)
+    ∙ sym (length_of_map (coming_by client) (zip (range_with_len 0 (length rs)) rs) ∙ length-zip (range_with_len 0 (length rs)) rs (length-range_with_len 0 (length rs)))
+
+pub more_points : OneMoreOperation → (client : ClientId) (ops : List Operation) (op : Operation) (r : Record) → record_in (open_after None ops) op ≡ r ∷ []
+    → points_by client (ops ++ op ∷ []) ≡ points_by client ops ++ comes_at (record { number = length ops; item = coming_by client (length (records_of ops), r) }) ∷ []
+more_points one client ops op r some =
+    let c = coming_by client (length (records_of ops), r) in
+    ap₂ (λ ns cs. map comes_at (map sent_by (zip ns cs))) (more_numbers one ops op r some) (more_comings one client ops op r some)
+    ∙ ap (λ s. map comes_at (map sent_by s)) (zip-push (point_numbers ops) (comings_of client ops) (length ops) c (comings_each client ops))
+    ∙ ap (map comes_at) (map-append sent_by (zip (point_numbers ops) (comings_of client ops)) ((length ops, c) ∷ []))
+    ∙ map-append comes_at (sent_comings client ops) (record { number = length ops; item = c } ∷ [])
+
+-- ---- numbers
+
+turn_push : (k n : ℕ) (hs : List Happening) (h : Happening) → AreInTurn k hs → AreOf n hs → k ≤ n → h.number ≡ n → AreInTurn k (hs ++ h ∷ [])
+turn_push k n [] h turn low le is = (omega (arith, le, is), tt)
+turn_push k n (x ∷ hs) h turn low le is = let first = low.0 in (turn.0, turn_push x.number n hs h turn.1 low.1 (omega (arith, first)) is)
+
+low_more : (n : ℕ) (hs : List Happening) → AreOf n hs → AreOf (n + 1) hs
+low_more n [] low = tt
+low_more n (h ∷ hs) low = let first = low.0 in (omega (arith, first), low_more n hs low.1)
+
+low_push : (n : ℕ) (hs : List Happening) (h : Happening) → AreOf n hs → h.number ≡ n → AreOf (n + 1) (hs ++ h ∷ [])
+low_push n [] h low is = (omega (arith, is), tt)
+low_push n (x ∷ hs) h low is = let first = low.0 in (omega (arith, first), low_push n hs h low.1 is)
+
+open_push : (trace : Option TraceId) (ops : List Operation) (op : Operation) → open_after trace (ops ++ op ∷ []) ≡ open_behind (open_after trace ops) op
+open_push trace [] op = refl
+open_push trace (o ∷ ops) op = open_push (open_behind trace o) ops op
+
+-- ---- steps of a walk
+
+seen_none : (rs : List Record) → None ≡ record_seen rs → rs ≡ []
+seen_none [] h = refl
+seen_none (r ∷ rs) h = absurd (cc)
+
+pub gone_quiet : OneMoreOperation → (ops : List Operation) (first all : List Coming) (op : Operation) (walk next : Walk) → HasGone ops first walk all → None ≡ record_seen (record_in walk.current op)
+    → next.client ≡ walk.client → next.points ≡ walk.points → next.count ≡ walk.count → next.current ≡ open_behind walk.current op → HasGone (ops ++ op ∷ []) first next all
+gone_quiet one ops first all op walk next gone none client points count current =
+    let quiet : record_in (open_after None ops) op ≡ [] = ap (λ t. record_in t op) (sym gone.current) ∙ seen_none (record_in walk.current op) none in
+    let items : next.points.items ≡ walk.points.items = ap (λ p. p.items) points in
+    record {
+      points = items ∙ gone.points ∙ sym (same_points one walk.client ops op quiet) ∙ ap (λ c. points_by c (ops ++ op ∷ [])) (sym client);
+      turn = subst (AreInTurn 0) (sym items) gone.turn;
+      low = subst (λ n. AreOf n next.points.items) (sym (length_push ops op)) (subst (AreOf (length ops + 1)) (sym items) (low_more (length ops) walk.points.items gone.low));
+      current = current ∙ ap (λ t. open_behind t op) gone.current ∙ sym (open_push None ops op);
+      count = count ∙ gone.count ∙ ap length (sym (same_records one ops op quiet));
+      joined = gone.joined ∙ ap (λ cs. map coming_of first ++ cs) (sym (same_comings one walk.client ops op quiet)) ∙ ap (λ c. map coming_of first ++ comings_of c (ops ++ op ∷ [])) (sym client);
+    }
+
+seen_some : (current : Option TraceId) (op : Operation) (seen : Seen) → Some seen ≡ record_seen (record_in current op)
+    → (r : Record) × (record_in current op ≡ r ∷ []) × (seen ≡ record { trace = r.trace; bytes = length r.payload })
+seen_some None op seen h = absurd (cc)
+seen_some (Some trace) (Begin other) seen h = absurd (cc)
+seen_some (Some trace) (Point moment payload) seen h =
+    (record { trace = trace; moment = moment; payload = payload }, refl, same_Some seen (record { trace = trace; bytes = length payload }) h)
+seen_some (Some trace) (Crumb node) seen h = absurd (cc)
+seen_some (Some trace) End seen h = absurd (cc)
+seen_some (Some trace) (Fire trigger) seen h = absurd (cc)
+seen_some (Some trace) (Sample moment auto value) seen h = absurd (cc)
+
+abbrev pub point_at : ℕ → ClientId → ℕ → TraceId → Happening
+point_at number client count trace = record { number = number; event = Comes (record { id = record { client = client; number = count }; trace = trace }) }
+
+abbrev pub the_coming : ClientId → ℕ → Seen → Coming
+the_coming client count seen = record { id = record { client = client; number = count }; trace = seen.trace; bytes = seen.bytes }
+
+pub gone_seen : OneMoreOperation → (ops : List Operation) (first all more : List Coming) (op : Operation) (walk noted next : Walk) (seen : Seen) → HasGone ops first walk all
+    → Some seen ≡ record_seen (record_in walk.current op) → Gone (length ops) seen walk all noted more → next.client ≡ noted.client → next.points ≡ noted.points → next.count ≡ noted.count
+    → next.current ≡ open_behind walk.current op → HasGone (ops ++ op ∷ []) first next more
+gone_seen one ops first all more op walk noted next seen gone some is client points count current =
+    let found = seen_some walk.current op seen some in
+    let r = found.0 in
+    let there : record_in (open_after None ops) op ≡ r ∷ [] = ap (λ t. record_in t op) (sym gone.current) ∙ found.1 in
+    let same : next.client ≡ walk.client = client ∙ is.client in
+    let n = length (records_of ops) in
+    let items : next.points.items ≡ walk.points.items ++ point_at (length ops) walk.client walk.count seen.trace ∷ [] = ap (λ p. p.items) points ∙ is.points in
+    record {
+      points =
+          items
+          ∙ ap (λ ps. ps ++ point_at (length ops) walk.client walk.count seen.trace ∷ []) gone.points
+          ∙ ap (λ k. points_by walk.client ops ++ point_at (length ops) walk.client k seen.trace ∷ []) gone.count
+          ∙ ap (λ (s : Seen). points_by walk.client ops ++ point_at (length ops) walk.client n s.trace ∷ []) found.2
+          ∙ sym (more_points one walk.client ops op r there) ∙ ap (λ c. points_by c (ops ++ op ∷ [])) (sym same);
+      turn = subst (AreInTurn 0) (sym items) (turn_push 0 (length ops) walk.points.items (point_at (length ops) walk.client walk.count seen.trace) gone.turn gone.low (omega arith) refl);
+      low =
+          subst (λ k. AreOf k next.points.items) (sym (length_push ops op))
+          (subst (AreOf (length ops + 1)) (sym items) (low_push (length ops) walk.points.items (point_at (length ops) walk.client walk.count seen.trace) gone.low refl));
+      current = current ∙ ap (λ t. open_behind t op) gone.current ∙ sym (open_push None ops op);
+      count = count ∙ is.count ∙ ap (λ k. k + 1) gone.count ∙ sym (length_push (records_of ops) r) ∙ ap length (sym (more_records one ops op r there));
+      joined =
+          ap (map coming_of) is.joined ∙ map-append coming_of all (the_coming walk.client walk.count seen ∷ [])
+          ∙ ap (λ cs. cs ++ coming_of (the_coming walk.client walk.count seen) ∷ []) gone.joined
+          ∙ append_assoc (map coming_of first) (comings_of walk.client ops) (coming_of (the_coming walk.client walk.count seen) ∷ [])
+          ∙ ap (λ k. map coming_of first ++ (comings_of walk.client ops ++ coming_of (the_coming walk.client k seen) ∷ [])) gone.count
+          ∙ ap (λ s. map coming_of first ++ (comings_of walk.client ops ++ coming_of (the_coming walk.client n s) ∷ [])) found.2
+          ∙ ap (λ cs. map coming_of first ++ cs) (sym (more_comings one walk.client ops op r there)) ∙ ap (λ c. map coming_of first ++ comings_of c (ops ++ op ∷ [])) (sym same);
+    }

@@ -1,0 +1,11 @@
+use Rattle.std.proofs.Common.{◌≡◌, ◌*◌, List, [], ◌∷◌, ◌++◌, sym, ap, ◌∙◌}
+use Rattle.std.specs.List.{range_with_len}
+use Rattle.hs_compare.specs.Ringing.{Ringing}
+use Rattle.hs_compare.specs.Walking.{rings_after}
+use Rattle.hs_compare.specs.Rounds.{part_of, round_of, all_rounds}
+use Rattle.hs_compare.proofs.Rounded.{rounds_more}
+use Rattle.hs_compare.proofs.walk.walk.Goals as goal
+
+pub loop-round-preserved : goal.loop-round-preserved
+loop-round-preserved c =
+    rounds_more c.args.stride c.args.scripts.now c.args.ring.now c.loop-round.ring c.go_round.new.ring c.loop-round.round c.loop-round.invariant c.in_ok-go_round.ensures

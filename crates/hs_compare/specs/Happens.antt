@@ -1,0 +1,37 @@
+-- What a client's records and triggers are as happenings.
+use Rattle.std.specs.Prelude.{ℕ, List, [], ◌∷◌, ◌++◌, map}
+use Rattle.hs_base.specs.declared.ids.ClientId.{ClientId}
+use Rattle.hs_base.specs.declared.ids.TraceId.{TraceId}
+use Rattle.hs_base.specs.declared.told.Trigger.{Trigger}
+use Rattle.hs_records.specs.Plain.{Operation}
+use Rattle.hs_samplers.specs.Coming.{names_in, sent_comings}
+use Rattle.hs_samplers.specs.Coming as samplers
+use Rattle.hs_sent.specs.Sending.{Sent}
+use Rattle.hs_compare.specs.declared.coming.Coming.{Coming}
+use Rattle.hs_compare.specs.declared.happening.Event.{Event}
+use Rattle.hs_compare.specs.declared.happening.Event.TheVariants.{Comes, Names}
+use Rattle.hs_compare.specs.declared.happening.Happening.{Happening}
+
+-- ---- names
+
+abbrev pub name_at : ℕ → TraceId → Happening
+name_at number trace = record { number = number; event = Names trace }
+
+abbrev pub names_at : ℕ → Trigger → List Happening
+names_at number trigger = map (name_at number) (names_in trigger)
+
+-- the names of these triggers, each of the operation beside it
+abbrev pub names_by : List ℕ → List Trigger → List Happening
+names_by (number ∷ numbers) (trigger ∷ triggers) = names_at number trigger ++ names_by numbers triggers
+names_by _ _ = []
+
+-- ---- records
+
+abbrev pub coming_of : Coming → samplers.Coming
+coming_of c = record { id = c.id; trace = c.trace; bytes = c.bytes }
+
+abbrev pub comes_at : Sent samplers.Coming → Happening
+comes_at sent = record { number = sent.number; event = Comes (record { id = sent.item.id; trace = sent.item.trace }) }
+
+abbrev pub points_by : ClientId → List Operation → List Happening
+points_by client ops = map comes_at (sent_comings client ops)
