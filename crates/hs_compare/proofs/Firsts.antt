@@ -1,6 +1,6 @@
 -- The first item of a list, and the last ones of a list that has room.
 use Rattle.std.proofs.Common.{◌≡◌, ℕ, suc, ◌+◌, ◌-◌, ◌<◌, ◌≤◌, cond, Bool, true, false, List, [], ◌∷◌, ◌++◌, length, take, drop, filter, slice_get, Option, Some, None, refl, sym, ap, ◌∙◌, subst, arith, Result, Ok, Err}
-use Rattle.std.specs.Prelude.{OnOk, OnErr}
+use Rattle.std.specs.Prelude.{IfOk, OnOk, OnErr}
 use Rattle.std.proofs.lemmas.Option.{same_Some}
 use Rattle.std.proofs.lemmas.List.{length-drop}
 use Rattle.circular_buffer.specs.Buffer.{keep_last}
@@ -38,3 +38,7 @@ on_err (Err e) P Q gives fact = gives fact
 
 pub drop-less : {X : Type 0} (n : ℕ) (xs : List X) → length (drop n xs) ≤ length xs
 drop-less n xs = omega (arith, length-drop n xs)
+
+pub if_ok : {X Y : Type 0} (result : Result X Y) (P Q : X → Type 0) → ((x : X) → P x → Q x) → IfOk result P → IfOk result Q
+if_ok (Ok x) P Q gives fact = gives x fact
+if_ok (Err e) P Q gives fact = tt

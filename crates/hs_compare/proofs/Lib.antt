@@ -8,3 +8,4 @@ pub mod Walked
 pub mod Rounded
 pub mod Pointed
 pub mod Named
+pub mod Parts

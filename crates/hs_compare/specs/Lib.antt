@@ -8,3 +8,4 @@ pub mod Walking
 pub mod Rounds
 pub mod Happens
 pub mod Points
+pub mod Scripts

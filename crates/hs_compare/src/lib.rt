@@ -2,6 +2,7 @@
 #![tactic(auto)]
 
 mod by_rank;
+mod client;
 mod coming;
 mod comparison;
 mod happening;

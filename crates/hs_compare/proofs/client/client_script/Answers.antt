@@ -1,0 +1,18 @@
+use Rattle.std.proofs.Common.{◌≡◌, List, length, map, sym, ap, ◌∙◌, subst}
+use Rattle.hs_records.specs.Plain.{settings_of}
+use Rattle.hs_sent.specs.Sending.{sent_triggers}
+use Rattle.hs_workload.specs.Views.{operation_of}
+use Rattle.hs_compare.specs.declared.happening.Happening.{Happening}
+use Rattle.hs_compare.specs.Happens.{points_by}
+use Rattle.hs_compare.specs.Walking.{AreInTurn, AreOf, IsScript}
+use Rattle.hs_compare.specs.Scripts.{names_of}
+use Rattle.hs_compare.proofs.Firsts.{if_ok}
+use Rattle.hs_compare.proofs.Named.{names_turn}
+use Rattle.hs_compare.proofs.Tails.{length_map}
+use Rattle.hs_compare.proofs.client.client_script.Goals as goal
+
+pub script_of-requires-clause-names : goal.script_of-requires-clause-names
+script_of-requires-clause-names c =
+    let ops = map operation_of c.args.operations.now in
+    let autos = (settings_of c.args.settings.now).autos in
+    subst (AreInTurn 0) (sym (c.as_slice-2.ensures ∙ c.in_ok-names.ensures)) (names_turn 0 (sent_triggers autos ops) (c.items_are_sent_in_order.ensures.triggers autos ops))

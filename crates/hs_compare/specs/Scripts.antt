@@ -1,0 +1,32 @@
+-- The script of a client.
+use Rattle.std.specs.Prelude.{◌≡◌, ℕ, List, [], ◌∷◌, ◌++◌, length, map}
+use Rattle.std.specs.List.{flat_map}
+use Rattle.hs_base.specs.declared.ids.ClientId.{ClientId}
+use Rattle.hs_base.specs.declared.settings.AutoRule.{AutoRule}
+use Rattle.hs_base.specs.declared.told.Trigger.{Trigger}
+use Rattle.hs_records.specs.Plain.{Operation}
+use Rattle.hs_sent.specs.Sending.{Sent, sent_triggers}
+use Rattle.hs_samplers.specs.Coming as samplers
+use Rattle.hs_compare.specs.Happens.{names_at, points_by}
+use Rattle.hs_compare.specs.Walking.{IsScript, AreOf}
+use Rattle.hs_compare.specs.declared.happening.Event.{Event}
+use Rattle.hs_compare.specs.declared.happening.Event.TheVariants.{Comes, Names}
+use Rattle.hs_compare.specs.declared.happening.Happening.{Happening}
+use Rattle.hs_compare.specs.declared.script.Script.{Script}
+
+-- the names of these triggers
+abbrev pub sent_names : List (Sent Trigger) → List Happening
+sent_names triggers = flat_map (λ (s : Sent Trigger). names_at s.number s.item) triggers
+
+-- what is named in these operations
+abbrev pub names_of : List AutoRule → List Operation → List Happening
+names_of autos ops = sent_names (sent_triggers autos ops)
+
+pub record IsClientScript (autos : List AutoRule) (client : ClientId) (ops : List Operation) (script : Script) : Type 0 where
+  pub is : IsScript (points_by client ops) (names_of autos ops) (length ops) script
+  pub low : AreOf (length ops) (points_by client ops)
+
+-- an event without its payload
+abbrev pub event_of : samplers.Event → Event
+event_of (samplers.Comes coming) = Comes (record { id = coming.id; trace = coming.trace })
+event_of (samplers.Names trace) = Names trace
