@@ -1,5 +1,5 @@
 -- Names and records by operation.
-use Rattle.std.proofs.Common.{◌≡◌, ℕ, suc, ◌+◌, ◌<◌, ◌≤◌, ◌==◌, cond, Bool, true, false, List, [], ◌∷◌, ◌++◌, length, get_or, map, filter, take, Option, Some, None, refl, sym, ap, ◌∙◌, arith}
+use Rattle.std.proofs.Common.{◌≡◌, ℕ, ◌+◌, ◌<◌, ◌≤◌, ◌==◌, cond, Bool, true, false, List, [], ◌∷◌, ◌++◌, length, get_or, map, filter, take, Some, None, refl, sym, ap, ◌∙◌, arith}
 use Rattle.std.specs.Prelude.{slice_get}
 use Rattle.std.specs.List.{flat_map}
 use Rattle.std.proofs.lemmas.List.{map-append, take_more}
@@ -19,7 +19,6 @@ use Rattle.hs_samplers.specs.Coming as samplers
 use Rattle.hs_compare.specs.Happens.{name_at, names_at, names_by, comes_at, points_by}
 use Rattle.hs_compare.specs.Scripts.{sent_names, names_of, event_of}
 use Rattle.hs_compare.specs.Walking.{AreInTurn, events_in, events_of, both_of}
-use Rattle.hs_compare.specs.declared.happening.Event.{Event}
 use Rattle.hs_compare.specs.declared.happening.Event.TheVariants.{Names}
 use Rattle.hs_compare.specs.declared.happening.Happening.{Happening}
 

@@ -1,6 +1,5 @@
 -- A part of a script has the events of its operations.
-use Rattle.std.proofs.Common.{◌≡◌, ℕ, zero, suc, ◌+◌, ◌-◌, ◌<◌, ◌≤◌, ◌==◌, cond, Bool, true, false, List, [], ◌∷◌, ◌++◌, length, get_or, take, drop, map, filter, min, refl, sym, ap, ap₂, ◌∙◌, subst, arith, append_assoc, length-append, ⊎_elim, Option, None}
-use Rattle.std.specs.List.{flat_map, range_with_len}
+use Rattle.std.proofs.Common.{◌≡◌, ℕ, zero, suc, ◌+◌, ◌-◌, ◌<◌, ◌≤◌, ◌==◌, cond, false, List, [], ◌∷◌, ◌++◌, length, get_or, take, drop, map, filter, min, refl, sym, ap, ap₂, ◌∙◌, subst, arith, append_assoc, length-append, ⊎_elim, Option, None}
 use Rattle.std.proofs.Math.Seq.{drop-append_seam, take-append_seam}
 use Rattle.std.proofs.lemmas.Bool.{ne_eqb, cases_lt}
 use Rattle.std.proofs.lemmas.List.{append-nil}
@@ -12,12 +11,11 @@ use Rattle.hs_records.specs.Plain.{Operation}
 use Rattle.hs_records.specs.Records.{NumberedOperation, numbered_from, open_behind}
 use Rattle.hs_sent.specs.Sending.{Sent, trigger_in, triggers_behind}
 use Rattle.hs_samplers.specs.Coming.{names_in}
-use Rattle.hs_compare.specs.declared.happening.Event.{Event}
 use Rattle.hs_compare.specs.declared.happening.Happening.{Happening}
 use Rattle.hs_compare.specs.declared.script.Script.{Script}
-use Rattle.hs_compare.specs.Happens.{name_at, names_at, points_by}
+use Rattle.hs_compare.specs.Happens.{name_at, points_by}
 use Rattle.hs_compare.specs.Scripts.{sent_names, names_of, IsClientScript}
-use Rattle.hs_compare.specs.Walking.{AreOf, IsScript, events_in, events_of, both_of, events_from}
+use Rattle.hs_compare.specs.Walking.{AreOf, IsScript, events_in, events_of, events_from}
 use Rattle.hs_compare.specs.Rounds.{IsSound, events_before, part_of}
 use Rattle.hs_compare.proofs.Walked.{events-append}
 

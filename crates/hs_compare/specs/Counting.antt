@@ -1,6 +1,6 @@
 -- Records that are counted by trace.
 pub use Rattle.hs_samplers.specs.Lines.{each_once}
-use Rattle.std.specs.Prelude.{◌≡◌, ℕ, ◌==◌, nat_lt, Bool, ◌&&◌, List, [], ◌∷◌, length, count_by, Option, Some, None, unwrap_or, is_some, if◌then◌else◌}
+use Rattle.std.specs.Prelude.{◌≡◌, ℕ, ◌==◌, nat_lt, Bool, ◌&&◌, List, length, count_by, Some, None, unwrap_or, is_some, if◌then◌else◌}
 use Rattle.std.specs.Map.{lookup}
 use Rattle.hs_base.specs.declared.ids.TraceId.{TraceId}
 use Rattle.hs_compare.specs.Ringing.{is_among}

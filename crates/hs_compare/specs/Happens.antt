@@ -8,7 +8,6 @@ use Rattle.hs_samplers.specs.Coming.{names_in, sent_comings}
 use Rattle.hs_samplers.specs.Coming as samplers
 use Rattle.hs_sent.specs.Sending.{Sent}
 use Rattle.hs_compare.specs.declared.coming.Coming.{Coming}
-use Rattle.hs_compare.specs.declared.happening.Event.{Event}
 use Rattle.hs_compare.specs.declared.happening.Event.TheVariants.{Comes, Names}
 use Rattle.hs_compare.specs.declared.happening.Happening.{Happening}
 

@@ -1,6 +1,5 @@
 -- A walk through the operations of a client.
 use Rattle.std.specs.Prelude.{◌≡◌, ℕ, ◌+◌, List, [], ◌∷◌, ◌++◌, length, map, Option, Some, None}
-use Rattle.hs_base.specs.declared.ids.ClientId.{ClientId}
 use Rattle.hs_records.specs.Plain.{Operation}
 use Rattle.hs_records.specs.Records.{Record, records_of}
 use Rattle.hs_sent.specs.OneMore.{open_after}
@@ -9,7 +8,6 @@ use Rattle.hs_compare.specs.Happens.{coming_of, points_by}
 use Rattle.hs_compare.specs.Walking.{AreInTurn, AreOf}
 use Rattle.hs_compare.specs.declared.coming.Coming.{Coming}
 use Rattle.hs_compare.specs.declared.happening.Event.TheVariants.{Comes}
-use Rattle.hs_compare.specs.declared.happening.Happening.{Happening}
 use Rattle.hs_compare.specs.declared.points.Seen.{Seen}
 use Rattle.hs_compare.specs.declared.points.Walk.{Walk}
 

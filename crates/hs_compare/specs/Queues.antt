@@ -1,5 +1,5 @@
 -- The queue of a trace has the records of it that wait, in their order.
-use Rattle.std.specs.Prelude.{◌≡◌, ◌==◌, List, [], filter, Option, unwrap_or}
+use Rattle.std.specs.Prelude.{◌≡◌, ◌==◌, List, [], filter, unwrap_or}
 use Rattle.std.specs.Map.{lookup}
 use Rattle.hs_base.specs.declared.ids.TraceId.{TraceId}
 use Rattle.hs_base.specs.declared.ids.RecordId.{RecordId}

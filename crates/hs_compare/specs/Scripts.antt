@@ -1,5 +1,5 @@
 -- The script of a client.
-use Rattle.std.specs.Prelude.{◌≡◌, ℕ, List, [], ◌∷◌, ◌++◌, length, map}
+use Rattle.std.specs.Prelude.{List, length}
 use Rattle.std.specs.List.{flat_map}
 use Rattle.hs_base.specs.declared.ids.ClientId.{ClientId}
 use Rattle.hs_base.specs.declared.settings.AutoRule.{AutoRule}

@@ -1,4 +1,4 @@
-use Rattle.std.proofs.Common.{List, map, ap₂, ◌∙◌}
+use Rattle.std.proofs.Common.{map, ap₂, ◌∙◌}
 use Rattle.hs_records.specs.Plain.{settings_of}
 use Rattle.hs_sent.specs.Sending.{sent_triggers}
 use Rattle.hs_workload.specs.Views.{operation_of}

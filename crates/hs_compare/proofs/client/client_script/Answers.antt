@@ -1,14 +1,9 @@
-use Rattle.std.proofs.Common.{◌≡◌, List, length, map, sym, ap, ◌∙◌, subst}
+use Rattle.std.proofs.Common.{map, sym, ◌∙◌, subst}
 use Rattle.hs_records.specs.Plain.{settings_of}
 use Rattle.hs_sent.specs.Sending.{sent_triggers}
 use Rattle.hs_workload.specs.Views.{operation_of}
-use Rattle.hs_compare.specs.declared.happening.Happening.{Happening}
-use Rattle.hs_compare.specs.Happens.{points_by}
-use Rattle.hs_compare.specs.Walking.{AreInTurn, AreOf, IsScript}
-use Rattle.hs_compare.specs.Scripts.{names_of}
-use Rattle.hs_compare.proofs.Firsts.{if_ok}
+use Rattle.hs_compare.specs.Walking.{AreInTurn}
 use Rattle.hs_compare.proofs.Named.{names_turn}
-use Rattle.hs_compare.proofs.Tails.{length_map}
 use Rattle.hs_compare.proofs.client.client_script.Goals as goal
 
 pub script_of-requires-clause-names : goal.script_of-requires-clause-names

@@ -1,4 +1,4 @@
-use Rattle.std.proofs.Common.{◌≡◌, ℕ, ◌+◌, ◌<◌, length, get_or, false, sym, ap, ◌∙◌, arith}
+use Rattle.std.proofs.Common.{ℕ, ◌+◌, ◌<◌, length, get_or, false, sym, ap, ◌∙◌, arith}
 use Rattle.hs_compare.specs.Marked.{bytes_in}
 use Rattle.hs_compare.proofs.Marking.{nothing, bytes_fit, bytes_yes, marked_no}
 use Rattle.hs_compare.proofs.marks.marked_bytes.Goals as goal

@@ -1,8 +1,6 @@
 use Rattle.std.proofs.Common.{◌≡◌, map, take}
-use Rattle.hs_ledger.specs.declared.ledger.Entry.{Entry}
-use Rattle.hs_ledger.specs.Totals.{is_reported}
 use Rattle.hs_compare.specs.declared.coming.Coming.{Coming}
-use Rattle.hs_compare.specs.Ringing.{is_among, kept_by_rank}
+use Rattle.hs_compare.specs.Ringing.{is_among}
 use Rattle.hs_compare.proofs.marks.named_marks.Given as goal
 
 abbrev pub invariant-loop-coming : goal.invariant-loop-coming

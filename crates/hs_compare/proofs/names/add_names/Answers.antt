@@ -1,4 +1,4 @@
-use Rattle.std.proofs.Common.{◌≡◌, ◌+◌, ◌<◌, List, [], ◌∷◌, ◌++◌, length, map, take, Some, None, sym, ap, ◌∙◌, arith, append_assoc}
+use Rattle.std.proofs.Common.{◌<◌, List, [], ◌∷◌, ◌++◌, length, map, take, sym, ap, ◌∙◌, arith, append_assoc}
 use Rattle.hs_compare.specs.declared.happening.Happening.{Happening}
 use Rattle.hs_compare.specs.Happens.{name_at}
 use Rattle.hs_compare.proofs.Named.{laterals_more, laterals_there}

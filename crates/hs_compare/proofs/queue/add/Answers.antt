@@ -1,4 +1,4 @@
-use Rattle.std.proofs.Common.{◌≡◌, ◌∷◌, [], ◌++◌, Some, cond, sym, ap, ◌∙◌, is_some}
+use Rattle.std.proofs.Common.{◌∷◌, [], ◌++◌, Some, cond, sym, ap, ◌∙◌, is_some}
 use Rattle.std.specs.Prelude.{unwrap_or}
 use Rattle.std.specs.Map.{lookup}
 use Rattle.hs_compare.proofs.Firsts.{on_ok, on_err}

@@ -1,4 +1,4 @@
-use Rattle.std.proofs.Common.{◌≡◌, ◌≤◌, List, [], ◌∷◌, ◌++◌, length, sym, ap, ◌∙◌, arith}
+use Rattle.std.proofs.Common.{◌≡◌, ◌≤◌, [], ◌∷◌, ◌++◌, length, ap, ◌∙◌, arith}
 use Rattle.std.proofs.lemmas.List.{length_push}
 use Rattle.circular_buffer.specs.Buffer.{Buffer}
 use Rattle.hs_compare.specs.declared.ring.Noted.{Noted}

@@ -1,4 +1,4 @@
-use Rattle.std.proofs.Common.{◌≡◌, List, [], ◌++◌, drop, sym, ap, ◌∙◌, subst}
+use Rattle.std.proofs.Common.{List, ◌++◌, drop, sym, ap, ◌∙◌, subst}
 use Rattle.hs_compare.specs.declared.ring.Noted.{Noted}
 use Rattle.hs_compare.specs.Ringing.{alive}
 use Rattle.hs_compare.specs.Queues.{AreQueued}

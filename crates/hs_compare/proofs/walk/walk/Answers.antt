@@ -1,8 +1,3 @@
-use Rattle.std.proofs.Common.{◌≡◌, ◌*◌, List, [], ◌∷◌, ◌++◌, sym, ap, ◌∙◌}
-use Rattle.std.specs.List.{range_with_len}
-use Rattle.hs_compare.specs.Ringing.{Ringing}
-use Rattle.hs_compare.specs.Walking.{rings_after}
-use Rattle.hs_compare.specs.Rounds.{part_of, round_of, all_rounds}
 use Rattle.hs_compare.proofs.Rounded.{rounds_more}
 use Rattle.hs_compare.proofs.walk.walk.Goals as goal
 

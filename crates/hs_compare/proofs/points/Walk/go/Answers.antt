@@ -1,4 +1,4 @@
-use Rattle.std.proofs.Common.{sym, ap, ◌∙◌, subst, List, [], ◌∷◌, ◌++◌}
+use Rattle.std.proofs.Common.{sym, ap, ◌∙◌, subst, [], ◌∷◌, ◌++◌}
 use Rattle.hs_base.specs.Listing.{Listing}
 use Rattle.hs_records.specs.Records.{open_behind}
 use Rattle.hs_workload.specs.Views.{operation_of}

@@ -1,8 +1,8 @@
-use Rattle.std.proofs.Common.{◌≡◌, ◌≤◌, ◌+◌, ◌-◌, ◌++◌, cond, Bool, List, [], ◌∷◌, false, length, map, sym, ap, ◌∙◌, subst, arith}
+use Rattle.std.proofs.Common.{◌≡◌, ◌++◌, cond, Bool, List, [], ◌∷◌, false, length, map, sym, ap, ◌∙◌, subst, arith}
 use Rattle.hs_base.specs.declared.ids.TraceId.{TraceId}
 use Rattle.hs_base.specs.declared.ids.RecordId.{RecordId}
 use Rattle.hs_compare.specs.Ringing.{alive, names, is_among}
-use Rattle.hs_compare.specs.Queues.{AreQueued, ids_of}
+use Rattle.hs_compare.specs.Queues.{AreQueued}
 use Rattle.hs_compare.proofs.Rings.{among_is}
 use Rattle.hs_compare.proofs.Tails.{ringing, count_left, queued_left, names_first}
 use Rattle.hs_compare.proofs.ring_tail.RingTail.name.Goals as goal

@@ -1,4 +1,4 @@
-use Rattle.std.proofs.Common.{◌≡◌, ℕ, ◌+◌, ◌-◌, ◌++◌, List, [], ◌∷◌, false, length, drop, sym, ap, ◌∙◌}
+use Rattle.std.proofs.Common.{◌≡◌, ℕ, ◌+◌, ◌-◌, ◌++◌, List, [], ◌∷◌, false, drop, sym, ap, ◌∙◌}
 use Rattle.hs_compare.specs.declared.ring.Noted.{Noted}
 use Rattle.hs_compare.specs.Ringing.{alive, comes, is_among}
 use Rattle.hs_compare.specs.RingTails.{ringing_of}
