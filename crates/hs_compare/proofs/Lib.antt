@@ -9,3 +9,7 @@ pub mod Rounded
 pub mod Pointed
 pub mod Named
 pub mod Parts
+pub mod Ringed
+pub mod Ordered
+pub mod Compared
+pub mod Beginning

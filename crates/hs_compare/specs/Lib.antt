@@ -9,3 +9,6 @@ pub mod Rounds
 pub mod Happens
 pub mod Points
 pub mod Scripts
+pub mod Whole
+pub mod Beginning
+pub mod Plain

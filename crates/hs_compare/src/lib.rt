@@ -14,6 +14,7 @@ mod queue;
 mod ring;
 mod ring_tail;
 mod script;
+mod scripts;
 mod walk;
 
 pub use by_rank::head;

@@ -1,0 +1,60 @@
+-- What was counted is the comparison of the workload.
+use Rattle.std.proofs.Common.{◌≡◌, ℕ, zero, suc, ◌+◌, ◌==◌, ◌&&◌, cond, Bool, true, false, List, [], ◌∷◌, ◌++◌, length, map, filter, refl, sym, ap, ap₂, ◌∙◌, arith}
+use Rattle.std.specs.Prelude.{not, nat_lt, count_by, sum_by, fold, zip}
+use Rattle.std.specs.List.{flat_map}
+use Rattle.std.proofs.lemmas.List.Sums.{sum_by-cons}
+use Rattle.hs_base.specs.declared.ids.TraceId.{TraceId}
+use Rattle.hs_ledger.specs.declared.ledger.Entry.{Entry}
+use Rattle.hs_ledger.specs.Totals.{is_reported}
+use Rattle.hs_records.specs.Plain.{PlainWorkload}
+use Rattle.hs_samplers.specs.Coming as samplers
+use Rattle.hs_samplers.specs.Coming.{all_comings, named_in, events_in_order}
+use Rattle.hs_samplers.specs.Samplers.{is_among, is_of, kept_by_rank, chosen, head_keeps, tail_keeps, ring_keeps, hindsight_keeps, ring_step, empty_ring}
+use Rattle.hs_samplers.specs.Lines.{PlainLine, PlainComparison, each_once, is_whole, line_of, is_gap, is_limited, comparison_of}
+use Rattle.hs_compare.specs.declared.coming.Coming.{Coming}
+use Rattle.hs_compare.specs.declared.lines.Line.{Line}
+use Rattle.hs_compare.specs.declared.comparison.Comparison.{Comparison}
+use Rattle.hs_compare.specs.Happens.{coming_of}
+use Rattle.hs_compare.specs.Counting.{is_same, times, is_whole_by, line_by}
+use Rattle.hs_compare.specs.Marked.{marked, traces_of, bytes_in}
+use Rattle.hs_compare.specs.Comparing.{line_of_marked, line_of_sent, marks_of_head, marks_of_named, marks_of_reported, comparison_by}
+use Rattle.hs_compare.specs.Plain.{plain_line, plain_comparison}
+use Rattle.hs_compare.proofs.Counted.{count_same}
+use Rattle.hs_compare.proofs.Ringed.{HasNames}
+use Rattle.hs_compare.proofs.Tails.{length_map}
+
+abbrev trace_in : samplers.Coming → TraceId
+trace_in c = c.trace
+
+-- where g gives the traces one by one
+each_trace : (g : List samplers.Coming → List TraceId) → g [] ≡ [] → ((c : samplers.Coming) (cs : List samplers.Coming) → g (c ∷ cs) ≡ c.trace ∷ g cs) → (cs : List samplers.Coming) → map trace_in cs ≡ g cs
+each_trace g none more [] = sym none
+each_trace g none more (c ∷ cs) = ap (λ ts. c.trace ∷ ts) (each_trace g none more cs) ∙ sym (more c cs)
+
+times_of : (cs : List samplers.Coming) (t : TraceId) → times (map trace_in cs) t ≡ count_by (is_of t) cs
+times_of [] t = refl
+times_of (c ∷ cs) t =
+    let a = sum_by-cons (λ (x : TraceId). cond (is_same t x) 1 0) c.trace (map trace_in cs) in
+    let b = sum_by-cons (λ (x : samplers.Coming). cond (is_of t x) 1 0) c cs in
+    let ih = times_of cs t in
+    omega (arith, a, b, ih)
+
+abbrev pub the_plain : ℕ → ℕ → ℕ → ℕ → PlainLine
+the_plain r t w s = record { records = r; traces = t; whole = w; shipped = s }
+
+module _ (W : PlainWorkload) (all : List samplers.Coming) (named : List TraceId) (are : all ≡ all_comings W) (has : HasNames (named_in W) named) where
+  whole_is : (kept : List samplers.Coming) → count_by (is_whole_by (times (map trace_in all)) (times (map trace_in kept))) named ≡ count_by (is_whole (all_comings W) kept) (each_once (named_in W))
+  whole_is kept =
+      count_same (is_whole_by (times (map trace_in all)) (times (map trace_in kept))) (is_whole all kept)
+      (λ t. ap₂ (λ n k. nat_lt 0 n && (k == n)) (times_of all t) (times_of kept t)) named
+      ∙ ap (λ cs. count_by (is_whole cs kept) named) are ∙ has.once (is_whole (all_comings W) kept)
+
+  -- where g gives the traces of records one by one
+  pub line_is_plain : (g : List samplers.Coming → List TraceId) → g [] ≡ [] → ((c : samplers.Coming) (cs : List samplers.Coming) → g (c ∷ cs) ≡ c.trace ∷ g cs) → (kept shipped : List samplers.Coming) (kept' : List TraceId)
+      (shipped' : ℕ) → kept' ≡ map trace_in kept → shipped' ≡ sum_by (λ (c : samplers.Coming). c.bytes) shipped
+      → plain_line (line_by (map trace_in all) named kept' shipped')
+      ≡ the_plain (length kept) (length (each_once (g kept))) (count_by (is_whole (all_comings W) kept) (each_once (named_in W))) (sum_by (λ (c : samplers.Coming). c.bytes) shipped)
+  line_is_plain g none more kept shipped kept' shipped' keeps ships =
+      ap₂ (λ ks s. plain_line (line_by (map trace_in all) named ks s)) keeps ships
+      ∙ ap (λ n. the_plain n (length (each_once (map trace_in kept))) (count_by (is_whole_by (times (map trace_in all)) (times (map trace_in kept))) named) (sum_by (λ (c : samplers.Coming). c.bytes) shipped)) (length_map trace_in kept)
+      ∙ ap₂ (λ n w. the_plain (length kept) n w (sum_by (λ (c : samplers.Coming). c.bytes) shipped)) (ap (λ ts. length (each_once ts)) (each_trace g none more kept)) (whole_is kept)

@@ -1,0 +1,20 @@
+-- The ring of a ring tail beside the ring of whole records.
+use Rattle.std.specs.Prelude.{ℕ, List, map}
+use Rattle.hs_samplers.specs.Coming.{Coming}
+use Rattle.hs_samplers.specs.Samplers.{Ring}
+use Rattle.hs_compare.specs.declared.ring.Noted.{Noted}
+use Rattle.hs_compare.specs.Ringing.{Ringing}
+
+-- a record without its payload
+abbrev pub noted_of : Coming → Noted
+noted_of c = record { id = c.id; trace = c.trace }
+
+abbrev pub ringing_by : ℕ → Ring → Ringing
+ringing_by room ring =
+    record {
+      room = room;
+      waiting = map noted_of ring.waiting;
+      named = ring.named;
+      kept = map (λ (c : Coming). c.id) ring.kept;
+      traces = map (λ (c : Coming). c.trace) ring.kept;
+    }
