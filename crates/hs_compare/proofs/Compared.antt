@@ -1,24 +1,15 @@
 -- What was counted is the comparison of the workload.
-use Rattle.std.proofs.Common.{◌≡◌, ℕ, zero, suc, ◌+◌, ◌==◌, ◌&&◌, cond, Bool, true, false, List, [], ◌∷◌, ◌++◌, length, map, filter, refl, sym, ap, ap₂, ◌∙◌, arith}
-use Rattle.std.specs.Prelude.{not, nat_lt, count_by, sum_by, fold, zip}
-use Rattle.std.specs.List.{flat_map}
+use Rattle.std.proofs.Common.{◌≡◌, ℕ, ◌==◌, ◌&&◌, cond, List, [], ◌∷◌, length, map, refl, sym, ap, ap₂, ◌∙◌, arith}
+use Rattle.std.specs.Prelude.{nat_lt, count_by, sum_by}
 use Rattle.std.proofs.lemmas.List.Sums.{sum_by-cons}
 use Rattle.hs_base.specs.declared.ids.TraceId.{TraceId}
-use Rattle.hs_ledger.specs.declared.ledger.Entry.{Entry}
-use Rattle.hs_ledger.specs.Totals.{is_reported}
 use Rattle.hs_records.specs.Plain.{PlainWorkload}
 use Rattle.hs_samplers.specs.Coming as samplers
 use Rattle.hs_samplers.specs.Coming.{all_comings, named_in, events_in_order}
-use Rattle.hs_samplers.specs.Samplers.{is_among, is_of, kept_by_rank, chosen, head_keeps, tail_keeps, ring_keeps, hindsight_keeps, ring_step, empty_ring}
-use Rattle.hs_samplers.specs.Lines.{PlainLine, PlainComparison, each_once, is_whole, line_of, is_gap, is_limited, comparison_of}
-use Rattle.hs_compare.specs.declared.coming.Coming.{Coming}
-use Rattle.hs_compare.specs.declared.lines.Line.{Line}
-use Rattle.hs_compare.specs.declared.comparison.Comparison.{Comparison}
-use Rattle.hs_compare.specs.Happens.{coming_of}
+use Rattle.hs_samplers.specs.Samplers.{is_of}
+use Rattle.hs_samplers.specs.Lines.{PlainLine, each_once, is_whole}
 use Rattle.hs_compare.specs.Counting.{is_same, times, is_whole_by, line_by}
-use Rattle.hs_compare.specs.Marked.{marked, traces_of, bytes_in}
-use Rattle.hs_compare.specs.Comparing.{line_of_marked, line_of_sent, marks_of_head, marks_of_named, marks_of_reported, comparison_by}
-use Rattle.hs_compare.specs.Plain.{plain_line, plain_comparison}
+use Rattle.hs_compare.specs.Plain.{plain_line}
 use Rattle.hs_compare.proofs.Counted.{count_same}
 use Rattle.hs_compare.proofs.Ringed.{HasNames}
 use Rattle.hs_compare.proofs.Tails.{length_map}

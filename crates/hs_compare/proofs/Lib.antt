@@ -13,3 +13,6 @@ pub mod Ringed
 pub mod Ordered
 pub mod Compared
 pub mod Beginning
+pub mod Lined
+pub mod Outcomed
+pub mod Longest

@@ -1,19 +1,17 @@
 -- The rounds of the scripts are the events in the operation order.
-use Rattle.std.proofs.Common.{◌≡◌, ℕ, zero, suc, ◌+◌, ◌*◌, List, [], ◌∷◌, ◌++◌, length, map, Some, None, refl, sym, ap, ap₂, ◌∙◌, arith, slice_get}
+use Rattle.std.proofs.Common.{◌≡◌, ℕ, suc, ◌+◌, ◌*◌, List, [], ◌∷◌, ◌++◌, length, map, Some, refl, sym, ap, ap₂, ◌∙◌, arith, slice_get}
 use Rattle.std.specs.List.{flat_map, range_with_len, AllByRecursion}
 use Rattle.std.proofs.lemmas.List.{map-append}
 use Rattle.hs_lawful.specs.Ends.{rounds_of}
 use Rattle.hs_outcome.specs.Outcomes.{client_at}
 use Rattle.hs_records.specs.Plain.{PlainWorkload}
-use Rattle.hs_samplers.specs.Coming as samplers
 use Rattle.hs_samplers.specs.Coming.{events_at, events_of, events_in_order}
 use Rattle.hs_sent.specs.Sending.{operations_at}
-use Rattle.hs_compare.specs.declared.happening.Event.{Event}
 use Rattle.hs_compare.specs.declared.script.Script.{Script}
 use Rattle.hs_compare.specs.Beginning.{AreScripts}
 use Rattle.hs_compare.specs.Happens.{points_by}
 use Rattle.hs_compare.specs.Rounds.{IsSound, part_of, round_of, all_rounds}
-use Rattle.hs_compare.specs.Scripts.{names_of, event_of, IsClientScript}
+use Rattle.hs_compare.specs.Scripts.{names_of, event_of}
 use Rattle.hs_compare.specs.Walking.{both_of}
 use Rattle.hs_compare.proofs.Named.{events_are}
 use Rattle.hs_compare.proofs.Parts.{client_sound, client_part}

@@ -12,3 +12,4 @@ pub mod Scripts
 pub mod Whole
 pub mod Beginning
 pub mod Plain
+pub mod ComparisonText

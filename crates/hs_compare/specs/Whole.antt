@@ -1,5 +1,5 @@
 -- The ring of a ring tail beside the ring of whole records.
-use Rattle.std.specs.Prelude.{ℕ, List, map}
+use Rattle.std.specs.Prelude.{ℕ, map}
 use Rattle.hs_samplers.specs.Coming.{Coming}
 use Rattle.hs_samplers.specs.Samplers.{Ring}
 use Rattle.hs_compare.specs.declared.ring.Noted.{Noted}

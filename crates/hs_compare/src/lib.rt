@@ -1,11 +1,13 @@
-//! What other samplers would have kept of a workload (`docs/RULES.md`, "Samplers").
+//! What other samplers would have kept of a workload (`docs/RULES.md`, "Other samplers").
 #![tactic(auto)]
 
 mod by_rank;
 mod client;
 mod coming;
+mod comparing;
 mod comparison;
 mod happening;
+pub mod limits;
 mod lines;
 mod marks;
 mod names;
@@ -15,10 +17,13 @@ mod ring;
 mod ring_tail;
 mod script;
 mod scripts;
+mod text;
 mod walk;
 
 pub use by_rank::head;
+pub use comparing::compare;
 pub use comparison::Comparison;
 pub use lines::Line;
 pub use ring::Noted;
 pub use ring_tail::RingTail;
+pub use text::write_comparison;

@@ -18,7 +18,7 @@ abbrev pub each_once : List TraceId → List TraceId
 each_once [] = []
 each_once (trace ∷ traces) = if is_among traces trace then each_once traces else trace ∷ each_once traces
 
-abbrev traces_of : List Coming → List TraceId
+abbrev pub traces_of : List Coming → List TraceId
 traces_of [] = []
 traces_of (c ∷ records) = c.trace ∷ traces_of records
 

@@ -1,0 +1,95 @@
+-- A valid workload with a lawful journal can be compared, and its outcome has an entry for each record. The ring through all scripts is
+-- the ring of the workload, so what was counted is its comparison.
+use Rattle.std.proofs.Common.{◌≡◌, ℕ, false, List, [], ◌∷◌, length, map, refl, sym, ap, subst, ◌∙◌}
+use Rattle.std.specs.Prelude.{fold}
+use Rattle.std.specs.List.{AllByRecursion}
+use Rattle.hs_base.specs.declared.ids.TraceId.{TraceId}
+use Rattle.hs_journal.specs.Views.{PlainJournal}
+use Rattle.hs_ledger.specs.declared.ledger.Entry.{Entry}
+use Rattle.hs_lawful.specs.Ends.{rounds_of}
+use Rattle.hs_lawful.specs.Lawful.{IsLawful}
+use Rattle.hs_outcome.specs.Outcomes.{outcome_of}
+use Rattle.hs_outcome.specs.Records.{name_of}
+use Rattle.hs_records.specs.Plain.{Operation, PlainSettings, PlainWorkload}
+use Rattle.hs_records.specs.Records.{AreBracketed}
+use Rattle.hs_report.specs.declared.outcome.Outcome.{Outcome}
+use Rattle.hs_report.specs.Outcomes.{IsOutcome}
+use Rattle.hs_samplers.specs.Coming.{all_comings, events_in_order, named_by, named_in}
+use Rattle.hs_samplers.specs.Laws.{CanBeCompared, EntriesStandByTheRecords, TailIsTheSum, SumsToTail, name_of_coming, compared_by}
+use Rattle.hs_samplers.specs.Lines.{PlainComparison, comparison_of}
+use Rattle.hs_samplers.specs.Samplers.{Ring, ring_step, empty_ring}
+use Rattle.hs_workload.specs.Validity.{IsClient, IsValid}
+use Rattle.hs_workload.specs.declared.word.Setting.TheVariants as settings
+use Rattle.hs_compare.specs.declared.coming.Coming.{Coming}
+use Rattle.hs_compare.specs.declared.script.Script.{Script}
+use Rattle.hs_compare.specs.Beginning.{AreScripts, MayBegin}
+use Rattle.hs_compare.specs.Comparing.{comparison_by}
+use Rattle.hs_compare.specs.Happens.{coming_of}
+use Rattle.hs_compare.specs.Plain.{plain_comparison}
+use Rattle.hs_compare.specs.Ringing.{Ringing, new_ring}
+use Rattle.hs_compare.specs.Rounds.{all_rounds}
+use Rattle.hs_compare.specs.Walking.{rings_after}
+use Rattle.hs_compare.specs.Whole.{ringing_by}
+use Rattle.hs_compare.proofs.Lined.{lines_are_plain}
+use Rattle.hs_compare.proofs.Ordered.{rounds_in_order}
+use Rattle.hs_compare.proofs.Ringed.{HasNames, rings_are, names_are_named}
+use Rattle.hs_compare.proofs.Tails.{length_map}
+
+-- ---- what a valid workload has
+
+bracketed : (version : ℕ) (set : PlainSettings) (clients : List (List Operation)) → AllByRecursion (IsClient version set) clients → AllByRecursion (AreBracketed false) clients
+bracketed version set [] all = tt
+bracketed version set (ops ∷ clients) all = (all.0.bracketed, bracketed version set clients all.1)
+
+pub can_be_compared : (W : PlainWorkload) → IsValid W → CanBeCompared W
+can_be_compared W valid =
+    record {
+      ends = record { size = (valid.head settings.Size).0; ends = bracketed W.version W.settings W.clients valid.each };
+      clients = valid.count;
+      stride = (valid.head settings.Stride).0;
+    }
+
+pub may_begin : (W : PlainWorkload) (J : PlainJournal) → IsValid W → IsLawful W J → MayBegin W J
+may_begin W J valid lawful = record { valid = valid; shape = lawful.L1 }
+
+-- an entry for each record
+pub entries_many : EntriesStandByTheRecords → (W : PlainWorkload) (J : PlainJournal) → IsValid W → IsLawful W J → (all : List Coming) → map coming_of all ≡ all_comings W
+    → length (outcome_of W J).entries ≡ length all
+entries_many beside W J valid lawful all are =
+    sym (length_map name_of (outcome_of W J).entries) ∙ ap length (sym (beside W J (can_be_compared W valid).ends lawful)) ∙ length_map name_of_coming (all_comings W) ∙ ap length (sym are)
+    ∙ length_map coming_of all
+
+-- the same, of an outcome in memory
+pub outcome_many : EntriesStandByTheRecords → (W : PlainWorkload) (J : PlainJournal) (outcome : Outcome) → IsOutcome W J outcome → IsValid W → IsLawful W J → (all : List Coming)
+    → map coming_of all ≡ all_comings W → length outcome.ledger.entries.items ≡ length all
+outcome_many beside W J outcome is valid lawful all are = ap length is.entries ∙ entries_many beside W J valid lawful all are
+
+-- ---- the ring
+
+abbrev pub after_all : ℕ → PlainWorkload → Ring
+after_all room W = fold (ring_step room) empty_ring (events_in_order W)
+
+-- a new ring, after all scripts
+pub walked_ring : (W : PlainWorkload) (room : ℕ) (scripts : List Script) → AreScripts W scripts → rings_after (new_ring room) (all_rounds W.settings.stride scripts (rounds_of W)) ≡ ringing_by room (after_all room W)
+walked_ring W room scripts are = ap (rings_after (new_ring room)) (rounds_in_order W scripts are) ∙ rings_are room (events_in_order W) empty_ring
+
+names_all : (W : PlainWorkload) (room : ℕ) → HasNames (named_in W) (after_all room W).named
+names_all W room = names_are_named named_by (λ c. refl) (λ t. refl) room (events_in_order W) empty_ring [] (record { among = λ trace. refl; once = λ p. refl })
+
+-- what was counted of these entries and claimed traces
+pub ringed_is_plain : (W : PlainWorkload) (one_in room : ℕ) (all : List Coming) (ring : Ringing) (entries : List Entry) (claimed : List TraceId) → map coming_of all ≡ all_comings W
+    → ring ≡ ringing_by room (after_all room W) → plain_comparison (comparison_by one_in all ring.named ring.traces entries claimed) ≡ comparison_of W entries claimed one_in room
+ringed_is_plain W one_in room all ring entries claimed records is =
+    lines_are_plain W all ring.named records (subst (HasNames (named_in W)) (ap (λ (r : Ringing). r.named) (sym is)) (names_all W room)) one_in room ring.traces entries claimed (ap (λ (r : Ringing). r.traces) is)
+
+-- what was counted of the outcome of a journal
+pub compared_is : (W : PlainWorkload) (J : PlainJournal) (outcome : Outcome) (one_in room : ℕ) (all : List Coming) (ring : Ringing) → IsOutcome W J outcome → map coming_of all ≡ all_comings W
+    → ring ≡ ringing_by room (after_all room W) → plain_comparison (comparison_by one_in all ring.named ring.traces outcome.ledger.entries.items outcome.claimed.items) ≡ compared_by W J one_in room
+compared_is W J outcome one_in room all ring outcomes records is =
+    ap (λ es. plain_comparison (comparison_by one_in all ring.named ring.traces es outcome.claimed.items)) outcomes.entries
+    ∙ ap (λ ts. plain_comparison (comparison_by one_in all ring.named ring.traces (outcome_of W J).entries ts)) outcomes.claimed
+    ∙ ringed_is_plain W one_in room all ring (outcome_of W J).entries (outcome_of W J).claimed records is
+
+-- and it sums to what tail keeps
+pub sums_to_tail : TailIsTheSum → (W : PlainWorkload) (J : PlainJournal) (one_in room : ℕ) (c : PlainComparison) → IsValid W → IsLawful W J → c ≡ compared_by W J one_in room → SumsToTail c
+sums_to_tail sum W J one_in room c valid lawful is = subst SumsToTail (sym is) (sum W J one_in room (can_be_compared W valid) lawful)

@@ -1,0 +1,37 @@
+use Rattle.std.proofs.Common.{◌≡◌, length, map, ap, ap₂, ◌∙◌}
+use Rattle.hs_lockstep.specs.Lockstep.{lockstep}
+use Rattle.hs_samplers.specs.Laws.{compared_by, SumsToTail}
+use Rattle.hs_workload.specs.Views.{workload_of}
+use Rattle.hs_compare.specs.declared.comparison.Comparison.{Comparison}
+use Rattle.hs_compare.specs.Comparing.{comparison_by}
+use Rattle.hs_compare.specs.Happens.{coming_of}
+use Rattle.hs_compare.specs.Plain.{plain_comparison}
+use Rattle.hs_compare.proofs.Firsts.{if_ok}
+use Rattle.hs_compare.proofs.Outcomed.{outcome_many, compared_is, sums_to_tail}
+use Rattle.hs_compare.proofs.comparing.compare.Goals as goal
+
+pub compared-requires-clause-each : goal.compared-requires-clause-each
+compared-requires-clause-each c =
+    let W = workload_of c.args.workload.now in
+    ap length c.as_slice-3.ensures
+    ∙ outcome_many c.kept_is_parted.ensures.beside W (lockstep W) c.args.outcome.now c.requires.replayed c.requires.valid (c.schedule_is_lawful.ensures W c.requires.valid) c.as_slice-2.result.now
+    (ap (map coming_of) c.as_slice-2.ensures ∙ c.in_ok-scripts.ensures.all)
+
+pub returns-clause-numbers : goal.returns-clause-numbers
+returns-clause-numbers c =
+    let W = workload_of c.args.workload.now in
+    let all = c.as_slice-2.result.now in
+    let ring = c.in_ok-ring.ring in
+    if_ok c.compared.result (λ (found : Comparison). found ≡ comparison_by c.args.one_in all ring.named ring.traces c.as_slice-3.result.now c.as_slice-4.result.now)
+    (λ (found : Comparison). plain_comparison found ≡ compared_by W (lockstep W) c.args.one_in c.args.room)
+    (λ found is.
+    ap plain_comparison is ∙ ap₂ (λ es ts. plain_comparison (comparison_by c.args.one_in all ring.named ring.traces es ts)) c.as_slice-3.ensures c.as_slice-4.ensures
+    ∙ compared_is W (lockstep W) c.args.outcome.now c.args.one_in c.args.room all ring c.requires.replayed (ap (map coming_of) c.as_slice-2.ensures ∙ c.in_ok-scripts.ensures.all) c.in_ok-ring.ensures)
+    c.compared.ensures
+
+pub returns-clause-sum : goal.returns-clause-sum
+returns-clause-sum c =
+    let W = workload_of c.args.workload.now in
+    if_ok c.compared.result (λ (found : Comparison). plain_comparison found ≡ compared_by W (lockstep W) c.args.one_in c.args.room) (λ (found : Comparison). SumsToTail (plain_comparison found))
+    (λ found. sums_to_tail c.tail_is_the_sum.ensures W (lockstep W) c.args.one_in c.args.room (plain_comparison found) c.requires.valid (c.schedule_is_lawful.ensures W c.requires.valid))
+    (returns-clause-numbers c)

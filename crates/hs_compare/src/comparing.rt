@@ -1,0 +1,94 @@
+//! What other samplers would have kept of a workload.
+
+ghost use Rattle.std.specs.Prelude.{◌≤◌, ◌<◌, ◌≡◌, ◌*◌, ◌^◌, fold, IfOk};
+ghost use Rattle.hs_lawful.specs.Ends.{rounds_of};
+ghost use Rattle.hs_lockstep.specs.Lockstep.{lockstep};
+ghost use Rattle.hs_report.specs.Outcomes.{IsOutcome};
+ghost use Rattle.hs_samplers.specs.Coming.{events_in_order};
+ghost use Rattle.hs_samplers.specs.Laws.{compared_by, SumsToTail};
+ghost use Rattle.hs_samplers.specs.Samplers.{ring_step, empty_ring};
+ghost use Rattle.hs_workload.specs.Validity.{IsValid};
+ghost use Rattle.hs_workload.specs.Views.{workload_of};
+ghost use Rattle.hs_compare.specs.Beginning.{AreScripts};
+ghost use Rattle.hs_compare.specs.Plain.{plain_comparison};
+ghost use Rattle.hs_compare.specs.Whole.{ringing_by};
+
+use crate::comparison::{Comparison, compared};
+use crate::limits::{MAX_ONE_IN, MAX_ROOM};
+use crate::ring_tail::RingTail;
+use crate::script::Script;
+use crate::scripts::{Scripts, scripts_of};
+use crate::walk::walk;
+use hs_base::Memory;
+use hs_lockstep::laws::schedule_is_lawful;
+use hs_report::Outcome;
+use hs_samplers::laws::{kept_is_parted, tail_is_the_sum};
+use hs_workload::Workload;
+use std::alloc::Global;
+
+/// How many rounds the clients of a workload take.
+fn count_rounds(workload: &Workload) -> usize
+    requires { IsValid (workload_of workload.now) }
+    ensures { result ≡ rounds_of (workload_of workload.now) }
+{
+    let stride = workload.settings.stride as usize;
+    let mut rounds = 0;
+    for operations in workload.clients.as_slice() {
+        rounds = rounds.max((operations.len() + (stride - 1)) / stride);
+    }
+    rounds
+}
+
+/// A ring for so many records, behind all that comes and is named in the workload of these scripts.
+fn ring_of(
+    alloc: Global,
+    workload: &Workload,
+    scripts: &[Script],
+    room: u32,
+) -> Result<RingTail, Memory>
+    requires valid { IsValid (workload_of workload.now) }
+    requires scripts { AreScripts (workload_of workload.now) scripts.now }
+    requires room { (1 ≤ room) × (room ≤ MAX_ROOM) }
+    ensures { IfOk result (λ ring. ring ≡ ringing_by room (fold (ring_step room) empty_ring (events_in_order (workload_of workload.now)))) }
+{
+    let mut ring = RingTail::make(alloc, room)?;
+    let rounds = count_rounds(workload);
+    walk(
+        &mut ring,
+        scripts,
+        workload.settings.stride as usize,
+        rounds,
+    )?;
+    Ok(ring)
+}
+
+/// What head sampling of one trace in so many, tail sampling, and tail sampling with a ring that has room for so many records
+/// would have kept of a workload, beside what Hindsight keeps by the outcome of its replay.
+pub fn compare(
+    alloc: Global,
+    workload: &Workload,
+    outcome: &Outcome,
+    one_in: u32,
+    room: u32,
+) -> Result<Comparison, Memory>
+    requires valid { IsValid (workload_of workload.now) }
+    requires replayed { IsOutcome (workload_of workload.now) (lockstep (workload_of workload.now)) outcome.now }
+    requires one_in { (1 ≤ one_in) × (one_in ≤ MAX_ONE_IN) }
+    requires room { (1 ≤ room) × (room ≤ MAX_ROOM) }
+    ensures numbers { IfOk result (λ c. plain_comparison c ≡ compared_by (workload_of workload.now) (lockstep (workload_of workload.now)) one_in room) }
+    ensures sum { IfOk result (λ c. SumsToTail (plain_comparison c)) }
+{
+    schedule_is_lawful();
+    kept_is_parted();
+    tail_is_the_sum();
+    let Scripts { scripts, all } = scripts_of(alloc, workload, &outcome.journal)?;
+    let ring = ring_of(alloc, workload, scripts.as_slice(), room)?;
+    compared(
+        alloc,
+        all.as_slice(),
+        outcome.ledger.entries.as_slice(),
+        &ring,
+        outcome.claimed.as_slice(),
+        one_in,
+    )
+}
