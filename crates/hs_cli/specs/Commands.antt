@@ -4,6 +4,7 @@ use Rattle.std.specs.Prelude.{◌≡◌, ◌≤◌, ⊤, ℕ, ◌&&◌, ◌||◌
 use Rattle.std.specs.Str.{bytes_eq}
 use Rattle.std.specs.Option.{option_map_or}
 use Rattle.hs_base.specs.declared.limits.TheConstants.{MAX_REQUESTS}
+use Rattle.hs_compare.specs.declared.limits.TheConstants.{MAX_ONE_IN, MAX_ROOM}
 use Rattle.hs_text.specs.Text.{number_of}
 use Rattle.hs_outcome.specs.declared.form.Form.{Form}
 use Rattle.hs_outcome.specs.declared.form.Form.TheVariants.{Text as Lines, Json}
@@ -13,7 +14,7 @@ use Rattle.clap.specs.Simple.{on_top}
 use Rattle.clap.specs.declared.builder.action.ArgAction.TheVariants.{SetTrue}
 use Rattle.clap.proofs.OnLiterals.{clap_on_literals}
 use Rattle.hs_cli.specs.declared.command.Command.{Command}
-use Rattle.hs_cli.specs.declared.command.Command.TheVariants.{Replay, Run, Convert, Make, Drill, Check}
+use Rattle.hs_cli.specs.declared.command.Command.TheVariants.{Replay, Run, Convert, Make, Drill, Check, Compare}
 use Rattle.hs_cli.specs.declared.command.Line as told
 
 -- the words of a call, told apart
@@ -34,9 +35,13 @@ line_in line = record { command = line.command.now; seed = option_map (λ word. 
 abbrev pub seed_of : Text → Option ℕ
 seed_of word = number_of word
 
+-- a number from 1 to this most
+abbrev pub number_within : ℕ → Text → Option ℕ
+number_within most word = option_and_then (λ number. if nat_le 1 number && nat_le number most then Some number else None) (number_of word)
+
 -- a size is a number of requests that a made workload may have
 abbrev pub size_of : Text → Option ℕ
-size_of word = option_and_then (λ size. if nat_le 1 size && nat_le size MAX_REQUESTS then Some size else None) (number_of word)
+size_of word = number_within MAX_REQUESTS word
 
 -- whether the line has nothing but a command and the flag `--json`
 abbrev pub is_alone : Line → Bool
@@ -52,6 +57,12 @@ sizes_in line =
     if line.json || line.watch then None else
     option_and_then (λ seed. option_map (λ size. (seed, size)) (option_and_then size_of line.size)) (option_and_then seed_of line.seed)
 
+-- one trace in so many, and the room of a ring, in the places of the seed and the size, if the line has these and no flag
+abbrev pub samplers_in : Line → Option (ℕ × ℕ)
+samplers_in line =
+    if line.json || line.watch then None else
+    option_and_then (λ one_in. option_map (λ room. (one_in, room)) (option_and_then (number_within MAX_ROOM) line.size)) (option_and_then (number_within MAX_ONE_IN) line.seed)
+
 -- this command, where the line has nothing but its word
 abbrev pub alone : Line → Command → Option Command
 alone line command = if is_alone line && not line.json then Some command else None
@@ -64,12 +75,18 @@ command_of line =
     else (if bytes_eq line.command (codes "check") then alone line Check
     else (if bytes_eq line.command (codes "make") then option_map (λ (both : ℕ × ℕ). Make both.0 both.1) (sizes_in line)
     else (if bytes_eq line.command (codes "drill") then option_map (λ (both : ℕ × ℕ). Drill both.0 both.1) (sizes_in line)
-    else None)))))
+    else (if bytes_eq line.command (codes "compare") then option_map (λ (both : ℕ × ℕ). Compare both.0 both.1) (samplers_in line)
+    else None))))))
 
--- a size that a made workload may have
+-- the samplers that a workload may be compared under
+abbrev pub AreSamplers : (one_in room : ℕ) → Type 0
+AreSamplers one_in room = ((1 ≤ one_in) × (one_in ≤ MAX_ONE_IN)) × ((1 ≤ room) × (room ≤ MAX_ROOM))
+
+-- The numbers of a command are within their ranges.
 abbrev pub IsSized : Command → Type 0
 IsSized (Make seed size) = (1 ≤ size) × (size ≤ MAX_REQUESTS)
 IsSized (Drill seed size) = (1 ≤ size) × (size ≤ MAX_REQUESTS)
+IsSized (Compare one_in room) = AreSamplers one_in room
 IsSized command = ⊤
 
 -- ---- words
@@ -162,6 +179,18 @@ the_numbers_behind_two_dashes = refl
 no_size_above_the_greatest : command_in (codes "make" ∷ codes "7" ∷ codes "10001" ∷ []) ≡ None
 unfolding clap_on_literals
 no_size_above_the_greatest = refl
+
+compared_under_two_numbers : command_in (codes "compare" ∷ codes "10" ∷ codes "1000" ∷ []) ≡ Some (Compare 10 1000)
+unfolding clap_on_literals
+compared_under_two_numbers = refl
+
+no_share_of_none : command_in (codes "compare" ∷ codes "0" ∷ codes "1000" ∷ []) ≡ None
+unfolding clap_on_literals
+no_share_of_none = refl
+
+no_room_above_the_greatest : command_in (codes "compare" ∷ codes "1000000" ∷ codes "262145" ∷ []) ≡ None
+unfolding clap_on_literals
+no_room_above_the_greatest = refl
 
 a_word_too_many : command_in (codes "convert" ∷ codes "now" ∷ []) ≡ None
 unfolding clap_on_literals

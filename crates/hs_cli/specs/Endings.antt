@@ -19,12 +19,14 @@ use Rattle.hs_outcome.specs.OutcomeText.{outcome_text, total_line}
 use Rattle.hs_outcome.specs.declared.form.Form.TheVariants.{Text as Lines}
 use Rattle.hs_text.specs.Text.{text_of}
 use Rattle.hs_check.specs.Parts.{workload_part, journal_part}
+use Rattle.hs_compare.specs.ComparisonText.{comparison_text}
+use Rattle.hs_samplers.specs.Lines.{comparison_of}
 use Rattle.hs_streams.specs.Input.{ReadWhole, ReadBeyond, ReadFront}
 use Rattle.hs_streams.specs.Refusals.{IsRefused, too_long_text}
 use Rattle.hs_streams.specs.Written.{GainsFront}
 use Rattle.hs_cli.specs.Messages.{usage_text, journal_refusal_text, unlawful_text}
 use Rattle.hs_cli.specs.declared.command.Command.{Command}
-use Rattle.hs_cli.specs.declared.command.Command.TheVariants.{Replay, Run, Convert, Make, Drill, Check}
+use Rattle.hs_cli.specs.declared.command.Command.TheVariants.{Replay, Run, Convert, Make, Drill, Check, Compare}
 use Rattle.hs_streams.specs.declared.status.Status.{Status}
 use Rattle.hs_streams.specs.declared.status.Status.TheVariants.{Done, Usage, Refused, ReadFault, WriteFault, Memory, TooLong, Unlawful}
 
@@ -33,6 +35,10 @@ use Rattle.hs_streams.specs.declared.status.Status.TheVariants.{Done, Usage, Ref
 -- the total line of a workload's lockstep outcome
 abbrev pub drill_text : PlainWorkload → List ℕ
 drill_text W = text_of (total_line (totals_of (outcome_of W (lockstep W)).entries) ∷ [])
+
+-- what a comparison says of a workload's lockstep outcome
+abbrev pub compared_text : PlainWorkload → (one_in room : ℕ) → List ℕ
+compared_text W one_in room = let outcome = outcome_of W (lockstep W) in comparison_text (comparison_of W outcome.entries outcome.claimed one_in room)
 
 -- The text is what a command owes for a workload, and `check` for a workload and the text of a journal. What `replay` owes is the outcome of the workload and a journal that is lawful for
 -- it, and this journal is that of the lockstep schedule. What `run` owes is the outcome of the workload and some journal that is
@@ -45,6 +51,7 @@ Due Check W journal text = (J : PlainJournal) × ReadsJournal journal J × IsLaw
 Due Convert W journal text = text ≡ workload_text (record W { version = 2 })
 Due (Make seed size) W journal text = text ≡ workload_text W
 Due (Drill seed size) W journal text = text ≡ drill_text W
+Due (Compare one_in room) W journal text = text ≡ compared_text W one_in room
 
 -- whether a command reads its workload; else it makes it
 abbrev pub IsReader : Command → Type 0
@@ -52,6 +59,7 @@ IsReader (Replay form) = ⊤
 IsReader (Run form) = ⊤
 IsReader Convert = ⊤
 IsReader Check = ⊤
+IsReader (Compare one_in room) = ⊤
 IsReader (Make seed size) = ⊥
 IsReader (Drill seed size) = ⊥
 

@@ -11,6 +11,7 @@ ghost use Rattle.hs_streams.specs.declared.status.Status.TheVariants.{Done};
 
 use crate::checking::judge;
 use crate::command::Command;
+use crate::comparing::comparison;
 use hs_base::{Bytes, Gate, Memory, Source};
 use hs_check::split_input;
 use hs_json::write_outcome;
@@ -62,7 +63,8 @@ pub(crate) fn subject_of<S: Source>(alloc: Global, command: Command, source: &mu
         Command::Replay { form: _ }
         | Command::Run { form: _ }
         | Command::Check
-        | Command::Convert => read(alloc, command, source),
+        | Command::Convert
+        | Command::Compare { one_in: _, room: _ } => read(alloc, command, source),
     }
 }
 
@@ -135,6 +137,7 @@ pub(crate) fn answer_for<R: Threads + Sync, G: Gate>(
     workload: Workload,
     journal: &[u8],
 ) -> Result<Answer, Memory>
+    requires sized { IsSized command }
     requires valid { IsValid (workload_of workload) }
     requires short { length journal.now ≤ MAX_INPUT }
     ensures { IfOk result (λ answer. IsAnswer command (workload_of workload) journal.now answer.status answer.text.items) }
@@ -163,6 +166,9 @@ pub(crate) fn answer_for<R: Threads + Sync, G: Gate>(
         Command::Drill { seed: _, size: _ } => {
             let outcome = replay(alloc, &workload)?;
             Ok(done(write_total(alloc, &outcome)?))
+        }
+        Command::Compare { one_in, room } => {
+            Ok(done(comparison(alloc, &workload, one_in, room)?))
         }
     }
 }

@@ -2,13 +2,14 @@
 
 ghost use Rattle.std.specs.Prelude.{◌≡◌, ◌≤◌, false, Option, IfOk, IfSome, map, string_bytes, option_map};
 ghost use Rattle.hs_base.specs.declared.limits.TheConstants.{MAX_REQUESTS};
-ghost use Rattle.hs_cli.specs.Commands.{Line, command_of, command_in, line_in, line_of, is_set, named, parser, needed, flag, seed_of, size_of, form_in, sizes_in, is_alone, alone, IsSized};
+ghost use Rattle.hs_cli.specs.Commands.{Line, command_of, command_in, line_in, line_of, is_set, named, parser, needed, flag, seed_of, size_of, form_in, number_within, sizes_in, samplers_in, AreSamplers, is_alone, alone, IsSized};
 ghost use Rattle.clap.specs.Words.{app_of, rule_of, first_of, found_of, rows_of};
 
 use clap::error::ErrorKind;
 use clap::{Arg, ArgAction, ArgMatches, Command as Parser};
 use hs_base::Memory;
 use hs_base::limits::MAX_REQUESTS;
+use hs_compare::limits::{MAX_ONE_IN, MAX_ROOM};
 use hs_outcome::Form;
 use hs_text::number;
 use std::alloc::Global;
@@ -28,6 +29,9 @@ pub enum Command {
     Make { seed: u64, size: u32 },
     /// Replays the workload of so many requests that the seed makes, and writes the total line. Reads nothing.
     Drill { seed: u64, size: u32 },
+    /// Says what head sampling of one trace in so many, tail sampling, and tail sampling with a ring that has room for so many
+    /// records would keep of the workload that it reads.
+    Compare { one_in: u32, room: u32 },
 }
 
 /// The words of a call, told apart.
@@ -81,6 +85,20 @@ impl Line<'_> {
         Some((seed, size))
     }
 
+    /// The share of head sampling and the room of the ring, in the places of the seed and the size, or `None` where the line has
+    /// not both or has a flag.
+    fn samplers(self) -> Option<(u32, u32)>
+        ensures is { result ≡ samplers_in (line_in self.entry) }
+        ensures within { IfSome result (λ both. AreSamplers both.0 both.1) }
+    {
+        if self.json || self.watch {
+            return None;
+        }
+        let one_in = within(self.seed?, MAX_ONE_IN)?;
+        let room = within(self.size?, MAX_ROOM)?;
+        Some((one_in, room))
+    }
+
     /// The command of the table that the line is, or `None` where it is none.
     fn command(self) -> Option<Command>
         ensures is { result ≡ command_of (line_in self.entry) }
@@ -102,6 +120,9 @@ impl Line<'_> {
         } else if self.command == "drill" {
             let (seed, size) = self.sizes()?;
             Some(Command::Drill { seed, size })
+        } else if self.command == "compare" {
+            let (one_in, room) = self.samplers()?;
+            Some(Command::Compare { one_in, room })
         } else {
             None
         }
@@ -120,9 +141,17 @@ fn size_in(word: &str) -> Option<u32>
     ensures is { result ≡ size_of word.now }
     ensures within { IfSome result (λ size. (1 ≤ size) × (size ≤ MAX_REQUESTS)) }
 {
-    let size = u32::try_from(number(word.as_bytes())?).ok()?;
-    if 1 <= size && size <= MAX_REQUESTS {
-        Some(size)
+    within(word, MAX_REQUESTS)
+}
+
+/// The number from 1 to this most that a word is, or `None` where it is none.
+fn within(word: &str, most: u32) -> Option<u32>
+    ensures is { result ≡ number_within most word.now }
+    ensures within { IfSome result (λ number. (1 ≤ number) × (number ≤ most)) }
+{
+    let number = u32::try_from(number(word.as_bytes())?).ok()?;
+    if 1 <= number && number <= most {
+        Some(number)
     } else {
         None
     }

@@ -4,6 +4,7 @@
 mod answer;
 mod checking;
 mod command;
+mod comparing;
 mod top;
 
 pub use command::Command;

@@ -84,6 +84,7 @@ pub fn hindsight<R: Threads + Sync, S: Source, K: Sink, G: Gate>(
     // workload: `replay` the outcome of that workload and the lockstep journal, which is lawful for it, `run` the outcome of
     // that workload and some journal that is lawful for it, and `convert` the workload's text. Of the input read whole, of which
     // one part reads as one workload, and that behind it as one journal, which is lawful for it: `check` the outcome of the two.
+    // Of the input read whole, which reads as one workload: `compare` what each sampler keeps of it, the lockstep outcome beside.
     // Of the workload that it makes, with nothing read: `make` its text, and `drill` the total line.
     ensures done { result ≡ Status.Done
         → Wrote (command_in (map (λ word. string_bytes word) words.now)) (S.left source.old) (S.left source.new)

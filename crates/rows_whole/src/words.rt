@@ -7,7 +7,7 @@ const USAGE: &str =
     "usage: hindsight replay [--json] | run [--json] | run --watch | make SEED SIZE | drill SEED SIZE | convert | check | compare H B\n";
 
 /// Each command with too few, too many and wrong words, flags where none may stand, and commands that are not built.
-const NO_COMMANDS: [&[&str]; 57] = [
+const NO_COMMANDS: [&[&str]; 68] = [
     &[],
     &[""],
     &["Replay"],
@@ -62,7 +62,18 @@ const NO_COMMANDS: [&[&str]; 57] = [
     &["--json", "check"],
     &["check", "--watch"],
     &["Check"],
-    &["compare", "1", "1"],
+    &["compare"],
+    &["compare", "1"],
+    &["compare", "1", "1", "1"],
+    &["compare", "1", "1", "--json"],
+    &["compare", "1", "1", "--watch"],
+    &["compare", "0", "1"],
+    &["compare", "1000001", "1"],
+    &["compare", "01", "1"],
+    &["compare", "1", "0"],
+    &["compare", "1", "262145"],
+    &["compare", "1", "+1"],
+    &["Compare", "1", "1"],
     &["7", "make", "3"],
     &["make", "replay", "convert"],
 ];
