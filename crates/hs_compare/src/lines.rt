@@ -15,7 +15,7 @@ pub struct Line {
     pub records: u32,
     /// The traces with a kept record.
     pub traces: u32,
-    /// The named traces that have a record, and all of whose records are kept.
+    /// The named traces of which every record is kept, and at least one is there.
     pub whole: u32,
     /// The bytes of the payloads that are sent to keep these.
     pub shipped: u64,

@@ -1,4 +1,4 @@
-//! What holds of a workload and a journal that is lawful for it. These functions do nothing: their contracts say it.
+//! What holds if a workload is valid and a journal lawful for it. These functions do nothing: their contracts say it.
 
 ghost use Rattle.hs_headline.specs.Abandonment.{OnlyTheLeastIsAbandoned};
 ghost use Rattle.hs_headline.specs.Asking.{NobodyIsAskedTwice};
@@ -31,7 +31,7 @@ pub fn nobody_is_asked_twice()
     ensures { NobodyIsAskedTwice }
 {}
 
-/// Of a valid workload and a journal that is lawful for it all sentences of the headline hold: of the ledger, the
+/// If a workload is valid and a journal lawful for it, all sentences of the headline hold: of the ledger, the
 /// reports, what agents keep and let go, who is asked, the buffers, and the books.
 pub fn headline_holds()
     ensures { HeadlineHolds }

@@ -11,7 +11,7 @@ use hs_outcome::laws::{
 use hs_records::pages_carry_the_records;
 use hs_sent::laws::all_is_sent_in_the_end;
 
-/// A ring keeps no record that tail does not keep, whatever room it has.
+/// Whatever room a ring has, tail keeps all that the ring keeps.
 pub fn ring_keeps_less()
     ensures { RingKeepsLess }
 {}
