@@ -15,7 +15,7 @@ lines_before word text = take_while (λ line. not (bytes_eq line word)) (parts_o
 abbrev pub length_with : List ℕ → List ℕ → ℕ
 length_with word text = length (text_of (lines_before word text ++ word ∷ []))
 
--- a text up to and with its first line that is this one, or all of it
+-- the front of a text that ends behind this line, where it stands first; the whole text if no line is this one
 abbrev pub part_through : List ℕ → List ℕ → List ℕ
 part_through word text = take (length_with word text) text
 

@@ -18,3 +18,4 @@ pub mod NodeEvents
 pub mod Pooling
 pub mod Answered
 pub mod Answering
+pub mod Rounded

@@ -32,7 +32,7 @@ one_at_least size (Crumb node) = omega arith
 one_at_least size (Fire trigger) = omega arith
 one_at_least size (Sample moment auto value) = omega arith
 
-ops_few : (size : ℕ) (ops : List Operation) → length ops ≤ client_pieces size ops
+pub ops_few : (size : ℕ) (ops : List Operation) → length ops ≤ client_pieces size ops
 ops_few size [] = omega arith
 ops_few size (op ∷ ops) = omega (arith, one_at_least size op, ops_few size ops)
 

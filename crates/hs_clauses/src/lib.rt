@@ -28,6 +28,6 @@ pub use history::has_history;
 pub use offers::{has_offers, is_last, is_unread};
 pub use passes::has_passes;
 pub use rising::{stamp_of, step_stamp};
-pub use rounds::has_rounds;
+pub use rounds::{count_rounds, has_rounds};
 pub use shape::has_shape;
 pub use stamps::has_stamps;

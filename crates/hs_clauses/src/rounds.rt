@@ -1,6 +1,6 @@
 //! The ninth clause: there are passes enough, and everywhere as many.
 
-ghost use Rattle.std.specs.Prelude.{◌≡◌, count_by};
+ghost use Rattle.std.specs.Prelude.{◌≡◌, ◌*◌, ◌^◌, ◌<◌, count_by};
 ghost use Rattle.std.specs.List.{range_with_len, list_all};
 ghost use Rattle.hs_journal.specs.Views.{journal_of};
 ghost use Rattle.hs_lawful.specs.Ends.{has_rounds, rounds_of};
@@ -48,10 +48,11 @@ fn are_enough(turns: usize, first: usize, rounds: usize) -> bool
     turns == first && rounds <= turns
 }
 
-/// How many rounds the clients of a workload take.
-fn count_rounds(workload: &Workload) -> usize
+/// How many rounds the clients of a workload take. The operations of so many rounds are a number that fits 64 bits.
+pub fn count_rounds(workload: &Workload) -> usize
     requires { IsValid (workload_of workload.now) }
-    ensures { result ≡ rounds_of (workload_of workload.now) }
+    ensures rounds { result ≡ rounds_of (workload_of workload.now) }
+    ensures fits { result * workload.now.settings.stride < 2 ^ 64 }
 {
     let stride = workload.settings.stride as usize;
     let mut rounds = 0;

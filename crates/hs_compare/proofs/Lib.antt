@@ -15,4 +15,3 @@ pub mod Compared
 pub mod Beginning
 pub mod Lined
 pub mod Outcomed
-pub mod Longest

@@ -1,7 +1,6 @@
 //! What other samplers would have kept of a workload.
 
-ghost use Rattle.std.specs.Prelude.{◌≤◌, ◌<◌, ◌≡◌, ◌*◌, ◌^◌, fold, IfOk};
-ghost use Rattle.hs_lawful.specs.Ends.{rounds_of};
+ghost use Rattle.std.specs.Prelude.{◌≤◌, ◌≡◌, fold, IfOk};
 ghost use Rattle.hs_lockstep.specs.Lockstep.{lockstep};
 ghost use Rattle.hs_report.specs.Outcomes.{IsOutcome};
 ghost use Rattle.hs_samplers.specs.Coming.{events_in_order};
@@ -20,24 +19,12 @@ use crate::script::Script;
 use crate::scripts::{Scripts, scripts_of};
 use crate::walk::walk;
 use hs_base::Memory;
+use hs_clauses::count_rounds;
 use hs_lockstep::laws::schedule_is_lawful;
 use hs_report::Outcome;
 use hs_samplers::laws::{kept_is_parted, tail_is_the_sum};
 use hs_workload::Workload;
 use std::alloc::Global;
-
-/// How many rounds the clients of a workload take.
-fn count_rounds(workload: &Workload) -> usize
-    requires { IsValid (workload_of workload.now) }
-    ensures { result ≡ rounds_of (workload_of workload.now) }
-{
-    let stride = workload.settings.stride as usize;
-    let mut rounds = 0;
-    for operations in workload.clients.as_slice() {
-        rounds = rounds.max((operations.len() + (stride - 1)) / stride);
-    }
-    rounds
-}
 
 /// A ring for so many records, behind all that comes and is named in the workload of these scripts.
 fn ring_of(

@@ -3,6 +3,7 @@
 ghost use Rattle.std.specs.Prelude.{◌≡◌, ◌≤◌, ◌+◌, ◌++◌, [], ◌∷◌, length, map, IfOk, OnOk, OnErr};
 ghost use Rattle.hs_compare.specs.Ringing.{new_ring, comes, names, is_among};
 
+use crate::limits::MAX_ROOM;
 use crate::queue::{Queue, Queues, add, count_of, take};
 use crate::ring::{Noted, Records, join, make_way};
 use hs_base::{List, Memory, RecordId, TraceId};
@@ -41,7 +42,7 @@ impl Model for RingTail {
 impl RingTail {
     /// An empty ring for so many records, at which no trace is named.
     pub fn make(alloc: Global, room: u32) -> Result<RingTail, Memory>
-        requires { (1 ≤ room) × (room ≤ 262144) }
+        requires { (1 ≤ room) × (room ≤ MAX_ROOM) }
         ensures { IfOk result (λ ring. ring ≡ new_ring room) }
     {
         let room = room as usize;

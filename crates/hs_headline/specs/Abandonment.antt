@@ -1,7 +1,7 @@
 -- What is abandoned in a journal, event by event. An event of a node may pin more chunks than may be pinned: a chunk of a claimed trace,
--- a trigger that is admitted, an ask. Then groups are abandoned, one after another, until no more is pinned than may be. Each time it
--- is the group that is next to go: of the trigger id with most pinned chunks, the smallest of those that have as many, the group of
--- least priority that has one. It goes with all its pinned chunks. No event abandons anything else.
+-- a trigger that is admitted, an ask. Then groups are abandoned, one after another, until no more is pinned than may be. The next to go
+-- is found in two steps. First the trigger id: the one whose groups pin the most chunks, and between equals the lower id. Then, of its
+-- groups that pin a chunk, the one of least priority. It goes with all its pinned chunks. No event abandons anything else.
 use Rattle.std.specs.Prelude.{◌≡◌, ◌⊎◌, ℕ, suc, ◌≤◌, List, [], ◌∷◌, length, map, Option, Some, slice_get, option_map, refl}
 use Rattle.std.specs.List.{AllByRecursion}
 use Rattle.std.specs.Option.{option_and_then}

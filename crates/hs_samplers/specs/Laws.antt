@@ -1,7 +1,7 @@
--- How the records that the samplers keep lie within one another. In operation order each record comes once, so no sampler keeps one twice.
--- Of a lawful journal each record of a named trace has one of three ends: it was reported, or it stands in a gap line, or no node claimed
--- its trace. A record of another trace has none of these. So the records that tail keeps are those that Hindsight keeps, those in gap lines
--- and the limited ones, each once; and a ring keeps no others.
+-- What one sampler keeps, against the others. Each record comes once in operation order, so no sampler keeps one twice. If the journal is
+-- lawful, a record of a named trace was reported, or is a gap in the report of its trace, or is limited, which means that no node claimed
+-- the trace; only one of these holds. None of them holds for a record whose trace nobody named. So Hindsight's records, gaps and limited
+-- records together are the records of tail sampling. A ring keeps only records that tail sampling keeps.
 use Rattle.std.specs.Prelude.{◌≡◌, ℕ, ◌+◌, ◌≤◌, true, List, [], ◌∷◌, ◌++◌, length, map, sum_by, All, Contains, IsPermutation, if◌then◌else◌, refl}
 use Rattle.std.proofs.Common.{lit≤}
 use Rattle.std.specs.List.{AllByRecursion, flat_map, range_with_len}

@@ -93,23 +93,3 @@ impl Sink for StdoutSink {
         }
     }
 }
-
-#[cfg(test)]
-mod tests {
-    use super::*;
-
-    #[test]
-    fn standard_input_ends(rt: HostRuntime) {
-        let mut source = StdinSource::new(&rt);
-        let mut piece = [0u8; 16];
-        assert_eq!(rt; source.read(&mut piece), Ok(0));
-        assert_eq!(rt; source.faults, 0);
-    }
-
-    #[test]
-    fn standard_output_takes_bytes(rt: HostRuntime) {
-        let mut sink = StdoutSink::new(&rt);
-        assert_eq!(rt; sink.write(b"\n"), Ok(1));
-        assert_eq!(rt; sink.faults, 0);
-    }
-}

@@ -15,7 +15,7 @@ use Rattle.hs_streams.specs.declared.status.Status.{Status}
 use Rattle.hs_streams.specs.declared.status.Status.TheVariants.{Done, Usage, Refused, ReadFault, WriteFault, Memory, TooLong, Unlawful}
 use Rattle.hs_workload.specs.Validity.{Reads}
 
--- The text is the outcome of the workload and a journal that is lawful for it, and this journal is that of the lockstep schedule.
+-- The text is an outcome of the workload. Its journal is the one that the lockstep schedule writes, and it is lawful.
 abbrev pub Due : PlainWorkload → List ℕ → Type 0
 Due W text = (J : PlainJournal) × IsLawful W J × (J ≡ lockstep W) × (text ≡ outcome_text W J Lines)
 

@@ -1,8 +1,10 @@
-use Rattle.std.proofs.Common.{◌≡◌, ◌≤◌, ◌<◌, List, length, map, get_or, ap, ◌∙◌, arith}
+use Rattle.std.proofs.Common.{ℕ, ◌≡◌, ◌*◌, ◌^◌, ◌≤◌, ◌<◌, sym, subst, List, length, map, get_or, ap, ◌∙◌, arith}
+use Rattle.std.proofs.lemmas.Grind.{common_steps}
 use Rattle.std.proofs.lemmas.List.{length-map}
 use Rattle.hs_workload.specs.declared.word.Setting.TheVariants as settings
 use Rattle.hs_workload.specs.Views.{operation_of, operations_of, workload_of}
 use Rattle.hs_clauses.proofs.Valid.{client_is_short, get_of_map}
+use Rattle.hs_clauses.proofs.Rounded.{rounds_fit}
 use Rattle.hs_clauses.proofs.rounds.count_rounds.Goals as goal
 
 pub overflow_sub-stride : goal.overflow_sub-stride
@@ -19,3 +21,11 @@ overflow_add-len c =
 
 pub nonzero_div-len : goal.nonzero_div-len
 nonzero_div-len c = let stride = c.requires.head settings.Stride in omega (arith, stride.0)
+
+pub returns-clause-rounds : goal.returns-clause-rounds
+returns-clause-rounds c = grind (arith, common_steps)
+
+pub returns-clause-fits : goal.returns-clause-fits
+returns-clause-fits c =
+    let W = workload_of c.args.workload.now in
+    subst (λ (n : ℕ). n * W.settings.stride < 2 ^ 64) (sym (returns-clause-rounds c)) (rounds_fit W c.requires)
