@@ -2,7 +2,7 @@
 
 use crate::calls::{Row, assert_held};
 use crate::hold::{At, Both, Hold};
-use crate::inputs::{FOUR_SEGMENTS, TWO_CLIENTS, TWO_SEGMENTS};
+use crate::inputs::{FOUR_SEGMENTS, TWO_CLIENTS, TWO_NODES, TWO_SEGMENTS};
 use std::test::Fail;
 
 /// The second client gets the only buffer, though the first one comes first.
@@ -56,6 +56,13 @@ const BOTH_AT_ONCE: Row = Row {
     parts: &["ledger 4\n"],
 };
 
+/// The second round of two nodes.
+const A_SECOND_ROUND: Row = Row {
+    name: "a second round",
+    input: TWO_NODES,
+    parts: &["ledger 3\n"],
+};
+
 #[test]
 fn a_client_waits_for_another(rt: HostRuntime) -> Result<(), Fail> {
     let hold = Hold::new(At { actor: 0, step: 1 }, At { actor: 1, step: 2 });
@@ -80,6 +87,20 @@ fn each_waits_for_the_other(rt: HostRuntime) -> Result<(), Fail> {
         second: Hold::new(At { actor: 0, step: 9 }, At { actor: 1, step: 1 }),
     };
     assert_held(&rt, &["run"], &BOTH_AT_ONCE, &both)?;
+    assert!(rt; both.first.was_kept());
+    assert!(rt; both.second.was_kept());
+    Ok(())
+}
+
+/// A client's first step of the second round is its fourth. The coordinator hears nothing in the first round, so its second pass is
+/// its step 1.
+#[test]
+fn a_client_and_the_coordinator_meet_in_a_second_round(rt: HostRuntime) -> Result<(), Fail> {
+    let both = Both {
+        first: Hold::new(At { actor: 0, step: 3 }, At { actor: 4, step: 1 }),
+        second: Hold::new(At { actor: 4, step: 1 }, At { actor: 0, step: 3 }),
+    };
+    assert_held(&rt, &["run"], &A_SECOND_ROUND, &both)?;
     assert!(rt; both.first.was_kept());
     assert!(rt; both.second.was_kept());
     Ok(())

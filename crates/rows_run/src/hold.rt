@@ -21,7 +21,9 @@ pub(crate) struct Hold {
     until: At,
     /// The last step that the other one came to.
     seen: AtomicU32,
-    /// Whether the held one went on without it.
+    /// Whether the held one came to its step at all.
+    came: AtomicU32,
+    /// Whether it went on without the other one.
     broken: AtomicU32,
 }
 
@@ -31,13 +33,14 @@ impl Hold {
             held,
             until,
             seen: AtomicU32::new(0),
+            came: AtomicU32::new(0),
             broken: AtomicU32::new(0),
         }
     }
 
-    /// Whether nobody went on too early.
+    /// Whether the held one came, and did not go on too early. A gate that nobody passes keeps nothing.
     pub(crate) fn was_kept(&self) -> bool {
-        self.broken.load(Ordering::SeqCst) == 0
+        self.came.load(Ordering::SeqCst) == 1 && self.broken.load(Ordering::SeqCst) == 0
     }
 
     fn wait(&self) {
@@ -57,6 +60,7 @@ impl Gate for Hold {
             self.seen.store(step, Ordering::SeqCst);
         }
         if actor == self.held.actor && step == self.held.step {
+            self.came.store(1, Ordering::SeqCst);
             self.wait();
         }
     }

@@ -260,3 +260,100 @@ point 5 aa
 end
 done
 ";
+
+/// Three nodes with two clients each, of which none has as many operations as another. All that is sent comes in the first rounds;
+/// one client goes on for ten rounds with samples that fire nothing, so nothing is left for closing.
+pub(crate) const THREE_NODES: &str = "hindsight 1
+nodes 3
+clients 2
+buffers 4
+size 64
+threshold 4
+traces 8
+pins 4
+stride 2
+triggerid 1 1 10 0
+auto 0 exception 1
+client 0 0
+begin 0000000000000001
+point 1 aa
+crumb 1
+end
+trigger 2 1 0000000000000001
+begin 0000000000000002
+sample 3 0 0
+sample 3 0 0
+sample 3 0 0
+sample 3 0 0
+sample 3 0 0
+sample 3 0 0
+sample 3 0 0
+sample 3 0 0
+sample 3 0 0
+sample 3 0 0
+sample 3 0 0
+sample 3 0 0
+sample 3 0 0
+sample 3 0 0
+sample 3 0 0
+sample 3 0 0
+sample 3 0 0
+sample 3 0 0
+sample 3 0 0
+end
+client 0 1
+begin 0000000000000011
+point 1 bb
+end
+client 1 0
+begin 0000000000000001
+point 1 aa
+crumb 2
+end
+client 1 1
+begin 0000000000000012
+point 1 bb
+point 2 bb
+point 3 bb
+end
+client 2 0
+begin 0000000000000001
+point 1 aa
+end
+begin 0000000000000013
+sample 3 0 0
+end
+client 2 1
+begin 0000000000000014
+point 1 bb
+point 2 bb
+point 3 bb
+point 4 bb
+point 5 bb
+end
+done
+";
+
+/// Two nodes with a client each, and two rounds.
+pub(crate) const TWO_NODES: &str = "hindsight 1
+nodes 2
+clients 1
+buffers 4
+size 64
+threshold 4
+traces 8
+pins 4
+stride 3
+client 0 0
+begin 0000000000000001
+point 1 aa
+end
+begin 0000000000000002
+point 2 aa
+end
+client 1 0
+begin 0000000000000003
+point 1 aa
+end
+done
+";

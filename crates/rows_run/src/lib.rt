@@ -7,6 +7,8 @@ mod alike;
 #[cfg(test)]
 mod calls;
 #[cfg(test)]
+mod counted;
+#[cfg(test)]
 mod crowded;
 #[cfg(test)]
 mod held;
@@ -14,3 +16,5 @@ mod held;
 mod hold;
 #[cfg(test)]
 mod inputs;
+#[cfg(test)]
+mod together;
