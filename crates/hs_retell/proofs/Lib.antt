@@ -14,3 +14,4 @@ pub mod Further
 pub mod Recounted
 pub mod Kept
 pub mod Noted
+pub mod Drawn

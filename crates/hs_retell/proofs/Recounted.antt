@@ -1,12 +1,12 @@
 -- What the story of a run that is over comes to.
-use Rattle.std.proofs.Common.{◌≡◌, ℕ, suc, ◌+◌, ◌*◌, ◌<◌, ◌≤◌, length, refl, sym, ap, subst, ◌∙◌, Option, Some, None, arith, map, filter, slice_get}
+use Rattle.std.proofs.Common.{◌≡◌, ℕ, suc, ◌+◌, ◌*◌, ◌<◌, ◌≤◌, length, refl, sym, ap, subst, ◌∙◌, Option, Some, None, unwrap_or, option_map, arith, map, filter, slice_get, List, []}
 use Rattle.std.specs.List.{range_with_len}
 use Rattle.std.specs.Option.{option_map_or}
 use Rattle.std.proofs.lemmas.Simd.{map-map}
 use Rattle.std.proofs.Math.Nat.{mul-le-mul_right}
 use Rattle.hs_coord.specs.Messages.{Message, Messages}
 use Rattle.hs_journal.specs.Views.{PlainJournal}
-use Rattle.hs_lawful.specs.Following.{NodeRun, followed}
+use Rattle.hs_lawful.specs.Following.{NodeRun, followed, log_at}
 use Rattle.hs_link.specs.Contents.{Incoming}
 use Rattle.hs_live.specs.Keys.{Key}
 use Rattle.hs_model.specs.Books.{book_of}
@@ -15,17 +15,20 @@ use Rattle.hs_model.specs.Stepping.{after}
 use Rattle.hs_records.specs.Plain.{PlainWorkload}
 use Rattle.hs_sent.specs.Sending.{draws_at, place_of}
 use Rattle.hs_workload.specs.Validity.{IsValid}
-use Rattle.hs_actors.specs.Doings.{crumbs_in, triggers_in, journal_of}
+use Rattle.hs_actors.specs.Doings.{NodeDoings, all_events, crumbs_in, triggers_in, journal_of, steps_of}
 use Rattle.hs_caller.specs.Calling.{Calling}
 use Rattle.hs_desk.specs.Work.{Work, is_of}
 use Rattle.hs_rounds.specs.Standing.{Site, Moment}
 use Rattle.hs_rounds.specs.Coming.{Came}
 use Rattle.hs_gathered.specs.Laws.{AgentAt, agent_of, agent_behind, IsTold, StoriesAreLawful}
-use Rattle.hs_gathered.specs.Stories.{Story, doings_of}
+use Rattle.hs_gathered.specs.Stories.{Story, doings_of, node_doings}
+use Rattle.hs_gathered.proofs.Grown.{grown_all, mapped_at}
+use Rattle.hs_journal.specs.declared.journal.Step.{Step}
+use Rattle.std.proofs.lemmas.Option.{slice_get-map}
 use Rattle.hs_retell.specs.Spans.{Post}
 use Rattle.hs_retell.specs.Closing.{Closing, IsOver}
 use Rattle.hs_retell.specs.Laws.{LinkBegins, AllLinksBegin, IsRecounted}
-use Rattle.hs_retell.proofs.Joined.{heard_last}
+use Rattle.hs_retell.proofs.Joined.{heard_last, post_last}
 use Rattle.hs_retell.proofs.LinkKinds.{chunk_links, crumb_links, trigger_links}
 use Rattle.hs_retell.proofs.Links.{Kind, LinkBegan}
 use Rattle.hs_gathered.proofs.Lists.{get_within}
@@ -91,8 +94,17 @@ module _ (adds : EventsAddThis) (sends : HaveSent) (sends_all : HaveSentAll) (la
         ∙ map-map (λ (a : AgentAt). book_of a.node a.state) (agent_behind W told_by) (range_with_len 0 W.settings.nodes)
         ∙ agents_last adds sends sends_all W valid rounds m came passes nodes heard closing over (links_began W valid rounds m came begins) 0 W.settings.nodes (omega arith)
 
+    logs_are : (node : ℕ) → node < W.settings.nodes → log_at (journal_of W (doings_of W told_by)) node ≡ steps_of (nodes node).work.events
+    logs_are node few =
+        let story_at = (is_story adds sends sends_all W valid rounds m came passes nodes heard closing over (links_began W valid rounds m came begins)).each node few in
+        let last = ap (λ (p : Post). p.work.events) (post_last W valid rounds m came passes nodes heard closing node few) in
+        let log : NodeDoings → List Step = λ n. steps_of (all_events n) in
+        ap (λ (o : Option (List Step)). unwrap_or o [])
+        (slice_get-map log (map (node_doings told_by) (range_with_len 0 W.settings.nodes)) node ∙ ap (option_map log) (mapped_at (node_doings told_by) W.settings.nodes node few))
+        ∙ ap steps_of (grown_all (told_by.nodes node).events passes story_at.begins story_at.grows ∙ last)
+
     pub recounted : (J : PlainJournal) × IsRecounted W m nodes heard J
     recounted = (
       journal_of W (doings_of W told_by),
-      record { lawful = is_told.lawful; draws = drew; agents = books_are; told = is_told.told ∙ ap (map (λ (m : Message). m.node)) (heard_last W valid rounds m came passes nodes heard closing) },
+      record { lawful = is_told.lawful; draws = drew; logs = logs_are; agents = books_are; told = is_told.told ∙ ap (map (λ (m : Message). m.node)) (heard_last W valid rounds m came passes nodes heard closing) },
     )

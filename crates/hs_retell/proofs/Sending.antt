@@ -45,11 +45,11 @@ module _ (W : PlainWorkload) (valid : IsValid W) (rounds : ℕ) (m : Moment) (ca
       }
 
   -- the draws up to a round stand first
-  record DrawnFirst (k : ℕ) : Type 0 where
-    more : List Draw
-    draws : last_draws ≡ (caller_at W valid rounds m came node k client).client.core.draws ++ more
+  pub record DrawnFirst (k : ℕ) : Type 0 where
+    pub more : List Draw
+    pub draws : last_draws ≡ (caller_at W valid rounds m came node k client).client.core.draws ++ more
 
-  drawn_first : (k : ℕ) → k ≤ rounds → DrawnFirst k
+  pub drawn_first : (k : ℕ) → k ≤ rounds → DrawnFirst k
   drawn_first k low =
       let l = later_from (rounds - k) k (omega (arith, low)) in
       record {

@@ -6,7 +6,7 @@ use Rattle.hs_lawful.specs.Passes.{passes_of}
 use Rattle.hs_base.specs.declared.limits.TheConstants.{MAX_TAKEN}
 use Rattle.hs_coord.specs.Messages.{Message, Messages}
 use Rattle.hs_journal.specs.Views.{PlainJournal}
-use Rattle.hs_lawful.specs.Following.{NodeRun, asks_to, followed}
+use Rattle.hs_lawful.specs.Following.{NodeRun, asks_to, followed, log_at}
 use Rattle.hs_lawful.specs.Lawful.{IsLawful}
 use Rattle.hs_link.specs.Contents.{Outgoing, Incoming}
 use Rattle.hs_live.specs.Keys.{Key}
@@ -14,6 +14,8 @@ use Rattle.hs_live.specs.Live.{IsEnd}
 use Rattle.hs_model.specs.Books.{book_of}
 use Rattle.hs_model.specs.Stepping.{after}
 use Rattle.hs_records.specs.Plain.{PlainWorkload}
+use Rattle.hs_gathered.specs.Ends.{operations_of, done_by}
+use Rattle.hs_sent.specs.Draws.{count_started}
 use Rattle.hs_sent.specs.Sending.{draws_at, place_of}
 use Rattle.hs_workload.specs.Validity.{IsValid}
 use Rattle.hs_caller.specs.Calling.{Calling}
@@ -80,12 +82,13 @@ ClosingGoesOn =
 
 -- ---- the end
 
--- The journal is lawful. It notes what each client drew and whom the coordinator heard, and to follow it leads each agent to where its
--- events led it.
+-- The journal is lawful. It notes what each client drew, what each agent did and whom the coordinator heard, and to follow it leads each
+-- agent to where its events led it.
 pub record IsRecounted (W : PlainWorkload) (m : Moment) (nodes : ℕ → Post) (heard : Messages) (J : PlainJournal) : Type 0 where
   pub lawful : IsLawful W J
   pub draws : (node client : ℕ) (site : Site) (caller : Calling) → slice_get m.standing.nodes node ≡ Some site → slice_get site.callers client ≡ Some caller
       → draws_at J (place_of W.settings.clients node client) ≡ caller.client.core.draws
+  pub logs : (node : ℕ) → node < W.settings.nodes → log_at J node ≡ steps_of (nodes node).work.events
   pub agents : map (λ (run : NodeRun). book_of run.node run.state) (followed W J).nodes
       ≡ map (λ node. book_of node (after W.settings node (nodes node).work.events)) (range_with_len 0 W.settings.nodes)
   pub told : J.told ≡ map (λ (m : Message). m.node) heard
@@ -100,3 +103,15 @@ abbrev pub RoundsAreNoted : Type 0
 RoundsAreNoted =
     (W : PlainWorkload) (rounds : ℕ) (m : Moment) (passes : ℕ) (nodes : ℕ → Post) (heard : Messages) → IsValid W → (came : Came W rounds m) → Closing W rounds m passes nodes heard
     → (node : ℕ) → node < W.settings.nodes → (k : ℕ) → k ≤ rounds → flat_map (λ pass. pass) (take k (passes_of (steps_of (nodes node).work.events))) ≡ steps_of ((came.at k).works node).events
+
+-- What a client of the end had done behind so many rounds, and the draws that it had noted by then: those for the pages that it had started.
+pub record HadDrawn (W : PlainWorkload) (node client rounds : ℕ) (last earlier : Calling) : Type 0 where
+  pub done : earlier.done ≡ done_by W node client rounds
+  pub draws : take (count_started W.settings.size (operations_of W node client) (done_by W node client rounds)) last.client.core.draws ≡ earlier.client.core.draws
+
+-- Behind each round the draws that are noted in the end begin with those that were noted by then.
+abbrev pub RoundsHaveDrawn : Type 0
+RoundsHaveDrawn =
+    (W : PlainWorkload) (rounds : ℕ) (m : Moment) → IsValid W → (came : Came W rounds m) → (node client k : ℕ) → k ≤ rounds → (site site' : Site) (caller caller' : Calling)
+    → slice_get m.standing.nodes node ≡ Some site → slice_get site.callers client ≡ Some caller → slice_get (came.at k).standing.nodes node ≡ Some site' → slice_get site'.callers client ≡ Some caller'
+    → HadDrawn W node client k caller caller'

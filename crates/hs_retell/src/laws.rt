@@ -1,6 +1,6 @@
 //! Why the journal of a run in threads is lawful. These functions do nothing: their contracts say it.
 
-ghost use Rattle.hs_retell.specs.Laws.{ClosingBegins, ClosingGoesOn, DesksArePosts, PoolsAreKept, RunsAreLawful, RoundsAreNoted};
+ghost use Rattle.hs_retell.specs.Laws.{ClosingBegins, ClosingGoesOn, DesksArePosts, PoolsAreKept, RunsAreLawful, RoundsAreNoted, RoundsHaveDrawn};
 
 use hs_caller::{callers_have_sent, callers_sent_all};
 use hs_gathered::laws::stories_are_lawful;
@@ -40,3 +40,10 @@ pub fn runs_are_lawful()
 pub fn rounds_are_noted()
     ensures { RoundsAreNoted }
 {}
+
+/// Behind each round a client's draws were those for the pages that it had started by then.
+pub fn rounds_have_drawn()
+    ensures { RoundsHaveDrawn }
+{
+    callers_have_sent();
+}

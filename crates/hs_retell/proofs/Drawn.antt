@@ -1,0 +1,56 @@
+-- What a client had drawn behind a round.
+use Rattle.std.proofs.Common.{◌≡◌, ℕ, zero, suc, ◌<◌, ◌≤◌, List, [], ◌∷◌, ◌++◌, length, take, refl, sym, ap, subst, ◌∙◌, Some, arith, slice_get}
+use Rattle.hs_journal.specs.declared.journal.Draw.{Draw}
+use Rattle.hs_records.specs.Plain.{PlainWorkload}
+use Rattle.hs_sent.specs.Draws.{count_started}
+use Rattle.hs_workload.specs.Validity.{IsValid}
+use Rattle.hs_caller.specs.Calling.{Calling}
+use Rattle.hs_gathered.specs.Ends.{operations_of, done_by}
+use Rattle.hs_rounds.specs.Standing.{Site, Moment, Stands}
+use Rattle.hs_rounds.specs.Coming.{Came}
+use Rattle.hs_retell.specs.Laws.{HadDrawn, RoundsHaveDrawn}
+use Rattle.hs_gathered.proofs.Lists.{get_within}
+use Rattle.hs_retell.proofs.Moments.{site_of, site_there, stands_at, site_stands}
+use Rattle.hs_retell.proofs.Meetings.{HaveSent, caller_at, here_at, done_at, sent_at}
+use Rattle.hs_retell.proofs.Sending.{last_draws, drawn_first}
+
+front_of : {X : Type 0} (xs more : List X) (n : ℕ) → length xs ≡ n → take n (xs ++ more) ≡ xs
+front_of [] more zero long = refl
+front_of [] more (suc n) long = absurd (omega (arith, long))
+front_of (x ∷ xs) more zero long = absurd (omega (arith, long))
+front_of (x ∷ xs) more (suc n) long = ap (λ rest. x ∷ rest) (front_of xs more n (omega (arith, long)))
+
+module _ (sends : HaveSent) (W : PlainWorkload) (rounds : ℕ) (m : Moment) (valid : IsValid W) (came : Came W rounds m) (node : ℕ) (few : node < W.settings.nodes) (client : ℕ) (own : client < W.settings.clients) where
+  -- the client, as it stands at a moment
+  is_caller : (k : ℕ) → k ≤ rounds → (site : Site) (caller : Calling) → slice_get (came.at k).standing.nodes node ≡ Some site → slice_get site.callers client ≡ Some caller → caller_at W valid rounds m came node k client ≡ caller
+  is_caller k low site caller there mine =
+      let same : Some (site_of W valid rounds m came (came.at k) node) ≡ Some site = sym (site_there W valid rounds m came (came.at k) (stands_at W valid rounds m came k low) node few) ∙ there in
+      let is : site_of W valid rounds m came (came.at k) node ≡ site = cc in
+      let one : Some (caller_at W valid rounds m came node k client) ≡ Some caller = sym (here_at W valid rounds m came node few k client low own) ∙ ap (λ (s : Site). slice_get s.callers client) is ∙ mine in
+      cc
+
+  had_drawn : (k : ℕ) → k ≤ rounds → HadDrawn W node client k (caller_at W valid rounds m came node rounds client) (caller_at W valid rounds m came node k client)
+  had_drawn k low =
+      let done = done_at W valid rounds m came node few k client low own in
+      let first = drawn_first W valid rounds m came sends node few client own k low in
+      let sent = sent_at W valid rounds m came node few sends k client low own in
+      let ops = operations_of W node client in
+      let long = sent.each ∙ ap (count_started W.settings.size ops) done in
+      record {
+        done = done;
+        draws = ap (take (count_started W.settings.size ops (done_by W node client k))) first.draws
+            ∙ front_of (caller_at W valid rounds m came node k client).client.core.draws first.more (count_started W.settings.size ops (done_by W node client k)) long;
+      }
+
+pub have_drawn : HaveSent → RoundsHaveDrawn
+have_drawn sends W rounds m valid came node client k low site site' caller caller' there mine there' mine' =
+    let stands = stands_at W valid rounds m came k low in
+    let count = stands.count in
+    let within = get_within (came.at k).standing.nodes node site' there' in
+    let few : node < W.settings.nodes = omega (arith, within, count) in
+    let clients = (stands.each node site' there').count in
+    let inside = get_within site'.callers client caller' mine' in
+    let own : client < W.settings.clients = omega (arith, inside, clients) in
+    let last = is_caller sends W rounds m valid came node few client own rounds (omega arith) site caller (ap (λ (moment : Moment). slice_get moment.standing.nodes node) came.last ∙ there) mine in
+    let earlier = is_caller sends W rounds m valid came node few client own k low site' caller' there' mine' in
+    subst (λ c. HadDrawn W node client k c caller') last (subst (HadDrawn W node client k (caller_at W valid rounds m came node rounds client)) earlier (had_drawn sends W rounds m valid came node few client own k low))
