@@ -1,18 +1,22 @@
--- What a client had drawn behind a round.
+-- What a client had drawn behind a round, and what the journal notes of it.
 use Rattle.std.proofs.Common.{◌≡◌, ℕ, zero, suc, ◌<◌, ◌≤◌, List, [], ◌∷◌, ◌++◌, length, take, refl, sym, ap, subst, ◌∙◌, Some, arith, slice_get}
-use Rattle.hs_journal.specs.declared.journal.Draw.{Draw}
 use Rattle.hs_records.specs.Plain.{PlainWorkload}
 use Rattle.hs_sent.specs.Draws.{count_started}
 use Rattle.hs_workload.specs.Validity.{IsValid}
 use Rattle.hs_caller.specs.Calling.{Calling}
 use Rattle.hs_gathered.specs.Ends.{operations_of, done_by}
-use Rattle.hs_rounds.specs.Standing.{Site, Moment, Stands}
+use Rattle.hs_rounds.specs.Standing.{Site, Moment}
 use Rattle.hs_rounds.specs.Coming.{Came}
-use Rattle.hs_retell.specs.Laws.{HadDrawn, RoundsHaveDrawn}
+use Rattle.hs_retell.specs.Laws.{RoundsAreNoted}
+use Rattle.hs_retell.specs.Noting.{NotesClient, JournalsNoteRounds}
+use Rattle.hs_journal.specs.Views.{PlainJournal}
+use Rattle.hs_lawful.specs.Passes.{passes_of}
+use Rattle.hs_sent.specs.Sending.{draws_at, place_of}
+use Rattle.std.specs.List.{flat_map}
 use Rattle.hs_gathered.proofs.Lists.{get_within}
-use Rattle.hs_retell.proofs.Moments.{site_of, site_there, stands_at, site_stands}
+use Rattle.hs_retell.proofs.Moments.{site_of, site_there, stands_at}
 use Rattle.hs_retell.proofs.Meetings.{HaveSent, caller_at, here_at, done_at, sent_at}
-use Rattle.hs_retell.proofs.Sending.{last_draws, drawn_first}
+use Rattle.hs_retell.proofs.Sending.{drawn_first}
 
 front_of : {X : Type 0} (xs more : List X) (n : ℕ) → length xs ≡ n → take n (xs ++ more) ≡ xs
 front_of [] more zero long = refl
@@ -29,8 +33,9 @@ module _ (sends : HaveSent) (W : PlainWorkload) (rounds : ℕ) (m : Moment) (val
       let one : Some (caller_at W valid rounds m came node k client) ≡ Some caller = sym (here_at W valid rounds m came node few k client low own) ∙ ap (λ (s : Site). slice_get s.callers client) is ∙ mine in
       cc
 
-  had_drawn : (k : ℕ) → k ≤ rounds → HadDrawn W node client k (caller_at W valid rounds m came node rounds client) (caller_at W valid rounds m came node k client)
-  had_drawn k low =
+  had_drawn : (J : PlainJournal) → draws_at J (place_of W.settings.clients node client) ≡ (caller_at W valid rounds m came node rounds client).client.core.draws → (k : ℕ) → k ≤ rounds
+      → NotesClient W J node client k (caller_at W valid rounds m came node k client)
+  had_drawn J draws k low =
       let done = done_at W valid rounds m came node few k client low own in
       let first = drawn_first W valid rounds m came sends node few client own k low in
       let sent = sent_at W valid rounds m came node few sends k client low own in
@@ -38,19 +43,26 @@ module _ (sends : HaveSent) (W : PlainWorkload) (rounds : ℕ) (m : Moment) (val
       let long = sent.each ∙ ap (count_started W.settings.size ops) done in
       record {
         done = done;
-        draws = ap (take (count_started W.settings.size ops (done_by W node client k))) first.draws
+        draws = ap (take (count_started W.settings.size ops (done_by W node client k))) (draws ∙ first.draws)
             ∙ front_of (caller_at W valid rounds m came node k client).client.core.draws first.more (count_started W.settings.size ops (done_by W node client k)) long;
       }
 
-pub have_drawn : HaveSent → RoundsHaveDrawn
-have_drawn sends W rounds m valid came node client k low site site' caller caller' there mine there' mine' =
-    let stands = stands_at W valid rounds m came k low in
-    let count = stands.count in
-    let within = get_within (came.at k).standing.nodes node site' there' in
-    let few : node < W.settings.nodes = omega (arith, within, count) in
-    let clients = (stands.each node site' there').count in
-    let inside = get_within site'.callers client caller' mine' in
-    let own : client < W.settings.clients = omega (arith, inside, clients) in
-    let last = is_caller sends W rounds m valid came node few client own rounds (omega arith) site caller (ap (λ (moment : Moment). slice_get moment.standing.nodes node) came.last ∙ there) mine in
-    let earlier = is_caller sends W rounds m valid came node few client own k low site' caller' there' mine' in
-    subst (λ c. HadDrawn W node client k c caller') last (subst (HadDrawn W node client k (caller_at W valid rounds m came node rounds client)) earlier (had_drawn sends W rounds m valid came node few client own k low))
+pub notes_rounds : HaveSent → RoundsAreNoted → JournalsNoteRounds
+notes_rounds sends noted W rounds m passes nodes heard valid came closing J r =
+    record {
+      logs = λ node k few low. ap (λ log. flat_map (λ pass. pass) (take k (passes_of log))) (r.logs node few) ∙ noted W rounds m passes nodes heard valid came closing node few k low;
+      clients = λ node client k site caller low there mine.
+          let stands = stands_at W valid rounds m came k low in
+          let count = stands.count in
+          let within = get_within (came.at k).standing.nodes node site there in
+          let few : node < W.settings.nodes = omega (arith, within, count) in
+          let clients = (stands.each node site there).count in
+          let inside = get_within site.callers client caller mine in
+          let own : client < W.settings.clients = omega (arith, inside, clients) in
+          let here = is_caller sends W rounds m valid came node few client own k low site caller there mine in
+          let last = site_of W valid rounds m came (came.at rounds) node in
+          let there_last : slice_get m.standing.nodes node ≡ Some last =
+          ap (λ (moment : Moment). slice_get moment.standing.nodes node) (sym came.last) ∙ site_there W valid rounds m came (came.at rounds) (stands_at W valid rounds m came rounds (omega arith)) node few in
+          let draws = r.draws node client last (caller_at W valid rounds m came node rounds client) there_last (here_at W valid rounds m came node few rounds client (omega arith) own) in
+          subst (NotesClient W J node client k) here (had_drawn sends W rounds m valid came node few client own J draws k low);
+    }

@@ -1,23 +1,17 @@
 -- What a node's log has noted behind a round.
-use Rattle.std.proofs.Common.{◌≡◌, ℕ, zero, suc, ◌+◌, ◌<◌, ◌≤◌, List, [], ◌∷◌, ◌++◌, length, map, take, refl, sym, ap, subst, ◌∙◌, arith}
+use Rattle.std.proofs.Common.{◌≡◌, ℕ, zero, suc, ◌+◌, ◌<◌, ◌≤◌, List, [], ◌∷◌, ◌++◌, map, take, refl, sym, ap, ◌∙◌, arith}
 use Rattle.std.proofs.lemmas.List.{map-append}
 use Rattle.std.specs.List.{AllByRecursion, flat_map, range_with_len}
 use Rattle.hs_actors.proofs.Passes.{passes_are}
 use Rattle.hs_actors.specs.Doings.{joined, steps_of}
 use Rattle.hs_actors.specs.Facts.{IsPass}
-use Rattle.hs_coord.specs.Messages.{Messages}
 use Rattle.hs_gathered.proofs.Grown.{grown, grown_all}
 use Rattle.hs_gathered.specs.Stories.{added}
 use Rattle.hs_journal.specs.declared.journal.Step.{Step}
 use Rattle.hs_lawful.specs.Passes.{passes_of}
 use Rattle.hs_model.specs.Laws.{noted_as}
 use Rattle.hs_model.specs.Stepping.{Event}
-use Rattle.hs_records.specs.Plain.{PlainWorkload}
-use Rattle.hs_workload.specs.Validity.{IsValid}
 use Rattle.hs_desk.specs.Work.{Work}
-use Rattle.hs_rounds.specs.Standing.{Moment}
-use Rattle.hs_rounds.specs.Coming.{Came}
-use Rattle.hs_retell.specs.Closing.{Closing}
 use Rattle.hs_retell.specs.Laws.{RoundsAreNoted}
 use Rattle.hs_retell.specs.Spans.{Post}
 use Rattle.hs_retell.proofs.Joined.{post, heard_by, post_low, post_last, all_posts, all_steps}

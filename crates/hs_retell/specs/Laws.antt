@@ -14,8 +14,6 @@ use Rattle.hs_live.specs.Live.{IsEnd}
 use Rattle.hs_model.specs.Books.{book_of}
 use Rattle.hs_model.specs.Stepping.{after}
 use Rattle.hs_records.specs.Plain.{PlainWorkload}
-use Rattle.hs_gathered.specs.Ends.{operations_of, done_by}
-use Rattle.hs_sent.specs.Draws.{count_started}
 use Rattle.hs_sent.specs.Sending.{draws_at, place_of}
 use Rattle.hs_workload.specs.Validity.{IsValid}
 use Rattle.hs_caller.specs.Calling.{Calling}
@@ -103,15 +101,3 @@ abbrev pub RoundsAreNoted : Type 0
 RoundsAreNoted =
     (W : PlainWorkload) (rounds : ℕ) (m : Moment) (passes : ℕ) (nodes : ℕ → Post) (heard : Messages) → IsValid W → (came : Came W rounds m) → Closing W rounds m passes nodes heard
     → (node : ℕ) → node < W.settings.nodes → (k : ℕ) → k ≤ rounds → flat_map (λ pass. pass) (take k (passes_of (steps_of (nodes node).work.events))) ≡ steps_of ((came.at k).works node).events
-
--- What a client of the end had done behind so many rounds, and the draws that it had noted by then: those for the pages that it had started.
-pub record HadDrawn (W : PlainWorkload) (node client rounds : ℕ) (last earlier : Calling) : Type 0 where
-  pub done : earlier.done ≡ done_by W node client rounds
-  pub draws : take (count_started W.settings.size (operations_of W node client) (done_by W node client rounds)) last.client.core.draws ≡ earlier.client.core.draws
-
--- Behind each round the draws that are noted in the end begin with those that were noted by then.
-abbrev pub RoundsHaveDrawn : Type 0
-RoundsHaveDrawn =
-    (W : PlainWorkload) (rounds : ℕ) (m : Moment) → IsValid W → (came : Came W rounds m) → (node client k : ℕ) → k ≤ rounds → (site site' : Site) (caller caller' : Calling)
-    → slice_get m.standing.nodes node ≡ Some site → slice_get site.callers client ≡ Some caller → slice_get (came.at k).standing.nodes node ≡ Some site' → slice_get site'.callers client ≡ Some caller'
-    → HadDrawn W node client k caller caller'

@@ -1,3 +1,4 @@
 pub mod Spans
 pub mod Closing
 pub mod Laws
+pub mod Noting

@@ -1,6 +1,7 @@
 //! Why the journal of a run in threads is lawful. These functions do nothing: their contracts say it.
 
-ghost use Rattle.hs_retell.specs.Laws.{ClosingBegins, ClosingGoesOn, DesksArePosts, PoolsAreKept, RunsAreLawful, RoundsAreNoted, RoundsHaveDrawn};
+ghost use Rattle.hs_retell.specs.Noting.{JournalsNoteRounds};
+ghost use Rattle.hs_retell.specs.Laws.{ClosingBegins, ClosingGoesOn, DesksArePosts, PoolsAreKept, RunsAreLawful, RoundsAreNoted};
 
 use hs_caller::{callers_have_sent, callers_sent_all};
 use hs_gathered::laws::stories_are_lawful;
@@ -41,9 +42,10 @@ pub fn rounds_are_noted()
     ensures { RoundsAreNoted }
 {}
 
-/// Behind each round a client's draws were those for the pages that it had started by then.
-pub fn rounds_have_drawn()
-    ensures { RoundsHaveDrawn }
+/// The journal of a run notes where all stood behind each round.
+pub fn journals_note_rounds()
+    ensures { JournalsNoteRounds }
 {
     callers_have_sent();
+    rounds_are_noted();
 }
