@@ -1,0 +1,3 @@
+pub mod Watching
+pub mod Layout
+pub mod WatchLayout

@@ -1,0 +1,79 @@
+-- Watchers of a board. A watcher has a reader, and notes its first look and each later one whose rounds differ from those of the look before.
+-- What it noted it saw on the board, or was told of.
+use Rattle.std.specs.Prelude.{◌≡◌, ◌⊎◌, ℕ, ◌+◌, ◌<◌, ◌≤◌, List, [], ◌∷◌, length}
+use Rattle.std.specs.List.{AllByRecursion}
+use Rattle.hs_board.specs.declared.progress.Progress.{Progress}
+use Rattle.hs_board.specs.Looking.{Looking}
+use Rattle.hs_board.specs.Shown.{IsAmong, IsLast}
+
+-- all that was shown on a board
+abbrev pub Totals : Type 0
+Totals = List Progress
+
+pub record Watching : Type 0 where
+  pub looking : Looking
+  pub seen : List Progress
+  -- how many looks it has room for, with those that it noted
+  pub room : ℕ
+
+-- It is known of the board, or was shown on it.
+abbrev pub IsFrom : Totals → Totals → Progress → Type 0
+IsFrom shown known x = IsAmong x known ⊎ IsAmong x shown
+
+-- Each has more rounds than those before it.
+abbrev pub IsRising : List Progress → Type 0
+IsRising [] = Unit {0}
+IsRising (x ∷ xs) = AllByRecursion (λ (y : Progress). x.rounds < y.rounds) xs × IsRising xs
+
+-- What the watcher noted rises, and it and the latest that it knows are of a board on which this was shown.
+pub record Watches (shown : Totals) (w : Watching) : Type 0 where
+  pub latest : IsFrom shown w.looking.known w.looking.latest
+  pub seen : AllByRecursion (IsFrom shown w.looking.known) w.seen
+  pub rises : IsRising w.seen
+  pub most : AllByRecursion (λ (x : Progress). x.rounds ≤ w.looking.latest.rounds) w.seen
+
+-- ---- looks
+
+-- The watcher has room for the looks of a round.
+abbrev pub MayLook : Watching → Type 0
+MayLook w = length w.seen + 4 ≤ w.room
+
+-- It looked, at a board on which no less was shown than before.
+abbrev pub HasLooked : Watching → Watching → Type 0
+HasLooked old new = (shown : Totals) → Watches shown old → Watches shown new
+
+-- What it noted last has as many rounds as the latest that it knows.
+abbrev pub EndsAtLatest : Watching → Type 0
+EndsAtLatest w = (x : Progress) × IsLast x w.seen × (x.rounds ≡ w.looking.latest.rounds)
+
+-- ---- two watchers of one board
+
+pub record Showing : Type 0 where
+  pub shown : Totals
+  pub one : Watching
+  pub other : Watching
+
+pub record Stands (s : Showing) : Type 0 where
+  pub one : Watches s.shown s.one
+  pub other : Watches s.shown s.other
+
+-- Both have room for the looks of a round.
+abbrev pub BothMayLook : Showing → Type 0
+BothMayLook s = MayLook s.one × MayLook s.other
+
+-- These totals have more rounds than those that are shown.
+abbrev pub IsLater : Progress → Totals → Type 0
+IsLater progress shown = (last : Progress) → IsLast last shown → last.rounds < progress.rounds
+
+-- Each of the two knows the latest that was shown, or a later one.
+pub record KnowLast (s : Showing) : Type 0 where
+  pub one : (last : Progress) → IsLast last s.shown → last.rounds ≤ s.one.looking.latest.rounds
+  pub other : (last : Progress) → IsLast last s.shown → last.rounds ≤ s.other.looking.latest.rounds
+
+-- ---- the end
+
+-- What was seen was shown, rises, and ends with the last that was shown.
+pub record IsSeenOf (shown : Totals) (seen : List Progress) : Type 0 where
+  pub among : AllByRecursion (λ (x : Progress). IsAmong x shown) seen
+  pub rises : IsRising seen
+  pub last : (x : Progress) × IsLast x seen × ((y : Progress) → IsLast y shown → y.rounds ≤ x.rounds)
