@@ -114,7 +114,7 @@ pub look_noted : (shown : Totals) (w w' : Watching) (now : Progress) → now ≡
 look_noted shown w w' now is h front =
     subst
     (λ (n : Progress). IsAmong n w'.looking.known ⊎ (n ≡ w.looking.latest) → w.looking.latest.rounds ≤ n.rounds → ((last : Progress) → IsLast last w.seen → last.rounds ≡ n.rounds → ⊥) → w'.seen ≡ w.seen ++ n ∷ []
-        → Watches shown w')
+    → Watches shown w')
     (sym is) (watches_noted shown w w' h front)
 
 -- It was told what was shown, and knows no more of the board.

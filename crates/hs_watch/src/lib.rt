@@ -5,4 +5,3 @@ mod watch;
 mod watcher;
 
 pub use watch::Watch;
-
