@@ -17,7 +17,9 @@ use Rattle.hs_sent.specs.Drawn.{has_buffer}
 use Rattle.hs_sent.specs.Sending.{operations_at, place_of}
 use Rattle.hs_workload.specs.Validity.{IsValid}
 use Rattle.hs_workload.specs.declared.word.Setting.TheVariants as settings
-use Rattle.hs_counts.specs.Counts.{ClientCount, LogCount, Counts, AreCounts, log_count, progress_of}
+use Rattle.hs_counts.specs.declared.client.ClientCount.{ClientCount}
+use Rattle.hs_counts.specs.declared.log.LogCount.{LogCount}
+use Rattle.hs_counts.specs.Counts.{Counts, AreCounts, log_count, progress_of}
 use Rattle.hs_counts.specs.Laws.{CountsAreProgress}
 use Rattle.hs_counts.proofs.Sums.{got, by_places, sum_mapped, sum_same, count_same}
 

@@ -1,7 +1,8 @@
 -- Lists by their places, and sums over them.
-use Rattle.std.proofs.Common.{◌≡◌, ℕ, zero, suc, ◌+◌, ◌<◌, Bool, cond, List, [], ◌∷◌, length, map, Some, refl, sym, ap, ◌∙◌, arith, slice_get, sum_by, count_by}
+use Rattle.std.proofs.Common.{◌≡◌, ℕ, zero, suc, ◌+◌, ◌<◌, Bool, true, false, cond, List, [], ◌∷◌, length, map, take, get_or, Some, refl, sym, ap, ◌∙◌, arith, slice_get, sum_by, count_by}
 use Rattle.std.specs.List.{range_with_len}
-use Rattle.std.proofs.lemmas.List.Sums.{sum_by-cons}
+use Rattle.std.proofs.lemmas.List.{get_or-map, length-map}
+use Rattle.std.proofs.lemmas.List.Sums.{sum_by-cons, count_by_more_yes, count_by_more_no}
 
 pub got : {X : Type 0} (xs : List X) (i : ℕ) → i < length xs → (x : X) × (slice_get xs i ≡ Some x)
 got [] i low = absurd (omega (arith, low))
@@ -31,3 +32,17 @@ sum_same f g each (x ∷ xs) = sum_by-cons f x xs ∙ ap (λ n. n + sum_by f xs)
 
 pub count_same : {X : Type 0} (p q : X → Bool) → ((x : X) → p x ≡ q x) → (xs : List X) → count_by p xs ≡ count_by q xs
 count_same p q each xs = sum_same (λ x. cond (p x) 1 0) (λ x. cond (q x) 1 0) (λ x. ap (λ b. cond b 1 0) (each x)) xs
+
+-- one more is counted, or is not
+module _ {A B : Type 0} (f : A → B) (p : B → Bool) (xs : List A) (place : ℕ) (x : A) (low : place < length xs) (is : x ≡ get_or xs place x) where
+  here : get_or (map f xs) place (f x) ≡ f x
+  here = get_or-map f xs place x (f x) low ∙ ap f (sym is)
+
+  inside : place < length (map f xs)
+  inside = let long = length-map xs f in omega (arith, low, long)
+
+  pub counts_it : (n m : ℕ) → n ≡ count_by p (take place (map f xs)) → p (f x) ≡ true → m ≡ n + 1 → m ≡ count_by p (take (place + 1) (map f xs))
+  counts_it n m was passes more = more ∙ ap (λ k. k + 1) was ∙ sym (count_by_more_yes p (map f xs) place (f x) inside (ap p here ∙ passes))
+
+  pub leaves_it : (n m : ℕ) → n ≡ count_by p (take place (map f xs)) → p (f x) ≡ false → m ≡ n → m ≡ count_by p (take (place + 1) (map f xs))
+  leaves_it n m was fails same = same ∙ was ∙ sym (count_by_more_no p (map f xs) place (f x) inside (ap p here ∙ fails))

@@ -5,21 +5,13 @@ use Rattle.hs_actors.specs.Doings.{steps_of}
 use Rattle.hs_board.specs.declared.progress.Progress.{Progress}
 use Rattle.hs_caller.specs.Calling.{Calling}
 use Rattle.hs_client.specs.Core.{is_null}
+use Rattle.hs_counts.specs.declared.client.ClientCount.{ClientCount}
+use Rattle.hs_counts.specs.declared.log.LogCount.{LogCount}
 use Rattle.hs_journal.specs.declared.journal.Step.{Step}
 use Rattle.hs_progress.specs.Progress.{is_point, is_chunk, is_given}
 use Rattle.hs_records.specs.Plain.{Operation, PlainWorkload}
 use Rattle.hs_rounds.specs.Standing.{Site, Moment}
 use Rattle.hs_sent.specs.Sending.{operations_at, place_of}
-
-pub record ClientCount : Type 0 where
-  pub done : ℕ
-  pub points : ℕ
-  pub nulls : ℕ
-
-pub record LogCount : Type 0 where
-  pub steps : ℕ
-  pub taken : ℕ
-  pub given : ℕ
 
 -- of each client, in the order of node and number, and of each node
 pub record Counts : Type 0 where
