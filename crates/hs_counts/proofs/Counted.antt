@@ -27,7 +27,7 @@ null_so : (draw : Draw) → is_null draw ≡ not (has_buffer draw)
 null_so (draws.Got buffer stamp) = refl
 null_so (draws.Empty stamp) = refl
 
-progress_so : (rounds a a' b b' c c' d d' e e' : ℕ) → a ≡ a' → b ≡ b' → c ≡ c' → d ≡ d' → e ≡ e'
+pub progress_so : (rounds a a' b b' c c' d d' e e' : ℕ) → a ≡ a' → b ≡ b' → c ≡ c' → d ≡ d' → e ≡ e'
     → ◌≡◌ {A = Progress} (record { rounds = rounds; operations = a; records = b; nulls = c; taken = d; given = e }) (record { rounds = rounds; operations = a'; records = b'; nulls = c'; taken = d'; given = e' })
 progress_so rounds a a' b b' c c' d d' e e' pa pb pc pd pe =
     ap (λ x. record { rounds = rounds; operations = x; records = b; nulls = c; taken = d; given = e }) pa ∙ ap (λ x. record { rounds = rounds; operations = a'; records = x; nulls = c; taken = d; given = e }) pb
