@@ -1,3 +1,4 @@
 pub mod Sums
 pub mod Counted
 pub mod Seeing
+pub mod AllRounds
