@@ -1,5 +1,5 @@
 -- The end of a run, part by part.
-use Rattle.std.proofs.Common.{◌≡◌, List, map, ap, subst, ◌∙◌, slice_get}
+use Rattle.std.proofs.Common.{◌≡◌, ℕ, List, map, ap, sym, subst, ◌∙◌, slice_get}
 use Rattle.hs_base.specs.declared.ids.NodeId.{NodeId}
 use Rattle.hs_journal.specs.Books.{PlainAgentBook, PlainClientBook, client_book_of, agent_book_of}
 use Rattle.hs_records.specs.Plain.{PlainWorkload}
@@ -7,15 +7,17 @@ use Rattle.hs_report.specs.declared.outcome.Books.{Books}
 use Rattle.hs_ring.specs.Parts.{Drawing}
 use Rattle.hs_desk.specs.Coordinators.{Coordinating}
 use Rattle.hs_desk.specs.Shut.{Shut}
-use Rattle.hs_rounds.specs.Standing.{Stands}
+use Rattle.hs_rounds.specs.Standing.{Moment, Stands}
+use Rattle.hs_rounds.specs.Coming.{Came}
 use Rattle.hs_workload.specs.Validity.{IsValid}
 use Rattle.hs_retell.specs.Laws.{ClosingBegins, PoolsAreKept, RunsAreLawful}
+use Rattle.hs_retell.specs.Noting.{JournalsNoteRounds}
 use Rattle.hs_closing.specs.Shutting.{ClosingAt, ClosedAt, sents_at}
 use Rattle.hs_closing.specs.Ended.{AreEnded, AreShut, MayFinish, HaveFinished}
-use Rattle.hs_closing.specs.Finished.{AreLawfulBooks}
+use Rattle.hs_closing.specs.Finished.{AreBooksBehind}
 use Rattle.hs_closing.specs.Over.{RoundsOver, place_site}
 use Rattle.hs_closing.specs.declared.place.Place.{Place}
-use Rattle.hs_closing.proofs.Gathering.{shut_from, can_finish, Comes, comes_to}
+use Rattle.hs_closing.proofs.Gathering.{shut_from, can_finish, ComesBehind, comes_to}
 use Rattle.hs_closing.proofs.Starting.{HaveSent, stands_last, closing_starts}
 
 module _ (W : PlainWorkload) (places : List Place) (c : Coordinating) (over : RoundsOver W places c) where
@@ -40,14 +42,16 @@ module _ (W : PlainWorkload) (places : List Place) (c : Coordinating) (over : Ro
       pub may : MayFinish nodes lists
       may = can_finish kept runs W over.valid over.rounds over.moment over.came over.begin stand over.all (map place_site places) over.nodes books lists first shut nodes c' closed
 
-      pub comes : (agents : List PlainAgentBook) → HaveFinished nodes lists agents → Comes W books agents c'.kept.log
+      pub comes : (agents : List PlainAgentBook) → HaveFinished nodes lists agents → JournalsNoteRounds → ComesBehind W over.rounds over.moment over.came books agents c'.kept.log
       comes agents finished = comes_to kept runs W over.valid over.rounds over.moment over.came over.begin stand over.all (map place_site places) over.nodes books lists first shut nodes c' closed agents finished
 
-pub lawful_books : (W : PlainWorkload) → IsValid W → (books : Books) → books.version ≡ W.version → books.nodes ≡ W.settings.nodes → books.each ≡ W.settings.clients
-    → Comes W (map client_book_of books.clients.items) (map agent_book_of books.agents.items) books.told.items → AreLawfulBooks W books
-lawful_books W valid books version nodes each come =
-    (come.J, record { valid = valid; lawful = come.lawful; version = version; nodes = nodes; each = each; clients = come.clients_are; agents = come.agents_are; told = come.told_are })
+pub behind_books : (W : PlainWorkload) (rounds : ℕ) (m : Moment) (came : Came W rounds m) → IsValid W → (books : Books) → books.version ≡ W.version → books.nodes ≡ W.settings.nodes → books.each ≡ W.settings.clients
+    → ComesBehind W rounds m came (map client_book_of books.clients.items) (map agent_book_of books.agents.items) books.told.items → AreBooksBehind W rounds m came books
+behind_books W rounds m came valid books version nodes each behind =
+    let come = behind.come in
+    (come.J, record { valid = valid; lawful = come.lawful; version = version; nodes = nodes; each = each; clients = come.clients_are; agents = come.agents_are; told = come.told_are }, behind.notes)
 
 -- the same with the list of the same nodes
-pub comes_so : {W : PlainWorkload} {clients : List PlainClientBook} {agents : List PlainAgentBook} {told log : List NodeId} → told ≡ log → Comes W clients agents log → Comes W clients agents told
-comes_so is come = record { J = come.J; lawful = come.lawful; clients_are = come.clients_are; agents_are = come.agents_are; told_are = is ∙ come.told_are }
+pub comes_so : {W : PlainWorkload} {rounds : ℕ} {m : Moment} {came : Came W rounds m} {clients : List PlainClientBook} {agents : List PlainAgentBook} {told log : List NodeId} → told ≡ log
+    → ComesBehind W rounds m came clients agents log → ComesBehind W rounds m came clients agents told
+comes_so {W} {rounds} {m} {came} {clients} {agents} {told} {log} is come = subst (ComesBehind W rounds m came clients agents) (sym is) come

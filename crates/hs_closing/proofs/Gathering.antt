@@ -19,6 +19,7 @@ use Rattle.hs_desk.specs.Shut.{Shut}
 use Rattle.hs_rounds.specs.Standing.{Site, Moment, Stands}
 use Rattle.hs_rounds.specs.Coming.{Came}
 use Rattle.hs_retell.specs.Laws.{AllBegin, PoolsAreKept, RunsAreLawful, IsRecounted}
+use Rattle.hs_retell.specs.Noting.{NotesRounds, JournalsNoteRounds}
 use Rattle.hs_closing.specs.Shutting.{ClosedAt, AreShutFrom, IsShutFrom, sents_at}
 use Rattle.hs_closing.specs.Ended.{AreShut, CanFinish, MayFinish, HasFinished, HaveFinished}
 use Rattle.hs_closing.specs.Noted.{IsNoted, books_of, first_books}
@@ -146,6 +147,11 @@ pub record Comes (W : PlainWorkload) (clients : List PlainClientBook) (agents : 
   pub agents_are : agents ≡ agent_books (followed W J)
   pub told_are : told ≡ J.told
 
+-- And it notes the rounds that led there.
+pub record ComesBehind (W : PlainWorkload) (rounds : ℕ) (m : Moment) (came : Came W rounds m) (clients : List PlainClientBook) (agents : List PlainAgentBook) (told : List NodeId) : Type 0 where
+  pub come : Comes W clients agents told
+  pub notes : NotesRounds W rounds m came come.J
+
 module _ (kept : PoolsAreKept) (runs : RunsAreLawful) (W : PlainWorkload) (valid : IsValid W) (rounds : ℕ) (m : Moment) (came : Came W rounds m) (begin : AllBegin W (came.at 0)) (stand : Stands W m)
     (all : (node client : ℕ) (site : Site) (caller : Calling) → slice_get m.standing.nodes node ≡ Some site → slice_get site.callers client ≡ Some caller → caller.done ≡ length (operations_at W (place_of W.settings.clients node client)))
     (sites : List Site) (sites_are : m.standing.nodes ≡ sites) (books : List PlainClientBook) (lists : List (List Drawing)) (first : List Shut) (shut : AreShut sites books lists first)
@@ -197,8 +203,8 @@ module _ (kept : PoolsAreKept) (runs : RunsAreLawful) (W : PlainWorkload) (valid
           let is : f.site ≡ site = cc in
           finished_at nodes lists agents finished node x (map drawer_of site.callers) there (f.drawers ∙ ap (λ (s : Site). Some (map drawer_of s.callers)) is)
 
-      pub comes_to : Comes W books agents c.kept.log
-      comes_to =
+      pub comes_to : JournalsNoteRounds → ComesBehind W rounds m came books agents c.kept.log
+      comes_to notes =
           let at = closed.at in
           let over =
           all_over kept W rounds m came begin stand (sents_at m) nodes c at closed.bare (λ node site x there here. let f = (one_finished node site x there here).2 in (f.tally, f.closes)) all in
@@ -206,11 +212,8 @@ module _ (kept : PoolsAreKept) (runs : RunsAreLawful) (W : PlainWorkload) (valid
           let J = told.0 in
           let r = told.1 in
           record {
-            J = J;
-            lawful = r.lawful;
-            clients_are = clients J r;
-            agents_are = agents_so J r;
-            told_are = at.stand.coordinates.taken.log ∙ sym r.told;
+            come = record { J = J; lawful = r.lawful; clients_are = clients J r; agents_are = agents_so J r; told_are = at.stand.coordinates.taken.log ∙ sym r.told };
+            notes = notes W rounds m at.passes at.posts at.heard valid came at.closing J r;
           }
         where
           clients : (J : PlainJournal) → IsRecounted W m closed.at.posts closed.at.heard J → books ≡ client_books W J
