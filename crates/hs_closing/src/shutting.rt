@@ -1,6 +1,6 @@
 //! The clients of all nodes are taken apart, and their links closed.
 
-ghost use Rattle.std.specs.Prelude.{◌≡◌, ◌++◌, map, IfOk, OnOk};
+ghost use Rattle.std.specs.Prelude.{◌≡◌, ◌∷◌, ◌++◌, [], map, IfOk, OnOk};
 ghost use Rattle.hs_journal.specs.Books.{client_book_of};
 ghost use Rattle.hs_closing.specs.Ended.{IsEnded, AreEnded, HasShut, AreShut, items_of};
 ghost use Rattle.hs_closing.specs.Over.{place_site};
@@ -50,30 +50,42 @@ fn shut(alloc: Global, place: Place) -> Result<Shutting, Memory>
     })
 }
 
+impl Ended {
+    /// What a node's clients and its agent leave goes behind that of the others.
+    fn add(&mut self, one: Shutting) -> Result<(), Memory>
+        ensures books { OnOk result (map client_book_of self.new.books.items ≡ map client_book_of self.old.books.items ++ map client_book_of one.books.items) }
+        ensures drawers { OnOk result (self.new.drawers.items ≡ self.old.drawers.items ++ one.drawers ∷ []) }
+        ensures nodes { OnOk result (self.new.nodes.items ≡ self.old.nodes.items ++ one.node ∷ []) }
+    {
+        let Shutting {
+            books,
+            drawers,
+            node,
+        } = one;
+        let nodes = self.nodes.append(node);
+        let drawers = self.drawers.append(drawers);
+        let books = add_all(&mut self.books, books);
+        nodes?;
+        drawers?;
+        books
+    }
+}
+
 /// Takes the clients of all nodes apart, and closes their links.
 pub(crate) fn shut_all(alloc: Global, places: List<Place>) -> Result<Ended, Memory>
     requires { AreEnded (map place_site places.items) }
     ensures { IfOk result (λ e. AreShut (map place_site places.items) (map client_book_of e.books.items) (items_of e.drawers.items) e.nodes.items) }
 {
-    let mut books = List::new(alloc);
-    let mut drawers = List::new(alloc);
-    let mut nodes = List::new(alloc);
+    let mut ended = Ended {
+        books: List::new(alloc),
+        drawers: List::new(alloc),
+        nodes: List::new(alloc),
+    };
     for place in places.into_vec() {
         let one = shut(alloc, place)?;
-        let Shutting {
-            books: noted,
-            drawers: ends,
-            node,
-        } = one;
-        add_all(&mut books, noted)?;
-        drawers.append(ends)?;
-        nodes.append(node)?;
+        ended.add(one)?;
     }
-    Ok(Ended {
-        books,
-        drawers,
-        nodes,
-    })
+    Ok(ended)
 }
 
 /// These books go behind the others.

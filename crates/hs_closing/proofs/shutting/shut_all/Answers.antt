@@ -24,18 +24,20 @@ loop-place-preserved c =
     let yielded = c.loop-place.yielded in
     let place = c.in-Some.place in
     let one = c.in_ok-one.one in
-    let books = map client_book_of c.loop-place.books.items in
-    let lists = items_of c.loop-place.drawers.items in
-    let nodes = c.loop-place.nodes.items in
-    let more = shut_more (map place_site yielded) books lists nodes (place_site place) (map client_book_of one.books.items) one.drawers.items one.node c.loop-place.invariant.2 c.in_ok-one.ensures in
+    let old = c.loop-place.ended in
+    let new = c.add.new.self in
+    let added = c.in_ok-add.ensures in
+    let books = map client_book_of old.books.items in
+    let lists = items_of old.drawers.items in
+    let more = shut_more (map place_site yielded) books lists old.nodes.items (place_site place) (map client_book_of one.books.items) one.drawers.items one.node c.loop-place.invariant.2 c.in_ok-one.ensures in
     let sites : map place_site (yielded ++ place ∷ []) ≡ map place_site yielded ++ place_site place ∷ [] = map-append place_site yielded (place ∷ []) in
-    let drawers : items_of c.append.new.self.items ≡ lists ++ one.drawers.items ∷ [] = ap items_of c.in_ok-append.ensures.ok ∙ map-append _ c.loop-place.drawers.items (one.drawers ∷ []) in (
+    let drawers : items_of new.drawers.items ≡ lists ++ one.drawers.items ∷ [] = ap items_of added.drawers ∙ map-append _ old.drawers.items (one.drawers ∷ []) in (
       tt,
       tt,
-      subst (λ (l : List Site). AreShut l (map client_book_of c.add_all.new.books.items) (items_of c.append.new.self.items) c.append-in-loop-place.new.self.items) (sym sites)
-          (subst (λ (l : List PlainClientBook). AreShut (map place_site yielded ++ place_site place ∷ []) l (items_of c.append.new.self.items) c.append-in-loop-place.new.self.items) (sym c.in_ok-add_all.ensures)
-          (subst (λ (l : List (List Drawing)). AreShut (map place_site yielded ++ place_site place ∷ []) (books ++ map client_book_of one.books.items) l c.append-in-loop-place.new.self.items) (sym drawers)
-          (subst (λ (l : List Shut). AreShut (map place_site yielded ++ place_site place ∷ []) (books ++ map client_book_of one.books.items) (lists ++ one.drawers.items ∷ []) l) (sym c.in_ok-append-2.ensures.ok) more))),
+      subst (λ (l : List Site). AreShut l (map client_book_of new.books.items) (items_of new.drawers.items) new.nodes.items) (sym sites)
+          (subst (λ (l : List PlainClientBook). AreShut (map place_site yielded ++ place_site place ∷ []) l (items_of new.drawers.items) new.nodes.items) (sym added.books)
+          (subst (λ (l : List (List Drawing)). AreShut (map place_site yielded ++ place_site place ∷ []) (books ++ map client_book_of one.books.items) l new.nodes.items) (sym drawers)
+          (subst (λ (l : List Shut). AreShut (map place_site yielded ++ place_site place ∷ []) (books ++ map client_book_of one.books.items) (lists ++ one.drawers.items ∷ []) l) (sym added.nodes) more))),
     )
 
 pub returns : goal.returns
@@ -43,4 +45,4 @@ returns c =
     let all = YieldsList-from_vec {s = c.into_iter-place-iterator.result} c.args.places.items (c.into_iter-place-iterator.ensures.into_iter_gives.0 ∙ c.into_vec-place-items.ensures.items)
     (c.into_iter-place-iterator.ensures.into_iter_gives.1 ∙ c.into_vec-place-items.result.ok.0 ∙ ap length c.into_vec-place-items.ensures.items) in
     let last = YieldsList-end all c.loop-place.yielded c.loop-place.place-iterator c.loop-place.yielded_by c.next.result c.next.new.self c.in-None.is c.next.ensures.steps in
-    subst (λ (l : List Place). AreShut (map place_site l) (map client_book_of c.loop-place.books.items) (items_of c.loop-place.drawers.items) c.loop-place.nodes.items) (sym (map_same c.loop-place.yielded) ∙ last.0) c.loop-place.invariant.2
+    subst (λ (l : List Place). AreShut (map place_site l) (map client_book_of c.loop-place.ended.books.items) (items_of c.loop-place.ended.drawers.items) c.loop-place.ended.nodes.items) (sym (map_same c.loop-place.yielded) ∙ last.0) c.loop-place.invariant.2

@@ -7,4 +7,4 @@ use Rattle.hs_closing.proofs.shutting.shut_all.Given as goal
 abbrev pub invariant-loop-place : goal.invariant-loop-place
 invariant-loop-place l =
     (goal.iterator-loop-place).can_next l.place-iterator × (goal.iterator-loop-place).is_finite l.place-iterator
-    × AreShut (map place_site l.yielded) (map client_book_of l.books.items) (items_of l.drawers.items) l.nodes.items
+    × AreShut (map place_site l.yielded) (map client_book_of l.ended.books.items) (items_of l.ended.drawers.items) l.ended.nodes.items
