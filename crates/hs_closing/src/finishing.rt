@@ -1,17 +1,21 @@
 //! The books of a run whose rounds are over.
 
-ghost use Rattle.std.specs.Prelude.{IfOk};
+ghost use Rattle.std.specs.Prelude.{◌≡◌, map, IfOk};
+ghost use Rattle.hs_coord.specs.Messages.{Messages};
+ghost use Rattle.hs_records.specs.Plain.{PlainWorkload};
 ghost use Rattle.hs_workload.specs.Views.{workload_of};
+ghost use Rattle.hs_desk.specs.Coordinators.{Tellings, Askings, IsCoordinating};
 ghost use Rattle.hs_closing.specs.Over.{RoundsOver};
-ghost use Rattle.hs_closing.specs.Finished.{AreLawfulBooks, AreBooksBehind};
+ghost use Rattle.hs_closing.specs.Finished.{AreLawfulBooks, AreBooksBehind, AreGathered};
 
 use crate::closing::close_down;
 use crate::place::Place;
 use crate::pools::close_pools;
 use crate::shutting::{Ended, shut_all};
-use hs_base::{List, Memory};
+use hs_base::{List, Memory, NodeId};
 use hs_caller::callers_have_sent;
 use hs_desk::CoordinatorActor;
+use hs_journal::{AgentBook, ClientBook};
 use hs_report::Books;
 use hs_retell::laws::{closing_begins, journals_note_rounds, pools_are_kept, runs_are_lawful};
 use hs_workload::Workload;
@@ -35,21 +39,46 @@ pub fn finish(
     journals_note_rounds();
     callers_have_sent();
     let mut coordinator = coordinator;
+    let mut ended = shut_all(alloc, places)?;
+    close_down(&mut ended.nodes, &mut coordinator)?;
     let Ended {
         books,
         drawers,
-        mut nodes,
-    } = shut_all(alloc, places)?;
-    close_down(&mut nodes, &mut coordinator)?;
-    let agents = close_pools(alloc, nodes, drawers)?;
+        nodes,
+    } = ended;
+    let agents = close_pools(alloc, nodes, drawers);
+    let told = told_of(alloc, &coordinator);
+    books_of(workload, books, agents, told)
+}
+
+/// The nodes whose messages the coordinator heard, in their order.
+fn told_of(alloc: Global, coordinator: &CoordinatorActor) -> Result<List<NodeId>, Memory>
+    ensures { (W : PlainWorkload) (heard : Messages) (moved : Tellings) (asked : Askings) → IsCoordinating W heard moved asked coordinator.now
+        → IfOk result (λ told. told.items ≡ map (λ m. m.node) heard) }
+{
     let mut told = List::new(alloc);
     told.append_slice(coordinator.log().as_slice())?;
-    Ok(Books {
-        version: workload.version,
-        nodes: workload.settings.nodes,
-        each: workload.settings.clients,
-        clients: books,
-        agents,
-        told,
-    })
+    Ok(told)
+}
+
+/// The books of a run, where memory was there for those of the agents and for the coordinator's.
+fn books_of(
+    workload: &Workload,
+    clients: List<ClientBook>,
+    agents: Result<List<AgentBook>, Memory>,
+    told: Result<List<NodeId>, Memory>,
+) -> Result<Books, Memory>
+    ensures { IfOk result (AreGathered workload.now clients agents told) }
+{
+    match (agents, told) {
+        (Ok(agents), Ok(told)) => Ok(Books {
+            version: workload.version,
+            nodes: workload.settings.nodes,
+            each: workload.settings.clients,
+            clients,
+            agents,
+            told,
+        }),
+        _ => Err(Memory),
+    }
 }
