@@ -10,3 +10,8 @@ pub mod Few
 pub mod Moved
 pub mod Rounded
 mod Begun
+pub mod TallyLists
+pub mod TallyAgents
+pub mod TallyClients
+pub mod TallyCounting
+pub mod TallyRounds

@@ -6,3 +6,6 @@ pub mod Nodes
 pub mod Making
 pub mod Moments
 pub mod Movings
+pub mod Tallying
+pub mod TallyLayout
+pub mod TallyingNodes

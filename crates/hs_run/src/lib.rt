@@ -8,5 +8,6 @@ mod node;
 mod rounds;
 mod running;
 mod site;
+mod tallying;
 
 pub use running::run;

@@ -1,0 +1,6 @@
+use Rattle.std.proofs.Common.{◌≡◌, take, sum_by}
+use Rattle.hs_counts.specs.declared.log.LogCount.{LogCount}
+use Rattle.hs_run.proofs.tallying.given_in.Given as goal
+
+abbrev pub invariant-loop-count : goal.invariant-loop-count
+invariant-loop-count l = l.sum ≡ sum_by (λ (c : LogCount). c.given) (take l.count-index l.counts)
