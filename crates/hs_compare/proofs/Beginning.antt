@@ -1,7 +1,7 @@
 -- The draws of a journal that has the shape of a workload, the rows of its clients, and one script more.
-use Rattle.std.proofs.Common.{◌≡◌, ℕ, zero, suc, ◌+◌, ◌*◌, ◌^◌, ◌<◌, ◌≤◌, Bool, true, false, ◌&&◌, nat_eq, List, [], ◌∷◌, ◌++◌, length, map, get_or, Option, Some, None, option_map, refl, sym, ap, ap₂, subst, ◌∙◌, arith, slice_get, unwrap_or, eqb-true, mul-le-mul_right, ◌⊎◌, inl, inr}
+use Rattle.std.proofs.Common.{◌≡◌, ℕ, zero, suc, ◌+◌, ◌*◌, ◌^◌, ◌<◌, ◌≤◌, Bool, true, false, ◌&&◌, nat_eq, List, [], ◌∷◌, ◌++◌, length, map, get_or, Option, Some, option_map, refl, sym, ap, subst, ◌∙◌, arith, slice_get, unwrap_or, eqb-true, mul-le-mul_right, ◌⊎◌, inl, inr}
 use Rattle.std.specs.List.{flat_map, range_with_len}
-use Rattle.std.proofs.lemmas.List.{append-nil, map-append, length_push}
+use Rattle.std.proofs.lemmas.List.{append-nil, length_push}
 use Rattle.std.proofs.lemmas.List.Concat.{flat_map-append}
 use Rattle.std.proofs.lemmas.Option.{same_Some, slice_get-map, slice_get-get_or}
 use Rattle.hs_journal.specs.Views.{PlainJournal}
@@ -10,13 +10,13 @@ use Rattle.hs_lawful.specs.Shape.{same_counts}
 use Rattle.hs_outcome.specs.Outcomes.{client_at}
 use Rattle.hs_records.specs.Pages.{pages_of}
 use Rattle.hs_records.specs.Plain.{Operation, PlainWorkload}
-use Rattle.hs_samplers.specs.Coming.{comings_of, all_comings}
+use Rattle.hs_samplers.specs.Coming.{comings_of}
 use Rattle.hs_sent.specs.Sending.{draws_at, operations_at}
 use Rattle.hs_compare.specs.declared.coming.Coming.{Coming}
 use Rattle.hs_compare.specs.declared.script.Script.{Script}
 use Rattle.hs_compare.specs.Happens.{coming_of}
 use Rattle.hs_compare.specs.Scripts.{IsClientScript}
-use Rattle.hs_compare.specs.Beginning.{MayBegin, AreFirstScripts, AreScripts}
+use Rattle.hs_compare.specs.Beginning.{MayBegin, AreFirstScripts}
 use Rattle.hs_compare.proofs.Walked.{range-append}
 
 and_parts : (a b : Bool) → (a && b) ≡ true → (a ≡ true) × (b ≡ true)

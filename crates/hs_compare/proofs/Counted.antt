@@ -1,13 +1,13 @@
 -- Traces that are counted one by one.
-use Rattle.std.proofs.Common.{◌≡◌, ℕ, ◌+◌, ◌≤◌, cond, ◌==◌, ◌||◌, ◌&&◌, Bool, true, false, List, [], ◌∷◌, ◌++◌, length, Some, None, is_some, refl, sym, ap, ◌∙◌, arith}
+use Rattle.std.proofs.Common.{◌≡◌, ℕ, suc, ◌+◌, ◌≤◌, cond, ◌==◌, ◌||◌, ◌&&◌, Bool, true, false, List, [], ◌∷◌, ◌++◌, length, filter, Some, None, is_some, refl, sym, ap, ◌∙◌, arith}
 use Rattle.std.specs.Prelude.{count_by, nat_lt, unwrap_or}
 use Rattle.std.specs.Map.{lookup}
 use Rattle.std.proofs.lemmas.List.Folds.{list_any-append}
-use Rattle.std.proofs.lemmas.List.Sums.{sum_by_push, sum_by-cons, count_by-le-length}
+use Rattle.std.proofs.lemmas.List.Sums.{sum_by_push, sum_by-cons, count_by-le-length, length-filter}
 use Rattle.hs_base.specs.declared.ids.TraceId.{TraceId}
 use Rattle.hs_compare.specs.Ringing.{is_among}
 use Rattle.hs_compare.specs.declared.lines.Line.{Line}
-use Rattle.hs_compare.specs.Counting.{is_same, times, times_in, each_once, AreCounted, is_whole_by, line_by}
+use Rattle.hs_compare.specs.Counting.{is_same, times, times_in, each_once, AreCounted, is_counted, is_whole_by, line_by}
 use Rattle.hs_compare.proofs.Queued.{is_key, same_ids}
 
 abbrev pub Counts : Type 0
@@ -149,3 +149,90 @@ pub line_is : (all named kept : List TraceId) (all' kept' : Counts) (shipped r t
 line_is all named kept all' kept' shipped r t w are those records traces whole =
     ap (λ n. the_line n t w shipped) records ∙ ap (λ n. the_line (length kept) n w shipped) (traces ∙ those.count)
     ∙ ap (λ n. the_line (length kept) (length (each_once kept)) n shipped) (whole ∙ whole_same all kept all' kept' are those named)
+
+-- ---- each trace once
+
+pub once_few : (traces : List TraceId) → length (each_once traces) ≤ length traces
+once_few [] = omega arith
+once_few (x ∷ traces) = by (is_among traces x) (once_few traces)
+  where
+    by : (b : Bool) → length (each_once traces) ≤ length traces → length (cond b (each_once traces) (x ∷ each_once traces)) ≤ suc (length traces)
+    by true ih = omega (arith, ih)
+    by false ih = omega (arith, ih)
+
+times_cons : (x : TraceId) (traces : List TraceId) (t : TraceId) → times (x ∷ traces) t ≡ cond (is_same t x) 1 0 + times traces t
+times_cons x traces t = sum_by-cons (λ (y : TraceId). cond (is_same t y) 1 0) x traces
+
+once_less : (traces : List TraceId) (t : TraceId) → times (each_once traces) t ≤ times traces t
+once_less [] t = omega arith
+once_less (x ∷ traces) t = by (is_among traces x) (once_less traces t)
+  where
+    by : (b : Bool) → times (each_once traces) t ≤ times traces t → times (cond b (each_once traces) (x ∷ each_once traces)) t ≤ times (x ∷ traces) t
+    by true ih = omega (arith, ih, times_cons x traces t)
+    by false ih = omega (arith, ih, times_cons x traces t, times_cons x (each_once traces) t)
+
+pub times_once : (traces : List TraceId) (t : TraceId) → times (each_once traces) t ≤ 1
+times_once [] t = omega arith
+times_once (x ∷ traces) t = by (is_among traces x) refl (times_once traces t)
+  where
+    first : (b : Bool) → is_same t x ≡ b → is_among traces x ≡ false → times (each_once traces) t ≤ 1 → cond b 1 0 + times (each_once traces) t ≤ 1
+    first true e none ih = let here = none_counted traces t (ap (is_among traces) (sym (same_ids x t e)) ∙ none) in omega (arith, here, once_less traces t)
+    first false e none ih = omega (arith, ih)
+
+    by : (b : Bool) → is_among traces x ≡ b → times (each_once traces) t ≤ 1 → times (cond b (each_once traces) (x ∷ each_once traces)) t ≤ 1
+    by true e ih = ih
+    by false e ih = omega (arith, times_cons x (each_once traces) t, first (is_same t x) refl e ih)
+
+-- ---- those that were counted
+
+pub counted_is : (traces : List TraceId) (counts : Counts) → AreCounted traces counts → (t : TraceId) → is_counted counts t ≡ is_among traces t
+counted_is traces counts are t = ap is_some (are.each t) ∙ found (is_among traces t)
+  where
+    found : (b : Bool) → is_some (cond b (Some (times traces t)) None) ≡ b
+    found true = refl
+    found false = refl
+
+count_none : {X : Type 0} (xs : List X) → count_by (λ _. false) xs ≡ 0
+count_none [] = refl
+count_none (x ∷ xs) = let e = sum_by-cons (λ _. 0) x xs in let ih = count_none xs in omega (arith, e, ih)
+
+count_either : {X : Type 0} (p q : X → Bool) (xs : List X) → count_by (λ x. p x || q x) xs ≤ count_by p xs + count_by q xs
+count_either p q [] = omega arith
+count_either p q (x ∷ xs) =
+    let a = sum_by-cons (λ y. cond (p y || q y) 1 0) x xs in
+    let b = sum_by-cons (λ y. cond (p y) 1 0) x xs in
+    let c = sum_by-cons (λ y. cond (q y) 1 0) x xs in
+    omega (arith, a, b, c, one (p x) (q x), count_either p q xs)
+  where
+    one : (a b : Bool) → cond {A = ℕ} (a || b) 1 0 ≤ cond a 1 0 + cond b 1 0
+    one true b = omega arith
+    one false b = omega arith
+
+-- where each stands once in a list, as many of it are among some traces as there are of these
+few_among : (traces named : List TraceId) → ((t : TraceId) → times named t ≤ 1) → count_by (is_among traces) named ≤ length traces
+few_among [] named once = omega (arith, count_none named)
+few_among (x ∷ traces) named once =
+    omega (arith, count_either (λ (t : TraceId). x.0 == t.0) (is_among traces) named, count_same (λ (t : TraceId). x.0 == t.0) (is_same x) (λ t. flip x.0 t.0) named, once x, few_among traces named once)
+  where
+    flip : (a b : ℕ) → (a == b) ≡ (b == a)
+    flip a b = grind arith
+
+pub named_few : (traces named : List TraceId) (counts : Counts) → AreCounted traces counts → ((t : TraceId) → times named t ≤ 1) → length (filter (is_counted counts) named) ≤ length traces
+named_few traces named counts are once =
+    omega (arith, length-filter (is_counted counts) named, count_same (is_counted counts) (is_among traces) (counted_is traces counts are) named, few_among traces named once)
+
+count_filtered : {X : Type 0} (p q : X → Bool) → ((x : X) → q x ≡ false → p x ≡ false) → (xs : List X) → count_by p (filter q xs) ≡ count_by p xs
+count_filtered p q none [] = refl
+count_filtered p q none (x ∷ xs) = by (q x) refl (count_filtered p q none xs)
+  where
+    by : (b : Bool) → q x ≡ b → count_by p (filter q xs) ≡ count_by p xs → count_by p (cond b (x ∷ filter q xs) (filter q xs)) ≡ count_by p (x ∷ xs)
+    by true e ih = omega (arith, ih, sum_by-cons (λ y. cond (p y) 1 0) x xs, sum_by-cons (λ y. cond (p y) 1 0) x (filter q xs))
+    by false e ih = let zero : cond {A = ℕ} (p x) 1 0 ≡ 0 = ap (λ b. cond b 1 0) (none x e) in omega (arith, ih, zero, sum_by-cons (λ y. cond (p y) 1 0) x xs)
+
+-- a line leaves the others out
+pub line_known : (traces named kept : List TraceId) (counts : Counts) (shipped : ℕ) → AreCounted traces counts
+    → line_by traces (filter (is_counted counts) named) kept shipped ≡ line_by traces named kept shipped
+line_known traces named kept counts shipped are =
+    ap (λ n. the_line (length kept) (length (each_once kept)) n shipped)
+    (count_filtered (is_whole_by (times traces) (times kept)) (is_counted counts)
+    (λ t none. ap (λ n. nat_lt 0 n && (times kept t == n)) (none_counted traces t (sym (counted_is traces counts are t) ∙ none))) named)

@@ -3,6 +3,7 @@ pub mod Queued
 pub mod Rings
 pub mod Tails
 pub mod Counted
+pub mod Claiming
 pub mod Marking
 pub mod Walked
 pub mod Rounded
@@ -15,3 +16,5 @@ pub mod Compared
 pub mod Beginning
 pub mod Lined
 pub mod Outcomed
+pub mod Few
+pub mod Together

@@ -21,7 +21,7 @@ use Rattle.hs_compare.proofs.Compared.{line_is_plain}
 use Rattle.hs_compare.proofs.Counted.{count_same}
 use Rattle.hs_compare.proofs.Ringed.{HasNames}
 
-abbrev trace_in : samplers.Coming → TraceId
+abbrev pub trace_in : samplers.Coming → TraceId
 trace_in c = c.trace
 
 abbrev pub bytes_by : List samplers.Coming → ℕ
@@ -29,11 +29,11 @@ bytes_by records = sum_by (λ (c : samplers.Coming). c.bytes) records
 
 -- ---- what is kept, of the records in memory and of those of the workload
 
-traces_same : (records : List Coming) → traces_of records ≡ map trace_in (map coming_of records)
+pub traces_same : (records : List Coming) → traces_of records ≡ map trace_in (map coming_of records)
 traces_same [] = refl
 traces_same (r ∷ rs) = ap (λ ts. r.trace ∷ ts) (traces_same rs)
 
-bytes_same : (records : List Coming) → bytes_in records ≡ bytes_by (map coming_of records)
+pub bytes_same : (records : List Coming) → bytes_in records ≡ bytes_by (map coming_of records)
 bytes_same [] = refl
 bytes_same (r ∷ rs) =
     let a = sum_by-cons (λ (c : Coming). c.bytes) r rs in

@@ -54,6 +54,15 @@ marked_less (m ∷ ms) (r ∷ rs) = by m (marked_less ms rs)
     by true ih = omega (arith, ih, sum_by-cons (λ (c : Coming). c.bytes) r (marked ms rs), sum_by-cons (λ (c : Coming). c.bytes) r rs)
     by false ih = omega (arith, ih, sum_by-cons (λ (c : Coming). c.bytes) r rs)
 
+pub marked_few : (marks : List Bool) (records : List Coming) → length (marked marks records) ≤ length records
+marked_few [] records = omega arith
+marked_few (m ∷ marks) [] = omega arith
+marked_few (m ∷ marks) (r ∷ records) = by m (marked_few marks records)
+  where
+    by : (b : Bool) → length (marked marks records) ≤ length records → length (cond b (r ∷ marked marks records) (marked marks records)) ≤ length (r ∷ records)
+    by true ih = omega (arith, ih)
+    by false ih = omega (arith, ih)
+
 -- so the sum fits
 pub bytes_fit : (marks : List Bool) (records : List Coming) (i : ℕ) (d : Bool) (e : Coming) → length marks ≡ length records → i < length records → get_or marks i d ≡ true
     → bytes_in (marked (take i marks) (take i records)) + (get_or records i e).bytes ≤ bytes_in records

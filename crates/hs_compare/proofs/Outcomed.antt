@@ -1,6 +1,6 @@
 -- A valid workload with a lawful journal can be compared, and its outcome has an entry for each record. The ring through all scripts is
 -- the ring of the workload, so what was counted is its comparison.
-use Rattle.std.proofs.Common.{◌≡◌, ℕ, false, List, [], ◌∷◌, length, map, refl, sym, ap, subst, ◌∙◌}
+use Rattle.std.proofs.Common.{◌≡◌, ℕ, false, List, [], ◌∷◌, map, refl, sym, ap, subst, ◌∙◌}
 use Rattle.std.specs.Prelude.{fold}
 use Rattle.std.specs.List.{AllByRecursion}
 use Rattle.hs_base.specs.declared.ids.TraceId.{TraceId}
@@ -9,7 +9,7 @@ use Rattle.hs_ledger.specs.declared.ledger.Entry.{Entry}
 use Rattle.hs_lawful.specs.Ends.{rounds_of}
 use Rattle.hs_lawful.specs.Lawful.{IsLawful}
 use Rattle.hs_outcome.specs.Outcomes.{outcome_of}
-use Rattle.hs_outcome.specs.Records.{name_of}
+use Rattle.hs_outcome.specs.Records.{Named, name_of}
 use Rattle.hs_records.specs.Plain.{Operation, PlainSettings, PlainWorkload}
 use Rattle.hs_records.specs.Records.{AreBracketed}
 use Rattle.hs_report.specs.declared.outcome.Outcome.{Outcome}
@@ -25,15 +25,15 @@ use Rattle.hs_compare.specs.declared.script.Script.{Script}
 use Rattle.hs_compare.specs.Beginning.{AreScripts, MayBegin}
 use Rattle.hs_compare.specs.Comparing.{comparison_by}
 use Rattle.hs_compare.specs.Happens.{coming_of}
+use Rattle.hs_compare.specs.Marked.{traces_of}
 use Rattle.hs_compare.specs.Plain.{plain_comparison}
 use Rattle.hs_compare.specs.Ringing.{Ringing, new_ring}
 use Rattle.hs_compare.specs.Rounds.{all_rounds}
 use Rattle.hs_compare.specs.Walking.{rings_after}
 use Rattle.hs_compare.specs.Whole.{ringing_by}
-use Rattle.hs_compare.proofs.Lined.{lines_are_plain}
+use Rattle.hs_compare.proofs.Lined.{trace_in, traces_same, lines_are_plain}
 use Rattle.hs_compare.proofs.Ordered.{rounds_in_order}
 use Rattle.hs_compare.proofs.Ringed.{HasNames, rings_are, names_are_named}
-use Rattle.hs_compare.proofs.Tails.{length_map}
 
 -- ---- what a valid workload has
 
@@ -52,17 +52,17 @@ can_be_compared W valid =
 pub may_begin : (W : PlainWorkload) (J : PlainJournal) → IsValid W → IsLawful W J → MayBegin W J
 may_begin W J valid lawful = record { valid = valid; shape = lawful.L1 }
 
--- an entry for each record
-pub entries_many : EntriesStandByTheRecords → (W : PlainWorkload) (J : PlainJournal) → IsValid W → IsLawful W J → (all : List Coming) → map coming_of all ≡ all_comings W
-    → length (outcome_of W J).entries ≡ length all
-entries_many beside W J valid lawful all are =
-    sym (length_map name_of (outcome_of W J).entries) ∙ ap length (sym (beside W J (can_be_compared W valid).ends lawful)) ∙ length_map name_of_coming (all_comings W) ∙ ap length (sym are)
-    ∙ length_map coming_of all
-
--- the same, of an outcome in memory
-pub outcome_many : EntriesStandByTheRecords → (W : PlainWorkload) (J : PlainJournal) (outcome : Outcome) → IsOutcome W J outcome → IsValid W → IsLawful W J → (all : List Coming)
-    → map coming_of all ≡ all_comings W → length outcome.ledger.entries.items ≡ length all
-outcome_many beside W J outcome is valid lawful all are = ap length is.entries ∙ entries_many beside W J valid lawful all are
+-- the entries in memory are of the same traces as the records, one for one
+pub outcome_beside : EntriesStandByTheRecords → (W : PlainWorkload) (J : PlainJournal) (outcome : Outcome) → IsOutcome W J outcome → IsValid W → IsLawful W J → (all : List Coming)
+    → map coming_of all ≡ all_comings W → map (λ (e : Entry). e.trace) outcome.ledger.entries.items ≡ traces_of all
+outcome_beside beside W J outcome is valid lawful all are =
+    ap (map (λ (e : Entry). e.trace)) is.entries ∙ sym (map_twice name_of (λ (n : Named). n.trace) (outcome_of W J).entries)
+    ∙ ap (map (λ (n : Named). n.trace)) (sym (beside W J (can_be_compared W valid).ends lawful)) ∙ map_twice name_of_coming (λ (n : Named). n.trace) (all_comings W)
+    ∙ ap (map trace_in) (sym are) ∙ sym (traces_same all)
+  where
+    map_twice : {X Y Z : Type 0} (f : X → Y) (g : Y → Z) (xs : List X) → map g (map f xs) ≡ map (λ x. g (f x)) xs
+    map_twice f g [] = refl
+    map_twice f g (x ∷ xs) = ap (λ ys. g (f x) ∷ ys) (map_twice f g xs)
 
 -- ---- the ring
 
@@ -73,7 +73,7 @@ after_all room W = fold (ring_step room) empty_ring (events_in_order W)
 pub walked_ring : (W : PlainWorkload) (room : ℕ) (scripts : List Script) → AreScripts W scripts → rings_after (new_ring room) (all_rounds W.settings.stride scripts (rounds_of W)) ≡ ringing_by room (after_all room W)
 walked_ring W room scripts are = ap (rings_after (new_ring room)) (rounds_in_order W scripts are) ∙ rings_are room (events_in_order W) empty_ring
 
-names_all : (W : PlainWorkload) (room : ℕ) → HasNames (named_in W) (after_all room W).named
+pub names_all : (W : PlainWorkload) (room : ℕ) → HasNames (named_in W) (after_all room W).named
 names_all W room = names_are_named named_by (λ c. refl) (λ t. refl) room (events_in_order W) empty_ring [] (record { among = λ trace. refl; once = λ p. refl })
 
 -- what was counted of these entries and claimed traces

@@ -9,7 +9,7 @@ use Rattle.std.proofs.lemmas.List.FromFn.{length-range_with_len}
 use Rattle.hs_base.specs.declared.ids.ClientId.{ClientId}
 use Rattle.hs_base.specs.declared.ids.TraceId.{TraceId}
 use Rattle.hs_records.specs.Plain.{Operation, Begin, Point, Crumb, End, Fire, Sample}
-use Rattle.hs_records.specs.Records.{Record, NumberedOperation, numbered_of, record_at, record_in, records_of, open_behind}
+use Rattle.hs_records.specs.Records.{Record, NumberedOperation, numbered_from, numbered_of, record_at, record_in, records_of, open_behind}
 use Rattle.hs_sent.specs.OneMore.{OneMoreOperation, open_after, next_behind}
 use Rattle.hs_sent.specs.Sending.{Sent}
 use Rattle.hs_sent.specs.Timing.{point_numbers}
@@ -50,6 +50,29 @@ points_each (op ∷ ops) =
     let a = length-append (map (λ _. op.number) (record_at op)) (flat_map (λ (o : NumberedOperation). map (λ _. o.number) (record_at o)) ops) in
     let b = length-append (record_at op) (flat_map record_at ops) in
     omega (arith, ih, here, a, b)
+
+-- at most one record for each operation
+one_at_most : (op : NumberedOperation) → length (record_at op) ≤ 1
+one_at_most op = one op.trace op.operation
+  where
+    one : (trace : Option TraceId) (operation : Operation) → length (record_in trace operation) ≤ 1
+    one None operation = omega arith
+    one (Some t) (Begin next) = omega arith
+    one (Some t) (Point moment payload) = omega arith
+    one (Some t) (Crumb node) = omega arith
+    one (Some t) End = omega arith
+    one (Some t) (Fire trigger) = omega arith
+    one (Some t) (Sample moment auto value) = omega arith
+
+numbered_few : (number : ℕ) (trace : Option TraceId) (ops : List Operation) → length (flat_map record_at (numbered_from number trace ops)) ≤ length ops
+numbered_few number trace [] = omega arith
+numbered_few number trace (op ∷ ops) =
+    let here : NumberedOperation = record { number = number; trace = trace; operation = op } in
+    let rest = numbered_from (number + 1) (open_behind trace op) ops in
+    omega (arith, one_at_most here, length-append (record_at here) (flat_map record_at rest), numbered_few (number + 1) (open_behind trace op) ops)
+
+pub records_few : (ops : List Operation) → length (records_of ops) ≤ length ops
+records_few ops = numbered_few 0 None ops
 
 abbrev pub coming_by : ClientId → ℕ × Record → samplers.Coming
 coming_by client r = record { id = record { client = client; number = r.0 }; trace = r.1.trace; bytes = length r.1.payload }

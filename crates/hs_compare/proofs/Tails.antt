@@ -20,6 +20,10 @@ comes_named ring noted kept traces among is are =
     ap (λ ks. ringing ring.room ring.waiting ring.named ks traces) is ∙ ap (ringing ring.room ring.waiting ring.named (ring.kept ++ noted.id ∷ [])) are
     ∙ ap (λ b. cond b (ringing ring.room ring.waiting ring.named (ring.kept ++ noted.id ∷ []) (ring.traces ++ noted.trace ∷ [])) (record ring { waiting = last_noted ring.room (ring.waiting ++ noted ∷ []) })) (sym among)
 
+pub turned : (b : Bool) → not b ≡ true → b ≡ false
+turned true h = let never : false ≡ true = h in absurd cc
+turned false h = refl
+
 pub last_more : (room : ℕ) (waiting : List Noted) (noted : Noted) → 1 ≤ room → drop (length waiting + 1 - room) waiting ++ noted ∷ [] ≡ last_noted room (waiting ++ noted ∷ [])
 last_more room waiting noted some =
     let few : length waiting + 1 - room ≤ length waiting = omega arith in

@@ -1,11 +1,11 @@
 -- What the samplers keep of these records, of which one by one the fate stands beside them.
-use Rattle.std.specs.Prelude.{ℕ, Bool, not, ◌&&◌, List, map, count_by}
+use Rattle.std.specs.Prelude.{ℕ, Bool, List, map, count_by}
 use Rattle.hs_base.specs.declared.ids.TraceId.{TraceId}
 use Rattle.hs_ledger.specs.declared.ledger.Entry.{Entry}
 use Rattle.hs_ledger.specs.Totals.{is_reported}
 use Rattle.hs_samplers.specs.Lines.{is_gap, is_limited}
 use Rattle.hs_compare.specs.Ringing.{is_among, kept_by_rank}
-use Rattle.hs_compare.specs.Counting.{line_by, is_counted}
+use Rattle.hs_compare.specs.Counting.{line_by}
 use Rattle.hs_compare.specs.Marked.{marked, traces_of, bytes_in}
 use Rattle.hs_compare.specs.declared.coming.Coming.{Coming}
 use Rattle.hs_compare.specs.declared.lines.Line.{Line}
@@ -38,10 +38,3 @@ comparison_by one_in all named ring entries claimed =
       gap = count_by (is_gap claimed) entries;
       limited = count_by (is_limited named claimed) entries;
     }
-
--- the same, by counts of the claimed traces
-abbrev pub is_gap_in : List (TraceId × ℕ) → Entry → Bool
-is_gap_in claims entry = is_counted claims entry.trace && not (is_reported entry.fate)
-
-abbrev pub is_limited_in : List TraceId → List (TraceId × ℕ) → Entry → Bool
-is_limited_in named claims entry = is_among named entry.trace && not (is_counted claims entry.trace)

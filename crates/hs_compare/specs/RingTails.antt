@@ -1,5 +1,5 @@
 -- How the parts of a ring tail make a ring.
-use Rattle.std.specs.Prelude.{◌≡◌, ◌≤◌, ◌*◌, length}
+use Rattle.std.specs.Prelude.{◌≡◌, ◌≤◌, ◌+◌, ◌*◌, length}
 use Rattle.hs_compare.specs.Ringing.{Ringing, alive}
 use Rattle.hs_compare.specs.Queues.{AreQueued}
 use Rattle.hs_compare.specs.declared.limits.TheConstants.{MAX_ROOM}
@@ -17,3 +17,6 @@ pub record IsRingTail (a : Inside) : Type 0 where
   pub waiting : a.waiting ≡ length (alive a.named.keys a.ring.items)
   pub few : a.waiting ≤ a.room
   pub queued : AreQueued a.queues.entries (alive a.named.keys a.ring.items)
+  -- a record that waits has room among the kept ones
+  pub kept : length a.kept.items + a.waiting ≤ a.kept.room
+  pub traces : length a.traces.items + a.waiting ≤ a.traces.room

@@ -22,7 +22,7 @@ use hs_base::Memory;
 use hs_clauses::count_rounds;
 use hs_lockstep::laws::schedule_is_lawful;
 use hs_report::Outcome;
-use hs_samplers::laws::{kept_is_parted, tail_is_the_sum};
+use hs_samplers::laws::{kept_is_parted, ring_keeps_each_once, tail_is_the_sum};
 use hs_workload::Workload;
 use std::alloc::Global;
 
@@ -67,6 +67,7 @@ pub fn compare(
 {
     schedule_is_lawful();
     kept_is_parted();
+    ring_keeps_each_once();
     tail_is_the_sum();
     let Scripts { scripts, all } = scripts_of(alloc, workload, &outcome.journal)?;
     let ring = ring_of(alloc, workload, scripts.as_slice(), room)?;

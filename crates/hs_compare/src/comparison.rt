@@ -1,22 +1,27 @@
 //! What the samplers keep of the same records.
 
-ghost use Rattle.std.specs.Prelude.{◌≡◌, ◌≤◌, ◌<◌, ◌^◌, ℕ, List, length, count_by, IfOk};
+ghost use Rattle.std.specs.Prelude.{◌≡◌, ◌≤◌, ◌<◌, ◌^◌, ◌&&◌, ℕ, true, List, length, map, count_by, IfOk};
+ghost use Rattle.std.specs.List.{AllByRecursion};
 ghost use Rattle.hs_base.specs.declared.ids.TraceId.{TraceId};
+ghost use Rattle.hs_ledger.specs.declared.ledger.Entry.{Entry};
 ghost use Rattle.hs_samplers.specs.Lines.{is_gap, is_limited};
-ghost use Rattle.hs_compare.specs.Counting.{AreCounted};
+ghost use Rattle.hs_compare.specs.Counting.{AreCounted, times, is_counted};
+ghost use Rattle.hs_compare.specs.Ringing.{is_among};
 ghost use Rattle.hs_compare.specs.declared.coming.Coming.{Coming};
 ghost use Rattle.hs_compare.specs.Marked.{marked, bytes_in, traces_of};
-ghost use Rattle.hs_compare.specs.Comparing.{comparison_by, line_of_marked, line_of_sent, marks_of_head, marks_of_named, marks_of_reported, is_gap_in, is_limited_in};
+ghost use Rattle.hs_compare.specs.Comparing.{comparison_by, line_of_marked, line_of_sent, marks_of_head, marks_of_named, marks_of_reported};
 
 use crate::coming::Coming;
-use crate::lines::{Counts, Line, counted, line_of, small};
+use crate::lines::{Counts, Line, counted, counted_of, line_of};
 use crate::marks::{
     all_bytes, all_traces, head_marks, marked_bytes, marked_traces, named_marks, reported_marks,
 };
 use crate::ring_tail::RingTail;
+use hs_base::limits::MAX_OPERATIONS;
 use hs_base::{Memory, TraceId};
 use hs_ledger::Entry;
 use hs_report::is_reported;
+use indexmap::IndexSet;
 use std::alloc::Global;
 
 /// What each of four samplers keeps of one workload, and what Hindsight does not report of the records that
@@ -49,7 +54,9 @@ fn marked_line(
     marks: &[bool],
 ) -> Result<Line, Memory>
     requires each { length marks.now ≡ length all.now }
-    requires few { bytes_in all.now < 2 ^ 64 }
+    requires few { length all.now ≤ MAX_OPERATIONS }
+    requires known { length named.now ≤ MAX_OPERATIONS }
+    requires bytes { bytes_in all.now < 2 ^ 64 }
     ensures { AreCounted (traces_of all.now) counts.now.entries
         → IfOk result (λ line. line ≡ line_of_marked all.now named.now marks.now) }
 {
@@ -67,7 +74,9 @@ fn head_line(
     one_in: u32,
 ) -> Result<Line, Memory>
     requires some { 1 ≤ one_in }
-    requires few { bytes_in all.now < 2 ^ 64 }
+    requires few { length all.now ≤ MAX_OPERATIONS }
+    requires known { length named.now ≤ MAX_OPERATIONS }
+    requires bytes { bytes_in all.now < 2 ^ 64 }
     ensures { AreCounted (traces_of all.now) counts.now.entries
         → IfOk result (λ line. line ≡ line_of_marked all.now named.now (marks_of_head one_in all.now)) }
 {
@@ -80,30 +89,35 @@ fn tail_line(
     alloc: Global,
     all: &[Coming],
     counts: &Counts,
+    named: &[TraceId],
     ring: &RingTail,
     shipped: u64,
 ) -> Result<Line, Memory>
-    requires { shipped ≡ bytes_in all.now }
+    requires few { length all.now ≤ MAX_OPERATIONS }
+    requires known { length named.now ≤ MAX_OPERATIONS }
+    requires shipped { shipped ≡ bytes_in all.now }
     ensures { AreCounted (traces_of all.now) counts.now.entries
-        → IfOk result (λ line. line ≡ line_of_sent all.now ring.now.named (traces_of (marked (marks_of_named ring.now.named all.now) all.now))) }
+        → IfOk result (λ line. line ≡ line_of_sent all.now named.now (traces_of (marked (marks_of_named ring.now.named all.now) all.now))) }
 {
     let marks = named_marks(alloc, all, ring)?;
     let traces = marked_traces(alloc, all, &marks)?;
-    line_of(alloc, counts, ring.named(), &traces, shipped)
+    line_of(alloc, counts, named, &traces, shipped)
 }
 
 /// The line of tail sampling with a ring, to which all records are sent.
-fn ring_line(alloc: Global, counts: &Counts, ring: &RingTail, shipped: u64) -> Result<Line, Memory>
+fn ring_line(
+    alloc: Global,
+    counts: &Counts,
+    named: &[TraceId],
+    ring: &RingTail,
+    shipped: u64,
+) -> Result<Line, Memory>
+    requires known { length named.now ≤ MAX_OPERATIONS }
+    requires kept { length ring.now.traces ≤ MAX_OPERATIONS }
     ensures { (all : List Coming) → AreCounted (traces_of all) counts.now.entries → shipped ≡ bytes_in all
-        → IfOk result (λ line. line ≡ line_of_sent all ring.now.named ring.now.traces) }
+        → IfOk result (λ line. line ≡ line_of_sent all named.now ring.now.traces) }
 {
-    line_of(
-        alloc,
-        counts,
-        ring.named(),
-        ring.traces().as_slice(),
-        shipped,
-    )
+    line_of(alloc, counts, named, ring.traces().as_slice(), shipped)
 }
 
 /// The line of Hindsight, which sends what it reports.
@@ -115,7 +129,9 @@ fn hindsight_line(
     entries: &[Entry],
 ) -> Result<Line, Memory>
     requires each { length entries.now ≡ length all.now }
-    requires few { bytes_in all.now < 2 ^ 64 }
+    requires few { length all.now ≤ MAX_OPERATIONS }
+    requires known { length named.now ≤ MAX_OPERATIONS }
+    requires bytes { bytes_in all.now < 2 ^ 64 }
     ensures { AreCounted (traces_of all.now) counts.now.entries
         → IfOk result (λ line. line ≡ line_of_marked all.now named.now (marks_of_reported entries.now)) }
 {
@@ -123,16 +139,33 @@ fn hindsight_line(
     marked_line(alloc, all, counts, named, &marks)
 }
 
-/// Whether a record is of a claimed trace, and was not reported.
-fn is_in_gap(entry: &Entry, claims: &Counts) -> bool
-    ensures { result ≡ is_gap_in claims.now.entries entry.now }
+/// The traces that were counted and claimed, each once.
+fn claims_of(
+    alloc: Global,
+    counts: &Counts,
+    claimed: &[TraceId],
+) -> Result<IndexSet<TraceId>, Memory>
+    ensures { IfOk result (λ claims. (trace : TraceId) → is_among claims.keys trace ≡ (is_counted counts.now.entries trace && is_among claimed.now trace)) }
 {
-    claims.contains_key(&entry.trace) && !is_reported(entry.fate)
+    let mut claims = IndexSet::new(alloc);
+    for trace in claimed {
+        if counts.contains_key(trace) {
+            claims.insert(*trace)?;
+        }
+    }
+    Ok(claims)
+}
+
+/// Whether a record is of a claimed trace, and was not reported.
+fn is_in_gap(entry: &Entry, claims: &IndexSet<TraceId>) -> bool
+    ensures { result ≡ is_gap claims.now.keys entry.now }
+{
+    claims.contains(&entry.trace) && !is_reported(entry.fate)
 }
 
 /// How many of these records are in gap lines.
-fn count_gaps(entries: &[Entry], claims: &Counts) -> usize
-    ensures { result ≡ count_by (is_gap_in claims.now.entries) entries.now }
+fn count_gaps(entries: &[Entry], claims: &IndexSet<TraceId>) -> usize
+    ensures { result ≡ count_by (is_gap claims.now.keys) entries.now }
 {
     let mut gaps = 0;
     for entry in entries {
@@ -144,15 +177,15 @@ fn count_gaps(entries: &[Entry], claims: &Counts) -> usize
 }
 
 /// Whether a record is of a named trace that no node claimed.
-fn is_unclaimed(entry: &Entry, ring: &RingTail, claims: &Counts) -> bool
-    ensures { result ≡ is_limited_in ring.now.named claims.now.entries entry.now }
+fn is_unclaimed(entry: &Entry, ring: &RingTail, claims: &IndexSet<TraceId>) -> bool
+    ensures { result ≡ is_limited ring.now.named claims.now.keys entry.now }
 {
-    ring.is_named(entry.trace) && !claims.contains_key(&entry.trace)
+    ring.is_named(entry.trace) && !claims.contains(&entry.trace)
 }
 
 /// How many of these records are of named traces that no node claimed.
-fn count_limited(entries: &[Entry], ring: &RingTail, claims: &Counts) -> usize
-    ensures { result ≡ count_by (is_limited_in ring.now.named claims.now.entries) entries.now }
+fn count_limited(entries: &[Entry], ring: &RingTail, claims: &IndexSet<TraceId>) -> usize
+    ensures { result ≡ count_by (is_limited ring.now.named claims.now.keys) entries.now }
 {
     let mut limited = 0;
     for entry in entries {
@@ -163,20 +196,24 @@ fn count_limited(entries: &[Entry], ring: &RingTail, claims: &Counts) -> usize
     limited
 }
 
-/// What of the records of named traces was not reported, where these are the claimed traces.
+/// What of the records of named traces was not reported, where these are the claimed traces. The trace of each
+/// record was counted.
 fn rest_of(
     alloc: Global,
+    counts: &Counts,
     entries: &[Entry],
     ring: &RingTail,
     claimed: &[TraceId],
 ) -> Result<Rest, Memory>
+    requires counted { AllByRecursion (λ (e : Entry). is_counted counts.now.entries e.trace ≡ true) entries.now }
+    requires few { length entries.now ≤ MAX_OPERATIONS }
     ensures gap { IfOk result (λ rest. rest.gap ≡ count_by (is_gap claimed.now) entries.now) }
     ensures limited { IfOk result (λ rest. rest.limited ≡ count_by (is_limited ring.now.named claimed.now) entries.now) }
 {
-    let claims = counted(alloc, claimed)?;
+    let claims = claims_of(alloc, counts, claimed)?;
     Ok(Rest {
-        gap: small(count_gaps(entries, &claims))?,
-        limited: small(count_limited(entries, ring, &claims))?,
+        gap: count_gaps(entries, &claims) as u32,
+        limited: count_limited(entries, ring, &claims) as u32,
     })
 }
 
@@ -190,19 +227,24 @@ pub(crate) fn compared(
     claimed: &[TraceId],
     one_in: u32,
 ) -> Result<Comparison, Memory>
-    requires each { length entries.now ≡ length all.now }
+    requires beside { map (λ (e : Entry). e.trace) entries.now ≡ traces_of all.now }
     requires some { 1 ≤ one_in }
+    requires few { length all.now ≤ MAX_OPERATIONS }
+    requires kept { length ring.now.traces ≤ MAX_OPERATIONS }
+    requires bytes { bytes_in all.now < 2 ^ 64 }
+    requires once { (trace : TraceId) → times ring.now.named trace ≤ 1 }
     ensures { IfOk result (λ comparison. comparison ≡ comparison_by one_in all.now ring.now.named ring.now.traces entries.now claimed.now) }
 {
-    let rest = rest_of(alloc, entries, ring, claimed)?;
     let traces = all_traces(alloc, all)?;
     let counts = counted(alloc, &traces)?;
-    let shipped = all_bytes(all)?;
+    let rest = rest_of(alloc, &counts, entries, ring, claimed)?;
+    let named = counted_of(alloc, &counts, ring.named())?;
+    let shipped = all_bytes(all);
     Ok(Comparison {
-        head: head_line(alloc, all, &counts, ring.named(), one_in)?,
-        tail: tail_line(alloc, all, &counts, ring, shipped)?,
-        ring: ring_line(alloc, &counts, ring, shipped)?,
-        hindsight: hindsight_line(alloc, all, &counts, ring.named(), entries)?,
+        head: head_line(alloc, all, &counts, &named, one_in)?,
+        tail: tail_line(alloc, all, &counts, &named, ring, shipped)?,
+        ring: ring_line(alloc, &counts, &named, ring, shipped)?,
+        hindsight: hindsight_line(alloc, all, &counts, &named, entries)?,
         gap: rest.gap,
         limited: rest.limited,
     })

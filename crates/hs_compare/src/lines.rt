@@ -1,9 +1,10 @@
 //! What a sampler keeps, in numbers.
 
-ghost use Rattle.std.specs.Prelude.{◌≡◌, ◌+◌, ◌<◌, ◌^◌, ℕ, [], ◌++◌, ◌∷◌, List, length, count_by, IfOk, OnOk};
+ghost use Rattle.std.specs.Prelude.{◌≡◌, ◌+◌, ◌<◌, ◌≤◌, ◌^◌, ℕ, [], ◌++◌, ◌∷◌, List, length, filter, count_by, IfOk, OnOk};
 ghost use Rattle.hs_base.specs.declared.ids.TraceId.{TraceId};
-ghost use Rattle.hs_compare.specs.Counting.{AreCounted, times, times_in, is_whole_by, line_by};
+ghost use Rattle.hs_compare.specs.Counting.{AreCounted, times, times_in, is_counted, is_whole_by, line_by};
 
+use hs_base::limits::MAX_OPERATIONS;
 use hs_base::{Memory, TraceId};
 use indexmap::IndexMap;
 use std::alloc::Global;
@@ -77,17 +78,25 @@ fn count_whole(all: &Counts, kept: &Counts, named: &[TraceId]) -> usize
     whole
 }
 
-/// A count in fewer bits. No workload has so many records that one has no place there.
-pub(crate) fn small(count: usize) -> Result<u32, Memory>
-    ensures { IfOk result (λ n. n ≡ count) }
+/// Those of these traces that were counted.
+pub(crate) fn counted_of(
+    alloc: Global,
+    counts: &Counts,
+    traces: &[TraceId],
+) -> Result<Vec<TraceId>, Memory>
+    ensures { IfOk result (λ known. known.items ≡ filter (is_counted counts.now.entries) traces.now) }
 {
-    match u32::try_from(count) {
-        Ok(n) => Ok(n),
-        Err(_) => Err(Memory),
+    let mut known = Vec::new(alloc);
+    for trace in traces {
+        if counts.contains_key(trace) {
+            known.push(*trace)?;
+        }
     }
+    Ok(known)
 }
 
-/// The numbers of a sampler that keeps records of these traces, one for each record. `named` has each named trace once.
+/// The numbers of a sampler that keeps records of these traces, one for each record. `named` has the named traces, each once; those
+/// without a record may be left out.
 pub(crate) fn line_of(
     alloc: Global,
     all: &Counts,
@@ -95,14 +104,16 @@ pub(crate) fn line_of(
     kept: &[TraceId],
     shipped: u64,
 ) -> Result<Line, Memory>
+    requires named { length named.now ≤ MAX_OPERATIONS }
+    requires kept { length kept.now ≤ MAX_OPERATIONS }
     ensures { (traces : List TraceId) → AreCounted traces all.now.entries
         → IfOk result (λ line. line ≡ line_by traces named.now kept.now shipped) }
 {
     let counts = counted(alloc, kept)?;
     Ok(Line {
-        records: small(kept.len())?,
-        traces: small(counts.len())?,
-        whole: small(count_whole(all, &counts, named))?,
+        records: kept.len() as u32,
+        traces: counts.len() as u32,
+        whole: count_whole(all, &counts, named) as u32,
         shipped,
     })
 }

@@ -94,16 +94,14 @@ pub(crate) fn all_traces(alloc: Global, all: &[Coming]) -> Result<Vec<TraceId>, 
     Ok(traces)
 }
 
-/// The bytes of all records. No workload has so many that they have no place in the sum.
-pub(crate) fn all_bytes(all: &[Coming]) -> Result<u64, Memory>
-    ensures sum { IfOk result (λ bytes. bytes ≡ bytes_in all.now) }
+/// The bytes of all records.
+pub(crate) fn all_bytes(all: &[Coming]) -> u64
+    requires { bytes_in all.now < 2 ^ 64 }
+    ensures { result ≡ bytes_in all.now }
 {
-    let mut bytes: u64 = 0;
+    let mut bytes = 0;
     for coming in all {
-        match bytes.checked_add(coming.bytes as u64) {
-            Some(more) => bytes = more,
-            None => return Err(Memory),
-        }
+        bytes += coming.bytes as u64;
     }
-    Ok(bytes)
+    bytes
 }

@@ -1,6 +1,6 @@
 //! The records of a client.
 
-ghost use Rattle.std.specs.Prelude.{◌≡◌, ◌<◌, ◌++◌, ◌+◌, List, [], ◌∷◌, length, map, take, OnOk, IfOk, slice_get};
+ghost use Rattle.std.specs.Prelude.{◌≡◌, ◌<◌, ◌≤◌, ◌++◌, ◌+◌, List, [], ◌∷◌, length, map, take, OnOk, IfOk, slice_get};
 ghost use Rattle.hs_base.specs.declared.ids.ClientId.{ClientId};
 ghost use Rattle.hs_records.specs.Plain.{Operation};
 ghost use Rattle.hs_records.specs.Records.{open_behind, record_in, records_of};
@@ -13,8 +13,8 @@ ghost use Rattle.hs_compare.specs.Points.{Operations, Comings, HasGone, Gone, re
 
 use crate::coming::Coming;
 use crate::happening::{Event, Happening};
-use crate::lines::small;
 use crate::ring::Noted;
+use hs_base::limits::MAX_OPERATIONS;
 use hs_base::{ClientId, List, Memory, RecordId, TraceId};
 use hs_sent::laws::one_operation_more;
 use hs_workload::Op;
@@ -63,6 +63,7 @@ struct Walk {
 impl Walk {
     /// The next operation.
     fn go(&mut self, all: &mut List<Coming>, number: usize, operation: &Op) -> Result<(), Memory>
+        requires few { self.old.count < MAX_OPERATIONS }
         ensures client { OnOk result (self.new.client ≡ self.old.client) }
         ensures gone { (before : Operations) (first : Comings) → length before ≡ number → HasGone before first self.old all.old.items
             → OnOk result (HasGone (before ++ operation_of operation.now ∷ []) first self.new all.new.items) }
@@ -77,11 +78,12 @@ impl Walk {
 
     /// A record of the operation of this number.
     fn note(&mut self, all: &mut List<Coming>, number: usize, seen: Seen) -> Result<(), Memory>
+        requires few { self.old.count < MAX_OPERATIONS }
         ensures { OnOk result (Gone number seen self.old all.old.items self.new all.new.items) }
     {
         let id = RecordId {
             client: self.client,
-            number: small(self.count)?,
+            number: self.count as u32,
         };
         let trace = seen.trace;
         all.append(Coming {
@@ -106,6 +108,7 @@ pub(crate) fn points_of(
     client: ClientId,
     operations: &[Op],
 ) -> Result<List<Happening>, Memory>
+    requires few { length operations.now ≤ MAX_OPERATIONS }
     ensures points { IfOk result (λ points. points.items ≡ points_by client (map operation_of operations.now)) }
     ensures turn { IfOk result (λ points. AreInTurn 0 points.items) }
     ensures low { IfOk result (λ points. AreOf (length operations.now) points.items) }

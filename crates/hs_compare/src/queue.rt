@@ -66,16 +66,6 @@ impl Queue {
     }
 }
 
-/// How many records of a trace wait.
-pub fn count_of(queues: &Queues, trace: TraceId) -> usize
-    ensures { result ≡ length (queued queues.now.entries trace) }
-{
-    match queues.get(&trace) {
-        Some(queue) => queue.len(),
-        None => 0,
-    }
-}
-
 /// Adds a record to the queue of its trace.
 pub fn add(alloc: Global, queues: &mut Queues, id: RecordId, trace: TraceId) -> Result<(), Memory>
     ensures ok { OnOk result ((t : TraceId) → queued queues.new.entries t

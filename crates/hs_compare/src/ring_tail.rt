@@ -1,10 +1,10 @@
 //! Tail sampling over a ring of records.
 
-ghost use Rattle.std.specs.Prelude.{◌≡◌, ◌≤◌, ◌+◌, ◌++◌, [], ◌∷◌, length, map, IfOk, OnOk, OnErr};
+ghost use Rattle.std.specs.Prelude.{◌≡◌, ◌≤◌, ◌<◌, ◌+◌, ◌++◌, [], ◌∷◌, length, map, IfOk, OnOk, OnErr};
 ghost use Rattle.hs_compare.specs.Ringing.{new_ring, comes, names, is_among};
 
 use crate::limits::MAX_ROOM;
-use crate::queue::{Queue, Queues, add, count_of, take};
+use crate::queue::{Queue, Queues, add, take};
 use crate::ring::{Noted, Records, join, make_way};
 use hs_base::{List, Memory, RecordId, TraceId};
 use indexmap::{IndexMap, IndexSet};
@@ -14,7 +14,8 @@ use std::marker::Model;
 /// Keeps the records of named traces that are still in a ring of so many records when their trace is first
 /// named, and those that come later. Contracts see its room, the records that wait in the ring, the traces
 /// that were named, and the kept records with their traces. Each call takes constant time in the long run: a
-/// record of a named trace stays in the ring, and goes when it comes to the front or the ring is full.
+/// record of a named trace stays in the ring, and goes when it comes to the front or the ring is full. For the
+/// records that wait there is room among those that are kept, so a naming takes memory for the trace alone.
 #[derive(Drop)]
 pub struct RingTail {
     alloc: Global,
@@ -64,8 +65,10 @@ impl RingTail {
         ensures ok { OnOk result (self.new ≡ comes (record { id = id; trace = trace }) self.old) }
         ensures err { OnErr result (self.new ≡ self.old) }
     {
+        make_room(&mut self.kept, &mut self.traces, self.waiting + 1)?;
         if self.named.contains(&trace) {
-            return keep(&mut self.kept, &mut self.traces, id, trace);
+            keep(&mut self.kept, &mut self.traces, id, trace);
+            return Ok(());
         }
         add(self.alloc, &mut self.queues, id, trace)?;
         let waiting = make_way(
@@ -86,15 +89,11 @@ impl RingTail {
         ensures ok { OnOk result (self.new ≡ names trace self.old) }
         ensures err { OnErr result (self.new ≡ self.old) }
     {
-        if self.named.contains(&trace) {
+        if !self.named.insert(trace)? {
             return Ok(());
         }
-        let count = count_of(&self.queues, trace);
-        self.kept.reserve(count)?;
-        self.traces.reserve(count)?;
-        self.named.insert(trace)?;
-        self.waiting -= count;
         let queue = take(self.alloc, &mut self.queues, trace);
+        self.waiting -= queue.len();
         keep_all(&mut self.kept, &mut self.traces, queue, trace);
         Ok(())
     }
@@ -128,20 +127,30 @@ impl RingTail {
     }
 }
 
-/// Keeps a record. After `Memory` the lists are as they were.
-fn keep(
+/// Makes room for so many records more. After `Memory` the lists are as they were.
+fn make_room(
     kept: &mut List<RecordId>,
     traces: &mut List<TraceId>,
-    id: RecordId,
-    trace: TraceId,
+    more: usize,
 ) -> Result<(), Memory>
-    ensures ok { OnOk result ((kept.new.items ≡ kept.old.items ++ id ∷ []) × (traces.new.items ≡ traces.old.items ++ trace ∷ [])) }
-    ensures err { OnErr result ((kept.new.items ≡ kept.old.items) × (traces.new.items ≡ traces.old.items)) }
+    ensures items { (kept.new.items ≡ kept.old.items) × (traces.new.items ≡ traces.old.items) }
+    ensures room { (kept.old.room ≤ kept.new.room) × (traces.old.room ≤ traces.new.room) }
+    ensures ok { OnOk result ((length kept.new.items + more ≤ kept.new.room) × (length traces.new.items + more ≤ traces.new.room)) }
 {
-    kept.reserve(1)?;
-    traces.append(trace)?;
+    kept.reserve(more)?;
+    traces.reserve(more)
+}
+
+/// Keeps a record. There is room for it.
+fn keep(kept: &mut List<RecordId>, traces: &mut List<TraceId>, id: RecordId, trace: TraceId)
+    requires kept { length kept.old.items < kept.old.room }
+    requires traces { length traces.old.items < traces.old.room }
+    ensures kept { kept.new.items ≡ kept.old.items ++ id ∷ [] }
+    ensures traces { traces.new.items ≡ traces.old.items ++ trace ∷ [] }
+    ensures room { (kept.old.room ≤ kept.new.room) × (traces.old.room ≤ traces.new.room) }
+{
     kept.push(id);
-    Ok(())
+    traces.push(trace);
 }
 
 /// Keeps the records of a trace. There is room for them.
@@ -150,6 +159,7 @@ fn keep_all(kept: &mut List<RecordId>, traces: &mut List<TraceId>, mut queue: Qu
     requires traces { length traces.old.items + length queue ≤ traces.old.room }
     ensures kept { kept.new.items ≡ kept.old.items ++ queue }
     ensures traces { traces.new.items ≡ traces.old.items ++ map (λ _. trace) queue }
+    ensures room { (kept.old.room ≤ kept.new.room) × (traces.old.room ≤ traces.new.room) }
 {
     while let Some(id) = queue.pop() {
         kept.push(id);

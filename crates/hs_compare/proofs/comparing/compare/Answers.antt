@@ -1,4 +1,4 @@
-use Rattle.std.proofs.Common.{◌≡◌, length, map, ap, ap₂, ◌∙◌}
+use Rattle.std.proofs.Common.{◌≡◌, map, ap, ap₂, ◌∙◌}
 use Rattle.hs_lockstep.specs.Lockstep.{lockstep}
 use Rattle.hs_samplers.specs.Laws.{compared_by, SumsToTail}
 use Rattle.hs_workload.specs.Views.{workload_of}
@@ -7,15 +7,29 @@ use Rattle.hs_compare.specs.Comparing.{comparison_by}
 use Rattle.hs_compare.specs.Happens.{coming_of}
 use Rattle.hs_compare.specs.Plain.{plain_comparison}
 use Rattle.hs_compare.proofs.Firsts.{if_ok}
-use Rattle.hs_compare.proofs.Outcomed.{outcome_many, compared_is, sums_to_tail}
+use Rattle.hs_compare.proofs.Claiming.{traces_in}
+use Rattle.hs_compare.proofs.Few.{records_fit, bytes_fit, ring_fits, named_once}
+use Rattle.hs_compare.proofs.Outcomed.{outcome_beside, compared_is, sums_to_tail}
 use Rattle.hs_compare.proofs.comparing.compare.Goals as goal
 
-pub compared-requires-clause-each : goal.compared-requires-clause-each
-compared-requires-clause-each c =
+pub compared-requires-clause-beside : goal.compared-requires-clause-beside
+compared-requires-clause-beside c =
     let W = workload_of c.args.workload.now in
-    ap length c.as_slice-3.ensures
-    ∙ outcome_many c.kept_is_parted.ensures.beside W (lockstep W) c.args.outcome.now c.requires.replayed c.requires.valid (c.schedule_is_lawful.ensures W c.requires.valid) c.as_slice-2.result.now
+    ap traces_in c.as_slice-3.ensures
+    ∙ outcome_beside c.kept_is_parted.ensures.beside W (lockstep W) c.args.outcome.now c.requires.replayed c.requires.valid (c.schedule_is_lawful.ensures W c.requires.valid) c.as_slice-2.result.now
     (ap (map coming_of) c.as_slice-2.ensures ∙ c.in_ok-scripts.ensures.all)
+
+pub compared-requires-clause-few : goal.compared-requires-clause-few
+compared-requires-clause-few c = records_fit (workload_of c.args.workload.now) c.requires.valid c.as_slice-2.result.now (ap (map coming_of) c.as_slice-2.ensures ∙ c.in_ok-scripts.ensures.all)
+
+pub compared-requires-clause-kept : goal.compared-requires-clause-kept
+compared-requires-clause-kept c = ring_fits (workload_of c.args.workload.now) c.requires.valid c.ring_keeps_each_once.ensures c.args.room c.in_ok-ring.ring c.in_ok-ring.ensures
+
+pub compared-requires-clause-bytes : goal.compared-requires-clause-bytes
+compared-requires-clause-bytes c = bytes_fit (workload_of c.args.workload.now) c.requires.valid c.as_slice-2.result.now (ap (map coming_of) c.as_slice-2.ensures ∙ c.in_ok-scripts.ensures.all)
+
+pub compared-requires-clause-once : goal.compared-requires-clause-once
+compared-requires-clause-once c = named_once (workload_of c.args.workload.now) c.args.room c.in_ok-ring.ring c.in_ok-ring.ensures
 
 pub returns-clause-numbers : goal.returns-clause-numbers
 returns-clause-numbers c =

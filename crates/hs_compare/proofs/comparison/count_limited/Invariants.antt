@@ -1,7 +1,7 @@
 use Rattle.std.proofs.Common.{◌≡◌, take}
 use Rattle.std.specs.Prelude.{count_by}
-use Rattle.hs_compare.specs.Comparing.{is_limited_in}
+use Rattle.hs_samplers.specs.Lines.{is_limited}
 use Rattle.hs_compare.proofs.comparison.count_limited.Given as goal
 
 abbrev pub invariant-loop-entry : goal.invariant-loop-entry
-invariant-loop-entry l = l.limited ≡ count_by (is_limited_in l.ring.named l.claims.entries) (take l.entry-index l.entries)
+invariant-loop-entry l = l.limited ≡ count_by (is_limited l.ring.named l.claims.keys) (take l.entry-index l.entries)

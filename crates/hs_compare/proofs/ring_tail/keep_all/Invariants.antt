@@ -7,6 +7,8 @@ invariant-loop-id l = record {
   traces : l.traces.items ++ map (λ _. l.trace) l.queue ≡ l.fn.traces.items ++ map (λ _. l.trace) l.fn.queue;
   room : length l.kept.items + length l.queue ≤ l.kept.room;
   places : length l.traces.items + length l.queue ≤ l.traces.room;
+  kept_room : l.fn.kept.room ≤ l.kept.room;
+  traces_room : l.fn.traces.room ≤ l.traces.room;
 }
 
 abbrev pub decreases-loop-id : goal.decreases-loop-id
