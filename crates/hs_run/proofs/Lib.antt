@@ -15,3 +15,5 @@ pub mod TallyAgents
 pub mod TallyClients
 pub mod TallyCounting
 pub mod TallyRounds
+pub mod WatchedRounds
+pub mod WatchedEnd

@@ -19,7 +19,7 @@ use Rattle.hs_rounds.specs.Moving.{Moves}
 use Rattle.hs_rounds.specs.Coming.{Came, NoRoundsCome, RoundsGoOn}
 use Rattle.hs_retell.specs.Laws.{AllBegin}
 use Rattle.hs_run.specs.declared.node.Node.{Node}
-use Rattle.hs_run.specs.Moments.{IsHere, AreFew, ActedTo, MetTo, MovedTo, CanBegin, DoneIn, RoundsMade, RoundsOver}
+use Rattle.hs_run.specs.Moments.{IsHere, AreFew, ActedTo, MetTo, MovedTo, CanBegin, DoneIn, AllDone, RoundsMade, RoundsOver}
 use Rattle.hs_run.specs.Movings.{AllStand}
 use Rattle.hs_run.specs.Nodes.{AreWhole, TellsLeft}
 use Rattle.hs_run.proofs.Few.{few_met}
@@ -160,14 +160,12 @@ made_more on sent_so W made nodes nodes1 nodes2 nodes3 c c1 c3 h a b d =
 
 -- ---- all rounds
 
+pub all_done : (W : PlainWorkload) (made : ℕ) (nodes : List Node) (c : Coordinating) (h : RoundsMade W made nodes c) → TellsLeft W nodes false → AllDone W h.moment.standing.nodes
+all_done W made nodes c h none n number site caller at found =
+    let (node, there, is) = node_there nodes n site (sym (ap (λ (l : List Site). slice_get l n) h.here.nodes_are) ∙ at) in
+    let done = h.done n number site caller at found in
+    let all = none n node there number caller (ap (λ (s : Site). slice_get s.callers number) is ∙ found) in
+    omega (arith, done, all)
+
 pub all_rounds : (W : PlainWorkload) (made : ℕ) (nodes : List Node) (c : Coordinating) → RoundsMade W made nodes c → TellsLeft W nodes false → RoundsOver W nodes c
-all_rounds W made nodes c h none =
-    record {
-      rounds = made;
-      made = h;
-      all = λ n number site caller at found.
-          let (node, there, is) = node_there nodes n site (sym (ap (λ (l : List Site). slice_get l n) h.here.nodes_are) ∙ at) in
-          let done = h.done n number site caller at found in
-          let all = none n node there number caller (ap (λ (s : Site). slice_get s.callers number) is ∙ found) in
-          omega (arith, done, all);
-    }
+all_rounds W made nodes c h none = record { rounds = made; made = h; all = all_done W made nodes c h none }

@@ -9,3 +9,4 @@ pub mod Movings
 pub mod Tallying
 pub mod TallyLayout
 pub mod TallyingNodes
+pub mod Watched

@@ -9,5 +9,8 @@ mod rounds;
 mod running;
 mod site;
 mod tallying;
+mod watched_rounds;
+mod watching;
 
 pub use running::run;
+pub use watching::{Watched, run_watched};

@@ -43,7 +43,7 @@ pub(crate) fn make_rounds<R: Threads + Sync, G: Gate>(
 }
 
 /// All act at once: each client, each agent and the coordinator.
-fn act<R: Threads + Sync, G: Gate>(
+pub(crate) fn act<R: Threads + Sync, G: Gate>(
     rt: &R,
     gate: &G,
     workload: &Workload,
@@ -134,7 +134,7 @@ fn has_failed_at(nodes: &List<Node>, number: usize) -> bool
 }
 
 /// Whether a client has operations left.
-fn has_left(nodes: &List<Node>, workload: &Workload) -> bool
+pub(crate) fn has_left(nodes: &List<Node>, workload: &Workload) -> bool
     requires { AreWhole (workload_of workload.now) nodes.now.items }
     ensures { TellsLeft (workload_of workload.now) nodes.now.items result }
 {

@@ -56,7 +56,7 @@ fn play<R: Threads + Sync, G: Gate>(
 }
 
 /// The clients and the agent of each node.
-fn places_of(alloc: Global, nodes: List<Node>) -> Result<List<Place>, Memory>
+pub(crate) fn places_of(alloc: Global, nodes: List<Node>) -> Result<List<Place>, Memory>
     ensures { IfOk result (λ places. map place_site places.items ≡ sites_of nodes.items) }
 {
     let mut places = List::new(alloc);

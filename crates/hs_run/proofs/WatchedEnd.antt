@@ -1,0 +1,56 @@
+-- What the watchers of a run saw, when it is over.
+use Rattle.std.proofs.Common.{◌≡◌, List, [], ◌∷◌, length, map, sym, ◌∙◌}
+use Rattle.std.proofs.lemmas.List.{length-map}
+use Rattle.std.specs.List.{AllByRecursion}
+use Rattle.hs_base.specs.Listing.{Listing}
+use Rattle.hs_board.specs.declared.progress.Progress.{Progress}
+use Rattle.hs_closing.specs.declared.place.Place.{Place}
+use Rattle.hs_closing.specs.Ended.{items_of}
+use Rattle.hs_closing.specs.Over.{RoundsOver as PlacesOver, place_site}
+use Rattle.hs_counts.specs.Seen.{IsSeen, AreSeen, ShownIsSeen}
+use Rattle.hs_desk.specs.Coordinators.{Coordinating}
+use Rattle.hs_journal.specs.Views.{PlainJournal}
+use Rattle.hs_records.specs.Plain.{PlainWorkload}
+use Rattle.hs_retell.specs.Noting.{NotesRounds}
+use Rattle.hs_watch.specs.Watching.{Showing, IsSeenOf}
+use Rattle.hs_workload.specs.Validity.{IsValid}
+use Rattle.hs_run.specs.declared.node.Node.{Node}
+use Rattle.hs_run.specs.Moments.{RoundsOver}
+use Rattle.hs_run.specs.Nodes.{sites_of}
+use Rattle.hs_run.specs.Watched.{AllWatched, HaveShown}
+use Rattle.hs_desk.proofs.Lists.{all_mapped}
+
+-- the places of nodes behind whose rounds all is done
+abbrev pub over_of : (W : PlainWorkload) (nodes : List Node) (c : Coordinating) (places : List Place) → IsValid W → map place_site places ≡ sites_of nodes → RoundsOver W nodes c → PlacesOver W places c
+over_of W nodes c places valid same over =
+    record {
+      valid = valid;
+      rounds = over.rounds;
+      moment = over.made.moment;
+      came = over.made.came;
+      begin = over.made.ends;
+      nodes = over.made.here.nodes_are ∙ sym same;
+      coordinator_is = over.made.here.coordinator_is;
+      all = over.all;
+    }
+
+pub have_shown : ShownIsSeen → (W : PlainWorkload) (nodes : List Node) (c : Coordinating) (watch : Showing) (w : AllWatched W nodes c watch) → IsValid W → (J : PlainJournal)
+    → NotesRounds W w.over.rounds w.over.made.moment w.over.made.came J → HaveShown W J watch
+have_shown law W nodes c watch w valid J notes =
+    record {
+      ended = w.ended;
+      seen = λ list of. law W w.over.rounds w.over.made.moment w.over.made.came J valid notes w.all watch.shown list w.shown w.last.0 w.last.1 w.last.2 of;
+    }
+
+-- the lists of all watchers
+pub all_lists : (P : List Progress → Type 0) (lists : List (Listing Progress)) → AllByRecursion (λ (list : Listing Progress). P list.items) lists → AllByRecursion P (items_of lists)
+all_lists P [] all = tt
+all_lists P (x ∷ lists) all = (all.0, all_lists P lists all.1)
+
+pub all_seen : (W : PlainWorkload) (J : PlainJournal) (watch : Showing) → HaveShown W J watch → (lists : List (Listing Progress)) → length lists ≡ 2 → AllByRecursion (λ (list : Listing Progress). IsSeenOf watch.shown list.items) lists
+    → AreSeen W J (items_of lists)
+all_seen W J watch shown lists two all = (
+  length-map lists (λ (list : Listing Progress). list.items) ∙ two,
+  all_lists (IsSeen W J) lists
+      (all_mapped (λ (list : Listing Progress). IsSeenOf watch.shown list.items) (λ (list : Listing Progress). IsSeen W J list.items) lists (λ list is. shown.seen list.items is) all),
+)

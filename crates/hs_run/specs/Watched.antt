@@ -1,0 +1,64 @@
+-- What a run under watchers shows to them, round by round.
+use Rattle.std.specs.Prelude.{◌≡◌, ℕ, zero, suc, ◌*◌, ◌-◌, ◌<◌, ◌≤◌, List, [], ◌∷◌, ◌++◌, length, slice_get, Some}
+use Rattle.std.specs.List.{AllByRecursion}
+use Rattle.hs_board.specs.declared.progress.Progress.{Progress}
+use Rattle.hs_board.specs.Shown.{first, IsLast}
+use Rattle.hs_counts.specs.Counts.{Counts, AreCounts, progress_of}
+use Rattle.hs_counts.specs.Seen.{IsSeen, IsTotal}
+use Rattle.hs_desk.specs.Coordinators.{Coordinating}
+use Rattle.hs_journal.specs.Views.{PlainJournal}
+use Rattle.hs_lawful.specs.Ends.{rounds_of}
+use Rattle.hs_records.specs.Plain.{Operation, PlainWorkload}
+use Rattle.hs_watch.specs.Watching.{Totals, Showing, Stands, IsLater, KnowLast, EndsAtLatest, IsSeenOf}
+use Rattle.hs_run.specs.declared.node.Node.{Node}
+use Rattle.hs_run.specs.Moments.{RoundsMade, RoundsOver}
+use Rattle.hs_run.specs.Tallying.{FitTotals}
+
+-- what is shown when the totals behind so many rounds are published: they too, if there were any rounds
+abbrev pub shown_on : ℕ → Counts → Totals → Totals
+shown_on zero counts shown = shown
+shown_on (suc made) counts shown = shown ++ progress_of (suc made) counts ∷ []
+
+-- Behind so many rounds, if there were any, the sums of these counts are numbers of a total, and the rounds are more than those of
+-- what is shown.
+pub record MayShow (made : ℕ) (counts : Counts) (shown : Totals) : Type 0 where
+  pub fits : 1 ≤ made → FitTotals counts
+  pub later : 1 ≤ made → IsLater (progress_of made counts) shown
+
+-- If the watchers and their board stood right before, they stand right now.
+pub record StillStands (old new : Showing) : Type 0 where
+  pub by : Stands old → Stands new
+
+-- Some client has operations left behind so many rounds.
+abbrev pub IsNeeded : PlainWorkload → ℕ → Type 0
+IsNeeded W made = (place : ℕ) × (ops : List Operation) × (slice_get W.clients place ≡ Some ops) × (made * W.settings.stride < length ops)
+
+-- So many rounds led here, each of which a client needed, and these are the counts behind them. What is shown are totals behind earlier ones.
+pub record RoundsWatched (W : PlainWorkload) (made : ℕ) (nodes : List Node) (coordinator : Coordinating) (counts : Counts) (watch : Showing) : Type 0 where
+  pub rounds : RoundsMade W made nodes coordinator
+  pub needed : (before : ℕ) → made ≡ suc before → IsNeeded W before
+  pub counted : AreCounts W rounds.moment counts
+  pub fits : 1 ≤ made → FitTotals counts
+  pub shown : AllByRecursion (IsTotal W made rounds.moment rounds.came) watch.shown
+  pub low : AllByRecursion (λ (x : Progress). x.rounds ≤ made - 1) watch.shown
+  pub begins : made ≡ 0 → IsLast first watch.shown
+  pub stands : Stands watch
+
+-- Each watcher knows what was shown at last, and noted it.
+pub record WatchEnded (watch : Showing) : Type 0 where
+  pub stands : Stands watch
+  pub knows : KnowLast watch
+  pub ends : EndsAtLatest watch.one × EndsAtLatest watch.other
+
+-- All rounds of the workload led here. What is shown are totals behind them, at last those behind the last.
+pub record AllWatched (W : PlainWorkload) (nodes : List Node) (coordinator : Coordinating) (watch : Showing) : Type 0 where
+  pub over : RoundsOver W nodes coordinator
+  pub all : over.rounds ≡ rounds_of W
+  pub shown : AllByRecursion (IsTotal W over.rounds over.made.moment over.made.came) watch.shown
+  pub last : (x : Progress) × IsLast x watch.shown × (x.rounds ≡ over.rounds)
+  pub ended : WatchEnded watch
+
+-- A watcher of what was shown saw progress of the workload and the journal.
+pub record HaveShown (W : PlainWorkload) (J : PlainJournal) (watch : Showing) : Type 0 where
+  pub ended : WatchEnded watch
+  pub seen : (list : List Progress) → IsSeenOf watch.shown list → IsSeen W J list
