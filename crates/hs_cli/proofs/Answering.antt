@@ -8,7 +8,7 @@ use Rattle.hs_cli.specs.Endings.{IsReader, IsAbout, AreParts, Due}
 use Rattle.hs_cli.specs.declared.answer.Subject.{Subject}
 use Rattle.hs_cli.specs.declared.answer.Subject.TheVariants.{Found, Refused, TooLong, Fault, NoMemory}
 use Rattle.hs_cli.specs.declared.command.Command.{Command}
-use Rattle.hs_cli.specs.declared.command.Command.TheVariants.{Replay, Run, Convert, Make, Drill, Check, Compare}
+use Rattle.hs_cli.specs.declared.command.Command.TheVariants.{Replay, Run, Watch, Convert, Make, Drill, Check, Compare}
 use Rattle.hs_streams.specs.declared.status.Status.{Status}
 use Rattle.hs_streams.specs.declared.status.Status.TheVariants.{Done}
 
@@ -19,6 +19,7 @@ about_parts (Make seed size) left left' input W journal reader whole parts = abs
 about_parts (Drill seed size) left left' input W journal reader whole parts = absurd reader
 about_parts (Replay form) left left' input W journal reader whole parts = (input, whole, parts)
 about_parts (Run form) left left' input W journal reader whole parts = (input, whole, parts)
+about_parts Watch left left' input W journal reader whole parts = (input, whole, parts)
 about_parts Convert left left' input W journal reader whole parts = (input, whole, parts)
 about_parts (Compare one_in room) left left' input W journal reader whole parts = (input, whole, parts)
 about_parts Check left left' input W journal reader whole parts = (input, whole, parts)

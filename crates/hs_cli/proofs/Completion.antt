@@ -14,7 +14,7 @@ use Rattle.hs_streams.specs.Refusals.{IsRefused}
 use Rattle.hs_streams.proofs.Taking.{taken_whole, taken_beyond}
 use Rattle.hs_cli.specs.Endings.{WillBeAbout, IsAbout, AreParts, RefusesWorkload, RefusesJournal, Due, ComesTo, Owes, Ends, workload_in}
 use Rattle.hs_cli.specs.declared.command.Command.{Command}
-use Rattle.hs_cli.specs.declared.command.Command.TheVariants.{Replay, Run, Convert, Make, Drill, Check, Compare}
+use Rattle.hs_cli.specs.declared.command.Command.TheVariants.{Replay, Run, Watch, Convert, Make, Drill, Check, Compare}
 use Rattle.hs_streams.specs.declared.status.Status.{Status}
 use Rattle.hs_streams.specs.declared.status.Status.TheVariants.{Done, Usage, Refused, ReadFault, WriteFault, Memory, TooLong, Unlawful}
 
@@ -29,6 +29,7 @@ not_refused (Make seed size) left left' text W journal will (reader, rest) = rea
 not_refused (Drill seed size) left left' text W journal will (reader, rest) = reader
 not_refused (Replay form) left left' text W journal will (reader, (bytes, whole, refused)) = text_reads (Replay form) left left' W journal bytes text whole refused will
 not_refused (Run form) left left' text W journal will (reader, (bytes, whole, refused)) = text_reads (Run form) left left' W journal bytes text whole refused will
+not_refused Watch left left' text W journal will (reader, (bytes, whole, refused)) = text_reads Watch left left' W journal bytes text whole refused will
 not_refused Convert left left' text W journal will (reader, (bytes, whole, refused)) = text_reads Convert left left' W journal bytes text whole refused will
 not_refused (Compare one_in room) left left' text W journal will (reader, (bytes, whole, refused)) = text_reads (Compare one_in room) left left' W journal bytes text whole refused will
 not_refused Check left left' text W journal will (reader, (bytes, whole, refused)) = text_reads Check left left' W journal bytes text whole refused will
@@ -46,6 +47,7 @@ not_too_long (Make seed size) left left' text W journal will (reader, rest) = re
 not_too_long (Drill seed size) left left' text W journal will (reader, rest) = reader
 not_too_long (Replay form) left left' text W journal will (reader, (bytes, beyond, told)) = fits (Replay form) left left' W journal bytes beyond will
 not_too_long (Run form) left left' text W journal will (reader, (bytes, beyond, told)) = fits (Run form) left left' W journal bytes beyond will
+not_too_long Watch left left' text W journal will (reader, (bytes, beyond, told)) = fits Watch left left' W journal bytes beyond will
 not_too_long Convert left left' text W journal will (reader, (bytes, beyond, told)) = fits Convert left left' W journal bytes beyond will
 not_too_long (Compare one_in room) left left' text W journal will (reader, (bytes, beyond, told)) = fits (Compare one_in room) left left' W journal bytes beyond will
 not_too_long Check left left' text W journal will (reader, (bytes, beyond, told)) = fits Check left left' W journal bytes beyond will
@@ -127,6 +129,7 @@ module _ (once : (text : List ℕ) (V W : PlainWorkload) → Reads text V → Re
   when_done (Drill seed size) W journal will status comes text owes = sym comes
   when_done (Replay form) W journal will status comes text owes = sym comes
   when_done (Run form) W journal will status comes text owes = sym comes
+  when_done Watch W journal will status comes text owes = sym comes
   when_done Convert W journal will status comes text owes = sym comes
   when_done (Compare one_in room) W journal will status comes text owes = sym comes
 
@@ -137,6 +140,7 @@ module _ (once : (text : List ℕ) (V W : PlainWorkload) → Reads text V → Re
   when_unlawful (Drill seed size) W journal will status comes text (is, rest) = cc
   when_unlawful (Replay form) W journal will status comes text (is, rest) = cc
   when_unlawful (Run form) W journal will status comes text (is, rest) = cc
+  when_unlawful Watch W journal will status comes text (is, rest) = cc
   when_unlawful Convert W journal will status comes text (is, rest) = cc
   when_unlawful (Compare one_in room) W journal will status comes text (is, rest) = cc
 
@@ -147,6 +151,7 @@ module _ (once : (text : List ℕ) (V W : PlainWorkload) → Reads text V → Re
   when_refused (Drill seed size) W journal will status comes text (is, rest) = cc
   when_refused (Replay form) W journal will status comes text (is, rest) = cc
   when_refused (Run form) W journal will status comes text (is, rest) = cc
+  when_refused Watch W journal will status comes text (is, rest) = cc
   when_refused Convert W journal will status comes text (is, rest) = cc
   when_refused (Compare one_in room) W journal will status comes text (is, rest) = cc
 

@@ -14,7 +14,7 @@ use Rattle.clap.specs.Simple.{on_top}
 use Rattle.clap.specs.declared.builder.action.ArgAction.TheVariants.{SetTrue}
 use Rattle.clap.proofs.OnLiterals.{clap_on_literals}
 use Rattle.hs_cli.specs.declared.command.Command.{Command}
-use Rattle.hs_cli.specs.declared.command.Command.TheVariants.{Replay, Run, Convert, Make, Drill, Check, Compare}
+use Rattle.hs_cli.specs.declared.command.Command.TheVariants.{Replay, Run, Watch, Convert, Make, Drill, Check, Compare}
 use Rattle.hs_cli.specs.declared.command.Line as told
 
 -- the words of a call, told apart
@@ -22,7 +22,7 @@ pub record Line : Type 0 where
   pub command : Text
   pub seed : Option Text
   pub size : Option Text
-  -- whether these flags are there; no command takes the second one yet
+  -- whether these flags are there
   pub json : Bool
   pub watch : Bool
 
@@ -67,10 +67,16 @@ samplers_in line =
 abbrev pub alone : Line → Command → Option Command
 alone line command = if is_alone line && not line.json then Some command else None
 
+-- what the line asks of `run`: with the flag `--watch`, and then with nothing else, that it be watched, or else its output in a form
+abbrev pub run_in : Line → Option Command
+run_in line =
+    if line.watch then (if not (is_some line.seed) && (not (is_some line.size) && not line.json) then Some Watch else None)
+    else option_map Run (form_in line)
+
 abbrev pub command_of : Line → Option Command
 command_of line =
     if bytes_eq line.command (codes "replay") then option_map Replay (form_in line)
-    else (if bytes_eq line.command (codes "run") then option_map Run (form_in line)
+    else (if bytes_eq line.command (codes "run") then run_in line
     else (if bytes_eq line.command (codes "convert") then alone line Convert
     else (if bytes_eq line.command (codes "check") then alone line Check
     else (if bytes_eq line.command (codes "make") then option_map (λ (both : ℕ × ℕ). Make both.0 both.1) (sizes_in line)
@@ -88,6 +94,11 @@ IsSized (Make seed size) = (1 ≤ size) × (size ≤ MAX_REQUESTS)
 IsSized (Drill seed size) = (1 ≤ size) × (size ≤ MAX_REQUESTS)
 IsSized (Compare one_in room) = AreSamplers one_in room
 IsSized command = ⊤
+
+-- whether a command has watchers
+abbrev pub is_watched : Command → Bool
+is_watched Watch = true
+is_watched command = false
 
 -- ---- words
 
@@ -124,6 +135,18 @@ named words = codes "hindsight" ∷ words
 abbrev pub command_in : List Text → Option Command
 command_in words = command_by (fault_of parser (named words)) (matches_of parser (named words))
 
+-- whether the words are a command that has watchers
+abbrev pub asks_to_watch : Option Command → Bool
+asks_to_watch asked = option_map_or is_watched asked false
+
+-- a command, where it has no watchers
+abbrev pub unwatched : Option Command → Option Command
+unwatched asked = option_and_then (λ command. if is_watched command then None else Some command) asked
+
+-- the command that the words are, where they are one that has no watchers
+abbrev pub unwatched_in : List Text → Option Command
+unwatched_in words = unwatched (command_in words)
+
 the_word_replay : command_in (codes "replay" ∷ []) ≡ Some (Replay Lines)
 unfolding clap_on_literals
 the_word_replay = refl
@@ -144,9 +167,29 @@ a_run_as_json : command_in (codes "run" ∷ codes "--json" ∷ []) ≡ Some (Run
 unfolding clap_on_literals
 a_run_as_json = refl
 
-no_watched_run : command_in (codes "run" ∷ codes "--watch" ∷ []) ≡ None
+a_watched_run : command_in (codes "run" ∷ codes "--watch" ∷ []) ≡ Some Watch
 unfolding clap_on_literals
-no_watched_run = refl
+a_watched_run = refl
+
+the_flag_to_watch_before : command_in (codes "--watch" ∷ codes "run" ∷ []) ≡ Some Watch
+unfolding clap_on_literals
+the_flag_to_watch_before = refl
+
+no_watched_run_as_json : command_in (codes "run" ∷ codes "--watch" ∷ codes "--json" ∷ []) ≡ None
+unfolding clap_on_literals
+no_watched_run_as_json = refl
+
+no_watched_replay : command_in (codes "replay" ∷ codes "--watch" ∷ []) ≡ None
+unfolding clap_on_literals
+no_watched_replay = refl
+
+unwatched_it_is_none : unwatched_in (codes "run" ∷ codes "--watch" ∷ []) ≡ None
+unfolding clap_on_literals
+unwatched_it_is_none = refl
+
+a_run_is_unwatched : unwatched_in (codes "run" ∷ []) ≡ Some (Run Lines)
+unfolding clap_on_literals
+a_run_is_unwatched = refl
 
 no_flag_for_convert : command_in (codes "convert" ∷ codes "--json" ∷ []) ≡ None
 unfolding clap_on_literals

@@ -1,8 +1,9 @@
 -- What each status says of a call: of the command that its words are, of what it took from its source and of what its sink gained.
 -- `asked` is this command, and None where they are none. `left` and `written` are before and after the call.
-use Rattle.std.specs.Prelude.{◌≡◌, ⊤, ◌⊎◌, ℕ, ◌≤◌, List, [], ◌∷◌, length, Option, Some, None}
+use Rattle.std.specs.Prelude.{◌≡◌, ⊤, ◌⊎◌, ℕ, ◌≤◌, List, [], ◌∷◌, ◌++◌, length, Option, Some, None}
 use Rattle.hs_base.specs.Outside.{Rose, Gains}
 use Rattle.hs_base.specs.declared.limits.TheConstants.{MAX_INPUT}
+use Rattle.hs_board.specs.declared.progress.Progress.{Progress}
 use Rattle.hs_records.specs.Plain.{PlainWorkload}
 use Rattle.hs_workload.specs.Validity.{Reads}
 use Rattle.hs_workload.specs.Grammar.{workload_text}
@@ -20,13 +21,15 @@ use Rattle.hs_outcome.specs.declared.form.Form.TheVariants.{Text as Lines}
 use Rattle.hs_text.specs.Text.{text_of}
 use Rattle.hs_check.specs.Parts.{workload_part, journal_part}
 use Rattle.hs_compare.specs.ComparisonText.{comparison_text}
+use Rattle.hs_counts.specs.Seen.{AreSeen}
 use Rattle.hs_samplers.specs.Lines.{comparison_of}
+use Rattle.hs_seen.specs.WatchText.{watch_text}
 use Rattle.hs_streams.specs.Input.{ReadWhole, ReadBeyond, ReadFront}
 use Rattle.hs_streams.specs.Refusals.{IsRefused, too_long_text}
 use Rattle.hs_streams.specs.Written.{GainsFront}
 use Rattle.hs_cli.specs.Messages.{usage_text, journal_refusal_text, unlawful_text}
 use Rattle.hs_cli.specs.declared.command.Command.{Command}
-use Rattle.hs_cli.specs.declared.command.Command.TheVariants.{Replay, Run, Convert, Make, Drill, Check, Compare}
+use Rattle.hs_cli.specs.declared.command.Command.TheVariants.{Replay, Run, Watch, Convert, Make, Drill, Check, Compare}
 use Rattle.hs_streams.specs.declared.status.Status.{Status}
 use Rattle.hs_streams.specs.declared.status.Status.TheVariants.{Done, Usage, Refused, ReadFault, WriteFault, Memory, TooLong, Unlawful}
 
@@ -40,13 +43,13 @@ drill_text W = text_of (total_line (totals_of (outcome_of W (lockstep W)).entrie
 abbrev pub compared_text : PlainWorkload → (one_in room : ℕ) → List ℕ
 compared_text W one_in room = let outcome = outcome_of W (lockstep W) in comparison_text (comparison_of W outcome.entries outcome.claimed one_in room)
 
--- The text is what a command owes for a workload, and `check` for a workload and the text of a journal. What `replay` owes is the outcome of the workload and a journal that is lawful for
--- it, and this journal is that of the lockstep schedule. What `run` owes is the outcome of the workload and some journal that is
--- lawful for it: which one, its threads decide. What `check` owes is the outcome of the workload and the journal that was read, which
--- is lawful for it.
+-- What each command owes for a workload; `check` takes the text of a journal with it. `replay`, `run` and `check` owe an outcome under a
+-- lawful journal. For `replay` it is the one that the lockstep schedule writes, for `run` one that its threads decide, and for `check`
+-- the one that it was given. `run --watch` owes what `run` owes, and after it what two watchers saw of that run.
 abbrev pub Due : Command → PlainWorkload → (journal text : List ℕ) → Type 0
 Due (Replay form) W journal text = (J : PlainJournal) × IsLawful W J × (J ≡ lockstep W) × (text ≡ outcome_text W J form)
 Due (Run form) W journal text = (J : PlainJournal) × IsLawful W J × (text ≡ outcome_text W J form)
+Due Watch W journal text = (J : PlainJournal) × (seen : List (List Progress)) × IsLawful W J × AreSeen W J seen × (text ≡ outcome_text W J Lines ++ watch_text seen)
 Due Check W journal text = (J : PlainJournal) × ReadsJournal journal J × IsLawful W J × (text ≡ outcome_text W J Lines)
 Due Convert W journal text = text ≡ workload_text (record W { version = 2 })
 Due (Make seed size) W journal text = text ≡ workload_text W
@@ -57,6 +60,7 @@ Due (Compare one_in room) W journal text = text ≡ compared_text W one_in room
 abbrev pub IsReader : Command → Type 0
 IsReader (Replay form) = ⊤
 IsReader (Run form) = ⊤
+IsReader Watch = ⊤
 IsReader Convert = ⊤
 IsReader Check = ⊤
 IsReader (Compare one_in room) = ⊤

@@ -1,10 +1,10 @@
 //! The workload that a command is about, and what it answers for it.
 
-ghost use Rattle.std.specs.Prelude.{◌≡◌, ◌≤◌, ◌⊎◌, IfOk, length};
+ghost use Rattle.std.specs.Prelude.{◌≡◌, ◌≤◌, ◌⊎◌, false, IfOk, length};
 ghost use Rattle.hs_base.specs.declared.limits.TheConstants.{MAX_INPUT};
 ghost use Rattle.hs_workload.specs.Validity.{IsValid};
 ghost use Rattle.hs_workload.specs.Views.{workload_of};
-ghost use Rattle.hs_cli.specs.Commands.{IsSized};
+ghost use Rattle.hs_cli.specs.Commands.{IsSized, is_watched};
 ghost use Rattle.hs_cli.specs.Endings.{IsReader, IsUntouched, workload_in, journal_in};
 ghost use Rattle.hs_cli.specs.Answers.{IsSubject, IsFoundIn, IsAnswer};
 ghost use Rattle.hs_streams.specs.declared.status.Status.TheVariants.{Done};
@@ -62,6 +62,7 @@ pub(crate) fn subject_of<S: Source>(alloc: Global, command: Command, source: &mu
         }
         Command::Replay { form: _ }
         | Command::Run { form: _ }
+        | Command::Watch
         | Command::Check
         | Command::Convert
         | Command::Compare { one_in: _, room: _ } => read(alloc, command, source),
@@ -127,8 +128,8 @@ fn done(text: Bytes) -> Answer
     }
 }
 
-/// What a command answers for a workload, and `check` for a workload and the text of a journal. Each actor of a run passes the
-/// gate before each of its steps.
+/// What a command without watchers answers for a workload, and `check` for a workload and the text of a journal. Each actor of a
+/// run passes the gate before each of its steps.
 pub(crate) fn answer_for<R: Threads + Sync, G: Gate>(
     rt: &R,
     alloc: Global,
@@ -138,6 +139,7 @@ pub(crate) fn answer_for<R: Threads + Sync, G: Gate>(
     journal: &[u8],
 ) -> Result<Answer, Memory>
     requires sized { IsSized command }
+    requires unwatched { is_watched command ≡ false }
     requires valid { IsValid (workload_of workload) }
     requires short { length journal.now ≤ MAX_INPUT }
     ensures { IfOk result (λ answer. IsAnswer command (workload_of workload) journal.now answer.status answer.text.items) }
@@ -153,6 +155,7 @@ pub(crate) fn answer_for<R: Threads + Sync, G: Gate>(
             let outcome = run(rt, alloc, &workload, gate)?;
             Ok(done(write_outcome(alloc, &outcome, form)?))
         }
+        Command::Watch => unreachable!(),
         Command::Convert => {
             versions_are_exchanged();
             let widened = Workload {

@@ -2,7 +2,7 @@
 
 ghost use Rattle.std.specs.Prelude.{◌≡◌, ◌≤◌, false, Option, IfOk, IfSome, map, string_bytes, option_map};
 ghost use Rattle.hs_base.specs.declared.limits.TheConstants.{MAX_REQUESTS};
-ghost use Rattle.hs_cli.specs.Commands.{Line, command_of, command_in, line_in, line_of, is_set, named, parser, needed, flag, seed_of, size_of, form_in, number_within, sizes_in, samplers_in, AreSamplers, is_alone, alone, IsSized};
+ghost use Rattle.hs_cli.specs.Commands.{Line, command_of, command_in, unwatched_in, asks_to_watch, is_watched, line_in, line_of, is_set, named, parser, needed, flag, seed_of, size_of, form_in, run_in, number_within, sizes_in, samplers_in, AreSamplers, is_alone, alone, IsSized};
 ghost use Rattle.clap.specs.Words.{app_of, rule_of, first_of, found_of, rows_of};
 
 use clap::error::ErrorKind;
@@ -21,6 +21,8 @@ pub enum Command {
     Replay { form: Form },
     /// Runs the workload that it reads on threads, and writes the outcome in this form.
     Run { form: Form },
+    /// Runs the workload that it reads on threads, and writes the outcome and, behind it, what two watchers saw.
+    Watch,
     /// Writes the workload that it reads with version 2.
     Convert,
     /// Says whether the journal that it reads behind a workload is lawful for that, and writes the outcome of the two.
@@ -32,6 +34,15 @@ pub enum Command {
     /// Says what head sampling of one trace in so many, tail sampling, and tail sampling with a ring that has room for so many
     /// records would keep of the workload that it reads.
     Compare { one_in: u32, room: u32 },
+}
+
+impl Command {
+    /// Whether it has watchers.
+    pub(crate) fn is_watched(self) -> bool
+        ensures { result ≡ is_watched self }
+    {
+        matches!(self, Command::Watch)
+    }
 }
 
 /// The words of a call, told apart.
@@ -60,6 +71,22 @@ impl Line<'_> {
             return None;
         }
         Some(if self.json { Form::Json } else { Form::Text })
+    }
+
+    /// What the line asks of `run`: with the flag `--watch`, and then with nothing else, that it be watched, or else its output in
+    /// a form.
+    fn run(self) -> Option<Command>
+        ensures is { result ≡ run_in (line_in self.entry) }
+        ensures sized { IfSome result IsSized }
+    {
+        if !self.watch {
+            let form = self.form()?;
+            return Some(Command::Run { form });
+        }
+        if self.seed.is_some() || self.size.is_some() || self.json {
+            return None;
+        }
+        Some(Command::Watch)
     }
 
     /// This command, where the line has nothing but its word.
@@ -108,8 +135,7 @@ impl Line<'_> {
             let form = self.form()?;
             Some(Command::Replay { form })
         } else if self.command == "run" {
-            let form = self.form()?;
-            Some(Command::Run { form })
+            self.run()
         } else if self.command == "convert" {
             self.alone(Command::Convert)
         } else if self.command == "check" {
@@ -243,5 +269,31 @@ pub(crate) fn command_in(alloc: Global, words: &[String]) -> Result<Option<Comma
         },
         Err(error) if error.kind() == ErrorKind::OutOfMemory => Err(Memory),
         Err(_) => Ok(None),
+    }
+}
+
+/// Whether the words are a command that has watchers.
+pub(crate) fn asks_to_watch(alloc: Global, words: &[String]) -> Result<bool, Memory>
+    ensures { IfOk result (λ asks. asks ≡ asks_to_watch (command_in (map (λ word. string_bytes word) words.now))) }
+{
+    match command_in(alloc, words)? {
+        Some(command) => Ok(command.is_watched()),
+        None => Ok(false),
+    }
+}
+
+/// The command that the words are, or `None` where they are none or one that has watchers.
+pub(crate) fn unwatched_in(alloc: Global, words: &[String]) -> Result<Option<Command>, Memory>
+    ensures is { IfOk result (λ command. command ≡ unwatched_in (map (λ word. string_bytes word) words.now)) }
+    ensures sized { IfOk result (λ command. IfSome command IsSized) }
+    ensures unwatched { IfOk result (λ command. IfSome command (λ it. is_watched it ≡ false)) }
+{
+    match command_in(alloc, words)? {
+        Some(command) => Ok(if command.is_watched() {
+            None
+        } else {
+            Some(command)
+        }),
+        None => Ok(None),
     }
 }

@@ -6,7 +6,10 @@ mod checking;
 mod command;
 mod comparing;
 mod top;
+mod unwatched;
+mod watching;
 
 pub use command::Command;
 pub use hs_streams::Status;
 pub use top::hindsight;
+pub use unwatched::hindsight_unwatched;

@@ -3,76 +3,28 @@
 ghost use Rattle.std.specs.Prelude.{◌≡◌, ◌<◌, ◌⊎◌, ℕ, List, map, string_bytes, Some, None};
 ghost use Rattle.hs_base.specs.Outside.{Rose};
 ghost use Rattle.hs_records.specs.Plain.{PlainWorkload};
-ghost use Rattle.hs_cli.specs.Commands.{command_in, IsSized};
+ghost use Rattle.hs_cli.specs.Commands.{command_in};
+ghost use Rattle.hs_cli.specs.declared.command.Command.{Command};
 ghost use Rattle.hs_streams.specs.Input.{ReadFront};
-ghost use Rattle.hs_cli.specs.Endings.{Ends, EndsWith, Wrote, WroteFront, IsReader, IsUntouched, Reading, WillBeAbout, ComesTo};
+ghost use Rattle.hs_cli.specs.Endings.{Wrote, WroteFront, IsUntouched, Reading, WillBeAbout, ComesTo};
 
-use crate::answer::{Subject, answer_for, subject_of};
-use crate::command::{Command, command_in};
+use crate::command::asks_to_watch;
+use crate::unwatched::hindsight_unwatched;
+use crate::watching::watch;
 use hs_base::{Gate, Sink, Source};
 use hs_journal::laws::texts_have_one_journal;
-use hs_streams::{Status, finish, refuse_too_long};
+use hs_streams::Status;
 use hs_workload::one_workload_a_text;
 use std::alloc::Global;
 use std::marker::Sync;
+use std::sync::Wait;
 use std::thread::Threads;
-
-/// What is written where the words are no command.
-const USAGE: &[u8] =
-    b"usage: hindsight replay [--json] | run [--json] | run --watch | make SEED SIZE | drill SEED SIZE | convert | check | compare H B\n";
-
-/// Does what a command says.
-fn carry_out<R: Threads + Sync, S: Source, K: Sink, G: Gate>(
-    rt: &R,
-    alloc: Global,
-    command: Command,
-    source: &mut S,
-    sink: &mut K,
-    gate: &G,
-) -> Status
-    requires { IsSized command }
-    ensures ends { EndsWith command (S.left source.old) (S.left source.new) (K.written sink.old) (K.written sink.new)
-        (S.faults source.old) (S.faults source.new) (K.faults sink.old) (K.faults sink.new) result }
-    ensures untouched { IsReader command ⊎ IsUntouched (S.left source.old) (S.left source.new) (S.faults source.old) (S.faults source.new) }
-{
-    match subject_of(alloc, command, source) {
-        Subject::Found(workload, journal) => {
-            match answer_for(rt, alloc, gate, command, workload, &journal) {
-                Ok(answer) => finish(sink, answer.text.as_slice(), answer.status),
-                Err(_) => Status::Memory,
-            }
-        }
-        Subject::Refused(text) => finish(sink, &text, Status::Refused),
-        Subject::TooLong => refuse_too_long(sink),
-        Subject::Fault => Status::ReadFault,
-        Subject::NoMemory => Status::Memory,
-    }
-}
-
-/// What the call does, with its answer as one fact.
-fn call<R: Threads + Sync, S: Source, K: Sink, G: Gate>(
-    rt: &R,
-    alloc: Global,
-    words: &[String],
-    source: &mut S,
-    sink: &mut K,
-    gate: &G,
-) -> Status
-    ensures ends { Ends (command_in (map (λ word. string_bytes word) words.now)) (S.left source.old) (S.left source.new) (K.written sink.old) (K.written sink.new)
-        (S.faults source.old) (S.faults source.new) (K.faults sink.old) (K.faults sink.new) result }
-    ensures untouched { Reading (command_in (map (λ word. string_bytes word) words.now)) ⊎ IsUntouched (S.left source.old) (S.left source.new) (S.faults source.old) (S.faults source.new) }
-{
-    match command_in(alloc, words) {
-        Ok(Some(command)) => carry_out(rt, alloc, command, source, sink, gate),
-        Ok(None) => finish(sink, USAGE, Status::Usage),
-        Err(_) => Status::Memory,
-    }
-}
 
 /// Runs the command that the words name: reads its input from the source and writes its output to
 /// the sink (`docs/FORMATS.md`, "The program"). `words` has no name of a program. Each actor of `run` passes the gate before
-/// each of its steps, by its number and the step's (`docs/RULES.md`, "The run"); no other command looks at it.
-pub fn hindsight<R: Threads + Sync, S: Source, K: Sink, G: Gate>(
+/// each of its steps, by its number and the step's (`docs/RULES.md`, "The run"), under `--watch` too, where those that publish
+/// and look pass none; no other command looks at it. Only `run --watch` may wait: who publishes lets looks come to their end.
+pub fn hindsight<R: Threads + Wait + Sync, S: Source, K: Sink, G: Gate>(
     rt: &R,
     alloc: Global,
     words: &[String],
@@ -80,12 +32,14 @@ pub fn hindsight<R: Threads + Sync, S: Source, K: Sink, G: Gate>(
     sink: &mut K,
     gate: &G,
 ) -> Status
-    // The words are a command, and the sink gained the text that it owes. Of the input read whole, which reads as one
-    // workload: `replay` the outcome of that workload and the lockstep journal, which is lawful for it, `run` the outcome of
-    // that workload and some journal that is lawful for it, and `convert` the workload's text. Of the input read whole, of which
-    // one part reads as one workload, and that behind it as one journal, which is lawful for it: `check` the outcome of the two.
-    // Of the input read whole, which reads as one workload: `compare` what each sampler keeps of it, the lockstep outcome beside.
-    // Of the workload that it makes, with nothing read: `make` its text, and `drill` the total line.
+    // The words are a command, and the sink gained the text that it owes. If the command reads, the input was read whole.
+    // Of an input that reads as one workload: `replay` owes the outcome of that workload and the lockstep journal, which is lawful
+    // for it; `run` the outcome of that workload and some journal that is lawful for it; `convert` the workload's text; and
+    // `compare` what four samplers keep of it, with Hindsight's line from the lockstep outcome.
+    // Of an input with one workload, and behind it one journal that is lawful for it: `check` owes the outcome of the two.
+    // `run --watch` owes what `run` owes, and after it what each of two watchers saw: the totals after some of that run's rounds, of
+    // more rounds each time, and at last those after all.
+    // Of the workload that it makes, with nothing read: `make` owes its text, and `drill` the total line.
     ensures done { result ≡ Status.Done
         → Wrote (command_in (map (λ word. string_bytes word) words.now)) (S.left source.old) (S.left source.new)
         (K.written sink.old) (K.written sink.new) Status.Done }
@@ -157,5 +111,9 @@ pub fn hindsight<R: Threads + Sync, S: Source, K: Sink, G: Gate>(
 {
     one_workload_a_text();
     texts_have_one_journal();
-    call(rt, alloc, words, source, sink, gate)
+    match asks_to_watch(alloc, words) {
+        Ok(true) => watch(rt, alloc, source, sink, gate),
+        Ok(false) => hindsight_unwatched(rt, alloc, words, source, sink, gate),
+        Err(_) => Status::Memory,
+    }
 }

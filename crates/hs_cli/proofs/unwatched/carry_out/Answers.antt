@@ -5,7 +5,7 @@ use Rattle.hs_cli.specs.Endings.{IsAbout, RefusesWorkload}
 use Rattle.hs_streams.specs.Refusals.{too_long_text}
 use Rattle.hs_streams.specs.declared.status.Status.TheVariants.{Refused, TooLong}
 use Rattle.hs_cli.proofs.EndingLemmas.{answered, finished}
-use Rattle.hs_cli.proofs.top.carry_out.Goals as goal
+use Rattle.hs_cli.proofs.unwatched.carry_out.Goals as goal
 
 pub returns-in-Ok-clause-ends : goal.returns-in-Ok-clause-ends
 returns-in-Ok-clause-ends g c =
