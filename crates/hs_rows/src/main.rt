@@ -8,6 +8,7 @@ mod row;
 use row::{Fault, Row};
 use std::marker::Sync;
 use std::rt::Files;
+use std::sync::Wait;
 use std::thread::Threads;
 use std::{env, fs, io};
 
@@ -28,7 +29,7 @@ fn main(rt: HostRuntime) -> io::Result<()> {
 }
 
 /// Runs the rows of a folder.
-fn try_folder<R: Files + Threads + Sync + AllocGlobal + Print + Clone + Drop>(
+fn try_folder<R: Files + Threads + Wait + Sync + AllocGlobal + Print + Clone + Drop>(
     rt: &R,
     folder: &str,
     counts: &mut Counts,
@@ -43,7 +44,7 @@ fn try_folder<R: Files + Threads + Sync + AllocGlobal + Print + Clone + Drop>(
 }
 
 /// Runs a row. An outcome is checked too, behind its workload.
-fn try_row<R: Files + Threads + Sync + AllocGlobal + Print>(
+fn try_row<R: Files + Threads + Wait + Sync + AllocGlobal + Print>(
     rt: &R,
     folder: &str,
     name: &str,

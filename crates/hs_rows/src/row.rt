@@ -7,6 +7,7 @@ use std::alloc::Global;
 use std::io::ErrorKind;
 use std::marker::Sync;
 use std::rt::Files;
+use std::sync::Wait;
 use std::thread::Threads;
 use std::{fs, io};
 
@@ -62,7 +63,7 @@ impl Row {
     }
 
     /// The status number of the call, and what it writes.
-    fn called<R: Threads + Sync + AllocGlobal>(&self, rt: &R) -> io::Result<(u8, Vec<u8>)> {
+    fn called<R: Threads + Wait + Sync + AllocGlobal>(&self, rt: &R) -> io::Result<(u8, Vec<u8>)> {
         let alloc = rt.alloc();
         let Ok(mut source) = MemorySource::new(alloc, &self.input, 1 << 20, &[]) else {
             return Err(ErrorKind::OutOfMemory.into());
@@ -75,7 +76,7 @@ impl Row {
     }
 
     /// What is wrong with the call, if anything.
-    pub(crate) fn fault<R: Threads + Sync + AllocGlobal>(
+    pub(crate) fn fault<R: Threads + Wait + Sync + AllocGlobal>(
         &self,
         rt: &R,
     ) -> io::Result<Option<Fault>> {

@@ -5,6 +5,7 @@ use hs_cli::hindsight;
 use std::alloc::{AllocError, Global};
 use std::marker::Sync;
 use std::process::Abort;
+use std::sync::Wait;
 use std::test::Fail;
 use std::thread::Threads;
 
@@ -18,7 +19,7 @@ fn texts_of(alloc: Global, words: &[&str]) -> Result<Vec<String>, AllocError> {
 }
 
 /// What a call with these words, which ends well, wrote.
-pub(crate) fn called<R: Threads + Sync + AllocGlobal + Abort, G: Gate>(
+pub(crate) fn called<R: Threads + Wait + Sync + AllocGlobal + Abort, G: Gate>(
     rt: &R,
     words: &[&str],
     input: &str,
@@ -42,7 +43,7 @@ pub(crate) struct Row {
 }
 
 /// An output that is lawful behind its workload. Answers what `check` writes of the two.
-pub(crate) fn checked<R: Threads + Sync + AllocGlobal + Abort>(
+pub(crate) fn checked<R: Threads + Wait + Sync + AllocGlobal + Abort>(
     rt: &R,
     input: &str,
     output: &str,
@@ -61,7 +62,7 @@ fn assert_parts<R: Abort>(rt: &R, row: &Row, text: &str) {
 
 /// Runs the row's workload under this gate, and looks for each of the row's parts. What was written in lines is what `check`
 /// writes of it.
-pub(crate) fn assert_held<R: Threads + Sync + AllocGlobal + Abort, G: Gate>(
+pub(crate) fn assert_held<R: Threads + Wait + Sync + AllocGlobal + Abort, G: Gate>(
     rt: &R,
     words: &[&str],
     row: &Row,
@@ -77,7 +78,7 @@ pub(crate) fn assert_held<R: Threads + Sync + AllocGlobal + Abort, G: Gate>(
 }
 
 /// The same under a gate that is always open.
-pub(crate) fn assert_run<R: Threads + Sync + AllocGlobal + Abort>(
+pub(crate) fn assert_run<R: Threads + Wait + Sync + AllocGlobal + Abort>(
     rt: &R,
     words: &[&str],
     row: &Row,

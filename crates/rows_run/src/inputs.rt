@@ -1,5 +1,18 @@
 //! Workloads that are run.
 
+pub(crate) const NO_OPERATIONS: &str = "hindsight 1
+nodes 1
+clients 1
+buffers 4
+size 64
+threshold 4
+traces 8
+pins 4
+stride 16
+client 0 0
+done
+";
+
 pub(crate) const AN_EMPTY_PAYLOAD: &str = "hindsight 1
 nodes 1
 clients 1

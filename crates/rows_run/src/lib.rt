@@ -1,5 +1,5 @@
-//! What `run` writes, through the top call: the parts of an output that are the same however the threads take turns, and
-//! orders of their steps that a gate brings about.
+//! What `run` writes, through the top call: the parts of an output that are the same however the threads take turns, orders of
+//! their steps that a gate brings about, and what watchers see.
 #![tactic(auto)]
 
 #[cfg(test)]
@@ -18,3 +18,5 @@ mod hold;
 mod inputs;
 #[cfg(test)]
 mod together;
+#[cfg(test)]
+mod watched;

@@ -7,6 +7,7 @@ use hs_cli::hindsight;
 use std::alloc::{AllocError, Global};
 use std::marker::Sync;
 use std::process::Abort;
+use std::sync::Wait;
 use std::test::Fail;
 use std::thread::Threads;
 
@@ -60,7 +61,7 @@ pub(crate) const BLIND: Streams<'static> = Streams {
 };
 
 /// The words as texts of their own.
-fn texts_of(alloc: Global, words: &[&str]) -> Result<Vec<String>, AllocError> {
+pub(crate) fn texts_of(alloc: Global, words: &[&str]) -> Result<Vec<String>, AllocError> {
     let mut texts = Vec::new(alloc);
     for word in words {
         texts.push(word.to_string(alloc)?)?;
@@ -69,7 +70,7 @@ fn texts_of(alloc: Global, words: &[&str]) -> Result<Vec<String>, AllocError> {
 }
 
 /// The status number of a call with these words, and what it wrote.
-pub(crate) fn called<R: Threads + Sync + AllocGlobal>(
+pub(crate) fn called<R: Threads + Wait + Sync + AllocGlobal>(
     rt: &R,
     words: &[&str],
     input: &[u8],
@@ -86,7 +87,7 @@ pub(crate) fn called<R: Threads + Sync + AllocGlobal>(
 }
 
 /// A call that ends with this status and writes this text.
-pub(crate) fn assert_writes<R: Threads + Sync + AllocGlobal + Abort>(
+pub(crate) fn assert_writes<R: Threads + Wait + Sync + AllocGlobal + Abort>(
     rt: &R,
     words: &[&str],
     input: &[u8],
@@ -100,7 +101,7 @@ pub(crate) fn assert_writes<R: Threads + Sync + AllocGlobal + Abort>(
 }
 
 /// A call that ends well, and all that it wrote.
-pub(crate) fn outcome<R: Threads + Sync + AllocGlobal + Abort>(
+pub(crate) fn outcome<R: Threads + Wait + Sync + AllocGlobal + Abort>(
     rt: &R,
     words: &[&str],
     input: &[u8],
@@ -111,7 +112,7 @@ pub(crate) fn outcome<R: Threads + Sync + AllocGlobal + Abort>(
 }
 
 /// An output that is lawful behind its workload: checking it writes it again.
-pub(crate) fn assert_lawful<R: Threads + Sync + AllocGlobal + Abort>(
+pub(crate) fn assert_lawful<R: Threads + Wait + Sync + AllocGlobal + Abort>(
     rt: &R,
     input: &str,
     output: &[u8],

@@ -6,6 +6,7 @@ use hs_workload::{Op, Workload};
 use std::alloc::{AllocError, Global};
 use std::marker::Sync;
 use std::process::Abort;
+use std::sync::Wait;
 use std::test::Fail;
 use std::thread::Threads;
 
@@ -43,7 +44,7 @@ fn sum(numbers: &[u64]) -> u64 {
 }
 
 /// The line that a drill of this seed and size writes, which reads nothing.
-fn drilled<R: Threads + Sync + AllocGlobal + Abort>(
+fn drilled<R: Threads + Wait + Sync + AllocGlobal + Abort>(
     rt: &R,
     seed: &str,
     size: &str,

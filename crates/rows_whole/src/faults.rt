@@ -4,6 +4,7 @@ use crate::calls::{EXAMPLE, EXAMPLE_OUTPUT, JOURNAL, Streams, called};
 use std::alloc::{AllocError, Global};
 use std::marker::Sync;
 use std::process::Abort;
+use std::sync::Wait;
 use std::test::Fail;
 use std::thread::Threads;
 
@@ -78,7 +79,10 @@ impl Row {
 }
 
 /// Each call of the source fails in turn, until the program meets no fault. Answers how many it met.
-fn read_faults<R: Threads + Sync + AllocGlobal + Abort>(rt: &R, row: &Row) -> Result<u32, Fail> {
+fn read_faults<R: Threads + Wait + Sync + AllocGlobal + Abort>(
+    rt: &R,
+    row: &Row,
+) -> Result<u32, Fail> {
     let input = row.input(rt.alloc())?;
     for call in 0..CALLS {
         let streams = Streams {
@@ -98,7 +102,10 @@ fn read_faults<R: Threads + Sync + AllocGlobal + Abort>(rt: &R, row: &Row) -> Re
 }
 
 /// The same for the sink. What was written by then begins the output.
-fn write_faults<R: Threads + Sync + AllocGlobal + Abort>(rt: &R, row: &Row) -> Result<u32, Fail> {
+fn write_faults<R: Threads + Wait + Sync + AllocGlobal + Abort>(
+    rt: &R,
+    row: &Row,
+) -> Result<u32, Fail> {
     let input = row.input(rt.alloc())?;
     for call in 0..CALLS {
         let streams = Streams {

@@ -4,11 +4,12 @@ use crate::calls::{BLIND, Streams, called, outcome};
 use hs_workload::{Workload, read_workload};
 use std::marker::Sync;
 use std::process::Abort;
+use std::sync::Wait;
 use std::test::Fail;
 use std::thread::Threads;
 
 /// The workload that is made of this seed and size, without a look at the source.
-pub(crate) fn made<R: Threads + Sync + AllocGlobal + Abort>(
+pub(crate) fn made<R: Threads + Wait + Sync + AllocGlobal + Abort>(
     rt: &R,
     seed: &str,
     size: &str,

@@ -146,3 +146,18 @@ fn the_slow_request_is_reported_of_a_run(rt: HostRuntime) -> Result<(), Fail> {
     assert!(rt; ends_with_a_total(text));
     assert_lawful(&rt, input.as_str(), &written)
 }
+
+/// What each watcher sees at last: all rounds, operations and records. Of the last round's chunks some may still wait.
+const SEEN: &str = "\nseen 400 operations 28800 records 14400 null 0 taken ";
+
+/// A run under watch comes to the same.
+#[test]
+fn the_slow_request_is_watched(rt: HostRuntime) -> Result<(), Fail> {
+    let input = workload(rt.alloc())?;
+    let written = outcome(&rt, &["run", "--watch"], input.as_bytes())?;
+    let text = str::from_utf8(&written).ok().ok_or("a text")?;
+    let (front, seen) = text.split_once("watcher 0\n").ok_or("a watcher")?;
+    assert!(rt; ends_with_a_total(front));
+    assert_eq!(rt; seen.split(SEEN).count(), 3);
+    assert_lawful(&rt, input.as_str(), front.as_bytes())
+}

@@ -106,3 +106,19 @@ fn most_operations_are_run(rt: HostRuntime) -> Result<(), Fail> {
     assert!(rt; written.ends_with(ledger(rt.alloc())?.as_bytes()));
     Ok(())
 }
+
+/// What the second watcher sees at last, and the end. Of the 65,536 pages 1,024 have a buffer.
+const SEEN: &str =
+    "\nseen 4096 operations 262144 records 262142 null 64512 taken 1024 given 0\nend\n";
+
+/// And under watch.
+#[test]
+fn most_operations_are_watched(rt: HostRuntime) -> Result<(), Fail> {
+    let input = workload(rt.alloc())?;
+    let written = outcome(&rt, &["run", "--watch"], input.as_bytes())?;
+    let text = str::from_utf8(&written).ok().ok_or("a text")?;
+    let (front, seen) = text.split_once("watcher 0\n").ok_or("a watcher")?;
+    assert!(rt; front.ends_with(ledger(rt.alloc())?.as_str()));
+    assert!(rt; seen.ends_with(SEEN));
+    Ok(())
+}

@@ -1,13 +1,15 @@
 //! Words that are no command.
 
-use crate::calls::{BLIND, EXAMPLE, called};
+use crate::calls::{BLIND, EXAMPLE, called, texts_of};
+use hs_base::{MemorySink, MemorySource, OpenGate};
+use hs_cli::hindsight_unwatched;
 use std::test::Fail;
 
 const USAGE: &str =
     "usage: hindsight replay [--json] | run [--json] | run --watch | make SEED SIZE | drill SEED SIZE | convert | check | compare H B\n";
 
-/// Each command with too few, too many and wrong words, flags where none may stand, and commands that are not built.
-const NO_COMMANDS: [&[&str]; 68] = [
+/// Each command with too few, too many and wrong words, and flags where they may not stand.
+const NO_COMMANDS: [&[&str]; 78] = [
     &[],
     &[""],
     &["Replay"],
@@ -27,10 +29,12 @@ const NO_COMMANDS: [&[&str]; 68] = [
     &["help"],
     &["convert", "2"],
     &["convert", "--json"],
+    &["convert", "--watch"],
     &["make"],
     &["make", "7"],
     &["make", "7", "3", "1"],
     &["make", "7", "3", "--json"],
+    &["make", "7", "3", "--watch"],
     &["make", "7", "0"],
     &["make", "7", "10001"],
     &["make", "7", "01"],
@@ -44,8 +48,15 @@ const NO_COMMANDS: [&[&str]; 68] = [
     &["make", "", "3"],
     &["run", "now"],
     &["run", "7", "3"],
-    &["run", "--watch"],
+    &["--watch"],
+    &["run", "--watch", "now"],
+    &["run", "7", "3", "--watch"],
     &["run", "--json", "--watch"],
+    &["run", "--watch", "--json"],
+    &["--watch", "run", "--json"],
+    &["run", "--watch", "--watch"],
+    &["run", "--watch=true"],
+    &["run", "--", "--watch"],
     &["run", "--json", "--json"],
     &["run", "--", "--json"],
     &["Run"],
@@ -53,6 +64,7 @@ const NO_COMMANDS: [&[&str]; 68] = [
     &["drill", "7"],
     &["drill", "7", "3", "1"],
     &["drill", "7", "3", "--json"],
+    &["drill", "7", "3", "--watch"],
     &["drill", "7", "0"],
     &["drill", "7", "10001"],
     &["drill", "7", "+1"],
@@ -86,5 +98,18 @@ fn words_that_are_no_command(rt: HostRuntime) -> Result<(), Fail> {
         assert_eq!(rt; status, 2);
         assert_eq!(rt; written.as_slice(), USAGE.as_bytes());
     }
+    Ok(())
+}
+
+/// The call that has no leave to wait knows no watchers.
+#[test]
+fn no_watchers_without_waiting(rt: HostRuntime) -> Result<(), Fail> {
+    let alloc = rt.alloc();
+    let words = texts_of(alloc, &["run", "--watch"])?;
+    let mut source = MemorySource::new(alloc, &[], 1, &[0])?;
+    let mut sink = MemorySink::new(alloc, 1 << 10, 1 << 10, &[])?;
+    let status = hindsight_unwatched(&rt, alloc, &words, &mut source, &mut sink, &OpenGate);
+    assert_eq!(rt; status.number(), 2);
+    assert_eq!(rt; sink.bytes(), USAGE.as_bytes());
     Ok(())
 }
