@@ -4,10 +4,11 @@ use anyhow::{Context, Result, ensure};
 use hs_base::{Gate, MemorySink, MemorySource};
 use hs_cli::hindsight;
 use std::marker::Sync;
+use std::sync::Wait;
 use std::thread::Threads;
 
 /// What a call with these words writes, which has to end well.
-pub(crate) fn called<R: Threads + Sync + AllocGlobal, G: Gate>(
+pub(crate) fn called<R: Threads + Wait + Sync + AllocGlobal, G: Gate>(
     rt: &R,
     words: &[&str],
     input: &[u8],

@@ -3,7 +3,7 @@
 use anyhow::{Context, Result};
 use std::io::Print;
 
-/// How many runs there were, and how many lines of these kinds their journals have.
+/// How many runs there were, how many lines of these kinds their journals have, and how many totals watchers saw.
 #[derive(Default, Drop)]
 pub(crate) struct Counts {
     runs: u64,
@@ -12,6 +12,7 @@ pub(crate) struct Counts {
     gives: u64,
     misses: u64,
     unreads: u64,
+    looks: u64,
 }
 
 /// One more.
@@ -30,7 +31,7 @@ impl Counts {
         Ok(())
     }
 
-    /// Adds a line of a journal.
+    /// Adds a line of an output.
     fn add_line(&mut self, line: &str) {
         if line.starts_with("got ") {
             count(&mut self.gots);
@@ -42,14 +43,16 @@ impl Counts {
             count(&mut self.misses);
         } else if line == "unread" {
             count(&mut self.unreads);
+        } else if line.starts_with("seen ") {
+            count(&mut self.looks);
         }
     }
 
     /// Prints the counts. A draw that found the pool empty makes one null page.
     pub(crate) fn report<R: Print>(&self, rt: &R) -> Result<()> {
         println!(rt;
-            "{} runs, each lawful: {} draws got a buffer, {} were empty, {} gives, {} missed, {} unread",
-            self.runs, self.gots, self.empties, self.gives, self.misses, self.unreads
+            "{} runs, each lawful: {} draws got a buffer, {} were empty, {} gives, {} missed, {} unread, {} totals seen",
+            self.runs, self.gots, self.empties, self.gives, self.misses, self.unreads, self.looks
         )?;
         Ok(())
     }

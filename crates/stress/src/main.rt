@@ -1,5 +1,5 @@
-//! Runs made workloads on threads again and again, with a gate that holds their steps back at random, and has each output checked.
-//! The arguments are the first seed, and for how many seconds; without them nothing is printed.
+//! Runs made workloads on threads again and again, each as it is and under watch, with a gate that holds their steps back at random, and
+//! has each output checked. The arguments are the first seed, and for how many seconds; without them nothing is printed.
 #![tactic(auto)]
 
 mod calls;

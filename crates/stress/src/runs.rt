@@ -8,6 +8,7 @@ use hs_base::OpenGate;
 use std::alloc::Global;
 use std::marker::Sync;
 use std::rt::Clock;
+use std::sync::Wait;
 use std::thread::Threads;
 use std::time::Instant;
 
@@ -32,7 +33,7 @@ fn head(alloc: Global, seed: u64) -> Result<String> {
 }
 
 /// A made workload with a stride and a number of buffers of its own.
-fn workload_of<R: Threads + Sync + AllocGlobal>(rt: &R, seed: u64) -> Result<Vec<u8>> {
+fn workload_of<R: Threads + Wait + Sync + AllocGlobal>(rt: &R, seed: u64) -> Result<Vec<u8>> {
     let alloc = rt.alloc();
     let number = seed.to_string(alloc)?;
     let made = called(rt, &["make", number.as_str(), REQUESTS], &[], &OpenGate)?;
@@ -45,18 +46,46 @@ fn workload_of<R: Threads + Sync + AllocGlobal>(rt: &R, seed: u64) -> Result<Vec
     Ok(text.into_bytes())
 }
 
-/// Runs the workload of a seed, and has what came of it checked.
-fn run_one<R: Threads + Sync + AllocGlobal>(rt: &R, seed: u64, counts: &mut Counts) -> Result<()> {
-    let mut text = workload_of(rt, seed)?;
-    let output = called(rt, &["run"], &text, &Shaking { seed })?;
+/// Whether an output is this outcome, and under watch what watchers saw behind it.
+fn is_of(output: &[u8], outcome: &[u8], words: &[&str]) -> bool {
+    match output.strip_prefix(outcome) {
+        Some(behind) if words.len() == 1 => behind.is_empty(),
+        Some(behind) => behind.starts_with(b"watcher 0\n") && behind.ends_with(b"\nend\n"),
+        None => false,
+    }
+}
+
+/// Runs a workload, watched or not, and has what came of it checked.
+fn run_one<R: Threads + Wait + Sync + AllocGlobal>(
+    rt: &R,
+    workload: &[u8],
+    words: &[&str],
+    seed: u64,
+) -> Result<Vec<u8>> {
+    let output = called(rt, words, workload, &Shaking { seed })?;
+    let mut text = workload.to_vec(rt.alloc())?;
     text.extend_from_slice(&output)?;
-    let checked = called(rt, &["check"], &text, &OpenGate)?;
-    ensure!(checked == output, "seed {seed}: the outcome is another");
-    counts.add(&output)
+    let outcome = called(rt, &["check"], &text, &OpenGate)?;
+    ensure!(
+        is_of(&output, &outcome, words),
+        "seed {seed}: the outcome is another"
+    );
+    Ok(output)
+}
+
+/// Runs the workload of a seed, and then under watch.
+fn run_both<R: Threads + Wait + Sync + AllocGlobal>(
+    rt: &R,
+    seed: u64,
+    counts: &mut Counts,
+) -> Result<()> {
+    let workload = workload_of(rt, seed)?;
+    counts.add(&run_one(rt, &workload, &["run"], seed)?)?;
+    counts.add(&run_one(rt, &workload, &["run", "--watch"], seed)?)
 }
 
 /// Runs workloads for so many seconds, of the seeds from the first on, and prints what happened in them.
-pub(crate) fn run<R: Print + Clock + AllocGlobal + Threads + Sync>(
+pub(crate) fn run<R: Print + Clock + AllocGlobal + Threads + Wait + Sync>(
     rt: &R,
     first: u64,
     seconds: u64,
@@ -67,7 +96,7 @@ pub(crate) fn run<R: Print + Clock + AllocGlobal + Threads + Sync>(
         if start.elapsed(rt)?.as_secs() >= seconds {
             break;
         }
-        run_one(rt, seed, &mut counts).context("a run")?;
+        run_both(rt, seed, &mut counts).context("a run")?;
     }
     counts.report(rt)
 }
