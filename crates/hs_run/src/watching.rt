@@ -26,8 +26,8 @@ use std::alloc::Global;
 use std::sync::Wait;
 use std::thread::Threads;
 
-/// The outcome of a run, and of each of the two watchers what it saw of the totals: its first look, and each later one whose
-/// rounds differ from those of the look before.
+/// The outcome of a run, and of each of the two watchers what it saw of the totals: its first look, and each later one that found
+/// more rounds over.
 #[derive(Drop)]
 pub struct Watched {
     pub outcome: Outcome,

@@ -1,4 +1,4 @@
--- Watchers of a board. A watcher has a reader, and notes its first look and each later one whose rounds differ from those of the look before.
+-- Watchers of a board. A watcher has a reader. It notes its first look, and each later look that finds that more rounds are over.
 -- What it noted it saw on the board, or was told of.
 use Rattle.std.specs.Prelude.{◌≡◌, ◌⊎◌, ℕ, ◌+◌, ◌<◌, ◌≤◌, List, [], ◌∷◌, length}
 use Rattle.std.specs.List.{AllByRecursion}

@@ -10,7 +10,7 @@ use hs_board::{BoardReader, BoardWriter, Progress};
 use std::alloc::Global;
 use std::marker::Model;
 
-/// A reader of the board, with its first look and each later one whose rounds differ from those of the look before.
+/// A reader of the board, with its first look and each later one that found more rounds over.
 #[derive(Drop)]
 pub(crate) struct Watcher {
     reader: BoardReader,
@@ -45,7 +45,7 @@ impl Watcher {
         (reader, seen)
     }
 
-    /// Looks once, and notes what it saw if the rounds differ from those of the look before.
+    /// Looks once, and notes what it saw if more rounds are over than it last saw.
     pub(crate) fn look(&mut self)
         requires { length self.old.seen < self.old.room }
         ensures watches { (shown : Totals) → Watches shown self.old → Watches shown self.new }
