@@ -10,7 +10,7 @@ use Rattle.hs_records.specs.Plain.{Point, End, PlainWorkload}
 use Rattle.hs_sent.specs.Samples.{settings, workload, begin, fire, segment}
 use Rattle.hs_text.specs.Text.{text_of}
 use Rattle.hs_outcome.specs.declared.form.Form.TheVariants.{Text, Json}
-use Rattle.hs_outcome.specs.OutcomeText.{entry_line, total_line, report_lines, json_list, reports_text, outcome_text}
+use Rattle.hs_outcome.specs.OutcomeText.{entry_line, gap_line, total_line, report_lines, json_list, reports_text, outcome_text}
 use Rattle.hs_outcome.specs.Outcomes.{outcome_of}
 use Rattle.hs_outcome.specs.Reports.{reports_of}
 use Rattle.hs_lawful.specs.Journals
@@ -89,3 +89,10 @@ line_of_each_fate : (entry_line 1 (record_in 3 15 10 1 Live) ≡ codes "3 15 10 
     ≡ codes "0 0 0 00000000000000000000000000000001 abandoned 7 00000000000000000000000000000002 00000000000000ff")
 unfolding digits
 line_of_each_fate = (refl, refl, refl, refl)
+
+line_of_a_gap_in_each_version : (gap_line 1 (record_in 0 0 0 1 (Abandoned (record { 0 = 7 }) (record { 0 = 2 }) (record { word = 255; trace = 2 })))
+    ≡ codes "gap 0 0 0 abandoned 7 0000000000000002 00000000000000ff")
+    × (gap_line 2 (record_in 0 0 0 1 (Abandoned (record { 0 = 7 }) (record { 0 = 2 }) (record { word = 255; trace = 2 })))
+    ≡ codes "gap 0 0 0 abandoned 7 00000000000000000000000000000002 00000000000000ff")
+unfolding digits
+line_of_a_gap_in_each_version = (refl, refl)
