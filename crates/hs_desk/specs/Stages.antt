@@ -16,6 +16,7 @@ use Rattle.hs_records.specs.Plain.{PlainWorkload}
 use Rattle.hs_ring.specs.Parts.{Leased}
 use Rattle.hs_words.specs.Buffers.{Buffer}
 use Rattle.hs_words.specs.Ends.{answers_in}
+use Rattle.hs_words.specs.declared.token.TheConstants.{MAX_PUBLISHED}
 use Rattle.hs_desk.specs.Agents.{AgentWorks, IsAskable, state_at}
 use Rattle.hs_desk.specs.Lines.{Lines, AreLines, HandsOutAt, HandOutFirst}
 use Rattle.hs_desk.specs.Turns.{AreTurns, Gives}
@@ -120,7 +121,7 @@ pub record Offers (W : PlainWorkload) (work : Work) (answers : List Answered) (o
 abbrev pub OffersNext : PlainWorkload → Work → Lines → Lines → Desking → Bool → Type 0
 OffersNext W work old new desk true =
     (answer : Answered) × IsStamped answer × Offers W work (answer ∷ []) old new desk
-    × (length (answers_in new.giver.turns) ≡ suc (length (answers_in old.giver.turns))) × (length (answers_in new.giver.turns) ≤ 4294967296)
+    × (length (answers_in new.giver.turns) ≡ suc (length (answers_in old.giver.turns))) × (length (answers_in new.giver.turns) ≤ MAX_PUBLISHED)
 OffersNext W work old new desk false = Offers W work (Unread ∷ []) old new desk ⊎ (Offers W work [] old new desk × ((state_at W work).hand ≡ []))
 
 -- The agent made its offers: until its hand was empty, or until one was unread.

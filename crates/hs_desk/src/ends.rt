@@ -7,6 +7,7 @@ ghost use Rattle.hs_live.specs.Keys.{IsChunkOf, IsCrumbOf, IsTriggerOf};
 ghost use Rattle.hs_ring.specs.Parts.{Leased, Gives};
 ghost use Rattle.hs_words.specs.Buffers.{Buffer, buffer_of, buffer_in};
 ghost use Rattle.hs_words.specs.Ends.{answers_in};
+ghost use Rattle.hs_words.specs.declared.token.TheConstants.{MAX_PUBLISHED};
 ghost use Rattle.hs_desk.specs.Lines.{Line, Lines, HandsAt, IsAt, key_of};
 
 use hs_base::{Crumb, Trigger};
@@ -43,6 +44,6 @@ pub(crate) trait Ends {
         requires pool { held.lease.pool ≡ (sees self.old).giver.pool }
         requires size { held.chunk.size ≡ (sees self.old).giver.size }
         ensures given { Gives (sees self.old).giver held result (sees self.new).giver }
-        ensures few { length (answers_in (sees self.new).giver.turns) ≤ 4294967296 }
+        ensures few { length (answers_in (sees self.new).giver.turns) ≤ MAX_PUBLISHED }
         ensures only { sees self.new ≡ record (sees self.old) { giver = (sees self.new).giver } };
 }

@@ -3,6 +3,7 @@
 ghost use Rattle.std.specs.Prelude.{◌≡◌, ◌<◌, ◌≤◌, length, map, IfSome};
 ghost use Rattle.hs_words.specs.Buffers.{Buffer, buffer_of, buffer_in};
 ghost use Rattle.hs_words.specs.Ends.{answers_in};
+ghost use Rattle.hs_words.specs.declared.token.TheConstants.{MAX_PUBLISHED};
 ghost use Rattle.hs_ring.specs.Parts.{Leased, Gives};
 ghost use Rattle.hs_base.specs.declared.told.Crumb.{Crumb};
 ghost use Rattle.hs_base.specs.declared.told.Trigger.{Trigger};
@@ -123,7 +124,7 @@ impl AgentPort {
         requires pool { held.lease.pool ≡ self.old.giver.pool }
         requires size { held.chunk.size ≡ self.old.giver.size }
         ensures given { Gives self.old.giver held result self.new.giver }
-        ensures few { length (answers_in self.new.giver.turns) ≤ 4294967296 }
+        ensures few { length (answers_in self.new.giver.turns) ≤ MAX_PUBLISHED }
         ensures only { self.new ≡ record self.old { giver = self.new.giver } }
     {
         self.giver.give(held)

@@ -6,6 +6,7 @@ use Rattle.hs_words.specs.Chunks.{Contents, clear_chunk}
 use Rattle.hs_words.specs.Pools.{PoolName}
 use Rattle.hs_words.specs.PoolHistory.{Given, Missed}
 use Rattle.hs_words.specs.Ends.{answered, answers_in}
+use Rattle.hs_words.specs.declared.token.TheConstants.{MAX_PUBLISHED}
 use Rattle.hs_words.specs.declared.token.Given.{Given as Answered}
 use Rattle.hs_words.specs.declared.token.Given.TheVariants as given
 use Rattle.hs_ring.specs.Parts.{Leased, Drawing, Giving, AllBelow}
@@ -194,8 +195,8 @@ pub record IsGiverSeat (table : TableId) (s : Place) (buffers published : ℕ) :
   pub published_is : published ≡ buffers + length (answers_in (post_of s.me.0).turns)
   pub none_closed : (post_of s.me.0).closed ≡ []
   -- the counts are far from their type's end
-  pub few : published ≤ 4294967296
-  pub few_misses : (post_of s.me.0).misses ≤ 4294967296
+  pub few : published ≤ MAX_PUBLISHED
+  pub few_misses : (post_of s.me.0).misses ≤ MAX_PUBLISHED
   pub above : AllBelow (post_of s.me.0).floor (answers_in (post_of s.me.0).turns)
 
 -- ---- in the middle of a give

@@ -2,6 +2,7 @@
 ghost use Rattle.std.specs.Prelude.{◌≡◌, ℕ, ◌+◌, ◌*◌, ◌%◌, ◌^◌, ◌<◌, ◌≤◌, [], length};
 ghost use Rattle.hs_words.specs.Chunks.{clear_chunk};
 ghost use Rattle.hs_words.specs.Ends.{answers_in};
+ghost use Rattle.hs_words.specs.declared.token.TheConstants.{MAX_PUBLISHED};
 ghost use Rattle.hs_ring.specs.Views.{desk_of, post_of, buffer_held, note_of, having_heard};
 ghost use Rattle.hs_ring.specs.Parts.{Gives, Meets};
 ghost use Rattle.hs_ring.specs.Seats.{IsAt, IsIdle, IsFree, IsGiverSeat, IsSameSeat, IsNext, IsLaying, Publishes, published_after, misses_after, giving_of, drawing_of, name_of};
@@ -59,8 +60,8 @@ fn publish_or_retake(
     requires halves { 2 * buffers ≡ entries.now.table_id.slots }
     ensures same { IsSameSeat place.old place.new }
     ensures published { Publishes place.old chunk result place.new }
-    ensures few { (number : ℕ) → IsNext entries.now.table_id.slots number (post_of place.old.me.0) → number < 4294967296 }
-    ensures misses { (post_of place.old.me.0).misses < 4294967296 }
+    ensures few { (number : ℕ) → IsNext entries.now.table_id.slots number (post_of place.old.me.0) → number < MAX_PUBLISHED }
+    ensures misses { (post_of place.old.me.0).misses < MAX_PUBLISHED }
 {
     let counts = Counts::of(publish(entries, place, entry, chunk));
     let stamp = counts.stamp(buffers);
@@ -133,7 +134,7 @@ impl Giver {
         requires size { held.chunk.size ≡ self.old.size }
         ensures given { Gives self.old held result self.new }
         // Answers with a stamp never come to more than these.
-        ensures few { length (answers_in self.new.turns) ≤ 4294967296 }
+        ensures few { length (answers_in self.new.turns) ≤ MAX_PUBLISHED }
     {
         let board = &self.board;
         let given = give_to(

@@ -13,4 +13,4 @@ pub use chunk::{Added, Chunk, Stock};
 pub use laws::{pages_have_bytes_of_their_own, what_was_added_is_read};
 pub use page::{Header, Page, PageFault, Point};
 pub use reading::read_page;
-pub use token::{Drawn, Given, Held, Tally, Token};
+pub use token::{Drawn, Given, Held, MAX_PUBLISHED, Tally, Token};
