@@ -60,7 +60,7 @@ is_last table seat buffers left all xs d done post first order many parts post_i
 pub closes_last : (plan : Plan) (table : TableId) (s seat : Place) → IsFree s → seat.me ≡ (drawing (desk_of seat.me.0) nothing, []) → IsLast table seat (length (post_of s.me.0).closed) (post_of s.me.0).made
     → Joins (Ring plan) s.id s.me.0 seat.id seat.me.0 (having_closed s.me.0 seat.me.0) nobody
 closes_last plan table s seat free idle last =
-    closes_at plan s.id s.me.0 (post_of s.me.0) bare seat.id seat.me.0 (desk_of seat.me.0) nothing (ap (λ (m : Mine). m.0) free) (ap (λ (m : Mine). m.0) idle) last.last
+    closes_at plan s.id s.me.0 (post_of s.me.0) bare seat.id seat.me.0 (desk_of seat.me.0) (ap (λ (m : Mine). m.0) free) (ap (λ (m : Mine). m.0) idle) last.last
 
 -- the giver's seat after it
 pub closed_one : (s t seat : Place) (buffers : ℕ) (d : Drawing) (done : List Drawing) (first : Post) → IsFree s → seat.me ≡ (drawing (desk_of seat.me.0) nothing, []) → t.me ≡ (having_closed s.me.0 seat.me.0, s.me.1)

@@ -1,5 +1,5 @@
 -- A drawer collects the buffer of its number, and makes a lease of it.
-use Rattle.std.proofs.Common.{◌≡◌, ◌≢◌, ◌⊎◌, ℕ, suc, ◌+◌, ◌*◌, ◌%◌, ◌<◌, ◌≤◌, [], ◌∷◌, ◌++◌, length, set, get_or, None, refl, sym, ap, ◌∙◌, subst, inl, arith, length-set, get_or-set_other}
+use Rattle.std.proofs.Common.{◌≡◌, ◌≢◌, ◌⊎◌, ℕ, suc, ◌+◌, ◌*◌, ◌%◌, ◌<◌, ◌≤◌, List, [], ◌∷◌, ◌++◌, length, set, get_or, None, refl, sym, ap, ◌∙◌, subst, inl, arith, length-set, get_or-set_other}
 use Rattle.std.proofs.lemmas.Grind.{get_or-set_at}
 use mathlib.Core.Option.{some}
 use mathlib.Core.Option as maybe
@@ -9,9 +9,10 @@ use Rattle.atomic_table.proofs.Lists.{set_here, set_else}
 use Rattle.hs_words.specs.Ends.{got_by}
 use Rattle.hs_words.proofs.Deeds.{draw_is_at}
 use Rattle.hs_ring.specs.Views.{Desk, Hand, nothing, drew, kept, View, drawing, leasing}
-use Rattle.hs_ring.specs.Rule.{Plan, Cell, free, drawn, Spot, queued, with_drawer, leased, Facts, CellOk, HandOk, DeskOk, Knows, Kept, Ring}
+use Rattle.hs_ring.specs.Rule.{Plan, Cell, free, drawn, Spot, queued, with_drawer, leased, Facts, CellOk, HandOk, SpotOk, DeskOk, Knows, Kept, Ring}
 use Rattle.hs_ring.specs.Steps.{did_collect}
 use Rattle.hs_ring.proofs.Updates.{put, put_cases, put_here, put_else, left_set, left_and}
+use Rattle.hs_ring.proofs.Spots.{still_with, with_more, with_last, spot_stays}
 use Rattle.hs_ring.proofs.Stays.{Moves, hand_stays, palm_stays, queued_stays, cell_stays, facts_after, post_stays, knows_stays}
 use Rattle.hs_ring.proofs.Counting.{entry_below, reseated, seated_too}
 use Rattle.hs_ring.proofs.Draws.{St, Held, mine, another}
@@ -109,6 +110,10 @@ module _ (plan : Plan) (s : St) (f : Facts) (k : Kept plan s f) (id : ℕ) (desk
         each_queued = λ a buffer seen. queued_stays n f.log [] f.cells cells' f.spots f.spots f.hands hands' (suc d) (queued 0) (drawn h b d) collect_moves (λ number buffer e. cc) _ _ buffer (k.each_queued a buffer seen);
         each_hand = collect_hands;
         in_palm = palm_stays n f.log [] f.cells cells' f.spots f.spots f.hands hands' (suc d) (queued 0) (drawn h b d) collect_moves refl (λ e. cc) (λ number e. cc) f.palm k.in_palm;
+        each_spot = λ buffer low.
+            spot_stays n f.cells cells' f.seats f.giver s.views (set s.views id w) buffer
+            (λ number is. queued_stays n f.log [] f.cells cells' f.spots f.spots f.hands hands' (suc d) (queued 0) (drawn h b d) collect_moves (λ number buffer e. cc) _ _ buffer is)
+            (still_with s.views id (drawing desk (drew h b t)) w buffer at (λ had. had)) (f.spots buffer) (k.each_spot buffer low);
         left = (let e = left_set s.views id (drawing desk (drew h b t)) w at in let l = k.left in omega arith);
         by_giver = k.by_giver;
         all_made = k.all_made;
@@ -188,6 +193,18 @@ module _ (plan : Plan) (s : St) (f : Facts) (k : Kept plan s f) (id : ℕ) (desk
       (λ number _ is. is)
       (f.cells e) (k.each_cell e low)
 
+  abbrev views' : List View
+  views' = set s.views id (drawing desk nothing) ++ leasing b t ∷ []
+
+  -- the buffer is with the lease now, and each other is where it was
+  lease_spots : (buffer : ℕ) → buffer < plan.buffers → SpotOk plan.buffers f.cells f.seats f.giver views' buffer (spots' buffer)
+  lease_spots buffer low =
+      put_cases (SpotOk plan.buffers f.cells f.seats f.giver views' buffer) f.spots b (leased new) buffer
+      (λ same. with_last (set s.views id (drawing desk nothing)) (leasing b t) buffer new (length-set s.views id (drawing desk nothing)) (sym same))
+      (λ other. spot_stays plan.buffers f.cells f.cells f.seats f.giver s.views views' buffer (λ number is. is)
+      (λ j had. with_more (set s.views id (drawing desk nothing)) (leasing b t) buffer j (still_with s.views id (drawing desk (kept b t)) (drawing desk nothing) buffer at (λ one. other (sym one)) j had))
+      (f.spots buffer) (k.each_spot buffer low))
+
   pub lease_kept : Kept plan record { words = s.words; homes = s.homes; views = set s.views id (drawing desk nothing) ++ leasing b t ∷ [] } after_lease
   lease_kept =
       record {
@@ -202,6 +219,7 @@ module _ (plan : Plan) (s : St) (f : Facts) (k : Kept plan s f) (id : ℕ) (desk
         each_queued = k.each_queued;
         each_hand = lease_hands;
         in_palm = palm_stays plan.buffers f.log [] f.cells f.cells f.spots spots' f.hands hands₁ (suc d₁) (with_drawer d₁) free lease_moves refl (λ e. cc) (λ number e. cc) f.palm k.in_palm;
+        each_spot = lease_spots;
         left = (let e = left_set s.views id (drawing desk (kept b t)) (drawing desk nothing) at in let a = left_and (set s.views id (drawing desk nothing)) (leasing b t) in let l = k.left in omega arith);
         by_giver = k.by_giver;
         all_made = k.all_made;

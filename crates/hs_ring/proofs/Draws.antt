@@ -7,16 +7,17 @@ use native.Mathlib.Decide.{ℕ_discrete, dec_le}
 use lib.ListN.{get_elem?}
 use Rattle.std.specs.Prelude.{Option}
 use Rattle.atomic_table.specs.Table.{State, Me, step, Act, keeps, takes, stepped, Allows}
-use Rattle.atomic_table.proofs.Lists.{set_else}
+use Rattle.atomic_table.proofs.Lists.{set_here, set_else}
 use Rattle.hs_words.specs.Chunks.{Contents, clear_chunk}
 use Rattle.hs_words.specs.PoolHistory.{Got, Empty, is_missed, is_empty}
 use Rattle.hs_words.specs.Ends.{Deed, Answer, got_by, empty_by, events_of, drawn_in, given_in, answer_to}
 use Rattle.hs_words.proofs.Deeds.{none_yet, answers_and}
 use Rattle.hs_words.proofs.Waiting.{counted, waiting_below}
-use Rattle.hs_ring.specs.Views.{Desk, Hand, nothing, drew, View, drawing, desk_after}
-use Rattle.hs_ring.specs.Rule.{Plan, Cell, free, waits, drawn, Spot, queued, with_drawer, Facts, published, queue_of, IsLaid, CellOk, IsLastOf, HandOk, DeskOk, Knows, Kept, Ring}
+use Rattle.hs_ring.specs.Views.{Desk, Hand, nothing, drew, View, drawing, desk_after, InHand, IsWith}
+use Rattle.hs_ring.specs.Rule.{Plan, Cell, free, waits, drawn, Spot, queued, with_drawer, Facts, published, queue_of, IsLaid, CellOk, IsLastOf, HandOk, SpotOk, DeskOk, Knows, Kept, Ring}
 use Rattle.hs_ring.specs.Steps.{drawn_of, did_draw}
 use Rattle.hs_ring.proofs.Updates.{ap₃, put, put_cases, put_here, put_else, left_set}
+use Rattle.hs_ring.proofs.Spots.{now_with, still_with, spot_stays}
 use Rattle.hs_ring.proofs.Stays.{Moves, answers_stay, hand_stays, palm_stays, cell_stays, facts_after, post_stays, knows_stays}
 use Rattle.hs_ring.proofs.Counting.{at_length, first_there, none_there, at_rest, front_got, line, lap, found_drawn, found_published, found_stamp, one_more_drawn, entry_below, reseated}
 
@@ -113,6 +114,9 @@ module _ (plan : Plan) (s : St) (f : Facts) (k : Kept plan s f) (id : ℕ) (desk
           each_queued = λ i buffer seen. absurd (let less = at_length (queue_of n f.log) i buffer seen in let l = line plan s f k in omega arith);
           each_hand = empty_hands;
           in_palm = palm_stays n f.log (deed ∷ []) f.cells f.cells f.spots f.spots f.hands f.hands (suc d) (queued 0) free empty_moves (omega arith) (λ e. cc) (λ number e. cc) f.palm k.in_palm;
+          each_spot = λ buffer low.
+              spot_stays n f.cells f.cells f.seats f.giver s.views (set s.views id w) buffer (λ number is. is) (still_with s.views id (drawing desk hand) w buffer at (λ had. subst (InHand buffer) idle had))
+              (f.spots buffer) (k.each_spot buffer low);
           left = (let e = left_set s.views id (drawing desk hand) w at in let l = k.left in omega arith);
           by_giver = ap length (answers_stay n f.log (deed ∷ []) f.cells f.cells f.spots f.spots f.hands f.hands (suc d) (queued 0) free empty_moves 0 (λ e. omega arith)) ∙ (let e = k.by_giver in omega arith);
           all_made = ((let a = mine.active in let b = k.still_open in omega arith), k.all_made);
@@ -220,6 +224,7 @@ module _ (plan : Plan) (s : St) (f : Facts) (k : Kept plan s f) (id : ℕ) (desk
         let lapped = lap plan s f k in (
           same,
           word ∙ ap (λ (i : ℕ). get_or s.words (suc i) 0) same ∙ was_ok.1,
+          ap (get_elem? (set s.homes e₀ maybe.none)) same ∙ set_here s.homes e₀ maybe.none (let h = k.homes in let l = entry_below plan s f k number in omega arith),
           omega arith,
           omega arith,
           omega arith,
@@ -236,6 +241,16 @@ module _ (plan : Plan) (s : St) (f : Facts) (k : Kept plan s f) (id : ℕ) (desk
         (omega arith, omega arith, omega arith, put_else f.hands d (drew number b stamp) drawer apart ∙ is))
         (λ number' _ is. subst (λ (p : ℕ). IsLaid p number' f.palm) (let e : published n f.log ≡ n + (0 + given_in f.log) = omega arith in e) is)
         (f.cells e) (k.each_cell e low))
+
+    -- the buffer is with the drawer now, and each other is where it was
+    got_spots : (buffer : ℕ) → buffer < n → SpotOk n cells' f.seats f.giver (set s.views id got_view) buffer (spots' buffer)
+    got_spots buffer low =
+        put_cases (SpotOk n cells' f.seats f.giver (set s.views id got_view) buffer) f.spots b (with_drawer d) buffer
+        (λ same. subst (IsWith (set s.views id got_view) buffer) (sym mine.seat) (now_with s.views id (drawing desk hand) got_view buffer at (sym same)))
+        (λ other. spot_stays n f.cells cells' f.seats f.giver s.views (set s.views id got_view) buffer
+        (λ number' is. got_moves.cells_stay (number' % (2 * n)) (λ e. let both : waits number' buffer ≡ waits number b = sym is ∙ e in other cc) ∙ is)
+        (still_with s.views id (drawing desk hand) got_view buffer at (λ had. absurd (subst (InHand buffer) idle had)))
+        (f.spots buffer) (k.each_spot buffer low))
 
     got_queued : (i buffer : ℕ) → get_elem? (queue_of n (got ∷ f.log)) i ≡ some buffer → cells' ((drawn_in (got ∷ f.log) + i) % (2 * n)) ≡ waits (drawn_in (got ∷ f.log) + i) buffer
     got_queued i buffer seen =
@@ -258,6 +273,7 @@ module _ (plan : Plan) (s : St) (f : Facts) (k : Kept plan s f) (id : ℕ) (desk
           each_queued = got_queued;
           each_hand = got_hands;
           in_palm = palm_stays n f.log (got ∷ []) f.cells cells' f.spots spots' f.hands hands' (suc d) (queued number) (waits number b) got_moves (omega arith) (λ e. cc) (λ number e. cc) f.palm k.in_palm;
+          each_spot = got_spots;
           left = (let e = left_set s.views id (drawing desk hand) got_view at in let l = k.left in omega arith);
           by_giver = ap length (answers_stay n f.log (got ∷ []) f.cells cells' f.spots spots' f.hands hands' (suc d) (queued number) (waits number b) got_moves 0 (λ e. omega arith)) ∙ (let e = k.by_giver in omega arith);
           all_made = ((let a = mine.active in let b = k.still_open in omega arith), k.all_made);

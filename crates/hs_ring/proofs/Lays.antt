@@ -10,7 +10,7 @@ use prog.Atomic.{either}
 use Rattle.std.specs.Prelude.{Option, ◌==◌}
 use Rattle.std.specs.List.{AllByRecursion}
 use Rattle.atomic_table.specs.Table.{Me, step, keeps, takes, stepped, Allows}
-use Rattle.atomic_table.proofs.Lists.{set_else, exchanged, one_turn}
+use Rattle.atomic_table.proofs.Lists.{set_here, set_else, exchanged, one_turn}
 use Rattle.hs_words.specs.Chunks.{Contents}
 use Rattle.hs_words.specs.Ends.{Answer, got_by, drawn_in, unread, answers_in, told_in, SpendsThe, IsUnread}
 use Rattle.hs_words.proofs.Deeds.{all_of, unspent, draw_is_at}
@@ -18,6 +18,7 @@ use Rattle.hs_ring.specs.Views.{drew, Post, Palm, holds, lays, View, giving, pos
 use Rattle.hs_ring.specs.Rule.{Plan, Cell, free, waits, drawn, laid, queued, with_giver, Facts, published, IsLaid, CellOk, HandOk, HasLease, PalmOk, IsSettled, PostOk, Knows, Kept, Ring}
 use Rattle.hs_ring.specs.Steps.{did_lay}
 use Rattle.hs_ring.proofs.Updates.{put, put_cases, put_here, put_else, left_set}
+use Rattle.hs_ring.proofs.Spots.{still_with, spot_stays}
 use Rattle.hs_ring.proofs.Stays.{Moves, is_last, hand_stays, queued_stays, cell_stays, facts_after, knows_stays}
 use Rattle.hs_ring.proofs.Counting.{lap, entry_below, reseated, Goes}
 use Rattle.hs_ring.proofs.Draws.{St, Held}
@@ -93,6 +94,7 @@ module _ (plan : Plan) (s : St) (f : Facts) (k : Kept plan s f) (id : ℕ) (post
         (λ same. (
           same ∙ i_is,
           get_or-set_at s.words (i + 1) (suc e) (P + 1) 0 (omega arith) (let c = k.words in let l = i_low in omega arith) ∙ add-one P,
+          ap (get_elem? homes') same ∙ set_here s.homes i maybe.none (let h = k.homes in let l = i_low in omega arith),
           refl,
         ))
         (λ other. cell_stays n plan.size f.log f.log f.spots f.spots f.hands f.hands f.palm (lays b t) e (get_or s.words (suc e) 0) (get_or words' (suc e) 0) (get_elem? s.homes e) (get_elem? homes' e)
@@ -124,6 +126,10 @@ module _ (plan : Plan) (s : St) (f : Facts) (k : Kept plan s f) (id : ℕ) (post
           each_queued = λ a buffer seen. queued_stays n f.log [] f.cells cells' f.spots f.spots f.hands f.hands 0 (queued 0) free lay_moves (λ number buffer e. cc) _ _ buffer (k.each_queued a buffer seen);
           each_hand = λ d. hand_stays n f.log [] f.cells cells' f.spots f.spots f.hands f.hands 0 (queued 0) free lay_moves d (λ e. omega arith) (λ e. cc) (λ number buffer e. cc) (f.hands d) (k.each_hand d);
           in_palm = (has, ap cells' (sym i_is) ∙ put_here f.cells i (laid P));
+          each_spot = λ buffer low.
+              spot_stays n f.cells cells' f.seats f.giver s.views (set s.views id w) buffer
+              (λ number is. queued_stays n f.log [] f.cells cells' f.spots f.spots f.hands f.hands 0 (queued 0) free lay_moves (λ number buffer e. cc) _ _ buffer is)
+              (still_with s.views id (giving post (holds b t)) w buffer at (λ had. had)) (f.spots buffer) (k.each_spot buffer low);
           left = (let e = left_set s.views id (giving post (holds b t)) w at in let l = k.left in omega arith);
           by_giver = k.by_giver;
           all_made = k.all_made;
@@ -147,11 +153,11 @@ module _ (plan : Plan) (s : St) (f : Facts) (k : Kept plan s f) (id : ℕ) (post
           let same : number ≡ P = one_turn number P (2 * n) (omega arith) (omega arith) (sym ok.0 ∙ i_is) in
           absurd (omega arith)
       go (drawn number buffer drawer) ok =
-          let high : number < P = ok.3 in
-          let lapped : P ≤ number + 2 * n = ok.4 in
-          let stamp = ok.5.0 in
+          let high : number < P = ok.4 in
+          let lapped : P ≤ number + 2 * n = ok.5 in
+          let stamp = ok.6.0 in
           let there : P ≡ number + 2 * n = one_turn P (number + 2 * n) (2 * n) lapped (omega arith) (sym i_is ∙ ok.0 ∙ sym (add-mod_right number (2 * n))) in
-          let hand : HandOk n f.log f.cells f.spots drawer (drew number buffer stamp) = subst (HandOk n f.log f.cells f.spots drawer) ok.5.1 (k.each_hand drawer) in
+          let hand : HandOk n f.log f.cells f.spots drawer (drew number buffer stamp) = subst (HandOk n f.log f.cells f.spots drawer) ok.6.1 (k.each_hand drawer) in
           record {
             number = number;
             stamp = stamp;
@@ -163,9 +169,9 @@ module _ (plan : Plan) (s : St) (f : Facts) (k : Kept plan s f) (id : ℕ) (post
                 subst (AllByRecursion (λ (a : Answer). SpendsThe stamp a.event a.draw → ⊥)) (sym own.answers)
                 (unspent f.log stamp buffer k.spent hand.3 (suc drawer, draw_is_at f.log number stamp (got_by (suc drawer) buffer) hand.2));
             last = λ later deed seen by above. absurd (let le = is_last f.log (suc drawer) stamp later deed hand.4 seen by in omega arith);
-            untold = all_of (told_in post.turns) (λ (told : ℕ) (settled : IsSettled f.log f.hands told) same. settled.1 drawer number buffer stamp ok.5.1 same) own.told;
+            untold = all_of (told_in post.turns) (λ (told : ℕ) (settled : IsSettled f.log f.hands told) same. settled.1 drawer number buffer stamp ok.6.1 same) own.told;
           }
-      go (laid number) ok = absurd (subst (IsLaid P number) own.palm_is ok.2)
+      go (laid number) ok = absurd (subst (IsLaid P number) own.palm_is ok.3)
 
   abbrev unread_post : Post
   unread_post = post_after post unread post.floor post.misses
@@ -203,6 +209,8 @@ module _ (plan : Plan) (s : St) (f : Facts) (k : Kept plan s f) (id : ℕ) (post
         each_queued = k.each_queued;
         each_hand = k.each_hand;
         in_palm = k.in_palm;
+        each_spot = λ buffer low.
+            spot_stays n f.cells f.cells f.seats f.giver s.views (set s.views id w₂) buffer (λ number is. is) (still_with s.views id (giving post (holds b t)) w₂ buffer at (λ had. had)) (f.spots buffer) (k.each_spot buffer low);
         left = (let e = left_set s.views id (giving post (holds b t)) w₂ at in let l = k.left in omega arith);
         by_giver = k.by_giver;
         all_made = k.all_made;

@@ -1,6 +1,7 @@
 pub mod Updates
 pub mod Stays
 pub mod Counting
+pub mod Spots
 pub mod Draws
 pub mod Collects
 pub mod Takes
@@ -8,6 +9,7 @@ pub mod Lays
 pub mod Retakes
 pub mod Publishes
 pub mod Meets
+pub mod Places
 pub mod Life
 pub mod Owed
 pub mod Givers

@@ -12,12 +12,14 @@ use Rattle.atomic_table.proofs.Lists.{at_set, set_else, at_map}
 use Rattle.hs_words.specs.Chunks.{Contents, clear_chunk}
 use Rattle.hs_words.specs.Ends.{Deed, Answer, AreAnswers}
 use Rattle.hs_words.proofs.Deeds.{all_of, no_answers}
-use Rattle.hs_ring.specs.Views.{Desk, Hand, nothing, Post, Palm, bare, View, nobody, drawing, leasing, giving, drawer_note, giver_note, with_drawer, new_drawer, having_closed, first_of, rest_of, total}
+use Rattle.hs_ring.specs.Views.{Desk, nothing, Post, Palm, bare, View, nobody, drawing, leasing, giving, drawer_note, giver_note, with_drawer, new_drawer, having_closed, first_of, rest_of, total}
 use Rattle.hs_ring.specs.Rule.{Plan, Cell, free, waits, queued, Facts, CellOk, DeskOk, PostOk, Knows, Kept, Ring, Within, first_post, first_view}
 use Rattle.hs_ring.specs.Steps.{did_look, Over}
 use Rattle.hs_ring.proofs.Updates.{put, put_here, put_else, left_set, left_and}
 use Rattle.hs_ring.proofs.Counting.{found_drawn, found_published, reseated, seated_too}
+use Rattle.hs_ring.proofs.Spots.{still_with, with_more, spot_stays}
 use Rattle.hs_ring.proofs.Draws.{St, Held}
+use Rattle.hs_ring.proofs.Places.{spot_reseated}
 
 -- ---- a drawer is made
 
@@ -101,6 +103,9 @@ module _ (plan : Plan) (s : St) (f : Facts) (k : Kept plan s f) (id : ℕ) (post
         each_queued = k.each_queued;
         each_hand = k.each_hand;
         in_palm = k.in_palm;
+        each_spot = λ buffer low.
+            spot_reseated plan s f k buffer seats' (set s.views id w ++ new ∷ []) (λ drawer low. put_else f.seats f.made (length s.views) drawer (λ same. let o = k.still_open in omega arith))
+            (λ j had. with_more (set s.views id w) new buffer j (still_with s.views id (giving post palm) w buffer at (λ in_palm. in_palm) j had)) low;
         left = (let e = left_set s.views id (giving post palm) w at in let a = left_and (set s.views id w) new in let t = total_parts post.spare in let l = k.left in omega arith);
         by_giver = k.by_giver;
         all_made = all_of f.log (λ (d : Deed) (le : d.by ≤ f.made). omega arith) k.all_made;
@@ -112,18 +117,18 @@ module _ (plan : Plan) (s : St) (f : Facts) (k : Kept plan s f) (id : ℕ) (post
 pub makes_drawer : (plan : Plan) (id : ℕ) (post : Post) (palm : Palm) → post.closed ≡ [] → Splits (Ring plan) id (giving post palm) (with_drawer (giving post palm)) (new_drawer (giving post palm))
 makes_drawer plan id post palm none_closed s (f, k) at = (_, made_kept plan s f k id post palm at none_closed)
 
--- ---- a drawer is closed
+-- ---- a drawer is closed, which has nothing in hand
 
-module _ (plan : Plan) (s : St) (f : Facts) (k : Kept plan s f) (id : ℕ) (post : Post) (palm : Palm) (other : ℕ) (desk : Desk) (hand : Hand) (at : get_elem? s.views id ≡ some (giving post palm)) (differ : ¬ (other ≡ id))
-    (desk_at : get_elem? (set s.views id (having_closed (giving post palm) (drawing desk hand))) other ≡ some (drawing desk hand)) (last : suc desk.number + length post.closed ≡ post.made) where
+module _ (plan : Plan) (s : St) (f : Facts) (k : Kept plan s f) (id : ℕ) (post : Post) (palm : Palm) (other : ℕ) (desk : Desk) (at : get_elem? s.views id ≡ some (giving post palm)) (differ : ¬ (other ≡ id))
+    (desk_at : get_elem? (set s.views id (having_closed (giving post palm) (drawing desk nothing))) other ≡ some (drawing desk nothing)) (last : suc desk.number + length post.closed ≡ post.made) where
   abbrev own₁ : PostOk plan f id post palm
   own₁ = k.each_seat id (giving post palm) at
 
   abbrev w₁ : View
-  w₁ = having_closed (giving post palm) (drawing desk hand)
+  w₁ = having_closed (giving post palm) (drawing desk nothing)
 
-  theirs₁ : DeskOk plan f other desk hand
-  theirs₁ = k.each_seat other (drawing desk hand) (sym (set_else s.views id other w₁ differ) ∙ desk_at)
+  theirs₁ : DeskOk plan f other desk nothing
+  theirs₁ = k.each_seat other (drawing desk nothing) (sym (set_else s.views id other w₁ differ) ∙ desk_at)
 
   abbrev f₁ : Facts
   f₁ = record { log = f.log; cells = f.cells; spots = f.spots; hands = f.hands; seats = f.seats; palm = f.palm; giver = f.giver; made = f.made; opened = desk.number }
@@ -181,7 +186,11 @@ module _ (plan : Plan) (s : St) (f : Facts) (k : Kept plan s f) (id : ℕ) (post
         each_queued = k.each_queued;
         each_hand = k.each_hand;
         in_palm = k.in_palm;
-        left = (let e = left_set s.views id (giving post palm) w₁ at in let e' = left_set (set s.views id w₁) other (drawing desk hand) nobody desk_at in let l = k.left in omega arith);
+        each_spot = λ buffer low.
+            spot_stays plan.buffers f.cells f.cells f.seats f.giver s.views (set (set s.views id w₁) other nobody) buffer (λ number is. is)
+            (λ j had. still_with (set s.views id w₁) other (drawing desk nothing) nobody buffer desk_at (λ none. none) j (still_with s.views id (giving post palm) w₁ buffer at (λ in_palm. in_palm) j had))
+            (f.spots buffer) (k.each_spot buffer low);
+        left = (let e = left_set s.views id (giving post palm) w₁ at in let e' = left_set (set s.views id w₁) other (drawing desk nothing) nobody desk_at in let l = k.left in omega arith);
         by_giver = k.by_giver;
         all_made = k.all_made;
         still_open = (let o = k.still_open in let l = last_open in omega arith);
@@ -193,9 +202,9 @@ module _ (plan : Plan) (s : St) (f : Facts) (k : Kept plan s f) (id : ℕ) (post
             (at_set s.views id j w₁ v seen));
       }
 
-pub closes_drawer : (plan : Plan) (id : ℕ) (post : Post) (palm : Palm) (other : ℕ) (desk : Desk) (hand : Hand) → suc desk.number + length post.closed ≡ post.made
-    → Joins (Ring plan) id (giving post palm) other (drawing desk hand) (having_closed (giving post palm) (drawing desk hand)) nobody
-closes_drawer plan id post palm other desk hand last s (f, k) at differ desk_at = (_, closed_kept plan s f k id post palm other desk hand at differ desk_at last)
+pub closes_drawer : (plan : Plan) (id : ℕ) (post : Post) (palm : Palm) (other : ℕ) (desk : Desk) → suc desk.number + length post.closed ≡ post.made
+    → Joins (Ring plan) id (giving post palm) other (drawing desk nothing) (having_closed (giving post palm) (drawing desk nothing)) nobody
+closes_drawer plan id post palm other desk last s (f, k) at differ desk_at = (_, closed_kept plan s f k id post palm other desk at differ desk_at last)
 
 -- ---- the last look
 
@@ -244,6 +253,8 @@ looks plan slots id post palm held s (f, k) wide at small =
               each_queued = k.each_queued;
               each_hand = k.each_hand;
               in_palm = k.in_palm;
+              each_spot = λ buffer low.
+                  spot_stays plan.buffers f.cells f.cells f.seats f.giver s.views (set s.views id w) buffer (λ number is. is) (still_with s.views id w w buffer at (λ in_palm. in_palm)) (f.spots buffer) (k.each_spot buffer low);
               left = (let e = left_set s.views id w w at in let l = k.left in omega arith);
               by_giver = k.by_giver;
               all_made = k.all_made;
@@ -347,6 +358,7 @@ module _ (plan : Plan) (ws : List ℕ) (xs : List (Option Contents)) (within : W
             ap (start_cells n) place ∙ start_waits n i (dec_le n i) low ∙ ap₂ waits (let e : i ≡ 0 + i = omega arith in e) (let e : i ≡ buffer = omega arith in e);
         each_hand = λ d. tt;
         in_palm = tt;
+        each_spot = λ buffer low. ap (start_cells n) (mod-eq_of_lt (omega arith)) ∙ start_waits n buffer (dec_le n buffer) low;
         left = (let e : total plan.allowances + 0 + 0 ≤ total plan.allowances = omega arith in e);
         by_giver = refl;
         all_made = tt;

@@ -8,10 +8,11 @@ use Rattle.atomic_table.specs.Table.{Splits, Joins}
 use Rattle.atomic_table.proofs.Lists.{set_else}
 use Rattle.hs_words.specs.Ends.{Deed, Answer, met, got_by, answers_by, told_in, stamps_in, IsAt, put_if, answer_to}
 use Rattle.hs_words.proofs.Deeds.{all_both, at_below, draw_is_at, at_once}
-use Rattle.hs_ring.specs.Views.{Desk, Hand, nothing, drew, Post, Palm, View, nobody, drawing, giving, drawer_note, giver_note, post_after, all_left}
+use Rattle.hs_ring.specs.Views.{Desk, Hand, nothing, drew, Post, Palm, View, nobody, drawing, giving, drawer_note, giver_note, post_after, IsWith, all_left}
 use Rattle.hs_ring.specs.Rule.{Plan, Facts, HandOk, IsSettled, DeskOk, PostOk, Knows, Kept, Ring}
 use Rattle.hs_ring.proofs.Updates.{left_set, left_and}
 use Rattle.hs_ring.proofs.Counting.{reseated, seated_too}
+use Rattle.hs_ring.proofs.Spots.{still_with, with_more, spot_stays}
 use Rattle.hs_ring.proofs.Draws.{St}
 
 -- ---- what a drawer answered was collected by it
@@ -56,6 +57,10 @@ module _ (plan : Plan) (s : St) (f : Facts) (k : Kept plan s f) (id : ℕ) (desk
         each_queued = k.each_queued;
         each_hand = k.each_hand;
         in_palm = k.in_palm;
+        each_spot = λ buffer low.
+            spot_stays plan.buffers f.cells f.cells f.seats f.giver s.views (set s.views id (drawing desk nothing) ++ drawer_note desk.floor (stamps_in desk.answers) ∷ []) buffer (λ number is. is)
+            (λ j had. with_more (set s.views id (drawing desk nothing)) (drawer_note desk.floor (stamps_in desk.answers)) buffer j (still_with s.views id (drawing desk nothing) (drawing desk nothing) buffer at (λ none. none) j had))
+            (f.spots buffer) (k.each_spot buffer low);
         left = (let e = left_set s.views id (drawing desk nothing) (drawing desk nothing) at in let a = left_and (set s.views id (drawing desk nothing)) (drawer_note desk.floor (stamps_in desk.answers)) in let l = k.left in omega arith);
         by_giver = k.by_giver;
         all_made = k.all_made;
@@ -72,9 +77,9 @@ notes_draws plan id desk s (f, k) at = (f, note_kept plan s f k id desk at)
 -- ---- other notes change nothing but what seats know
 
 -- seats that know more
-pub known_kept : (plan : Plan) (s : St) (f : Facts) (views : List View) → Kept plan s f → all_left views ≡ all_left s.views → ((j : ℕ) (v : View) → get_elem? views j ≡ some v → Knows plan f j v)
+pub known_kept : (plan : Plan) (s : St) (f : Facts) (views : List View) → Kept plan s f → all_left views ≡ all_left s.views → ((buffer j : ℕ) → IsWith s.views buffer j → IsWith views buffer j) → ((j : ℕ) (v : View) → get_elem? views j ≡ some v → Knows plan f j v)
     → Kept plan record { words = s.words; homes = s.homes; views = views } f
-known_kept plan s f views k left each =
+known_kept plan s f views k left withs each =
     record {
       within = k.within;
       homes = k.homes;
@@ -87,6 +92,7 @@ known_kept plan s f views k left each =
       each_queued = k.each_queued;
       each_hand = k.each_hand;
       in_palm = k.in_palm;
+      each_spot = λ buffer low. spot_stays plan.buffers f.cells f.cells f.seats f.giver s.views views buffer (λ number is. is) (withs buffer) (f.spots buffer) (k.each_spot buffer low);
       left = (let l = k.left in omega arith);
       by_giver = k.by_giver;
       all_made = k.all_made;
@@ -101,6 +107,7 @@ notes_floor plan id post palm s (f, k) at =
       f,
       known_kept plan s f (set s.views id (giving post palm) ++ giver_note post.floor ∷ []) k
           (let e = left_set s.views id (giving post palm) (giving post palm) at in let a = left_and (set s.views id (giving post palm)) (giver_note post.floor) in omega arith)
+          (λ buffer j had. with_more (set s.views id (giving post palm)) (giver_note post.floor) buffer j (still_with s.views id (giving post palm) (giving post palm) buffer at (λ in_palm. in_palm) j had))
           (seated_too plan f (set s.views id (giving post palm)) (giver_note post.floor) own.floor (reseated plan f s.views id (giving post palm) own (λ j v other seen. k.each_seat j v seen))),
     )
 
@@ -135,6 +142,7 @@ giver_hears plan id post palm other floor stamps s (f, k) at differ note_at =
       f,
       known_kept plan s f (set (set s.views id w) other nobody) k
           (let e = left_set s.views id (giving post palm) w at in let e' = left_set (set s.views id w) other (drawer_note floor stamps) nobody note_at in omega arith)
+          (λ buffer j had. still_with (set s.views id w) other (drawer_note floor stamps) nobody buffer note_at (λ none. none) j (still_with s.views id (giving post palm) w buffer at (λ in_palm. in_palm) j had))
           (both_seats plan s f k id other w nobody now tt),
     )
 
@@ -157,5 +165,6 @@ drawer_hears plan id desk hand other floor s (f, k) at differ note_at =
       f,
       known_kept plan s f (set (set s.views id w) other nobody) k
           (let e = left_set s.views id (drawing desk hand) w at in let e' = left_set (set s.views id w) other (giver_note floor) nobody note_at in omega arith)
+          (λ buffer j had. still_with (set s.views id w) other (giver_note floor) nobody buffer note_at (λ none. none) j (still_with s.views id (drawing desk hand) w buffer at (λ in_hand. in_hand) j had))
           (both_seats plan s f k id other w nobody now tt),
     )

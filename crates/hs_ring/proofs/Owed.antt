@@ -168,12 +168,12 @@ module _ (plan : Plan) (id : ℕ) where
   pub makes_at : (v : View) (post : Post) (palm : Palm) → v ≡ giving post palm → post.closed ≡ [] → Splits (Ring plan) id v (with_drawer v) (new_drawer v)
   makes_at v post palm is none = let F : View → Type 0 = λ x. Splits (Ring plan) id x (with_drawer x) (new_drawer x) in subst F (sym is) (makes_drawer plan id post palm none)
 
-  pub closes_at : (v : View) (post : Post) (palm : Palm) (other : ℕ) (w : View) (desk : Desk) (hand : Hand) → v ≡ giving post palm → w ≡ drawing desk hand → suc desk.number + length post.closed ≡ post.made
+  pub closes_at : (v : View) (post : Post) (palm : Palm) (other : ℕ) (w : View) (desk : Desk) → v ≡ giving post palm → w ≡ drawing desk nothing → suc desk.number + length post.closed ≡ post.made
       → Joins (Ring plan) id v other w (having_closed v w) nobody
-  closes_at v post palm other w desk hand is drawer last =
+  closes_at v post palm other w desk is drawer last =
       let F : View → Type 0 = λ x. Joins (Ring plan) id x other w (having_closed x w) nobody in
       let G : View → Type 0 = λ y. Joins (Ring plan) id (giving post palm) other y (having_closed (giving post palm) y) nobody in
-      subst F (sym is) (subst G (sym drawer) (closes_drawer plan id post palm other desk hand last))
+      subst F (sym is) (subst G (sym drawer) (closes_drawer plan id post palm other desk last))
 
 pub looks_at : (plan : Plan) (slots id : ℕ) (me : Mine) (post : Post) (palm : Palm) → me ≡ (giving post palm, []) → Allows (Ring plan) slots id me 0 (λ n. n) (did_look (step slots 0 0 0 maybe.none) me)
 looks_at plan slots id me post palm is = let F : Mine → Type 0 = λ m. Allows (Ring plan) slots id m 0 (λ n. n) (did_look (step slots 0 0 0 maybe.none) m) in subst F (sym is) (looks plan slots id post palm [])

@@ -16,9 +16,10 @@ use Rattle.hs_words.specs.Ends.{Deed, Answer, answered, given_of, missed, events
 use Rattle.hs_words.proofs.Deeds.{answers_and, answers_below, are_answers_more, unread_more, got_below}
 use Rattle.hs_words.proofs.Waiting.{counted as one_counted, may_give, given_kinds}
 use Rattle.hs_ring.specs.Views.{Post, bare, lays, retakes, View, giving, post_after}
-use Rattle.hs_ring.specs.Rule.{Plan, Cell, free, waits, laid, Spot, queued, with_giver, Facts, published, queue_of, IsLaid, CellOk, PalmOk, PostOk, Knows, Kept, Ring}
+use Rattle.hs_ring.specs.Rule.{Plan, Cell, free, waits, laid, Spot, queued, with_giver, Facts, published, queue_of, IsLaid, CellOk, PalmOk, SpotOk, PostOk, Knows, Kept, Ring}
 use Rattle.hs_ring.specs.Steps.{published_of, did_publish}
 use Rattle.hs_ring.proofs.Updates.{put, put_cases, put_here, put_else, left_set}
+use Rattle.hs_ring.proofs.Spots.{still_with, spot_stays}
 use Rattle.hs_ring.proofs.Stays.{Moves, lease_stays, hand_stays, queued_stays, all_settled, cell_stays, facts_after, knows_stays}
 use Rattle.hs_ring.proofs.Counting.{at_length, at_end, none_there, line, found_drawn, found_published, found_stamp, one_more_published, entry_below, reseated}
 use Rattle.hs_ring.proofs.Draws.{St, Held}
@@ -151,6 +152,16 @@ module _ (plan : Plan) (s : St) (f : Facts) (k : Kept plan s f) (id : ℕ) (post
         absurd (other (here ∙ ap (λ (m : ℕ). m % (2 * n)) same ∙ sym i_is)))
         (f.cells e) (k.each_cell e low))
 
+    -- the buffer waits now, and each other is where it was
+    give_spots : (buffer : ℕ) → buffer < n → SpotOk n cells' f.seats f.giver (set s.views id w) buffer (spots' buffer)
+    give_spots buffer low =
+        put_cases (SpotOk n cells' f.seats f.giver (set s.views id w) buffer) f.spots b (queued P) buffer
+        (λ same. ap cells' (sym i_is) ∙ put_here f.cells i (waits P b) ∙ ap (waits P) (sym same))
+        (λ other. spot_stays n f.cells cells' f.seats f.giver s.views (set s.views id w) buffer
+        (λ number is. queued_stays n f.log (deed ∷ []) f.cells cells' f.spots spots' f.hands f.hands 0 with_giver (laid P) give_moves (λ number buffer e. cc) _ _ buffer is)
+        (still_with s.views id (giving post (lays b t)) w buffer at (λ one. other (sym one)))
+        (f.spots buffer) (k.each_spot buffer low))
+
     give_queued : (a buffer : ℕ) → get_elem? (queue_of n (deed ∷ f.log)) a ≡ some buffer → cells' ((drawn_in (deed ∷ f.log) + a) % (2 * n)) ≡ waits (drawn_in (deed ∷ f.log) + a) buffer
     give_queued a buffer seen =
         let same : drawn_in f.log + a ≡ (0 + drawn_in f.log) + a = omega arith in
@@ -176,6 +187,7 @@ module _ (plan : Plan) (s : St) (f : Facts) (k : Kept plan s f) (id : ℕ) (post
           each_queued = give_queued;
           each_hand = λ d. hand_stays n f.log (deed ∷ []) f.cells cells' f.spots spots' f.hands f.hands 0 with_giver (laid P) give_moves d (λ e. omega arith) (λ e. cc) (λ number buffer e. cc) (f.hands d) (k.each_hand d);
           in_palm = tt;
+          each_spot = give_spots;
           left = (let e = left_set s.views id (giving post (lays b t)) w at in let l = k.left in omega arith);
           by_giver = ap length (answers_and deed f.log 0 refl) ∙ (let e = k.by_giver in omega arith);
           all_made = ((let z : 0 ≤ f.made = omega arith in z), k.all_made);
@@ -240,6 +252,7 @@ module _ (plan : Plan) (s : St) (f : Facts) (k : Kept plan s f) (id : ℕ) (post
         (λ same. subst (CellOk n plan.size (missed ∷ f.log) f.spots f.hands (retakes b t) e (get_or (set s.words 0 x) (suc e) 0) (get_elem? s.homes e)) (sym (ap f.cells same ∙ there)) (
           same ∙ i_is,
           word ∙ ap (λ (j : ℕ). get_or s.words (suc j) 0) same ∙ was_ok.1,
+          ap (get_elem? s.homes) same ∙ was_ok.2,
           (let e : suc P ≡ n + (1 + given_in f.log) = omega arith in e),
         ))
         (λ other. cell_stays n plan.size f.log (missed ∷ f.log) f.spots f.spots f.hands f.hands f.palm (retakes b t) e (get_or s.words (suc e) 0) (get_or (set s.words 0 x) (suc e) 0) (get_elem? s.homes e) (get_elem? s.homes e)
@@ -267,6 +280,8 @@ module _ (plan : Plan) (s : St) (f : Facts) (k : Kept plan s f) (id : ℕ) (post
           each_queued = λ a buffer seen. absurd (let less = at_length (queue_of n f.log) a buffer seen in let l = line plan s f k in omega arith);
           each_hand = λ d. hand_stays n f.log (missed ∷ []) f.cells f.cells f.spots f.spots f.hands f.hands 0 (queued 0) free miss_moves d (λ e. omega arith) (λ e. cc) (λ number buffer e. cc) (f.hands d) (k.each_hand d);
           in_palm = (lease_stays n f.log (missed ∷ []) f.cells f.cells f.spots f.spots f.hands f.hands 0 (queued 0) free miss_moves b t with_giver (λ e. cc) in_hand.0, (P, (let e : suc P ≡ n + (1 + given_in f.log) = omega arith in e), in_hand.1));
+          each_spot = λ buffer low.
+              spot_stays n f.cells f.cells f.seats f.giver s.views (set s.views id w₂) buffer (λ number is. is) (still_with s.views id (giving post (lays b t)) w₂ buffer at (λ had. had)) (f.spots buffer) (k.each_spot buffer low);
           left = (let e = left_set s.views id (giving post (lays b t)) w₂ at in let l = k.left in omega arith);
           by_giver = ap length (answers_and missed f.log 0 refl) ∙ (let e = k.by_giver in omega arith);
           all_made = ((let z : 0 ≤ f.made = omega arith in z), k.all_made);

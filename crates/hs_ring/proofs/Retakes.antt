@@ -13,6 +13,7 @@ use Rattle.hs_ring.specs.Views.{Post, holds, retakes, View, giving}
 use Rattle.hs_ring.specs.Rule.{Plan, Cell, free, laid, queued, Facts, published, IsLaid, CellOk, PalmOk, PostOk, Knows, Kept, Ring}
 use Rattle.hs_ring.specs.Steps.{did_retake}
 use Rattle.hs_ring.proofs.Updates.{put, put_cases, put_else, left_set}
+use Rattle.hs_ring.proofs.Spots.{still_with, spot_stays}
 use Rattle.hs_ring.proofs.Stays.{Moves, hand_stays, queued_stays, cell_stays, facts_after, knows_stays}
 use Rattle.hs_ring.proofs.Counting.{entry_below, reseated}
 use Rattle.hs_ring.proofs.Draws.{St, Held}
@@ -100,6 +101,10 @@ module _ (plan : Plan) (s : St) (f : Facts) (k : Kept plan s f) (id : ℕ) (post
         each_queued = λ a buffer seen. queued_stays n f.log [] f.cells cells' f.spots f.spots f.hands f.hands 0 (queued 0) (laid number) retake_moves (λ number buffer e. cc) _ _ buffer (k.each_queued a buffer seen);
         each_hand = λ d. hand_stays n f.log [] f.cells cells' f.spots f.spots f.hands f.hands 0 (queued 0) (laid number) retake_moves d (λ e. omega arith) (λ e. cc) (λ number buffer e. cc) (f.hands d) (k.each_hand d);
         in_palm = in_hand.0;
+        each_spot = λ buffer low.
+            spot_stays n f.cells cells' f.seats f.giver s.views (set s.views id w) buffer
+            (λ h is. queued_stays n f.log [] f.cells cells' f.spots f.spots f.hands f.hands 0 (queued 0) (laid number) retake_moves (λ number buffer e. cc) _ _ buffer is)
+            (still_with s.views id (giving post (retakes b t)) w buffer at (λ had. had)) (f.spots buffer) (k.each_spot buffer low);
         left = (let e = left_set s.views id (giving post (retakes b t)) w at in let l = k.left in omega arith);
         by_giver = k.by_giver;
         all_made = k.all_made;

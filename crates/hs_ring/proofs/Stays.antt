@@ -106,9 +106,9 @@ pub cell_stays : (n size : ℕ) (log log' : List Deed) (spots spots' : ℕ → S
 cell_stays n size log log' spots spots' hands hands' palm palm' e word word' home home' w h on_waits on_drawn on_laid free (zero_word, empty) = (w ∙ zero_word, h ∙ empty)
 cell_stays n size log log' spots spots' hands hands' palm palm' e word word' home home' w h on_waits on_drawn on_laid (waits number buffer) (there, shows, full, low, high, at) =
     let now = on_waits number buffer there low high at in (there, w ∙ shows, h ∙ full, now.0, now.1, now.2)
-cell_stays n size log log' spots spots' hands hands' palm palm' e word word' home home' w h on_waits on_drawn on_laid (drawn number buffer drawer) (there, shows, low, high, lap, (stamp, is)) =
-    let now = on_drawn number buffer drawer stamp there low high lap is in (there, w ∙ shows, now.0, now.1, now.2, (stamp, now.3))
-cell_stays n size log log' spots spots' hands hands' palm palm' e word word' home home' w h on_waits on_drawn on_laid (laid number) (there, shows, is) = (there, w ∙ shows, on_laid number there is)
+cell_stays n size log log' spots spots' hands hands' palm palm' e word word' home home' w h on_waits on_drawn on_laid (drawn number buffer drawer) (there, shows, out, low, high, lap, (stamp, is)) =
+    let now = on_drawn number buffer drawer stamp there low high lap is in (there, w ∙ shows, h ∙ out, now.0, now.1, now.2, (stamp, now.3))
+cell_stays n size log log' spots spots' hands hands' palm palm' e word word' home home' w h on_waits on_drawn on_laid (laid number) (there, shows, out, is) = (there, w ∙ shows, h ∙ out, on_laid number there is)
 
 -- the facts after a step
 abbrev pub facts_after : Facts → List Deed → (ℕ → Cell) → (ℕ → Spot) → (ℕ → Hand) → Palm → Facts

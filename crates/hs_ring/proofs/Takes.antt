@@ -5,9 +5,10 @@ use lib.ListN.{get_elem?}
 use Rattle.atomic_table.specs.Table.{Splits, Joins}
 use Rattle.atomic_table.proofs.Lists.{at_set, set_else}
 use Rattle.hs_words.specs.Ends.{Deed}
-use Rattle.hs_ring.specs.Views.{Hand, Post, Palm, bare, holds, View, nobody, leasing, giving}
-use Rattle.hs_ring.specs.Rule.{Plan, Cell, free, Spot, queued, leased, with_giver, Facts, published, IsLaid, CellOk, HasLease, PalmOk, PostOk, Knows, Kept, Ring}
-use Rattle.hs_ring.proofs.Updates.{put, put_here, put_else, left_set, left_and}
+use Rattle.hs_ring.specs.Views.{Hand, Post, Palm, bare, holds, View, nobody, leasing, giving, IsWith}
+use Rattle.hs_ring.specs.Rule.{Plan, Cell, free, Spot, queued, leased, with_giver, Facts, published, IsLaid, CellOk, HasLease, PalmOk, SpotOk, PostOk, Knows, Kept, Ring}
+use Rattle.hs_ring.proofs.Updates.{put, put_cases, put_here, put_else, left_set, left_and}
+use Rattle.hs_ring.proofs.Spots.{now_with, still_with, else_with, with_more, with_last, spot_stays}
 use Rattle.hs_ring.proofs.Stays.{Moves, hand_stays, cell_stays, facts_after, knows_stays}
 use Rattle.hs_ring.proofs.Counting.{reseated, seated_too}
 use Rattle.hs_ring.proofs.Draws.{St}
@@ -87,6 +88,19 @@ module _ (plan : Plan) (s : St) (f : Facts) (k : Kept plan s f) (id : ℕ) (post
       (no_giver plan s f k id post bare at [] f.cells spots' f.hands (holds b t) j else.0) v (k.each_seat j v else.1))
       (at_set s.views id j w v seen))
 
+  abbrev views' : List View
+  views' = set (set s.views id w) other nobody
+
+  -- the buffer is with the giver now, and each other is where it was
+  take_spots : (buffer : ℕ) → buffer < n → SpotOk n f.cells f.seats f.giver views' buffer (spots' buffer)
+  take_spots buffer low =
+      put_cases (SpotOk n f.cells f.seats f.giver views' buffer) f.spots b with_giver buffer
+      (λ same. subst (IsWith views' buffer) (sym (ours plan s f k id post bare at).seat)
+      (else_with (set s.views id w) other nobody buffer id (λ e. differ (sym e)) (now_with s.views id (giving post bare) w buffer at (sym same))))
+      (λ apart. spot_stays n f.cells f.cells f.seats f.giver s.views views' buffer (λ number is. is)
+      (λ j had. still_with (set s.views id w) other (leasing b t) nobody buffer lease_at (λ one. apart (sym one)) j (still_with s.views id (giving post bare) w buffer at (λ none. absurd none) j had))
+      (f.spots buffer) (k.each_spot buffer low))
+
   pub take_kept : Kept plan record { words = s.words; homes = s.homes; views = set (set s.views id w) other nobody } after_take
   take_kept =
       record {
@@ -101,6 +115,7 @@ module _ (plan : Plan) (s : St) (f : Facts) (k : Kept plan s f) (id : ℕ) (post
         each_queued = k.each_queued;
         each_hand = λ d. hand_stays n f.log [] f.cells f.cells f.spots spots' f.hands f.hands 0 (leased other) free take_moves d (λ e. omega arith) (λ e. cc) (λ number buffer e. cc) (f.hands d) (k.each_hand d);
         in_palm = (put_here f.spots b with_giver, has.1, has.2, has.3);
+        each_spot = take_spots;
         left = (let e = left_set s.views id (giving post bare) w at in let e' = left_set (set s.views id w) other (leasing b t) nobody lease_at in let l = k.left in omega arith);
         by_giver = k.by_giver;
         all_made = k.all_made;
@@ -159,6 +174,18 @@ module _ (plan : Plan) (s : St) (f : Facts) (k : Kept plan s f) (id : ℕ) (post
       (λ j v other seen. knows_stays plan f [] f.cells spots₁ f.hands bare 0 with_giver free lease_moves j (λ d _ e. omega arith) (λ e. cc)
       (no_giver plan s f k id post (holds b t) at [] f.cells spots₁ f.hands bare j other) v (k.each_seat j v seen)))
 
+  abbrev views₁ : List View
+  views₁ = set s.views id w₁ ++ leasing b t ∷ []
+
+  -- the buffer is with the lease now, and each other is where it was
+  lease_spots : (buffer : ℕ) → buffer < plan.buffers → SpotOk plan.buffers f.cells f.seats f.giver views₁ buffer (spots₁ buffer)
+  lease_spots buffer low =
+      put_cases (SpotOk plan.buffers f.cells f.seats f.giver views₁ buffer) f.spots b (leased new) buffer
+      (λ same. with_last (set s.views id w₁) (leasing b t) buffer new (length-set s.views id w₁) (sym same))
+      (λ other. spot_stays plan.buffers f.cells f.cells f.seats f.giver s.views views₁ buffer (λ number is. is)
+      (λ j had. with_more (set s.views id w₁) (leasing b t) buffer j (still_with s.views id (giving post (holds b t)) w₁ buffer at (λ one. other (sym one)) j had))
+      (f.spots buffer) (k.each_spot buffer low))
+
   pub lease_kept : Kept plan record { words = s.words; homes = s.homes; views = set s.views id w₁ ++ leasing b t ∷ [] } after_lease
   lease_kept =
       record {
@@ -173,6 +200,7 @@ module _ (plan : Plan) (s : St) (f : Facts) (k : Kept plan s f) (id : ℕ) (post
         each_queued = k.each_queued;
         each_hand = λ d. hand_stays plan.buffers f.log [] f.cells f.cells f.spots spots₁ f.hands f.hands 0 with_giver free lease_moves d (λ e. omega arith) (λ e. cc) (λ number buffer e. cc) (f.hands d) (k.each_hand d);
         in_palm = tt;
+        each_spot = lease_spots;
         left = (let e = left_set s.views id (giving post (holds b t)) w₁ at in let a = left_and (set s.views id w₁) (leasing b t) in let l = k.left in omega arith);
         by_giver = k.by_giver;
         all_made = k.all_made;

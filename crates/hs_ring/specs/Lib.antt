@@ -1,5 +1,6 @@
 pub mod Views
 pub mod Rule
+pub mod Places
 pub mod Steps
 pub mod Parts
 pub mod Seats

@@ -12,7 +12,7 @@ use Rattle.hs_base.specs.declared.limits.TheConstants.{MAX_BUFFERS, MAX_OPERATIO
 use Rattle.hs_words.specs.Chunks.{Contents, clear_chunk}
 use Rattle.hs_words.specs.PoolHistory.{is_missed, is_empty, queue_after, IsHistoryBack}
 use Rattle.hs_words.specs.Ends.{Deed, got_by, events_of, drawn_in, given_in, answers_by, answers_in, told_in, IsDraw, IsGot, NoneSince, EachSpends, EachUnread, AreAnswers}
-use Rattle.hs_ring.specs.Views.{Desk, Hand, nothing, drew, kept, Post, Palm, bare, holds, lays, retakes, View, nobody, drawing, leasing, giving, drawer_note, giver_note, total, all_left}
+use Rattle.hs_ring.specs.Views.{Desk, Hand, nothing, drew, kept, Post, Palm, bare, holds, lays, retakes, View, nobody, drawing, leasing, giving, drawer_note, giver_note, IsWith, total, all_left}
 
 -- how many buffers there are, their size, and the allowances of the drawers
 pub record Plan : Type 0 where
@@ -21,7 +21,7 @@ pub record Plan : Type 0 where
   pub allowances : List ℕ
 
 -- an entry is free; or it holds a number whose buffer waits, or was drawn by a drawer that has not collected it; or the
--- giver has laid it
+-- giver has laid it. Where it was drawn or laid, its slot is with that end's seat.
 pub data Cell : Type 0 where
   free : Cell
   waits : ℕ → ℕ → Cell
@@ -70,9 +70,9 @@ module _ (n size : ℕ) (log : List Deed) (spots : ℕ → Spot) (hands : ℕ �
       (e ≡ number % (2 * n)) × (word ≡ suc number) × (home ≡ some (some (Some (clear_chunk size buffer))))
       × (drawn_in log ≤ number) × (number < published n log) × (spots buffer ≡ queued number)
   CellOk (drawn number buffer drawer) =
-      (e ≡ number % (2 * n)) × (word ≡ suc number)
+      (e ≡ number % (2 * n)) × (word ≡ suc number) × (home ≡ some maybe.none)
       × (number < drawn_in log) × (number < published n log) × (published n log ≤ number + 2 * n) × ((stamp : ℕ) × (hands drawer ≡ drew number buffer stamp))
-  CellOk (laid number) = (e ≡ number % (2 * n)) × (word ≡ suc number) × IsLaid (published n log) number palm
+  CellOk (laid number) = (e ≡ number % (2 * n)) × (word ≡ suc number) × (home ≡ some maybe.none) × IsLaid (published n log) number palm
 
 -- ---- hands
 
@@ -97,6 +97,16 @@ module _ (n : ℕ) (log : List Deed) (cells : ℕ → Cell) (spots : ℕ → Spo
   PalmOk (holds buffer draw) = HasLease buffer draw with_giver
   PalmOk (lays buffer draw) = HasLease buffer draw with_giver × (cells (published n log % (2 * n)) ≡ laid (published n log))
   PalmOk (retakes buffer draw) = HasLease buffer draw with_giver × ((number : ℕ) × (suc number ≡ published n log) × (cells (number % (2 * n)) ≡ laid number))
+
+-- ---- buffers
+
+-- the buffer is in its place: its number's entry waits with it, or the place's seat has it
+module _ (n : ℕ) (cells : ℕ → Cell) (seats : ℕ → ℕ) (giver : ℕ) (views : List View) (buffer : ℕ) where
+  abbrev pub SpotOk : Spot → Type 0
+  SpotOk (queued number) = cells (number % (2 * n)) ≡ waits number buffer
+  SpotOk (with_drawer drawer) = IsWith views buffer (seats drawer)
+  SpotOk (leased j) = IsWith views buffer j
+  SpotOk with_giver = IsWith views buffer giver
 
 -- ---- views
 
@@ -157,6 +167,7 @@ pub record Kept (plan : Plan) (s : State (Option Contents) View) (f : Facts) : T
       → f.cells ((drawn_in f.log + i) % (2 * plan.buffers)) ≡ waits (drawn_in f.log + i) buffer
   pub each_hand : (drawer : ℕ) → HandOk plan.buffers f.log f.cells f.spots drawer (f.hands drawer)
   pub in_palm : PalmOk plan.buffers f.log f.cells f.spots f.palm
+  pub each_spot : (buffer : ℕ) → buffer < plan.buffers → SpotOk plan.buffers f.cells f.seats f.giver s.views buffer (f.spots buffer)
   pub left : all_left s.views + drawn_in f.log ≤ total plan.allowances
   pub by_giver : length (answers_by 0 f.log) ≡ given_in f.log
   pub all_made : AllByRecursion (λ (deed : Deed). deed.by ≤ f.made) f.log

@@ -1,7 +1,9 @@
 -- What each seat at the ring's table knows, and how a step changes it. A drawer's seat knows its number, what its allowance
 -- has left, its floor, which is above every stamp that it knows, and its answers. The giver's seat knows its turns beside
 -- its floor. A lease is a seat of its own, and so is a note that one end hands to another when they meet.
-use Rattle.std.specs.Prelude.{ℕ, suc, ◌+◌, ◌-◌, List, [], ◌∷◌, max}
+use Rattle.std.specs.Prelude.{◌≡◌, ℕ, suc, ◌+◌, ◌-◌, List, [], ◌∷◌, max}
+use mathlib.Core.Option.{some}
+use lib.ListN.{get_elem?}
 use Rattle.hs_words.specs.PoolHistory.{Event, Got, Empty, Given, Missed}
 use Rattle.hs_words.specs.Ends.{Answer, Turn, answered, unread, met, stamps_in}
 
@@ -188,6 +190,30 @@ buffer_in (retakes buffer draw) = buffer
 abbrev pub buffer_held : View → ℕ
 buffer_held (giving post palm) = buffer_in palm
 buffer_held view = 0
+
+-- a seat has a buffer: a drawer's in hand, a lease's, or the giver's
+abbrev pub InHand : ℕ → Hand → Type 0
+InHand buffer nothing = ⊥
+InHand buffer (drew number b stamp) = b ≡ buffer
+InHand buffer (kept b stamp) = b ≡ buffer
+
+abbrev pub InPalm : ℕ → Palm → Type 0
+InPalm buffer bare = ⊥
+InPalm buffer (holds b draw) = b ≡ buffer
+InPalm buffer (lays b draw) = b ≡ buffer
+InPalm buffer (retakes b draw) = b ≡ buffer
+
+abbrev pub Has : ℕ → View → Type 0
+Has buffer nobody = ⊥
+Has buffer (drawing desk hand) = InHand buffer hand
+Has buffer (leasing b draw) = b ≡ buffer
+Has buffer (giving post palm) = InPalm buffer palm
+Has buffer (drawer_note floor stamps) = ⊥
+Has buffer (giver_note floor) = ⊥
+
+-- the seat j is one that has the buffer
+abbrev pub IsWith : List View → ℕ → ℕ → Type 0
+IsWith views buffer j = (v : View) × (get_elem? views j ≡ some v) × Has buffer v
 
 -- the least stamp that an end may be told next
 abbrev pub floor_of : View → ℕ
