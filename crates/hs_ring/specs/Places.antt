@@ -1,11 +1,12 @@
 -- Where each buffer of a ring is, as its table shows it: its chunk lies in the slot of an entry, or a seat has it. That seat is
 -- a drawer's that drew it, a lease, or the giver's. A lease is a seat of its own.
-use Rattle.std.specs.Prelude.{◌≡◌, ℕ, suc, ◌%◌, ◌<◌, ◌≤◌, length, slice_index, Option, Some}
-use mathlib.Core.Option.{some}
+use Rattle.std.proofs.Common.{zero, ◌+◌, ◌*◌, refl, sym, ◌∙◌, subst, le_refl}
+use Rattle.std.specs.Prelude.{◌≡◌, ℕ, suc, ◌%◌, ◌<◌, ◌≤◌, [], ◌∷◌, length, slice_index, Option, Some, None}
+use mathlib.Core.Option.{some, some-injective, some-ne-none}
 use lib.ListN.{get_elem?}
 use Rattle.atomic_table.specs.Table.{State}
 use Rattle.hs_words.specs.Chunks.{Contents, clear_chunk}
-use Rattle.hs_ring.specs.Views.{View, IsWith}
+use Rattle.hs_ring.specs.Views.{nothing, bare, View, drawing, leasing, giving, desk_of, post_of, nobody, Has, IsWith}
 use Rattle.hs_ring.specs.Steps.{drawn_of, published_of}
 
 abbrev pub Table : Type 0
@@ -35,3 +36,52 @@ pub record IsInOnePlace (size : ℕ) (s : Table) (buffer : ℕ) : Type 0 where
   pub there : IsThere s buffer site
   pub nowhere_else : (other : Site) → IsThere s buffer other → other ≡ site
   pub waits : (e : ℕ) → site ≡ entry e → Waits size s buffer e
+
+-- ---- examples
+
+-- A ring of two buffers of 64 bytes, with the seats of the giver and a drawer. The first buffer was drawn, and the third seat is
+-- its lease. The second waits under the number 1.
+abbrev one_lent : Table
+one_lent =
+    record {
+      words = (2 * 4294967296 + 1) ∷ 0 ∷ 2 ∷ 0 ∷ 0 ∷ [];
+      homes = some None ∷ some (Some (clear_chunk 64 1)) ∷ some None ∷ some None ∷ [];
+      views = giving (post_of nobody) bare ∷ drawing (desk_of nobody) nothing ∷ leasing 0 0 ∷ [];
+    }
+
+the_second_waits : Waits 64 one_lent 1 1
+the_second_waits = record { number = 1; of_entry = refl; laid = refl; not_drawn = le_refl 1; published = le_refl 2; clear = refl }
+
+-- the first is with its lease and nowhere else
+only_lent : (other : Site) → IsThere one_lent 0 other → other ≡ seat 2
+only_lent (entry zero) (chunk, full, named) = absurd cc
+only_lent (entry (suc zero)) (chunk, full, named) = absurd cc
+only_lent (entry (suc (suc zero))) (chunk, full, named) = absurd cc
+only_lent (entry (suc (suc (suc zero)))) (chunk, full, named) = absurd cc
+only_lent (entry (suc (suc (suc (suc e))))) (chunk, full, named) = absurd (some-ne-none (some (Some chunk)) (sym full))
+only_lent (seat zero) (v, seen, has) = absurd (subst (Has 0) (sym (some-injective (giving (post_of nobody) bare) v seen)) has)
+only_lent (seat (suc zero)) (v, seen, has) = absurd (subst (Has 0) (sym (some-injective (drawing (desk_of nobody) nothing) v seen)) has)
+only_lent (seat (suc (suc zero))) is = refl
+only_lent (seat (suc (suc (suc j)))) (v, seen, has) = absurd (some-ne-none v (sym seen))
+
+the_first_is_lent : IsInOnePlace 64 one_lent 0
+the_first_is_lent = record { site = seat 2; there = (leasing 0 0, refl, refl); nowhere_else = only_lent; waits = λ e same. absurd cc }
+
+-- the lease of a buffer that waits would be a second place
+abbrev lent_and_waits : Table
+lent_and_waits = record { words = one_lent.words; homes = one_lent.homes; views = leasing 1 0 ∷ [] }
+
+not_in_two_places : IsInOnePlace 64 lent_and_waits 1 → ⊥
+not_in_two_places is = let both : seat 0 ≡ entry 1 = is.nowhere_else (seat 0) (leasing 1 0, refl, refl) ∙ sym (is.nowhere_else (entry 1) (clear_chunk 64 1, refl, refl)) in absurd cc
+
+-- a buffer that neither an entry nor a seat has is lost
+abbrev empty : Table
+empty = record { words = []; homes = some None ∷ []; views = [] }
+
+nowhere : (site : Site) → IsThere empty 0 site → ⊥
+nowhere (entry zero) (chunk, full, named) = absurd cc
+nowhere (entry (suc e)) (chunk, full, named) = absurd (some-ne-none (some (Some chunk)) (sym full))
+nowhere (seat j) (v, seen, has) = absurd (some-ne-none v (sym seen))
+
+not_lost : IsInOnePlace 64 empty 0 → ⊥
+not_lost is = nowhere is.site is.there
