@@ -1,3 +1,5 @@
 pub mod TextLemmas
 pub mod WordLemmas
 pub mod Lines
+pub mod Pairs
+pub mod TidyLines

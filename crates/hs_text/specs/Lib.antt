@@ -9,3 +9,4 @@ pub mod Agreement
 pub mod Judging
 pub mod JudgingLaws
 pub mod Writing
+pub mod Tidy

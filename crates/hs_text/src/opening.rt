@@ -1,9 +1,11 @@
 //! The first word of a line.
 
+ghost use Rattle.std.specs.Prelude.{◌≡◌, true, None};
 ghost use Rattle.hs_text.specs.Steps.{Gives};
 ghost use Rattle.hs_text.specs.Spelling.{spelled};
 ghost use Rattle.hs_text.specs.WordsLeft.{words_in};
 ghost use Rattle.hs_text.specs.Opening.{opened};
+ghost use Rattle.hs_text.specs.LineFaults.{line_fault_of};
 
 use crate::reading::{LineFault, line_fault};
 use crate::spelled::{Spelled, spelled_word};
@@ -21,19 +23,24 @@ pub struct LineReasons<R> {
     pub word: R,
 }
 
-/// The first word of a line, one of the list, and the words behind it.
+/// The first word of a line, one of the list, and the words behind it. Where the line was seen to have no fault by itself, its bytes
+/// and spaces are not looked at again.
 #[tactic(auto, unfolding(crate::specs::Opening::opened))]
-pub fn open_line<W: Spelled, R: Copy>(
+pub fn open_seen_line<W: Spelled, R: Copy>(
     line: &[u8],
+    is_seen: bool,
     reasons: LineReasons<R>,
 ) -> Result<(W, Words<'_>), Stop<R>>
+    requires { is_seen ≡ true → line_fault_of line.now ≡ None }
     ensures { Gives (λ found. (found.0, words_in found.1)) result
         (opened reasons (spelled W.spelling W.every) line.now) }
 {
-    match line_fault(line) {
-        Some(LineFault::Byte) => return Err(Stop::Fault(reasons.byte)),
-        Some(LineFault::Spaces) => return Err(Stop::Fault(reasons.spaces)),
-        None => {}
+    if !is_seen {
+        match line_fault(line) {
+            Some(LineFault::Byte) => return Err(Stop::Fault(reasons.byte)),
+            Some(LineFault::Spaces) => return Err(Stop::Fault(reasons.spaces)),
+            None => {}
+        }
     }
     let mut words = Words::of(line);
     let word = words.take(reasons.word)?;
@@ -41,4 +48,15 @@ pub fn open_line<W: Spelled, R: Copy>(
         Some(found) => Ok((found, words)),
         None => Err(Stop::Fault(reasons.word)),
     }
+}
+
+/// The first word of a line, one of the list, and the words behind it.
+pub fn open_line<W: Spelled, R: Copy>(
+    line: &[u8],
+    reasons: LineReasons<R>,
+) -> Result<(W, Words<'_>), Stop<R>>
+    ensures { Gives (λ found. (found.0, words_in found.1)) result
+        (opened reasons (spelled W.spelling W.every) line.now) }
+{
+    open_seen_line(line, false, reasons)
 }

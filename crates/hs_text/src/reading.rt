@@ -1,11 +1,11 @@
 //! Lines, words and what a word says.
 
-ghost use Rattle.std.specs.Prelude.{◌≡◌, ◌≢◌, ◌<◌, ◌≤◌, ◌∷◌, [], ◌++◌, length, Some, None, IfOk, IfSome, IfNone, IsTrue, if◌then◌else◌};
-ghost use Rattle.std.specs.List.{All, list_all};
+ghost use Rattle.std.specs.Prelude.{◌≡◌, ◌≢◌, ◌↔◌, ◌<◌, ◌≤◌, ◌∷◌, [], ◌++◌, length, Some, None, IfOk, IfSome, IfNone, IsTrue, if◌then◌else◌};
+ghost use Rattle.std.specs.List.{All};
 ghost use Rattle.hs_text.specs.Text.{has_bad_byte, has_bad_spaces, words_of, number_of, hex_of, is_hex_digit, hex_digit_of, is_payload, payload_of};
 ghost use Rattle.hs_text.specs.LineFaults.{line_fault_of};
 
-use hex::FromHexError;
+use crate::digits::{decode_pairs, few_digits, is_hex};
 use hs_base::{Bytes, List, Memory};
 use memchr::memchr;
 use std::alloc::Global;
@@ -72,6 +72,13 @@ pub fn split_word(line: &[u8]) -> (&[u8], Option<&[u8]>)
     }
 }
 
+/// Whether a line has no space, so that it is one word.
+pub fn is_one_word(line: &[u8]) -> bool
+    ensures { IsTrue result ↔ All (λ b. b ≢ 32) line.now }
+{
+    memchr(b' ', line).is_none()
+}
+
 /// The number that a word is, or `None` where it is not one.
 pub fn number(word: &[u8]) -> Option<u64>
     ensures { result ≡ number_of word.now }
@@ -82,6 +89,9 @@ pub fn number(word: &[u8]) -> Option<u64>
     }
     if first == b'0' && word.len() != 1 {
         return None;
+    }
+    if word.len() < 20 {
+        return few_digits(word);
     }
     std::str::from_utf8(word).ok()?.parse().ok()
 }
@@ -95,14 +105,6 @@ fn hex_digit(byte: u8) -> Option<u8>
         b'a'..=b'f' => Some(byte - b'a' + 10),
         _ => None,
     }
-}
-
-/// Whether each byte is a digit of lower-case hexadecimal.
-fn is_hex(word: &[u8]) -> bool
-    ensures { result ≡ list_all is_hex_digit word.now }
-{
-    word.iter()
-        .all(|byte| matches!(*byte, b'0'..=b'9' | b'a'..=b'f'))
 }
 
 /// The number that a word of so many digits is, or `None` where it is not one.
@@ -146,11 +148,7 @@ pub fn decode_payload(alloc: Global, word: &[u8]) -> Result<Bytes, Memory>
     if word.len() == 1 {
         return Ok(List::new(alloc));
     }
-    match hex::decode(alloc, word) {
-        Ok(bytes) => Ok(List::from_vec(bytes)),
-        Err(error) => match error {
-            FromHexError::OutOfMemory => Err(Memory),
-            _ => unreachable!(),
-        },
-    }
+    let mut bytes = vec![in alloc; 0u8; word.len() / 2]?;
+    decode_pairs(word, bytes.as_mut_slice());
+    Ok(List::from_vec(bytes))
 }

@@ -5,7 +5,9 @@ ghost use Rattle.hs_text.specs.Text.{words_of, number_of, hex_of, is_payload, pa
 ghost use Rattle.hs_text.specs.Steps.{Gives, value_or};
 ghost use Rattle.hs_text.specs.WordsLeft.{words_in, next_word, last_word, no_word, payload_length};
 
-use crate::reading::{count_words, hex_number, is_payload, number, payload_len, split_word};
+use crate::reading::{
+    count_words, hex_number, is_one_word, is_payload, number, payload_len, split_word,
+};
 use crate::stop::Stop;
 
 /// The words of a line that were not taken yet.
@@ -53,10 +55,15 @@ impl<'a> Words<'a> {
     }
 
     /// The one word that is left.
-    #[tactic(auto, using(crate::proofs::WordLemmas::last_word_many))]
+    #[tactic(auto, using(crate::proofs::WordLemmas::last_words))]
     pub fn last<R: Copy>(mut self, wrong: R) -> Result<&'a [u8], Stop<R>>
         ensures { Gives (λ word. word.now) result (last_word wrong (words_in self.entry)) }
     {
+        if let Some(rest) = self.rest
+            && is_one_word(rest)
+        {
+            return Ok(rest);
+        }
         let word = self.take(wrong)?;
         match self.rest {
             None => Ok(word),
