@@ -1,7 +1,8 @@
 //! A journal as far as it has been read, and what each line makes of it.
 
-ghost use Rattle.std.specs.Prelude.{◌≡◌, ◌<◌, ◌≤◌, ◌∷◌, ◌++◌, [], true, false, map, length, OnOk, IfOk};
+ghost use Rattle.std.specs.Prelude.{◌≡◌, ◌<◌, ◌≤◌, ◌∷◌, ◌++◌, [], true, false, None, map, length, OnOk, IfOk};
 ghost use Rattle.hs_journal.specs.Faults.{all_clients, may_stand, is_out_of_range, is_out_of_order, is_in_draws, is_in_logs, is_ended};
+ghost use Rattle.hs_text.specs.LineFaults.{line_fault_of};
 ghost use Rattle.hs_text.specs.Steps.{Gives};
 ghost use Rattle.hs_journal.specs.Forward.{IsSound, draft_of, past_of, after, fresh, entered, with_draw, with_step, line_step, journal_drafted};
 ghost use Rattle.hs_journal.specs.declared.place.Place.TheVariants.{Start};
@@ -15,7 +16,7 @@ use crate::refusal::JournalReason;
 use crate::word::Keyword;
 use hs_base::limits::{MAX_BUFFERS, MAX_CLIENTS, MAX_NODES};
 use hs_base::{List, Memory, NodeId};
-use hs_text::{LineReasons, Stop, open_line};
+use hs_text::{LineReasons, Stop, open_seen_line};
 use std::alloc::Global;
 
 /// Why a line is refused before its numbers are looked at.
@@ -265,13 +266,18 @@ impl Reader {
         }
     }
 
-    /// Takes the next line.
+    /// Takes the next line, whose bytes and spaces may have been looked at before.
     #[tactic(auto, unfolding(crate::specs::Forward::line_step))]
-    pub fn read_line(&mut self, line: &[u8]) -> Result<(), Stop<JournalReason>>
-        requires { IsSound (draft_of self.old) }
+    pub fn read_line(&mut self, line: &[u8], is_seen: bool) -> Result<(), Stop<JournalReason>>
+        requires sound { IsSound (draft_of self.old) }
+        requires seen { is_seen ≡ true → line_fault_of line.now ≡ None }
         ensures { Gives (λ _. draft_of self.new) result (line_step (draft_of self.old) line.now) }
     {
-        let (keyword, words) = open_line::<Keyword, JournalReason>(line, LINE_REASONS)?;
+        let (keyword, words) = open_seen_line::<Keyword, JournalReason>(
+            line,
+            is_seen,
+            LINE_REASONS,
+        )?;
         if !self.may_stand(keyword) {
             return Err(Stop::Fault(JournalReason::Word));
         }

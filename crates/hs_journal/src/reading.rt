@@ -9,7 +9,7 @@ ghost use Rattle.hs_journal.specs.declared.refusal.JournalError.TheVariants.{Mem
 use crate::journal::Journal;
 use crate::reader::Reader;
 use crate::refusal::{JournalError, JournalReason, JournalRefusal};
-use hs_text::{Stop, split_line};
+use hs_text::{Stop, is_tidy, split_line};
 use std::alloc::Global;
 
 /// The refusal of a line, from 1.
@@ -32,11 +32,12 @@ pub fn read_journal(alloc: Global, text: &[u8]) -> Result<Journal, JournalError>
     ensures only { (J : PlainJournal) → Reads text.now J →
         MatchResult result (λ journal. journal_of journal ≡ J) (λ error. error ≡ Memory) }
 {
+    let is_seen = is_tidy(text);
     let mut reader = Reader::new(alloc);
     let mut rest = text;
     let mut line_number: u32 = 1;
     while let Some((line, after)) = split_line(rest) {
-        match reader.read_line(line) {
+        match reader.read_line(line, is_seen) {
             Ok(()) => {}
             Err(Stop::Memory) => return Err(JournalError::Memory),
             Err(Stop::Fault(reason)) => return Err(refused(line_number, reason)),
