@@ -1,8 +1,9 @@
 //! A workload as far as it has been read, and what each kind of line makes of it.
 
-ghost use Rattle.std.specs.Prelude.{◌≡◌, ◌≢◌, ◌==◌, nat_le, ◌&&◌, ◌<◌, ◌≤◌, ◌*◌, [], length, true, false, OnOk, IfOk, IfSome, IfNone};
+ghost use Rattle.std.specs.Prelude.{◌≡◌, ◌≢◌, ◌==◌, nat_le, ◌&&◌, ◌<◌, ◌≤◌, ◌*◌, [], length, true, false, None, OnOk, IfOk, IfSome, IfNone};
 ghost use Rattle.std.specs.List.{All, list_any};
 ghost use Rattle.hs_base.specs.Rules.{is_declared};
+ghost use Rattle.hs_text.specs.LineFaults.{line_fault_of};
 ghost use Rattle.hs_text.specs.Text.{trace_digits};
 ghost use Rattle.hs_text.specs.Steps.{Gives, value_or};
 ghost use Rattle.hs_text.specs.WordsLeft.{words_in};
@@ -27,7 +28,7 @@ use hs_base::{
 };
 use hs_records::piece_count;
 use hs_text::{
-    LineReasons, Stop, Words, decode_payload, hex_in, number_in, open_line, payload_length,
+    LineReasons, Stop, Words, decode_payload, hex_in, number_in, open_seen_line, payload_length,
     spelled_word,
 };
 use std::alloc::Global;
@@ -217,6 +218,7 @@ impl Reader {
     }
 
     /// Takes the line of an autotrigger.
+    #[inline(never)]
     #[tactic(auto, unfolding(crate::specs::Forward::auto_step))]
     fn auto(&mut self, mut words: Words<'_>) -> Result<(), Stop<Reason>>
         requires { IsSound (draft_of self.old) }
@@ -393,7 +395,8 @@ impl Reader {
         self.operate(Op::End, false)
     }
 
-    /// Takes the line of a trigger.
+    /// Takes the line of a trigger. Its traces need room that other lines are not to pay for.
+    #[inline(never)]
     #[tactic(auto, unfolding(crate::specs::Forward::trigger_step))]
     fn trigger(&mut self, mut words: Words<'_>) -> Result<(), Stop<Reason>>
         requires { IsSound (draft_of self.old) }
@@ -516,13 +519,14 @@ impl Reader {
         }
     }
 
-    /// Takes the next line.
+    /// Takes the next line, whose bytes and spaces may have been looked at before.
     #[tactic(auto, unfolding(crate::specs::Forward::line_step))]
-    pub fn read_line(&mut self, line: &[u8]) -> Result<(), Stop<Reason>>
-        requires { IsSound (draft_of self.old) }
+    pub fn read_line(&mut self, line: &[u8], is_seen: bool) -> Result<(), Stop<Reason>>
+        requires sound { IsSound (draft_of self.old) }
+        requires seen { is_seen ≡ true → line_fault_of line.now ≡ None }
         ensures { Gives (λ _. draft_of self.new) result (line_step (draft_of self.old) line.now) }
     {
-        let (keyword, words) = open_line::<Keyword, Reason>(line, LINE_REASONS)?;
+        let (keyword, words) = open_seen_line::<Keyword, Reason>(line, is_seen, LINE_REASONS)?;
         if !self.may_stand(keyword) {
             return Err(Stop::Fault(Reason::Word));
         }

@@ -11,7 +11,7 @@ ghost use Rattle.hs_workload.specs.declared.refusal.ReadError.TheVariants.{Memor
 use crate::draft::Reader;
 use crate::operation::Workload;
 use crate::refusal::{ReadError, Reason, Refusal};
-use hs_text::{Stop, split_line};
+use hs_text::{Stop, is_tidy, split_line};
 use std::alloc::Global;
 
 /// The error for what ended the reading of this line.
@@ -30,11 +30,12 @@ fn read_lines(alloc: Global, text: &[u8]) -> Result<Workload, ReadError>
     ensures clean { OnOk result (first_fault text.now ≡ None) }
     ensures refused { IfErr result (Refuses (first_fault text.now)) }
 {
+    let is_seen = is_tidy(text);
     let mut reader = Reader::new(alloc);
     let mut rest = text;
     while let Some((line, behind)) = split_line(rest) {
         let number = reader.lines() + 1;
-        if let Err(stop) = reader.read_line(line) {
+        if let Err(stop) = reader.read_line(line, is_seen) {
             return Err(error_at(number, stop));
         }
         rest = behind;

@@ -1,6 +1,7 @@
 -- The reader stands where the lines so far say that it does.
 use Rattle.std.proofs.Common.{◌+◌, ℕ, sym, subst, ◌∙◌}
 use Rattle.hs_text.specs.JudgingLaws.{reading_starts, text_cut_off, text_read}
+use Rattle.hs_text.proofs.TidyLines.{tidy_line}
 use Rattle.hs_text.specs.declared.stop.Stop.TheVariants.{Fault}
 use Rattle.hs_records.specs.Plain.{PlainWorkload}
 use Rattle.hs_workload.specs.declared.refusal.ReadError.{ReadError}
@@ -19,6 +20,7 @@ loop-line-init c =
     record {
       at = subst (λ (d : Draft). IsAt c.args.text.now c.args.text.now d) (sym c.new-reader.ensures) (reading_starts workload_reader c.args.text.now);
       sound = subst (λ (d : Draft). IsSound d) (sym c.new-reader.ensures) (sound fresh keeps_fresh);
+      seen = λ is. sym c.is_tidy-is_seen.ensures ∙ is;
     }
 
 pub loop-line-preserved : goal.loop-line-preserved
@@ -27,7 +29,10 @@ loop-line-preserved c =
     let at : IsAt c.args.text.now c.in-Some.behind.now next =
     at_next c.args.text.now c.loop-line.rest.now c.in-Some.line.now c.in-Some.behind.now (draft_of c.loop-line.reader) next c.loop-line.invariant.at
     (record { split = c.in-Some.ensures.some; one = c.in-Some.ensures.line }) c.in_default-read_line.ensures in
-    record { at = at; sound = sound next at.sees.keeps }
+    record { at = at; sound = sound next at.sees.keeps; seen = λ is. (tidy_line _ _ _ c.in-Some.ensures.some c.in-Some.ensures.line (c.loop-line.invariant.seen is)).1 }
+
+pub read_line-requires-clause-seen : goal.read_line-requires-clause-seen
+read_line-requires-clause-seen c = λ is. (tidy_line _ _ _ c.in-Some.ensures.some c.in-Some.ensures.line (c.loop-line.invariant.seen is)).0
 
 pub returns-in-Err-clause-refused : goal.returns-in-Err-clause-refused
 returns-in-Err-clause-refused c =
