@@ -1,6 +1,6 @@
 -- The words of a line, taken one after another: the next, the last, or none. Where the line has too few or too many, it is
 -- refused for the reason that was given.
-use Rattle.std.specs.Prelude.{ℕ, List, [], ◌∷◌, length, Option, Some, None, Result, Ok, Err}
+use Rattle.std.specs.Prelude.{ℕ, List, [], ◌∷◌, length, Option, Some, None, option_map, Result, Ok, Err}
 use Rattle.std.specs.Borrow.{Bor}
 use Rattle.hs_text.specs.Text.{words_of, payload_of}
 use Rattle.hs_text.specs.Steps.{◌>>=◌, value_or}
@@ -29,6 +29,10 @@ last_word wrong (word ∷ next ∷ words) = Err wrong
 abbrev pub no_word : {R : Type 0} → R → List (List ℕ) → Result (Unit {0}) R
 no_word extra [] = Ok tt
 no_word extra (word ∷ words) = Err extra
+
+-- how many bytes the payload has that a word is, where it is one
+abbrev pub payload_size : List ℕ → Option ℕ
+payload_size word = option_map length (payload_of word)
 
 -- how many bytes the payload has that a word is
 abbrev pub payload_length : {R : Type 0} → R → List ℕ → Result ℕ R

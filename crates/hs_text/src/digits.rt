@@ -1,11 +1,11 @@
 //! Digits, decimal and hexadecimal. The loops over hexadecimal digits have no way out before their end, so that the compiler
 //! takes many bytes at once.
 
-ghost use Rattle.std.specs.Prelude.{◌≡◌, ◌<◌, ◌*◌, length, Some, None, IsTrue, if◌then◌else◌};
+ghost use Rattle.std.specs.Prelude.{◌≡◌, ◌<◌, ◌≤◌, ◌*◌, ◌^◌, length, Some, None, IsTrue, if◌then◌else◌};
 ghost use Rattle.std.specs.List.{list_all};
 ghost use Rattle.std.specs.Str.{all_ascii_digits};
 ghost use Rattle.std.specs.Str.Parse.{digits_value};
-ghost use Rattle.hs_text.specs.Text.{is_hex_digit, hex_digit_of, bytes_of_pairs};
+ghost use Rattle.hs_text.specs.Text.{is_hex_digit, hex_digit_of, hex_value_after, bytes_of_pairs};
 
 /// The number that decimal digits are, so few that it fits. `None` where a byte is no digit.
 pub fn few_digits(word: &[u8]) -> Option<u64>
@@ -41,7 +41,7 @@ pub fn is_hex(word: &[u8]) -> bool
 }
 
 /// What a digit of lower-case hexadecimal stands for.
-fn hex_value(digit: u8) -> u8
+pub fn hex_value(digit: u8) -> u8
     requires { IsTrue (is_hex_digit digit) }
     ensures value { result ≡ hex_digit_of digit }
     ensures small { result < 16 }
@@ -51,6 +51,21 @@ fn hex_value(digit: u8) -> u8
     } else {
         digit - b'a' + 10
     }
+}
+
+/// The number that digits of hexadecimal are, at most 16.
+#[tactic(auto, using(crate::proofs::Pairs::digit_at))]
+pub fn few_hex_digits(word: &[u8]) -> u64
+    requires digits { IsTrue (list_all is_hex_digit word.now) }
+    requires few { length word.now ≤ 16 }
+    ensures value { result ≡ hex_value_after 0 word.now }
+    ensures small { result < 16 ^ length word.now }
+{
+    let mut number: u64 = 0;
+    for digit in word {
+        number = 16 * number + u64::from(hex_value(*digit));
+    }
+    number
 }
 
 /// Writes the bytes that pairs of digits stand for.

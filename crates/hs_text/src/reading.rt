@@ -2,10 +2,10 @@
 
 ghost use Rattle.std.specs.Prelude.{◌≡◌, ◌≢◌, ◌↔◌, ◌<◌, ◌≤◌, ◌∷◌, [], ◌++◌, length, Some, None, IfOk, IfSome, IfNone, IsTrue, if◌then◌else◌};
 ghost use Rattle.std.specs.List.{All};
-ghost use Rattle.hs_text.specs.Text.{has_bad_byte, has_bad_spaces, words_of, number_of, hex_of, is_hex_digit, hex_digit_of, is_payload, payload_of};
+ghost use Rattle.hs_text.specs.Text.{has_bad_byte, has_bad_spaces, words_of, number_of, hex_of, is_payload, payload_of};
 ghost use Rattle.hs_text.specs.LineFaults.{line_fault_of};
 
-use crate::digits::{decode_pairs, few_digits, is_hex};
+use crate::digits::{decode_pairs, few_digits, few_hex_digits, hex_value, is_hex};
 use hs_base::{Bytes, List, Memory};
 use memchr::memchr;
 use std::alloc::Global;
@@ -96,28 +96,19 @@ pub fn number(word: &[u8]) -> Option<u64>
     std::str::from_utf8(word).ok()?.parse().ok()
 }
 
-/// What a digit of lower-case hexadecimal stands for, or `None` for another byte.
-fn hex_digit(byte: u8) -> Option<u8>
-    ensures { result ≡ (if is_hex_digit byte then Some (hex_digit_of byte) else None) }
-{
-    match byte {
-        b'0'..=b'9' => Some(byte - b'0'),
-        b'a'..=b'f' => Some(byte - b'a' + 10),
-        _ => None,
-    }
-}
-
 /// The number that a word of so many digits is, or `None` where it is not one.
+#[tactic(auto, using(crate::proofs::Pairs::digit_at))]
 pub fn hex_number(word: &[u8], digits: u32) -> Option<u128>
     requires { digits ≤ 32 }
     ensures { result ≡ hex_of digits word.now }
 {
-    if word.len() != digits as usize {
+    if word.len() != digits as usize || !is_hex(word) {
         return None;
     }
-    let mut number: u128 = 0;
-    for byte in word {
-        number = 16 * number + u128::from(hex_digit(*byte)?);
+    let front = word.len().min(16);
+    let mut number = u128::from(few_hex_digits(&word[..front]));
+    for digit in &word[front..] {
+        number = 16 * number + u128::from(hex_value(*digit));
     }
     Some(number)
 }

@@ -1,9 +1,9 @@
 //! The words of a line, taken one after another, and what each says.
 
-ghost use Rattle.std.specs.Prelude.{◌≡◌, ◌≤◌, ◌∷◌, [], length, MatchOption, OnOk, IsTrue};
+ghost use Rattle.std.specs.Prelude.{◌≡◌, ◌≤◌, ◌∷◌, [], length, MatchOption, OnOk, IfOk, IfSome, IsTrue};
 ghost use Rattle.hs_text.specs.Text.{words_of, number_of, hex_of, is_payload, payload_of};
 ghost use Rattle.hs_text.specs.Steps.{Gives, value_or};
-ghost use Rattle.hs_text.specs.WordsLeft.{words_in, next_word, last_word, no_word, payload_length};
+ghost use Rattle.hs_text.specs.WordsLeft.{words_in, next_word, last_word, no_word, payload_length, payload_size};
 
 use crate::reading::{
     count_words, hex_number, is_one_word, is_payload, number, payload_len, split_word,
@@ -69,6 +69,25 @@ impl<'a> Words<'a> {
             None => Ok(word),
             Some(_) => Err(Stop::Fault(wrong)),
         }
+    }
+
+    /// The one word that is left, and how many bytes it has where it is a payload.
+    #[tactic(auto, using(crate::proofs::WordLemmas::payload_word))]
+    pub fn last_payload<R: Copy>(self, wrong: R) -> Result<(&'a [u8], Option<usize>), Stop<R>>
+        ensures word { Gives (λ found. found.0.now) result (last_word wrong (words_in self.entry)) }
+        ensures size { IfOk result (λ found. found.1 ≡ payload_size found.0.now) }
+        ensures payload { IfOk result (λ found. IfSome found.1 (λ _. IsTrue (is_payload found.0.now))) }
+    {
+        if let Some(rest) = self.rest
+            && is_payload(rest)
+        {
+            return Ok((rest, Some(payload_len(rest))));
+        }
+        let word = self.last(wrong)?;
+        if is_payload(word) {
+            return Ok((word, Some(payload_len(word))));
+        }
+        Ok((word, None))
     }
 
     /// That no word is left.
