@@ -28,8 +28,7 @@ use hs_base::{
 };
 use hs_records::piece_count;
 use hs_text::{
-    LineReasons, Stop, Words, decode_payload, hex_in, number_in, open_seen_line, payload_length,
-    spelled_word,
+    LineReasons, Stop, Words, decode_payload, hex_in, number_in, open_seen_line, spelled_word,
 };
 use std::alloc::Global;
 
@@ -353,9 +352,11 @@ impl Reader {
         ensures { Gives (λ _. draft_of self.new) result (point_step (draft_of self.old) (words_in words.entry)) }
     {
         let moment = words.take(Reason::Count)?;
-        let word = words.last(Reason::Count)?;
+        let (word, bytes) = words.last_payload(Reason::Count)?;
         let moment = number_in(moment, Reason::Number)?;
-        let bytes = payload_length(word, Reason::Hex)?;
+        let Some(bytes) = bytes else {
+            return Err(Stop::Fault(Reason::Hex));
+        };
         if MAX_PAYLOAD < bytes {
             return Err(Stop::Fault(Reason::Range));
         }

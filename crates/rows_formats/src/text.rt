@@ -3,10 +3,10 @@
 use hs_base::limits::MAX_PAYLOAD;
 use hs_base::{Memory, TraceId};
 use hs_text::{
-    count_words, decode_payload, end_line, hex_number, is_payload, line_fault, number, payload_len,
-    push_hex, push_number, push_payload, push_spaced, push_spaced_hex, push_spaced_number,
-    push_spaced_numbers, push_spaced_payload, push_spaced_trace, push_spaced_traces, split_line,
-    split_word,
+    count_words, decode_payload, end_line, hex_number, is_payload, is_tidy, line_fault, number,
+    payload_len, push_hex, push_number, push_payload, push_spaced, push_spaced_hex,
+    push_spaced_number, push_spaced_numbers, push_spaced_payload, push_spaced_trace,
+    push_spaced_traces, split_line, split_word,
 };
 use std::alloc::Global;
 use std::test::Fail;
@@ -28,6 +28,20 @@ fn lines_and_words_are_split(rt: HostRuntime) {
     assert!(rt; split_word(b"got 3") == (b"got".as_slice(), Some(b"3".as_slice())));
     assert!(rt; count_words(b"client 0 12") == 3);
     assert!(rt; line_fault(b"client 0 12").is_none());
+}
+
+#[test]
+fn a_text_is_looked_at_whole(rt: HostRuntime) {
+    assert!(rt;
+        is_tidy(b"ask\ngot 1 2\nno newline behind this longer line of more than thirty-two bytes")
+    );
+    assert!(rt;
+        !is_tidy(b"got 1 2\na space at the end of a line of more than thirty-two bytes \nask\n")
+    );
+    assert!(rt; !is_tidy(b"got 1 2\ntwo spaces in a line  of more than thirty-two bytes\nask\n"));
+    assert!(rt; !is_tidy(b"ask\n\nturn\n"));
+    assert!(rt; !is_tidy(b"ask\r\n"));
+    assert!(rt; !is_tidy(b"ask\n\x80\n"));
 }
 
 #[test]
