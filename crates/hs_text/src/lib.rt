@@ -3,12 +3,12 @@
 
 #![tactic(auto)]
 
-mod digits;
 mod opening;
 mod reading;
 mod spelled;
 mod stop;
 mod tidy;
+mod values;
 mod words;
 mod writing;
 

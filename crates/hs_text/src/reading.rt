@@ -5,7 +5,7 @@ ghost use Rattle.std.specs.List.{All};
 ghost use Rattle.hs_text.specs.Text.{has_bad_byte, has_bad_spaces, words_of, number_of, hex_of, is_payload, payload_of};
 ghost use Rattle.hs_text.specs.LineFaults.{line_fault_of};
 
-use crate::digits::{decode_pairs, few_digits, few_hex_digits, hex_value, is_hex};
+use crate::values::{decode_pairs, few_digits, few_hex_digits, hex_value, is_hex};
 use hs_base::{Bytes, List, Memory};
 use memchr::memchr;
 use std::alloc::Global;

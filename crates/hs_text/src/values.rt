@@ -1,4 +1,4 @@
-//! Digits, decimal and hexadecimal. The loops over hexadecimal digits have no way out before their end, so that the compiler
+//! What digits stand for, decimal and hexadecimal. The loops over hexadecimal digits have no way out before their end, so that the compiler
 //! takes many bytes at once.
 
 ghost use Rattle.std.specs.Prelude.{◌≡◌, ◌<◌, ◌≤◌, ◌*◌, ◌^◌, length, Some, None, IsTrue, if◌then◌else◌};

@@ -1,6 +1,6 @@
 use Rattle.std.proofs.Common.{arith}
 use Rattle.hs_text.proofs.Pairs.{few_room}
-use Rattle.hs_text.proofs.digits.few_hex_digits.Goals as goal
+use Rattle.hs_text.proofs.values.few_hex_digits.Goals as goal
 
 pub overflow_mul-number : goal.overflow_mul-number
 overflow_mul-number c = omega (arith, few_room c.loop-digit.number c.loop-digit.digit-index c.loop-digit.invariant.small (omega arith))

@@ -1,6 +1,6 @@
 use Rattle.std.proofs.Common.{◌≡◌, ◌<◌, ◌^◌, ◌+◌, ◌*◌, ◌≤◌, ℕ, suc, arith}
 use Rattle.std.proofs.Math.Nat.{pow-le-pow_right, pow-suc}
-use Rattle.hs_text.proofs.digits.few_digits.Goals as goal
+use Rattle.hs_text.proofs.values.few_digits.Goals as goal
 
 -- one more digit fits 64 bits
 room : (n i : ℕ) → n < 10 ^ i → i < 19 → 10 * n + 9 < 2 ^ 64

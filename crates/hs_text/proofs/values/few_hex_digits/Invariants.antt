@@ -1,6 +1,6 @@
 use Rattle.std.proofs.Common.{◌≡◌, ◌<◌, ◌^◌, drop}
 use Rattle.hs_text.specs.Text.{hex_value_after}
-use Rattle.hs_text.proofs.digits.few_hex_digits.Given as goal
+use Rattle.hs_text.proofs.values.few_hex_digits.Given as goal
 
 abbrev pub invariant-loop-digit : goal.invariant-loop-digit
 invariant-loop-digit l = record {

@@ -1,6 +1,6 @@
 use Rattle.std.proofs.Common.{◌≡◌, ◌++◌, ◌*◌, length, take, drop}
 use Rattle.hs_text.specs.Text.{bytes_of_pairs}
-use Rattle.hs_text.proofs.digits.decode_pairs.Given as goal
+use Rattle.hs_text.proofs.values.decode_pairs.Given as goal
 
 abbrev pub invariant-loop-place : goal.invariant-loop-place
 invariant-loop-place l = record {

@@ -1,6 +1,6 @@
 use Rattle.std.proofs.Common.{arith, ◌∙◌, ap, ◌+◌, ◌*◌, ℕ, length-set}
 use Rattle.hs_text.proofs.Pairs.{pair_step}
-use Rattle.hs_text.proofs.digits.decode_pairs.Goals as goal
+use Rattle.hs_text.proofs.values.decode_pairs.Goals as goal
 
 pub loop-place-preserved : goal.loop-place-preserved
 loop-place-preserved c =
