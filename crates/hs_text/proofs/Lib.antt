@@ -3,3 +3,4 @@ pub mod WordLemmas
 pub mod Lines
 pub mod Pairs
 pub mod TidyLines
+pub mod DigitLemmas

@@ -10,3 +10,4 @@ pub mod Judging
 pub mod JudgingLaws
 pub mod Writing
 pub mod Tidy
+pub mod Digits

@@ -3,6 +3,7 @@
 
 #![tactic(auto)]
 
+mod digits;
 mod opening;
 mod reading;
 mod spelled;

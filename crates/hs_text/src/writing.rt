@@ -4,16 +4,33 @@ ghost use Rattle.std.specs.Prelude.{◌≡◌, ◌≤◌, ◌++◌, ◌∷◌, [
 ghost use Rattle.hs_text.specs.Text.{hex_text, payload_text};
 ghost use Rattle.hs_text.specs.Writing.{spaced, trace_word};
 
+use crate::digits::{hex_sixteen, put_number};
 use hs_base::{Memory, TraceId};
 
 const HEX_DIGITS: [u8; 16] = *b"0123456789abcdef";
+
+/// The least number of nine digits.
+const LONG: u64 = 100_000_000;
+
+/// Appends a number of any length. After an `Err` the text is as it was.
+fn push_long(out: &mut Vec<u8>, number: u64) -> Result<(), Memory>
+    ensures ok { OnOk result (out.new.items ≡ out.old.items ++ decimal number) }
+    ensures err { OnErr result (out.new.items ≡ out.old.items) }
+{
+    out.extend_from_slice(itoa::Buffer::new().format(number).as_bytes())?;
+    Ok(())
+}
 
 /// Appends a number. After an `Err` the text is as it was.
 pub fn push_number(out: &mut Vec<u8>, number: u64) -> Result<(), Memory>
     ensures ok { OnOk result (out.new.items ≡ out.old.items ++ decimal number) }
     ensures err { OnErr result (out.new.items ≡ out.old.items) }
 {
-    out.extend_from_slice(itoa::Buffer::new().format(number).as_bytes())?;
+    if number >= LONG {
+        return push_long(out, number);
+    }
+    out.reserve(8)?;
+    put_number(out, number);
     Ok(())
 }
 
@@ -24,6 +41,10 @@ pub fn push_hex(out: &mut Vec<u8>, digits: u32, number: u128) -> Result<(), Memo
     ensures ok { OnOk result (out.new.items ≡ out.old.items ++ hex_text digits number) }
     ensures err { OnErr result (out.new.items ≡ out.old.items) }
 {
+    if digits == 16 {
+        out.extend_from_slice(&hex_sixteen(number))?;
+        return Ok(());
+    }
     let mut text = [b'0'; 32];
     let mut rest = number;
     let digits = digits as usize;
@@ -68,8 +89,14 @@ pub fn push_spaced(out: &mut Vec<u8>, word: &[u8]) -> Result<(), Memory>
 pub fn push_spaced_number(out: &mut Vec<u8>, number: u64) -> Result<(), Memory>
     ensures { OnOk result (out.new.items ≡ out.old.items ++ 32 ∷ decimal number) }
 {
-    out.extend_from_slice(b" ")?;
-    push_number(out, number)
+    if number >= LONG {
+        out.extend_from_slice(b" ")?;
+        return push_long(out, number);
+    }
+    out.reserve(9)?;
+    out.push_reserved(b' ');
+    put_number(out, number);
+    Ok(())
 }
 
 /// Appends the lowest hexadecimal digits of a number, so many of them, behind a space.
@@ -81,12 +108,25 @@ pub fn push_spaced_hex(out: &mut Vec<u8>, digits: u32, number: u128) -> Result<(
     push_hex(out, digits, number)
 }
 
+/// Appends the 16 lowest hexadecimal digits of a number behind a space.
+fn push_spaced_sixteen(out: &mut Vec<u8>, number: u128) -> Result<(), Memory>
+    ensures { OnOk result (out.new.items ≡ out.old.items ++ 32 ∷ hex_text 16 number) }
+{
+    out.extend_from_slice(b" ")?;
+    out.extend_from_slice(&hex_sixteen(number))?;
+    Ok(())
+}
+
 /// Appends a trace behind a space, in as many digits as the version has.
 pub fn push_spaced_trace(out: &mut Vec<u8>, version: u8, trace: TraceId) -> Result<(), Memory>
     ensures { OnOk result (out.new.items ≡ out.old.items ++ 32 ∷ trace_word version trace) }
 {
-    let digits = if version == 1 { 16 } else { 32 };
-    push_spaced_hex(out, digits, trace.0)
+    if version == 1 {
+        return push_spaced_sixteen(out, trace.0);
+    }
+    push_spaced_sixteen(out, trace.0 / 18_446_744_073_709_551_616)?;
+    out.extend_from_slice(&hex_sixteen(trace.0))?;
+    Ok(())
 }
 
 /// Appends a payload behind a space.
