@@ -138,6 +138,7 @@ pub fn push_spaced_payload(out: &mut Vec<u8>, bytes: &[u8]) -> Result<(), Memory
 }
 
 /// Appends numbers, each behind a space.
+#[inline(always)]
 pub fn push_spaced_numbers(out: &mut Vec<u8>, numbers: &[u64]) -> Result<(), Memory>
     ensures { OnOk result (out.new.items ≡ out.old.items ++ spaced (map decimal numbers.now)) }
 {
