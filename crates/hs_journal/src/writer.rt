@@ -13,6 +13,7 @@ use hs_text::{Spelled, end_line, push_spaced_numbers};
 use std::alloc::Global;
 
 /// Appends a line of this word and these numbers.
+#[inline(always)]
 fn push_line(out: &mut Vec<u8>, keyword: Keyword, numbers: &[u64]) -> Result<(), Memory>
     ensures { OnOk result (out.new.items ≡ out.old.items ++ (statement_line (record { keyword = keyword; numbers = numbers.now }) ++ 10 ∷ [])) }
 {
@@ -110,13 +111,32 @@ fn push_told(out: &mut Vec<u8>, told: &[NodeId]) -> Result<(), Memory>
     Ok(())
 }
 
+/// About how many bytes the line of a draw has, that of a step and that of a message.
+const DRAW_ROOM: usize = 16;
+
+const STEP_ROOM: usize = 12;
+
+const TOLD_ROOM: usize = 8;
+
+/// About how many bytes the text of a journal has.
+fn room_for(journal: &Journal) -> usize {
+    let mut room = journal.told.len().saturating_mul(TOLD_ROOM);
+    for draws in journal.draws.as_slice() {
+        room = room.saturating_add(draws.len().saturating_mul(DRAW_ROOM));
+    }
+    for log in journal.logs.as_slice() {
+        room = room.saturating_add(log.len().saturating_mul(STEP_ROOM));
+    }
+    room
+}
+
 /// The text of a journal that has its lists (`docs/FORMATS.md`, "The journal"). It reads as the journal where all
 /// numbers of that are in their ranges too.
 pub fn write_journal(alloc: Global, journal: &Journal) -> Result<Bytes, Memory>
     requires { HasItsLists (journal_of journal.now) }
     ensures { IfOk result (λ text. text.items ≡ journal_text (journal_of journal.now)) }
 {
-    let mut out = Vec::new(alloc);
+    let mut out = Vec::with_capacity(alloc, room_for(journal))?;
     let nodes = u64::from(journal.nodes);
     let clients = u64::from(journal.clients);
     push_line(&mut out, Keyword::Journal, &[1, nodes, clients])?;

@@ -12,10 +12,10 @@ returns c =
     let logs = c.in_ok-push_logs.ensures in
     let told = c.in_ok-push_told.ensures in
     c.from_vec.ensures.items
-    ∙ written J.nodes J.clients _ _ _ c.new-out.result.items c.push_line.new.out.items c.push_clients.new.out.items c.push_logs.new.out.items c.push_line-2.new.out.items
-    c.push_told.new.out.items c.push_line-3.new.out.items c.new-out.ensures.items
-    (head ∙ ap (λ n. c.new-out.result.items ++ (statement_line (head_statement n c.from-clients.result) ++ 10 ∷ [])) c.from-nodes.ensures
-    ∙ ap (λ n. c.new-out.result.items ++ (statement_line (head_statement J.nodes n) ++ 10 ∷ [])) c.from-clients.ensures)
+    ∙ written J.nodes J.clients _ _ _ c.in_ok-out.out.items c.push_line.new.out.items c.push_clients.new.out.items c.push_logs.new.out.items c.push_line-2.new.out.items
+    c.push_told.new.out.items c.push_line-3.new.out.items c.in_ok-out.ensures.items
+    (head ∙ ap (λ n. c.in_ok-out.out.items ++ (statement_line (head_statement n c.from-clients.result) ++ 10 ∷ [])) c.from-nodes.ensures
+    ∙ ap (λ n. c.in_ok-out.out.items ++ (statement_line (head_statement J.nodes n) ++ 10 ∷ [])) c.from-clients.ensures)
     (draws ∙ ap (λ lists. c.push_line.new.out.items ++ statements_text (draw_statements J.clients 0 (map (λ drawn. drawn.items) lists))) c.as_slice.ensures)
     (logs ∙ ap (λ lists. c.push_clients.new.out.items ++ statements_text (log_statements 0 (map (λ log. log.items) lists))) c.as_slice-2.ensures)
     c.in_ok-push_line-2.ensures
