@@ -13,6 +13,25 @@ use hs_base::{List, Memory};
 use hs_journal::{AgentBook, ClientBook};
 use std::alloc::Global;
 
+/// The number behind that of a client's last record.
+fn next_number(book: &ClientBook) -> usize {
+    match book.pages.as_slice().last() {
+        Some(note) => note.first as usize + note.count as usize,
+        None => 0,
+    }
+}
+
+/// How many records these clients have.
+fn record_total(clients: &List<ClientBook>) -> usize
+    ensures { length clients.now.items ≡ 0 → result ≡ 0 }
+{
+    let mut count: usize = 0;
+    for book in clients.as_slice() {
+        count = count.saturating_add(next_number(book));
+    }
+    count
+}
+
 /// The ledger of a run whose books fit: one entry for each record, sorted by node, then client, then
 /// number, with the fate of its first discarded piece, or else of its first piece, and totals that
 /// count the entries (`docs/RULES.md`, "The ledger"). The one error is want of memory; no books take none.
@@ -29,7 +48,7 @@ pub fn make_ledger(
     ensures parts { IfOk result (λ ledger. parts_of ledger.totals ≡ ledger.totals.records) }
 {
     let fates = page_fates(alloc, agents.as_slice())?;
-    let mut entries = Vec::new(alloc);
+    let mut entries = Vec::with_capacity(alloc, record_total(clients))?;
     for book in clients.as_slice() {
         add_book(&mut entries, &fates, book)?;
     }

@@ -34,6 +34,17 @@ fn add_standings(fates: &mut HashMap<PageId, Fate>, standings: &[Standing]) -> R
     Ok(())
 }
 
+/// How many standings these books have.
+fn standing_count(agents: &[AgentBook]) -> usize
+    ensures { length agents.now ≡ 0 → result ≡ 0 }
+{
+    let mut count: usize = 0;
+    for book in agents {
+        count = count.saturating_add(book.standings.len());
+    }
+    count
+}
+
 /// The fates of all pages that have a standing.
 pub(crate) fn page_fates(
     alloc: Global,
@@ -43,6 +54,7 @@ pub(crate) fn page_fates(
     ensures some { OnErr result (0 < length agents.now) }
 {
     let mut fates = HashMap::new(alloc);
+    fates.reserve(standing_count(agents))?;
     for book in agents {
         add_standings(&mut fates, book.standings.as_slice())?;
     }
