@@ -1,9 +1,10 @@
 -- Pairs of digits, and what numbers are in them.
-use Rattle.std.proofs.Common.{◌≡◌, ◌≢◌, ℕ, zero, suc, ◌+◌, ◌-◌, ◌*◌, ◌/◌, ◌%◌, ◌^◌, ◌<◌, ◌≤◌, Bool, true, ◌&&◌, cond, T, eqb, List, [], ◌∷◌, ◌++◌, get_or, refl, sym, ap, ◌∙◌, inl, inr, arith, eq-zero-or-pos, eqb→eq, append_assoc, append-nil}
+use Rattle.std.proofs.Common.{◌≡◌, ◌≢◌, ℕ, zero, suc, ◌+◌, ◌-◌, ◌*◌, ◌/◌, ◌%◌, ◌^◌, ◌<◌, ◌≤◌, Bool, true, ◌&&◌, cond, T, eqb, List, [], ◌∷◌, ◌++◌, length, take, set, length-set, get_or, refl, sym, ap, ◌∙◌, inl, inr, arith, eq-zero-or-pos, eqb→eq, append_assoc, append-nil}
 use Rattle.std.proofs.Math.Nat.{div-div-eq-div-mul, pow-succ'}
 use borrow.Author.Tests.{ne_eqb}
 use lib.Ieee.Fits.{and_l, and_r}
-use Rattle.hex.specs.Hex.{lower_digits}
+use Rattle.std.proofs.lemmas.List.{take_more, take_more_set}
+use Rattle.hex.specs.Hex.{encode_with, encode_lower, lower_digits}
 use Rattle.std.specs.Fmt.{decimal}
 use Rattle.itoa.proofs.Decimal.{PAIRS_at, decimal_pair, decimal_four}
 use Rattle.hs_text.specs.Digits.{two_digits, four_digits}
@@ -83,3 +84,23 @@ wide_trace version trace before high low whole wide first last second =
     second ∙ ap (λ text. text ++ low) first ∙ append_assoc before (32 ∷ hex_text 16 (trace.0 / 18446744073709551616)) low
     ∙ ap (λ text. before ++ (32 ∷ (hex_text 16 (trace.0 / 18446744073709551616) ++ text))) last
     ∙ ap (λ text. before ++ (32 ∷ text)) (sym (digits ∙ hex_text_split 16 16 trace.0))
+
+encode-push : (bytes : List ℕ) (b : ℕ) → encode_lower (bytes ++ b ∷ []) ≡ encode_lower bytes ++ (get_or lower_digits (b / 16) 0 ∷ get_or lower_digits (b % 16) 0 ∷ [])
+unfolding encode_with
+encode-push [] b = refl
+encode-push (a ∷ bytes) b = ap (λ text. get_or lower_digits (a / 16) 0 ∷ get_or lower_digits (a % 16) 0 ∷ text) (encode-push bytes b)
+
+-- the digits of one byte more
+pub hex_more : (bytes text : List ℕ) (i at b d : ℕ) → at ≡ 2 * i → i < length bytes → length text ≡ 2 * length bytes → get_or bytes i d ≡ b → b < 256 → take at text ≡ encode_lower (take i bytes)
+    → take (at + 2) (set (set text at (get_or HEX_PAIRS (b * 2) 0)) (at + 1) (get_or HEX_PAIRS (b * 2 + 1) 0)) ≡ encode_lower (take (i + 1) bytes)
+hex_more bytes text i at b d place inside size is small so_far =
+    let p = hex_pairs_at b small in
+    let first = set text at (get_or HEX_PAIRS (b * 2) 0) in
+    let high = get_or HEX_PAIRS (b * 2) 0 in
+    let low = get_or HEX_PAIRS (b * 2 + 1) 0 in
+    let e : at + 2 ≡ at + 1 + 1 = omega arith in
+    let same : length first ≡ length text = length-set text at high in
+    ap (λ n. take n (set first (at + 1) low)) e ∙ take_more_set first (at + 1) low (omega arith) ∙ ap (λ t. t ++ (low ∷ [])) (take_more_set text at high (omega arith))
+    ∙ append_assoc (take at text) (high ∷ []) (low ∷ []) ∙ ap (λ t. t ++ (high ∷ low ∷ [])) so_far
+    ∙ ap (λ h. encode_lower (take i bytes) ++ (h ∷ low ∷ [])) p.0 ∙ ap (λ l. encode_lower (take i bytes) ++ (get_or lower_digits (b / 16) 0 ∷ l ∷ [])) p.1
+    ∙ sym (encode-push (take i bytes) b) ∙ ap (λ x. encode_lower (take i bytes ++ (x ∷ []))) (sym is) ∙ ap encode_lower (sym (take_more bytes i d inside))

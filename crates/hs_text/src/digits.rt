@@ -1,6 +1,7 @@
 //! Digits of numbers, two at a time.
 
-ghost use Rattle.std.specs.Prelude.{◌≡◌, ◌+◌, ◌<◌, ◌≤◌, ◌++◌, decimal, vec_len, vec_capacity};
+ghost use Rattle.std.specs.Prelude.{◌≡◌, ◌+◌, ◌<◌, ◌≤◌, ◌++◌, ◌*◌, length, decimal, vec_len, vec_capacity};
+ghost use Rattle.hex.specs.Hex.{encode_lower};
 ghost use Rattle.hs_text.specs.Digits.{two_digits, four_digits};
 ghost use Rattle.hs_text.specs.Text.{hex_text};
 
@@ -127,4 +128,18 @@ pub(crate) fn hex_sixteen(number: u128) -> [u8; 16]
         high[0], high[1], high[2], high[3], high[4], high[5], high[6], high[7], low[0], low[1],
         low[2], low[3], low[4], low[5], low[6], low[7],
     ]
+}
+
+/// Writes bytes in two hexadecimal digits each.
+pub(crate) fn write_hex(text: &mut [u8], bytes: &[u8])
+    requires { length text.old ≡ 2 * length bytes.now }
+    ensures { text.new ≡ encode_lower bytes.now }
+{
+    let mut at = 0;
+    for byte in bytes {
+        let pair = usize::from(*byte) * 2;
+        text[at] = HEX_PAIRS[pair];
+        text[at + 1] = HEX_PAIRS[pair + 1];
+        at += 2;
+    }
 }

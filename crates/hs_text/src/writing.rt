@@ -4,7 +4,7 @@ ghost use Rattle.std.specs.Prelude.{◌≡◌, ◌≤◌, ◌++◌, ◌∷◌, [
 ghost use Rattle.hs_text.specs.Text.{hex_text, payload_text};
 ghost use Rattle.hs_text.specs.Writing.{spaced, trace_word};
 
-use crate::digits::{hex_sixteen, put_number};
+use crate::digits::{hex_sixteen, put_number, write_hex};
 use hs_base::{Memory, TraceId};
 
 const HEX_DIGITS: [u8; 16] = *b"0123456789abcdef";
@@ -70,10 +70,8 @@ pub fn push_payload(out: &mut Vec<u8>, bytes: &[u8]) -> Result<(), Memory>
         return Err(Memory);
     };
     out.resize(end, 0)?;
-    match hex::encode_to_slice(bytes, &mut out[start..]) {
-        Ok(()) => Ok(()),
-        Err(_) => unreachable!(),
-    }
+    write_hex(&mut out[start..], bytes);
+    Ok(())
 }
 
 /// Appends a word behind a space. After an `Err` of this call and of those below, the text may have grown.
