@@ -57,6 +57,7 @@ fn setting(workload: &Workload, setting: Setting) -> u32
 }
 
 /// Appends a line of this word and these numbers.
+#[inline(always)]
 fn push_line(out: &mut Vec<u8>, keyword: Keyword, numbers: &[u64]) -> Result<(), Memory>
     ensures { OnOk result (out.new.items ≡ out.old.items ++ (line_of (keyword_text keyword ∷ map decimal numbers.now) ++ 10 ∷ [])) }
 {
