@@ -15,3 +15,4 @@ pub mod Shapes
 pub mod Written
 pub mod Journals
 pub mod Fitting
+pub mod KeptLemmas

@@ -3,7 +3,7 @@ use Rattle.std.proofs.Common.{◌≡◌, ℕ, List, [], ◌∷◌, ◌++◌, len
 use Rattle.std.specs.List.{filter, flat_map}
 use Rattle.std.proofs.lemmas.List.{length-map}
 use Rattle.hs_base.specs.declared.ids.TraceId.{TraceId}
-use Rattle.hs_collect.specs.Collected.{Placed}
+use Rattle.hs_collect.specs.Collected.{Placed, AreWholes, pieces_of}
 use Rattle.hs_journal.specs.Grammar.{journal_text}
 use Rattle.hs_journal.specs.Views.{PlainJournal, journal_of}
 use Rattle.hs_lawful.specs.Lawful.{IsLawful}
@@ -13,7 +13,7 @@ use Rattle.hs_outcome.specs.declared.form.Form.{Form}
 use Rattle.hs_outcome.specs.declared.form.Form.TheVariants.{Text}
 use Rattle.hs_outcome.specs.Outcomes.{outcome_of}
 use Rattle.hs_outcome.specs.OutcomeText.{report_lines, reports_text, ledger_text, outcome_text}
-use Rattle.hs_outcome.specs.Reports.{report_of, reports_in}
+use Rattle.hs_outcome.specs.Reports.{Report, report_of, reports_in}
 use Rattle.hs_records.specs.Plain.{PlainWorkload}
 use Rattle.hs_text.specs.Text.{text_of}
 use Rattle.hs_workload.specs.Validity.{IsValid}
@@ -26,6 +26,13 @@ use Rattle.hs_report.specs.Sorted.{AreSorted, count_line, records_by}
 use Rattle.hs_report.specs.Sources.{Hold, report_by}
 use Rattle.hs_report.proofs.Shapes.{ends_its_traces}
 
+-- what the collector joined of a trace, as far as it was reported, is what the trace's report shows
+pub shown : CollectedRecordsAreWhole → (W : PlainWorkload) (J : PlainJournal) (outcome : Outcome) → IsValid W → IsLawful W J → IsOutcome W J outcome
+    → (trace : TraceId) (wholes : List Placed) → AreWholes (pieces_of trace (outcome_of W J).reported) wholes → reported_wholes outcome.ledger.entries.items wholes ≡ records_by W outcome.ledger.entries.items trace
+shown whole W J outcome valid lawful is trace wholes all =
+    ap (λ entries. reported_wholes entries wholes) is.entries ∙ whole W J (outcome_of W J).reported trace wholes (ends_its_traces W valid) valid.count lawful (λ client of. refl) all
+    ∙ ap (λ entries. records_by W entries trace) (sym is.entries)
+
 pub hold : CollectedRecordsAreWhole → (W : PlainWorkload) (J : PlainJournal) (outcome : Outcome) (fates : Fates) → IsValid W → IsLawful W J → IsOutcome W J outcome → AreFatesOf outcome.ledger.entries.items fates
     → Hold outcome.ledger.entries.items (records_by W outcome.ledger.entries.items) fates outcome.collector
 hold whole W J outcome fates valid lawful is are =
@@ -33,9 +40,7 @@ hold whole W J outcome fates valid lawful is are =
       are = are;
       sheets = (outcome_of W J).reported;
       collected = is.collected;
-      show = λ trace wholes all.
-          ap (λ entries. reported_wholes entries wholes) is.entries ∙ whole W J (outcome_of W J).reported trace wholes (ends_its_traces W valid) valid.count lawful (λ client of. refl) all
-          ∙ ap (λ entries. records_by W entries trace) (sym is.entries);
+      show = shown whole W J outcome valid lawful is;
     }
 
 -- the reports of the traces that were found are those of the workload and the journal
@@ -53,15 +58,22 @@ counted_lines version entries records traces =
     ap (λ n. (count_line n ++ 10 ∷ []) ++ text_of (flat_map (report_lines version) (map (report_by entries records) traces))) (sym (length-map traces (report_by entries records)))
 
 -- the journal, the line that counts the reports, the reports and the ledger are the whole text
+pub text_joined : (W : PlainWorkload) (J : PlainJournal) (outcome : Outcome) (form : Form) (count : ℕ) (reports : List Report) (o1 o2 o3 body : List ℕ) → IsOutcome W J outcome → reports ≡ reports_in W (outcome_of W J)
+    → o1 ≡ journal_text (journal_of outcome.journal) ++ (count_line count ++ 10 ∷ []) → o2 ≡ o1 ++ body
+    → (count_line count ++ 10 ∷ []) ++ body ≡ reports_text outcome.version form reports
+    → o3 ≡ o2 ++ ledger_text outcome.version outcome.ledger.entries.items outcome.ledger.totals → o3 ≡ outcome_text W J form
+text_joined W J outcome form count reports o1 o2 o3 body is are e1 e2 whole e3 =
+    let o = outcome_of W J in
+    let head = count_line count ++ 10 ∷ [] in
+    let all = whole ∙ ap (λ rs. reports_text outcome.version form rs) are ∙ ap (λ v. reports_text v form (reports_in W o)) is.version in
+    let ledger = ap (λ v. ledger_text v outcome.ledger.entries.items outcome.ledger.totals) is.version ∙ ap (λ es. ledger_text W.version es outcome.ledger.totals) is.entries ∙ ap (λ ts. ledger_text W.version o.entries ts) is.totals in
+    let front = e2 ∙ ap (λ t. t ++ body) (e1 ∙ ap (λ j. journal_text j ++ head) is.journal) ∙ append_assoc (journal_text J) head body ∙ ap (λ t. journal_text J ++ t) all in
+    e3 ∙ ap (λ t. t ++ ledger_text outcome.version outcome.ledger.entries.items outcome.ledger.totals) front ∙ ap (λ t. (journal_text J ++ reports_text W.version form (reports_in W o)) ++ t) ledger
+
 pub text_written : (W : PlainWorkload) (J : PlainJournal) (outcome : Outcome) (form : Form) (sorted : Sorted) (o1 o2 o3 body : List ℕ) → IsOutcome W J outcome → AreSorted W J outcome sorted
     → o1 ≡ journal_text (journal_of outcome.journal) ++ (count_line (length sorted.traces.items) ++ 10 ∷ []) → o2 ≡ o1 ++ body
     → (count_line (length sorted.traces.items) ++ 10 ∷ []) ++ body
     ≡ reports_text outcome.version form (map (report_by outcome.ledger.entries.items (records_by W outcome.ledger.entries.items)) sorted.traces.items)
     → o3 ≡ o2 ++ ledger_text outcome.version outcome.ledger.entries.items outcome.ledger.totals → o3 ≡ outcome_text W J form
 text_written W J outcome form sorted o1 o2 o3 body is are e1 e2 whole e3 =
-    let o = outcome_of W J in
-    let head = count_line (length sorted.traces.items) ++ 10 ∷ [] in
-    let reports = whole ∙ ap (λ rs. reports_text outcome.version form rs) are.reports ∙ ap (λ v. reports_text v form (reports_in W o)) is.version in
-    let ledger = ap (λ v. ledger_text v outcome.ledger.entries.items outcome.ledger.totals) is.version ∙ ap (λ es. ledger_text W.version es outcome.ledger.totals) is.entries ∙ ap (λ ts. ledger_text W.version o.entries ts) is.totals in
-    let front = e2 ∙ ap (λ t. t ++ body) (e1 ∙ ap (λ j. journal_text j ++ head) is.journal) ∙ append_assoc (journal_text J) head body ∙ ap (λ t. journal_text J ++ t) reports in
-    e3 ∙ ap (λ t. t ++ ledger_text outcome.version outcome.ledger.entries.items outcome.ledger.totals) front ∙ ap (λ t. (journal_text J ++ reports_text W.version form (reports_in W o)) ++ t) ledger
+    text_joined W J outcome form (length sorted.traces.items) (map (report_by outcome.ledger.entries.items (records_by W outcome.ledger.entries.items)) sorted.traces.items) o1 o2 o3 body is are.reports e1 e2 whole e3

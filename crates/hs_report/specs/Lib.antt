@@ -7,3 +7,4 @@ pub mod Sources
 pub mod Fitting
 pub mod Examples
 pub mod Sorted
+pub mod Kept

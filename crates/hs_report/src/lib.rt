@@ -5,6 +5,7 @@
 mod claims;
 mod fates;
 mod gathering;
+mod kept;
 mod laws;
 mod ledger;
 mod outcome;

@@ -9,12 +9,14 @@ ghost use Rattle.hs_outcome.specs.OutcomeText.{ledger_text, outcome_text, total_
 ghost use Rattle.hs_outcome.specs.declared.form.Form.TheVariants.{Text};
 ghost use Rattle.hs_records.specs.Plain.{PlainWorkload};
 ghost use Rattle.hs_report.specs.Fates.{AreFatesOf, has_entry};
+ghost use Rattle.hs_report.specs.Kept.{AreSortedKept};
 ghost use Rattle.hs_report.specs.Outcomes.{IsOutcome};
 ghost use Rattle.hs_report.specs.Sorted.{AreSorted, count_line};
 ghost use Rattle.hs_text.specs.Text.{text_of};
 ghost use Rattle.hs_workload.specs.Validity.{IsValid};
 
 use crate::fates::{Fates, Sorted};
+use crate::kept::kept_entries;
 use crate::laws::journals_can_be_read;
 use crate::ledger::{push_ledger, push_totals};
 use crate::outcome::Outcome;
@@ -65,6 +67,29 @@ pub fn sort_out(alloc: Global, outcome: &Outcome) -> Result<Sorted, Memory>
     Ok(Sorted { fates, traces })
 }
 
+/// The entries of the claimed traces by trace, and the traces that have a report. Of other traces nothing is copied or sorted.
+fn sort_kept(alloc: Global, outcome: &Outcome) -> Result<Sorted, Memory>
+    ensures { IfOk result (λ sorted. (W : PlainWorkload) (J : PlainJournal) → IsValid W → IsLawful W J → IsOutcome W J outcome.now
+        → AreSortedKept W J outcome.now sorted) }
+{
+    collected_records_are_whole();
+    let claimed = outcome.claimed.as_slice();
+    let kept = kept_entries(alloc, outcome.ledger.entries.as_slice(), claimed)?;
+    let fates = Fates::make(alloc, kept.as_slice())?;
+    let traces = reported_traces(alloc, &fates, claimed)?;
+    Ok(Sorted { fates, traces })
+}
+
+/// About how many bytes the line of a ledger's entry has, where a trace has 16 digits.
+const ENTRY_ROOM: usize = 48;
+
+/// About how many bytes the ledger of an outcome has.
+fn room_for(outcome: &Outcome) -> usize {
+    let wider = if outcome.version == 1 { 0 } else { 16 };
+    let entries = outcome.ledger.entries.len();
+    entries.saturating_mul(ENTRY_ROOM + wider)
+}
+
 /// The front of an outcome's text: its journal, and the line that counts the reports. The one error is want of memory.
 pub fn open_text(alloc: Global, outcome: &Outcome, count: usize) -> Result<Vec<u8>, Memory>
     // Some valid workload and some lawful journal of it come to this outcome.
@@ -73,6 +98,7 @@ pub fn open_text(alloc: Global, outcome: &Outcome, count: usize) -> Result<Vec<u
 {
     journals_can_be_read();
     let mut out = write_journal(alloc, &outcome.journal)?.into_vec();
+    out.reserve_exact(room_for(outcome))?;
     out.extend_from_slice(b"reports")?;
     push_spaced_number(&mut out, count as u64)?;
     end_line(&mut out)?;
@@ -97,7 +123,7 @@ pub fn write_lines(alloc: Global, outcome: &Outcome) -> Result<Bytes, Memory>
     ensures { IfOk result (λ bytes. (W : PlainWorkload) (J : PlainJournal) → IsValid W → IsLawful W J → IsOutcome W J outcome.now
         → bytes.items ≡ outcome_text W J Text) }
 {
-    let sorted = sort_out(alloc, outcome)?;
+    let sorted = sort_kept(alloc, outcome)?;
     let traces = sorted.traces.as_slice();
     let mut out = open_text(alloc, outcome, traces.len())?;
     push_reports(
