@@ -12,7 +12,8 @@ const HEX_DIGITS: [u8; 16] = *b"0123456789abcdef";
 /// The least number of nine digits.
 const LONG: u64 = 100_000_000;
 
-/// Appends a number of any length. After an `Err` the text is as it was.
+/// Appends a number of any length. After an `Err` the text is as it was. It stands apart, so that what short numbers take stays small.
+#[inline(never)]
 fn push_long(out: &mut Vec<u8>, number: u64) -> Result<(), Memory>
     ensures ok { OnOk result (out.new.items ≡ out.old.items ++ decimal number) }
     ensures err { OnErr result (out.new.items ≡ out.old.items) }
