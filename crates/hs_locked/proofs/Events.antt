@@ -1,11 +1,11 @@
 -- A turn ends: its event stands behind the history, and the store is in its slot again.
-use Rattle.std.proofs.Common.{◌≡◌, ◌≢◌, ℕ, suc, ◌+◌, ◌*◌, ◌%◌, ◌<◌, ◌≤◌, List, [], ◌∷◌, length, drop, set, get_or, refl, sym, ap, ap₂, ◌∙◌, subst, inl, ⊎_elim, le_refl, arith, add-zero, length-set, get_or-set_other, get_or-set_same}
+use Rattle.std.proofs.Common.{◌≡◌, ◌≢◌, ℕ, zero, suc, ◌+◌, ◌*◌, ◌%◌, ◌<◌, ◌≤◌, List, [], ◌∷◌, length, drop, set, get_or, refl, sym, ap, ap₂, ◌∙◌, subst, inl, ⊎_elim, le_refl, arith, add-zero, length-set, get_or-set_other, get_or-set_same}
 use mathlib.Core.Option.{some, some-injective, some-ne-none}
 use mathlib.Core.Option as maybe
 use lib.ListN.{get_elem?}
 use Rattle.std.specs.List.{AllByRecursion}
 use Rattle.atomic_table.specs.Table.{step, gives, stepped, Allows}
-use Rattle.atomic_table.proofs.Lists.{set_here}
+use Rattle.atomic_table.proofs.Lists.{set_here, at_longer, at_last}
 use Rattle.hs_words.specs.PoolHistory.{Got, Empty, Given}
 use Rattle.hs_words.specs.Ends.{Deed, Answer, answered, got_by, empty_by, given_of, events_of, answer_to, is_any_got, Spends}
 use Rattle.hs_words.proofs.Deeds.{none_yet, answers_and, answers_below, are_answers_more, unread_more}
@@ -13,17 +13,22 @@ use Rattle.hs_words.proofs.Waiting.{counted, waiting_below}
 use Rattle.hs_pool.specs.Pool.{waiting}
 use Rattle.hs_locked.specs.declared.store.Store.{Store}
 use Rattle.hs_locked.specs.Stored.{next_draw, GoesOn}
-use Rattle.hs_locked.specs.Views.{Desk, Hand, nothing, kept, Post, Palm, bare, holds, Stand, away, queued, inside, closing, View, drawing, giving, desk_after, hand_after, post_after, given_answer, left_in, all_left, total, having_left}
-use Rattle.hs_locked.specs.Rule.{Plan, Spot, waits, with_drawer, leased, with_giver, home, out, Facts, queue_of, gots_in, StoreOk, StandOk, HasLease, HandOk, PalmOk, DeskOk, PostOk, Knows, Kept, Locked}
+use Rattle.hs_locked.specs.Views.{Desk, Hand, nothing, kept, Post, Palm, bare, holds, Stand, away, queued, inside, closing, View, drawing, giving, desk_after, hand_after, post_after, given_answer, Has, AtSeat, left_in, all_left, total, having_left}
+use Rattle.hs_locked.specs.Rule.{Plan, Spot, waits, with_drawer, leased, with_giver, home, out, Facts, queue_of, gots_in, StoreOk, StandOk, HasLease, HandOk, PalmOk, InLine, SpotOk, DeskOk, PostOk, Knows, Kept, Locked}
 use Rattle.hs_locked.specs.Steps.{did_leave}
 use Rattle.hs_locked.proofs.Updates.{put, put_cases, put_here, put_else, left_set}
 use Rattle.hs_locked.proofs.Stores.{events_are, line, lawful, goes}
+use Rattle.hs_locked.proofs.Spots.{now_with, still_with, spot_stays}
 use Rattle.hs_locked.proofs.Stays.{at_end, IsEnd, drawers_end, givers_end, Moves, facts_after, hand_stays, in_palm_stays, knows_stays, reseated}
 use Rattle.hs_locked.proofs.Turns.{St, one_more, few_tickets, gone_stays}
 
 at_rest : (xs : List ℕ) (i x : ℕ) → get_elem? (drop 1 xs) i ≡ some x → get_elem? xs (suc i) ≡ some x
 at_rest [] i x at = absurd (some-ne-none x (sym at))
 at_rest (y ∷ ys) i x at = at
+
+rest_at : (xs : List ℕ) (i x : ℕ) → get_elem? xs (suc i) ≡ some x → get_elem? (drop 1 xs) i ≡ some x
+rest_at [] i x at = absurd (some-ne-none x (sym at))
+rest_at (y ∷ ys) i x at = at
 
 -- ---- the end whose turn it is leaves
 
@@ -53,9 +58,9 @@ module _ (plan : Plan) (s : St) (f : Facts) (k : Kept plan s f) (id : ℕ) (v w 
 
   pub leave_kept : StoreOk plan log' new → Spends f.log deed.event deed.draw
       → ((i buffer : ℕ) → get_elem? (queue_of n log') i ≡ some buffer → spots buffer ≡ waits (gots_in log' + i))
-      → ((d : ℕ) → HandOk n log' spots d (hands d)) → PalmOk n log' spots palm → left_in w ≤ left_in v → ((j : ℕ) → j ≢ id → leased j ≢ spot) → Knows plan after_leave id w
+      → ((d : ℕ) → HandOk n log' spots d (hands d)) → PalmOk n log' spots palm → ((buffer : ℕ) → buffer < n → SpotOk n log' f.seats f.giver (set s.views id w) buffer (spots buffer)) → left_in w ≤ left_in v → ((j : ℕ) → j ≢ id → leased j ≢ spot) → Knows plan after_leave id w
       → Kept plan (stepped s 1 x id ((0, new) ∷ []) w gives) after_leave
-  leave_kept store_ok spends in_queue in_hand in_palm fewer apart own =
+  leave_kept store_ok spends in_queue in_hand in_palm in_spot fewer apart own =
       record {
         within = k.within;
         homes = length-set s.homes 0 (some new) ∙ k.homes;
@@ -65,10 +70,12 @@ module _ (plan : Plan) (s : St) (f : Facts) (k : Kept plan s f) (id : ℕ) (v w 
         ahead = (let less = standing.1 in let l : suc (length f.log) ≤ f.tickets = omega arith in l);
         store_ok = store_ok;
         slot_ok = set_here s.homes 0 (some new) (let h = k.homes in omega arith);
+        out_ok = tt;
         spent = (spends, k.spent);
         each_queued = in_queue;
         each_hand = in_hand;
         in_palm = in_palm;
+        each_spot = in_spot;
         each_stand = λ e. put_cases (StandOk after_leave e) f.stands end away e (λ _. tt) (λ other. leave_stand e other (f.stands e) (k.each_stand e));
         left = (let e = left_set s.views id v w at in let l = k.left in let b : f.tickets + all_left (set s.views id w) ≤ 2 * total plan.allowances = omega arith in b);
         all_made = ((let low = is_end.low in let o = k.still_open in let l : deed.by ≤ f.made = omega arith in l), k.all_made);
@@ -141,6 +148,12 @@ module _ (plan : Plan) (s : St) (f : Facts) (k : Kept plan s f) (id : ℕ) (desk
           floor = le_refl (suc (length f.log));
         }
 
+    empty_spots : (buffer : ℕ) → buffer < plan.buffers → SpotOk plan.buffers (none_got ∷ f.log) f.seats f.giver (set s.views id w₁) buffer (f.spots buffer)
+    empty_spots buffer low =
+        spot_stays plan.buffers f.log (none_got ∷ f.log) f.seats f.giver s.views (set s.views id w₁) buffer
+        (λ number is. (is.0, (let c = counted is_any_got Empty (events_of f.log) in let e = is.1 in omega arith), is.2))
+        (still_with s.views id v₀ w₁ at (Has buffer) (λ none. none)) (f.spots buffer) (k.each_spot buffer low)
+
     pub empty_kept : Kept plan (stepped s 1 x id ((0, new) ∷ []) w₁ gives) after_empty
     empty_kept =
         leave_kept plan s f k id v₀ w₁ at (suc d₀) ender old own.stand_is none_got refl new f.spots f.hands f.palm (waits 0) empty_moves x x_is
@@ -148,7 +161,7 @@ module _ (plan : Plan) (s : St) (f : Facts) (k : Kept plan s f) (id : ℕ) (desk
         (λ i buffer seen. k.each_queued i buffer seen ∙ ap waits (let c = counted is_any_got Empty (events_of f.log) in let e : gots_in f.log + i ≡ gots_in (none_got ∷ f.log) + i = omega arith in e))
         (λ d. hand_stays plan f (none_got ∷ []) f.tickets f.holder new home (put f.stands (suc d₀) away) f.spots f.hands f.palm (suc d₀) (waits 0) empty_moves d (λ e. cc) (f.hands d) (k.each_hand d))
         (in_palm_stays plan f (none_got ∷ []) f.tickets f.holder new home (put f.stands (suc d₀) away) f.spots f.hands f.palm (suc d₀) (waits 0) empty_moves (λ e. cc) f.palm k.in_palm)
-        (omega arith) (λ j _ e. cc) empty_desk
+        empty_spots (omega arith) (λ j _ e. cc) empty_desk
 
   -- ---- a buffer was got
   module _ (b : ℕ) (rest : List ℕ) (front : waiting old.pool ≡ b ∷ rest) (goes_on : GoesOn plan.size old (Got b) new) where
@@ -212,6 +225,19 @@ module _ (plan : Plan) (s : St) (f : Facts) (k : Kept plan s f) (id : ℕ) (desk
         let other : f.spots buffer ≢ waits (gots_in f.log) = λ e. let both : waits (gots_in f.log + suc i) ≡ waits (gots_in f.log) = sym before ∙ e in let ns : gots_in f.log + suc i ≡ gots_in f.log = cc in omega arith in
         got_moves.spots_stay buffer other ∙ before ∙ ap waits (let c = one_got in let e : gots_in f.log + suc i ≡ gots_in (got ∷ f.log) + i = omega arith in e)
 
+    -- another buffer that waits is one nearer to the front
+    moved_up : (buffer number : ℕ) → buffer ≢ b → InLine plan.buffers f.log buffer number → InLine plan.buffers (got ∷ f.log) buffer number
+    moved_up buffer number other (zero, is, seen) = absurd (other (some-injective buffer b (sym seen ∙ in_front)))
+    moved_up buffer number other (suc i, is, seen) = (i, (let c = one_got in omega arith), rest_at (queue_of plan.buffers f.log) i buffer seen)
+
+    -- the buffer is with the drawer now, and each other is where it was
+    got_spots : (buffer : ℕ) → buffer < plan.buffers → SpotOk plan.buffers (got ∷ f.log) f.seats f.giver (set s.views id w₂) buffer (spots' buffer)
+    got_spots buffer low =
+        put_cases (SpotOk plan.buffers (got ∷ f.log) f.seats f.giver (set s.views id w₂) buffer) f.spots b (with_drawer d₀) buffer
+        (λ same. subst (AtSeat (set s.views id w₂) (Has buffer)) (sym own.seat) (now_with s.views id v₀ w₂ at (Has buffer) (sym same)))
+        (λ other. spot_stays plan.buffers f.log (got ∷ f.log) f.seats f.giver s.views (set s.views id w₂) buffer (λ number is. moved_up buffer number other is)
+        (still_with s.views id v₀ w₂ at (Has buffer) (λ none. absurd none)) (f.spots buffer) (k.each_spot buffer low))
+
     got_hands : (d : ℕ) → HandOk plan.buffers (got ∷ f.log) spots' d (hands' d)
     got_hands d =
         put_cases (HandOk plan.buffers (got ∷ f.log) spots' d) f.hands d₀ (kept b stamp) d
@@ -228,7 +254,7 @@ module _ (plan : Plan) (s : St) (f : Facts) (k : Kept plan s f) (id : ℕ) (desk
         leave_kept plan s f k id v₀ w₂ at (suc d₀) ender old own.stand_is got refl new spots' hands' f.palm (waits (gots_in f.log)) got_moves x x_is
         (goes plan f.log old new got old_ok goes_on refl) tt got_queue got_hands
         (in_palm_stays plan f (got ∷ []) f.tickets f.holder new home (put f.stands (suc d₀) away) spots' hands' f.palm (suc d₀) (waits (gots_in f.log)) got_moves (λ e. cc) f.palm k.in_palm)
-        (omega arith) (λ j _ e. cc) got_desk
+        got_spots (omega arith) (λ j _ e. cc) got_desk
 
 -- the view after a draw, by what waited and the stamp
 abbrev drawn_view : Desk → List ℕ → ℕ → View
@@ -343,12 +369,23 @@ module _ (plan : Plan) (s : St) (f : Facts) (k : Kept plan s f) (id : ℕ) (post
         ap spots₃ (sym last.1) ∙ put_here f.spots b (waits place) ∙ ap waits (ap (λ (m : ℕ). gots_in f.log + m) (sym last.0) ∙ same i))
         (at_end (queue_of plan.buffers f.log) b buffer i seen)
 
+    -- the buffer is the last that waits now, and each other is where it was
+    give_spots : (buffer : ℕ) → buffer < plan.buffers → SpotOk plan.buffers (deed ∷ f.log) f.seats f.giver (set s.views id w₃) buffer (spots₃ buffer)
+    give_spots buffer low =
+        let queue = queue_of plan.buffers f.log in
+        let same : (m : ℕ) → gots_in f.log + m ≡ gots_in (deed ∷ f.log) + m = λ m. let c = counted is_any_got (Given b) (events_of f.log) in omega arith in
+        put_cases (SpotOk plan.buffers (deed ∷ f.log) f.seats f.giver (set s.views id w₃) buffer) f.spots b (waits place) buffer
+        (λ here. (length queue, same (length queue), at_last queue b (length queue) refl ∙ ap some (sym here)))
+        (λ other. spot_stays plan.buffers f.log (deed ∷ f.log) f.seats f.giver s.views (set s.views id w₃) buffer
+        (λ number is. (is.0, is.1 ∙ same is.0, at_longer queue (b ∷ []) is.0 buffer is.2))
+        (still_with s.views id v₃ w₃ at (Has buffer) (λ one. absurd (other (sym one)))) (f.spots buffer) (k.each_spot buffer low))
+
     pub give_kept : Kept plan (stepped s 1 x id ((0, new) ∷ []) w₃ gives) after_give
     give_kept =
         leave_kept plan s f k id v₃ w₃ at 0 giver_end old ours.stand_is deed refl new spots₃ f.hands bare with_giver give_moves x x_is
         (goes plan f.log old new deed giver_old goes_on refl) (has.1, has.2) give_queue
         (λ d. hand_stays plan f (deed ∷ []) f.tickets f.holder new home (put f.stands 0 away) spots₃ f.hands bare 0 with_giver give_moves d (λ e. cc) (f.hands d) (k.each_hand d))
-        tt (omega arith) (λ j _ e. cc) give_post
+        tt give_spots (omega arith) (λ j _ e. cc) give_post
 
 pub giver_leaves : (plan : Plan) (slots id : ℕ) (post : Post) (b t : ℕ) (old new : Store) → GoesOn post.size old (Given b) new
     → Allows (Locked plan) slots id (giving post (holds b t) (inside old), (0, new) ∷ []) 1 (λ n. (n + 1) % 18446744073709551616)

@@ -1,12 +1,13 @@
 -- A drawer makes a lease of the buffer that it got, and the giver takes a lease back.
-use Rattle.std.proofs.Common.{◌≡◌, ◌≢◌, ℕ, suc, ◌+◌, ◌*◌, ◌≤◌, [], ◌∷◌, ◌++◌, length, set, refl, sym, ap, ◌∙◌, subst, ⊎_elim, arith, length-set}
+use Rattle.std.proofs.Common.{◌≡◌, ◌≢◌, ℕ, suc, ◌+◌, ◌*◌, ◌<◌, ◌≤◌, List, [], ◌∷◌, ◌++◌, length, set, refl, sym, ap, ◌∙◌, subst, ⊎_elim, arith, length-set}
 use mathlib.Core.Option.{some}
 use lib.ListN.{get_elem?}
 use Rattle.atomic_table.specs.Table.{Splits, Joins}
 use Rattle.atomic_table.proofs.Lists.{at_set, set_else}
-use Rattle.hs_locked.specs.Views.{Desk, Hand, nothing, kept, Post, bare, holds, away, View, nobody, drawing, leasing, giving, all_left, total}
-use Rattle.hs_locked.specs.Rule.{Plan, Spot, waits, with_drawer, leased, with_giver, Facts, queue_of, gots_in, HasLease, HandOk, DeskOk, PostOk, Knows, Kept, Locked}
+use Rattle.hs_locked.specs.Views.{Desk, Hand, nothing, kept, Post, bare, holds, away, View, nobody, drawing, leasing, giving, Has, HasStore, AtSeat, all_left, total}
+use Rattle.hs_locked.specs.Rule.{Plan, Spot, waits, with_drawer, leased, with_giver, Facts, queue_of, gots_in, HasLease, HandOk, SpotOk, DeskOk, PostOk, Knows, Kept, Locked}
 use Rattle.hs_locked.proofs.Updates.{put, put_cases, put_here, put_else, left_set, left_and}
+use Rattle.hs_locked.proofs.Spots.{now_with, still_with, else_with, with_more, with_last, spot_stays, out_stays}
 use Rattle.hs_locked.proofs.Stays.{IsEnd, drawers_end, givers_end, Moves, facts_after, hand_stays, in_palm_stays, knows_stays, reseated, seated_too}
 use Rattle.hs_locked.proofs.Turns.{St}
 
@@ -79,6 +80,24 @@ module _ (plan : Plan) (s : St) (f : Facts) (k : Kept plan s f) (id : ℕ) (desk
   lease_queue : (i buffer : ℕ) → get_elem? (queue_of plan.buffers f.log) i ≡ some buffer → spots' buffer ≡ waits (gots_in f.log + i)
   lease_queue i buffer seen = let was = k.each_queued i buffer seen in lease_moves.spots_stay buffer (λ e. let both = sym was ∙ e in absurd cc) ∙ was
 
+  abbrev v₀ : View
+  v₀ = drawing desk (kept b t) away
+
+  abbrev w₀ : View
+  w₀ = drawing desk nothing away
+
+  abbrev views' : List View
+  views' = set s.views id w₀ ++ leasing b t ∷ []
+
+  -- the buffer is with the lease now, and each other is where it was
+  lease_spots : (buffer : ℕ) → buffer < plan.buffers → SpotOk plan.buffers f.log f.seats f.giver views' buffer (spots' buffer)
+  lease_spots buffer low =
+      put_cases (SpotOk plan.buffers f.log f.seats f.giver views' buffer) f.spots b (leased new) buffer
+      (λ same. with_last (set s.views id w₀) (leasing b t) (Has buffer) new (length-set s.views id w₀) (sym same))
+      (λ other. spot_stays plan.buffers f.log f.log f.seats f.giver s.views views' buffer (λ number is. is)
+      (λ j had. with_more (set s.views id w₀) (leasing b t) (Has buffer) j (still_with s.views id v₀ w₀ at (Has buffer) (λ one. other (sym one)) j had))
+      (f.spots buffer) (k.each_spot buffer low))
+
   pub lease_kept : Kept plan record { words = s.words; homes = s.homes; views = set s.views id (drawing desk nothing away) ++ leasing b t ∷ [] } after_lease
   lease_kept =
       record {
@@ -90,10 +109,13 @@ module _ (plan : Plan) (s : St) (f : Facts) (k : Kept plan s f) (id : ℕ) (desk
         ahead = k.ahead;
         store_ok = k.store_ok;
         slot_ok = k.slot_ok;
+        out_ok = out_stays (get_elem? s.homes 0) s.views views' f.stored
+            (λ j has. with_more (set s.views id w₀) (leasing b t) (HasStore f.stored) j (still_with s.views id v₀ w₀ at (HasStore f.stored) (λ none. none) j has)) f.slot k.out_ok;
         spent = k.spent;
         each_queued = lease_queue;
         each_hand = lease_hands;
         in_palm = in_palm_stays plan f [] f.tickets f.holder f.stored f.slot f.stands spots' hands' f.palm (suc d₀) (with_drawer d₀) lease_moves (λ e. cc) f.palm k.in_palm;
+        each_spot = lease_spots;
         each_stand = k.each_stand;
         left =
             (let e = left_set s.views id (drawing desk (kept b t) away) (drawing desk nothing away) at in
@@ -173,6 +195,19 @@ module _ (plan : Plan) (s : St) (f : Facts) (k : Kept plan s f) (id : ℕ) (post
   take_queue : (i buffer : ℕ) → get_elem? (queue_of n f.log) i ≡ some buffer → spots₁ buffer ≡ waits (gots_in f.log + i)
   take_queue i buffer seen = let was = k.each_queued i buffer seen in take_moves.spots_stay buffer (λ e. let both = sym was ∙ e in absurd cc) ∙ was
 
+  abbrev views₁ : List View
+  views₁ = set (set s.views id w) other nobody
+
+  -- the buffer is with the giver now, and each other is where it was
+  take_spots : (buffer : ℕ) → buffer < n → SpotOk n f.log f.seats f.giver views₁ buffer (spots₁ buffer)
+  take_spots buffer low =
+      put_cases (SpotOk n f.log f.seats f.giver views₁ buffer) f.spots b with_giver buffer
+      (λ same. subst (AtSeat views₁ (Has buffer)) (sym ours.seat)
+      (else_with (set s.views id w) other nobody (Has buffer) id (λ e. differ (sym e)) (now_with s.views id (giving post bare away) w at (Has buffer) (sym same))))
+      (λ apart. spot_stays n f.log f.log f.seats f.giver s.views views₁ buffer (λ number is. is)
+      (λ j had. still_with (set s.views id w) other (leasing b t) nobody lease_at (Has buffer) (λ one. apart (sym one)) j (still_with s.views id (giving post bare away) w at (Has buffer) (λ none. absurd none) j had))
+      (f.spots buffer) (k.each_spot buffer low))
+
   pub take_kept : Kept plan record { words = s.words; homes = s.homes; views = set (set s.views id w) other nobody } after_take
   take_kept =
       record {
@@ -184,10 +219,13 @@ module _ (plan : Plan) (s : St) (f : Facts) (k : Kept plan s f) (id : ℕ) (post
         ahead = k.ahead;
         store_ok = k.store_ok;
         slot_ok = k.slot_ok;
+        out_ok = out_stays (get_elem? s.homes 0) s.views views₁ f.stored
+            (λ j has. still_with (set s.views id w) other (leasing b t) nobody lease_at (HasStore f.stored) (λ none. none) j (still_with s.views id (giving post bare away) w at (HasStore f.stored) (λ none. none) j has)) f.slot k.out_ok;
         spent = k.spent;
         each_queued = take_queue;
         each_hand = λ d. hand_stays plan f [] f.tickets f.holder f.stored f.slot f.stands spots₁ f.hands (holds b t) 0 (leased other) take_moves d (λ e. cc) (f.hands d) (k.each_hand d);
         in_palm = (put_here f.spots b with_giver, has.1, has.2, has.3);
+        each_spot = take_spots;
         each_stand = k.each_stand;
         left =
             (let e = left_set s.views id (giving post bare away) w at in

@@ -1,10 +1,12 @@
 mod Updates
 mod Stores
 mod Stays
+mod Spots
 mod Turns
 mod Events
 mod Leases
 mod Meets
+mod Places
 mod Life
 mod Owed
 mod Making

@@ -1,5 +1,5 @@
 -- How a locked pool begins, and the making and the closing of its drawers.
-use Rattle.std.proofs.Common.{◌≡◌, ◌≢◌, ℕ, zero, suc, ◌+◌, ◌*◌, ◌≤◌, List, [], ◌∷◌, ◌++◌, length, set, refl, sym, ap, ◌∙◌, subst, ⊎_elim, zero-le, arith, length-set, ◌-◌}
+use Rattle.std.proofs.Common.{◌≡◌, ◌≢◌, ℕ, zero, suc, ◌+◌, ◌*◌, ◌<◌, ◌≤◌, List, [], ◌∷◌, ◌++◌, length, set, refl, sym, ap, ◌∙◌, subst, ⊎_elim, zero-le, arith, length-set, ◌-◌}
 use mathlib.Core.Option.{some, some-injective, some-ne-none}
 use lib.ListN.{get_elem?}
 use native.Mathlib.Decide.{ℕ_discrete}
@@ -9,11 +9,13 @@ use Rattle.atomic_table.proofs.Lists.{at_set, set_else}
 use Rattle.hs_words.specs.Ends.{Deed, Answer, AreAnswers}
 use Rattle.hs_words.proofs.Deeds.{all_of, no_answers}
 use Rattle.hs_locked.specs.declared.store.Store.{Store}
-use Rattle.hs_locked.specs.Views.{Desk, nothing, Post, bare, Stand, away, queued, inside, closing, View, nobody, drawing, leasing, giving, drawer_note, giver_note, with_drawer, new_drawer, having_closed, first_of, rest_of, total, all_left}
+use Rattle.hs_locked.specs.Views.{Desk, nothing, Post, bare, Stand, away, queued, inside, closing, View, nobody, drawing, leasing, giving, drawer_note, giver_note, with_drawer, new_drawer, having_closed, first_of, rest_of, Has, HasStore, total, all_left}
 use Rattle.hs_locked.specs.Rule.{Plan, waits, home, Facts, StoreOk, StandOk, DeskOk, PostOk, Knows, Kept, Locked, Within, first_post, first_view}
 use Rattle.hs_locked.proofs.Updates.{put, put_here, put_else, left_set, left_and}
+use Rattle.hs_locked.proofs.Spots.{still_with, with_more, spot_stays, out_stays}
 use Rattle.hs_locked.proofs.Stays.{reseated, seated_too}
 use Rattle.hs_locked.proofs.Turns.{St}
+use Rattle.hs_locked.proofs.Places.{spot_reseated}
 
 -- ---- a drawer is made
 
@@ -123,10 +125,15 @@ module _ (plan : Plan) (s : St) (f : Facts) (k : Kept plan s f) (id : ℕ) (post
         ahead = k.ahead;
         store_ok = k.store_ok;
         slot_ok = k.slot_ok;
+        out_ok = out_stays (get_elem? s.homes 0) s.views (set s.views id w ++ new ∷ []) f.stored
+            (λ j has. with_more (set s.views id w) new (HasStore f.stored) j (still_with s.views id (giving post bare away) w at (HasStore f.stored) (λ none. none) j has)) f.slot k.out_ok;
         spent = k.spent;
         each_queued = k.each_queued;
         each_hand = k.each_hand;
         in_palm = k.in_palm;
+        each_spot = λ buffer low.
+            spot_reseated plan s f k buffer seats' (set s.views id w ++ new ∷ []) (λ drawer low. put_else f.seats f.made (length s.views) drawer (λ same. let o = k.still_open in omega arith))
+            (λ j had. with_more (set s.views id w) new (Has buffer) j (still_with s.views id (giving post bare away) w at (Has buffer) (λ none. none) j had)) low;
         each_stand = λ e. stand_made e (f.stands e) refl (k.each_stand e);
         left =
             (let e = left_set s.views id (giving post bare away) w at in
@@ -238,10 +245,16 @@ module _ (plan : Plan) (s : St) (f : Facts) (k : Kept plan s f) (id : ℕ) (post
         ahead = k.ahead;
         store_ok = k.store_ok;
         slot_ok = k.slot_ok;
+        out_ok = out_stays (get_elem? s.homes 0) s.views (set (set s.views id w₁) other nobody) f.stored
+            (λ j has. still_with (set s.views id w₁) other (drawing desk nothing away) nobody desk_at (HasStore f.stored) (λ none. none) j (still_with s.views id (giving post bare away) w₁ at (HasStore f.stored) (λ none. none) j has)) f.slot k.out_ok;
         spent = k.spent;
         each_queued = k.each_queued;
         each_hand = k.each_hand;
         in_palm = k.in_palm;
+        each_spot = λ buffer low.
+            spot_stays plan.buffers f.log f.log f.seats f.giver s.views (set (set s.views id w₁) other nobody) buffer (λ number is. is)
+            (λ j had. still_with (set s.views id w₁) other (drawing desk nothing away) nobody desk_at (Has buffer) (λ none. none) j (still_with s.views id (giving post bare away) w₁ at (Has buffer) (λ none. none) j had))
+            (f.spots buffer) (k.each_spot buffer low);
         each_stand = λ e. stand_closed e (f.stands e) (k.each_stand e);
         left =
             (let e = left_set s.views id (giving post bare away) w₁ at in
@@ -269,6 +282,11 @@ range_at : (a n i buffer : ℕ) → get_elem? (range_with_len a n) i ≡ some bu
 range_at a zero i buffer seen = absurd (some-ne-none buffer (sym seen))
 range_at a (suc n) zero buffer seen = let e = some-injective a buffer seen in omega arith
 range_at a (suc n) (suc i) buffer seen = let r = range_at (a + 1) n i buffer seen in omega arith
+
+range_there : (a n i : ℕ) → i < n → get_elem? (range_with_len a n) i ≡ some (a + i)
+range_there a zero i low = absurd (omega arith)
+range_there a (suc n) zero low = ap some (let e : a ≡ a + 0 = omega arith in e)
+range_there a (suc n) (suc i) low = range_there (a + 1) n i (omega arith) ∙ ap some (let e : a + 1 + i ≡ a + suc i = omega arith in e)
 
 module _ (plan : Plan) (within : Within plan) (store : Store) (ok : StoreOk plan [] store) where
   abbrev f₀ : Facts
@@ -320,10 +338,12 @@ module _ (plan : Plan) (within : Within plan) (store : Store) (ok : StoreOk plan
         ahead = zero-le;
         store_ok = ok;
         slot_ok = refl;
+        out_ok = tt;
         spent = tt;
         each_queued = λ i buffer seen. ap waits (let r = range_at 0 plan.buffers i buffer seen in let e : buffer ≡ 0 + i = omega arith in e);
         each_hand = λ d. tt;
         in_palm = tt;
+        each_spot = λ buffer low. (buffer, (let e : buffer ≡ 0 + buffer = omega arith in e), range_there 0 plan.buffers buffer low ∙ ap some (let e : 0 + buffer ≡ buffer = omega arith in e));
         each_stand = λ e. tt;
         left = (let e : 0 + ((2 * total plan.allowances + 0) - 0 + 0) ≤ 2 * total plan.allowances = omega arith in e);
         all_made = tt;

@@ -5,16 +5,18 @@ use lib.ListN.{get_elem?}
 use Rattle.atomic_table.specs.Table.{Splits, Joins}
 use Rattle.atomic_table.proofs.Lists.{set_else}
 use Rattle.hs_words.specs.Ends.{met, stamps_in}
-use Rattle.hs_locked.specs.Views.{Desk, Hand, Post, Palm, Stand, View, nobody, drawing, giving, drawer_note, giver_note, with_floor, post_after, all_left}
+use Rattle.hs_locked.specs.Views.{Desk, Hand, Post, Palm, Stand, View, nobody, drawing, giving, drawer_note, giver_note, with_floor, post_after, Has, HasStore, AtSeat, all_left}
 use Rattle.hs_locked.specs.Rule.{Plan, Facts, DeskOk, PostOk, Knows, Kept, Locked}
 use Rattle.hs_locked.proofs.Updates.{left_set, left_and}
+use Rattle.hs_locked.proofs.Spots.{still_with, with_more, spot_stays, out_stays}
 use Rattle.hs_locked.proofs.Stays.{reseated, seated_too}
 use Rattle.hs_locked.proofs.Turns.{St}
 
 -- seats that know something else
-known_kept : (plan : Plan) (s : St) (f : Facts) (views : List View) → Kept plan s f → all_left views ≡ all_left s.views → ((j : ℕ) (v : View) → get_elem? views j ≡ some v → Knows plan f j v)
+known_kept : (plan : Plan) (s : St) (f : Facts) (views : List View) → Kept plan s f → all_left views ≡ all_left s.views
+    → ((buffer j : ℕ) → AtSeat s.views (Has buffer) j → AtSeat views (Has buffer) j) → ((j : ℕ) → AtSeat s.views (HasStore f.stored) j → AtSeat views (HasStore f.stored) j) → ((j : ℕ) (v : View) → get_elem? views j ≡ some v → Knows plan f j v)
     → Kept plan record { words = s.words; homes = s.homes; views = views } f
-known_kept plan s f views k same each =
+known_kept plan s f views k same has_still store_still each =
     record {
       within = k.within;
       homes = k.homes;
@@ -24,10 +26,12 @@ known_kept plan s f views k same each =
       ahead = k.ahead;
       store_ok = k.store_ok;
       slot_ok = k.slot_ok;
+      out_ok = out_stays (get_elem? s.homes 0) s.views views f.stored store_still f.slot k.out_ok;
       spent = k.spent;
       each_queued = k.each_queued;
       each_hand = k.each_hand;
       in_palm = k.in_palm;
+      each_spot = λ buffer low. spot_stays plan.buffers f.log f.log f.seats f.giver s.views views buffer (λ number is. is) (has_still buffer) (f.spots buffer) (k.each_spot buffer low);
       each_stand = k.each_stand;
       left = (let l = k.left in omega arith);
       all_made = k.all_made;
@@ -42,6 +46,8 @@ written : (plan : Plan) (s : St) (f : Facts) (k : Kept plan s f) (id : ℕ) (v n
 written plan s f k id v note at known same = (
   f,
   known_kept plan s f (set s.views id v ++ note ∷ []) k same
+      (λ buffer j had. with_more (set s.views id v) note (Has buffer) j (still_with s.views id v v at (Has buffer) (λ has. has) j had))
+      (λ j had. with_more (set s.views id v) note (HasStore f.stored) j (still_with s.views id v v at (HasStore f.stored) (λ has. has) j had))
       (seated_too plan f (set s.views id v) note known (reseated plan f s.views id v (k.each_seat id v at) (λ j v' _ seen. k.each_seat j v' seen))),
 )
 
@@ -88,6 +94,8 @@ giver_hears plan id post palm stand other floor stamps s (f, k) at differ note_a
       f,
       known_kept plan s f (set (set s.views id w) other nobody) k
           (let e = left_set s.views id (giving post palm stand) w at in let e' = left_set (set s.views id w) other (drawer_note floor stamps) nobody note_at in omega arith)
+          (λ buffer j had. still_with (set s.views id w) other (drawer_note floor stamps) nobody note_at (Has buffer) (λ none. none) j (still_with s.views id (giving post palm stand) w at (Has buffer) (λ has. has) j had))
+          (λ j had. still_with (set s.views id w) other (drawer_note floor stamps) nobody note_at (HasStore f.stored) (λ none. none) j (still_with s.views id (giving post palm stand) w at (HasStore f.stored) (λ has. has) j had))
           (both_seats plan s f k id other w nobody now tt),
     )
 
@@ -111,5 +119,7 @@ drawer_hears plan id desk hand stand other floor s (f, k) at differ note_at =
       f,
       known_kept plan s f (set (set s.views id w) other nobody) k
           (let e = left_set s.views id (drawing desk hand stand) w at in let e' = left_set (set s.views id w) other (giver_note floor) nobody note_at in omega arith)
+          (λ buffer j had. still_with (set s.views id w) other (giver_note floor) nobody note_at (Has buffer) (λ none. none) j (still_with s.views id (drawing desk hand stand) w at (Has buffer) (λ has. has) j had))
+          (λ j had. still_with (set s.views id w) other (giver_note floor) nobody note_at (HasStore f.stored) (λ none. none) j (still_with s.views id (drawing desk hand stand) w at (HasStore f.stored) (λ has. has) j had))
           (both_seats plan s f k id other w nobody now tt),
     )

@@ -8,15 +8,17 @@ use lib.ListN.{get_elem?}
 use borrow.Author.Tests.{eqb-true}
 use Rattle.std.specs.List.{list_any}
 use Rattle.atomic_table.specs.Table.{State, step, keeps, takes, stepped, Allows}
+use Rattle.atomic_table.proofs.Lists.{set_here}
 use Rattle.hs_words.specs.Ends.{Deed, IsTogether, AreAnswers}
 use Rattle.hs_words.proofs.Deeds.{all_of, got_below}
 use Rattle.hs_pool.specs.Pool.{HasSize, IsOut, waiting}
 use Rattle.hs_locked.specs.declared.store.Store.{Store}
-use Rattle.hs_locked.specs.Views.{Desk, Hand, nothing, Post, bare, holds, Stand, away, queued, inside, closing, View, drawing, giving, left_in, all_left, total}
+use Rattle.hs_locked.specs.Views.{Desk, Hand, nothing, Post, bare, holds, Stand, away, queued, inside, closing, View, drawing, giving, Has, HasStore, left_in, all_left, total}
 use Rattle.hs_locked.specs.Rule.{Plan, waits, with_giver, Slot, home, out, Facts, queue_of, HasTheStore, SlotOk, StandOk, PalmOk, HasLease, DeskOk, PostOk, Knows, Kept, Locked}
 use Rattle.hs_locked.specs.Steps.{did_take_ticket, did_look, did_close}
 use Rattle.hs_locked.proofs.Updates.{put, put_cases, put_here, put_else, left_set}
 use Rattle.hs_locked.proofs.Stores.{events_are, line, is_counted, lawful}
+use Rattle.hs_locked.proofs.Spots.{now_with, still_with, spot_stays, out_stays}
 use Rattle.hs_locked.proofs.Stays.{IsEnd, drawers_end, givers_end, Moves, facts_after, knows_stays, reseated}
 
 abbrev pub St : Type 0
@@ -71,8 +73,9 @@ module _ (plan : Plan) (s : St) (f : Facts) (k : Kept plan s f) (id : ℕ) (v w 
       let less = ok.1 in (put_else f.holder t end (length f.log) (λ same. omega arith) ∙ ok.0, (let l : length f.log < suc t = omega arith in l), ok.2, ok.3)
   ticket_stand e (closing st) ok = ok
 
-  pub ticket_kept : Knows plan after_ticket id w → suc (left_in w) ≤ left_in v → Kept plan (stepped s 0 x id held w keeps) after_ticket
-  ticket_kept own less =
+  pub ticket_kept : Knows plan after_ticket id w → suc (left_in w) ≤ left_in v → ((buffer : ℕ) → Has buffer v → Has buffer w) → (HasStore f.stored v → HasStore f.stored w)
+      → Kept plan (stepped s 0 x id held w keeps) after_ticket
+  ticket_kept own less has_still store_still =
       record {
         within = k.within;
         homes = k.homes;
@@ -82,10 +85,12 @@ module _ (plan : Plan) (s : St) (f : Facts) (k : Kept plan s f) (id : ℕ) (v w 
         ahead = (let a = k.ahead in let b : length f.log ≤ suc t = omega arith in b);
         store_ok = k.store_ok;
         slot_ok = slot_stays f end (queued t) (get_elem? s.homes 0) (λ has. subst (λ (st : Stand). HasTheStore st) is_away has) f.slot k.slot_ok;
+        out_ok = out_stays (get_elem? s.homes 0) s.views (set s.views id w) f.stored (still_with s.views id v w at (HasStore f.stored) store_still) f.slot k.out_ok;
         spent = k.spent;
         each_queued = k.each_queued;
         each_hand = k.each_hand;
         in_palm = k.in_palm;
+        each_spot = λ buffer low. spot_stays plan.buffers f.log f.log f.seats f.giver s.views (set s.views id w) buffer (λ number is. is) (still_with s.views id v w at (Has buffer) (has_still buffer)) (f.spots buffer) (k.each_spot buffer low);
         each_stand = λ e.
             put_cases (StandOk after_ticket e) f.stands end (queued t) e
             (λ same. (put_here f.holder t end ∙ sym same, k.ahead, (let l : t < suc t = omega arith in l)))
@@ -121,7 +126,7 @@ module _ (plan : Plan) (slots id : ℕ) where
         w,
         keeps,
         tt,
-        (_, ticket_kept plan s f k id (drawing desk nothing away) w at (suc desk.number) end own.stand_is x x_is held now (omega arith)),
+        (_, ticket_kept plan s f k id (drawing desk nothing away) w at (suc desk.number) end own.stand_is x x_is held now (omega arith) (λ _ none. none) (λ none. none)),
         ap (λ (t : ℕ). let m : View × Held = (drawing desk nothing (queued t), held) in m) (sym k.taken),
       )
 
@@ -150,7 +155,7 @@ module _ (plan : Plan) (slots id : ℕ) where
         w,
         keeps,
         tt,
-        (_, ticket_kept plan s f k id (giving post (holds b d) away) w at 0 end own.stand_is x x_is held now (omega arith)),
+        (_, ticket_kept plan s f k id (giving post (holds b d) away) w at 0 end own.stand_is x x_is held now (omega arith) (λ _ in_palm. in_palm) (λ none. none)),
         ap (λ (t : ℕ). let m : View × Held = (giving post (holds b d) (queued t), held) in m) (sym k.taken),
       )
 
@@ -170,8 +175,9 @@ module _ (plan : Plan) (s : St) (f : Facts) (k : Kept plan s f) (id : ℕ) (v w 
   take_stand e (inside st) ok = let both : home ≡ out e = sym is_home ∙ ok.2 in absurd cc
   take_stand e (closing st) ok = let both : home ≡ out e = sym is_home ∙ ok.2 in absurd cc
 
-  pub take_kept : StandOk after_take end stand → Knows plan after_take id w → left_in w ≡ left_in v → Kept plan (stepped s 1 x id held w (takes 0 f.stored)) after_take
-  take_kept standing own same_left =
+  pub take_kept : StandOk after_take end stand → Knows plan after_take id w → left_in w ≡ left_in v → ((buffer : ℕ) → Has buffer v → Has buffer w) → HasStore f.stored w
+      → Kept plan (stepped s 1 x id held w (takes 0 f.stored)) after_take
+  take_kept standing own same_left has_still has_store =
       record {
         within = k.within;
         homes = length-set s.homes 0 maybe.none ∙ k.homes;
@@ -181,10 +187,12 @@ module _ (plan : Plan) (s : St) (f : Facts) (k : Kept plan s f) (id : ℕ) (v w 
         ahead = k.ahead;
         store_ok = k.store_ok;
         slot_ok = subst (λ (st : Stand). HasTheStore st) (sym (put_here f.stands end stand)) has;
+        out_ok = (set_here s.homes 0 maybe.none (let h = k.homes in omega arith), (id, now_with s.views id v w at (HasStore f.stored) has_store));
         spent = k.spent;
         each_queued = k.each_queued;
         each_hand = k.each_hand;
         in_palm = k.in_palm;
+        each_spot = λ buffer low. spot_stays plan.buffers f.log f.log f.seats f.giver s.views (set s.views id w) buffer (λ number is. is) (still_with s.views id v w at (Has buffer) (has_still buffer)) (f.spots buffer) (k.each_spot buffer low);
         each_stand = λ e.
             put_cases (StandOk after_take e) f.stands end stand e
             (λ same. subst (λ (i : ℕ). StandOk after_take i stand) (sym same) standing)
@@ -211,10 +219,12 @@ wait_kept plan s f k id v at x x_is held =
       ahead = k.ahead;
       store_ok = k.store_ok;
       slot_ok = k.slot_ok;
+      out_ok = out_stays (get_elem? s.homes 0) s.views (set s.views id v) f.stored (still_with s.views id v v at (HasStore f.stored) (λ has. has)) f.slot k.out_ok;
       spent = k.spent;
       each_queued = k.each_queued;
       each_hand = k.each_hand;
       in_palm = k.in_palm;
+      each_spot = λ buffer low. spot_stays plan.buffers f.log f.log f.seats f.giver s.views (set s.views id v) buffer (λ number is. is) (still_with s.views id v v at (Has buffer) (λ has. has)) (f.spots buffer) (k.each_spot buffer low);
       each_stand = k.each_stand;
       left = (let e = left_set s.views id v v at in let l = k.left in let b : f.tickets + all_left (set s.views id v) ≤ 2 * total plan.allowances = omega arith in b);
       all_made = k.all_made;
@@ -296,7 +306,7 @@ module _ (plan : Plan) (slots id : ℕ) where
         w,
         takes 0 store,
         there plan s f k id v w at (suc desk.number) end is_home (inside store) tt x k.turn [],
-        (_, take_kept plan s f k id v w at (suc desk.number) end is_home (inside store) tt x k.turn [] (ap f.holder now ∙ ok.0, (let less = ok.2 in let l : length f.log < f.tickets = omega arith in l), refl, refl) new refl),
+        (_, take_kept plan s f k id v w at (suc desk.number) end is_home (inside store) tt x k.turn [] (ap f.holder now ∙ ok.0, (let less = ok.2 in let l : length f.log < f.tickets = omega arith in l), refl, refl) new refl (λ _ none. none) refl),
         (
           (λ _. (
             store,
@@ -351,7 +361,7 @@ module _ (plan : Plan) (slots id : ℕ) where
         w,
         takes 0 store,
         there plan s f k id v w at 0 end is_home (inside store) tt x k.turn [],
-        (_, take_kept plan s f k id v w at 0 end is_home (inside store) tt x k.turn [] (ap f.holder now ∙ ok.0, (let less = ok.2 in let l : length f.log < f.tickets = omega arith in l), refl, refl) new refl),
+        (_, take_kept plan s f k id v w at 0 end is_home (inside store) tt x k.turn [] (ap f.holder now ∙ ok.0, (let less = ok.2 in let l : length f.log < f.tickets = omega arith in l), refl, refl) new refl (λ _ in_palm. in_palm) refl),
         (
           (λ _. (
             store,
@@ -427,7 +437,7 @@ closes plan slots id post all s (f, k) wide at small =
       w,
       takes 0 store,
       there plan s f k id v w at 0 end is_home (closing store) tt x k.turn [],
-      (_, take_kept plan s f k id v w at 0 end is_home (closing store) tt x k.turn [] (none_open, refl, refl, refl) new refl),
+      (_, take_kept plan s f k id v w at 0 end is_home (closing store) tt x k.turn [] (none_open, refl, refl, refl) new refl (λ _ none. none) refl),
       (
         store,
         refl,

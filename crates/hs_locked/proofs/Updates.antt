@@ -1,7 +1,6 @@
 -- Lists of views with one changed. A function with one value changed has its lemmas in `hs_ring`.
-use Rattle.std.proofs.Common.{◌≡◌, ◌≢◌, ℕ, zero, suc, ◌+◌, List, [], ◌∷◌, ◌++◌, set, refl, sym, ap, arith}
+use Rattle.std.proofs.Common.{◌≡◌, ℕ, zero, suc, ◌+◌, List, [], ◌∷◌, ◌++◌, set, sym, ap, arith}
 use mathlib.Core.Option.{some, some-injective, some-ne-none}
-use native.Mathlib.Decide.{ℕ_discrete}
 use lib.ListN.{get_elem?}
 pub use Rattle.hs_ring.proofs.Updates.{put, put_cases, put_here, put_else, ap₃}
 use Rattle.hs_locked.specs.Views.{View, left_in, all_left}

@@ -12,7 +12,7 @@ use Rattle.hs_words.specs.PoolHistory.{queue_after}
 use Rattle.hs_words.specs.Ends.{Deed, events_of, answers_by, answers_in, is_any_got, IsGot, NoneSince, EachSpends, EachUnread, AreAnswers, Counts}
 use Rattle.hs_pool.specs.Pool.{IsAfter, HasSize}
 use Rattle.hs_locked.specs.declared.store.Store.{Store}
-use Rattle.hs_locked.specs.Views.{Desk, Hand, nothing, kept, Post, Palm, bare, holds, Stand, away, queued, inside, closing, View, nobody, drawing, leasing, giving, drawer_note, giver_note, total, all_left}
+use Rattle.hs_locked.specs.Views.{Desk, Hand, nothing, kept, Post, Palm, bare, holds, Stand, away, queued, inside, closing, View, nobody, drawing, leasing, giving, drawer_note, giver_note, Has, HasStore, AtSeat, total, all_left}
 
 -- how many buffers there are, their size, and the allowances of the drawers
 pub record Plan : Type 0 where
@@ -78,6 +78,11 @@ abbrev pub SlotOk : maybe.Option (maybe.Option Store) → Store → (ℕ → Sta
 SlotOk place stored stands home = place ≡ some (some stored)
 SlotOk place stored stands (out end) = HasTheStore (stands end)
 
+-- where an end has the store, the slot is empty, and some seat has it
+abbrev pub OutOk : maybe.Option (maybe.Option Store) → List View → Store → Slot → Type 0
+OutOk place views stored home = Unit {0}
+OutOk place views stored (out end) = (place ≡ some none) × ((j : ℕ) × AtSeat views (HasStore stored) j)
+
 -- ---- the lock
 
 module _ (f : Facts) (end : ℕ) where
@@ -99,6 +104,20 @@ HandOk n log spots drawer (kept buffer stamp) = HasLease n log spots buffer stam
 abbrev pub PalmOk : ℕ → List Deed → (ℕ → Spot) → Palm → Type 0
 PalmOk n log spots bare = Unit {0}
 PalmOk n log spots (holds buffer draw) = HasLease n log spots buffer draw with_giver
+
+-- ---- buffers
+
+-- the buffer waits, and leaves the queue under this number
+abbrev pub InLine : ℕ → List Deed → ℕ → ℕ → Type 0
+InLine n log buffer number = (i : ℕ) × (number ≡ gots_in log + i) × (get_elem? (queue_of n log) i ≡ some buffer)
+
+-- the buffer is in its place: it waits, or the place's seat has it
+module _ (n : ℕ) (log : List Deed) (seats : ℕ → ℕ) (giver : ℕ) (views : List View) (buffer : ℕ) where
+  abbrev pub SpotOk : Spot → Type 0
+  SpotOk (waits number) = InLine n log buffer number
+  SpotOk (with_drawer drawer) = AtSeat views (Has buffer) (seats drawer)
+  SpotOk (leased j) = AtSeat views (Has buffer) j
+  SpotOk with_giver = AtSeat views (Has buffer) giver
 
 -- ---- views
 
@@ -151,10 +170,12 @@ pub record Kept (plan : Plan) (s : State Store View) (f : Facts) : Type 0 where
   pub ahead : length f.log ≤ f.tickets
   pub store_ok : StoreOk plan f.log f.stored
   pub slot_ok : SlotOk (get_elem? s.homes 0) f.stored f.stands f.slot
+  pub out_ok : OutOk (get_elem? s.homes 0) s.views f.stored f.slot
   pub spent : EachSpends f.log
   pub each_queued : (i buffer : ℕ) → get_elem? (queue_of plan.buffers f.log) i ≡ some buffer → f.spots buffer ≡ waits (gots_in f.log + i)
   pub each_hand : (drawer : ℕ) → HandOk plan.buffers f.log f.spots drawer (f.hands drawer)
   pub in_palm : PalmOk plan.buffers f.log f.spots f.palm
+  pub each_spot : (buffer : ℕ) → buffer < plan.buffers → SpotOk plan.buffers f.log f.seats f.giver s.views buffer (f.spots buffer)
   pub each_stand : (end : ℕ) → StandOk f end (f.stands end)
   pub left : f.tickets + all_left s.views ≤ 2 * total plan.allowances
   pub all_made : AllByRecursion (λ (deed : Deed). deed.by ≤ f.made) f.log

@@ -1,7 +1,9 @@
 -- What each seat at the table of a locked pool knows, and how a step changes it. A drawer's seat and the giver's know their
 -- answers, their floor, which is above every stamp that they know, and how they stand at the lock. A lease is a seat of its
 -- own, and so is a note that one end hands to another when they meet.
-use Rattle.std.specs.Prelude.{ℕ, suc, ◌+◌, ◌-◌, ◌*◌, List, [], ◌∷◌, max}
+use Rattle.std.specs.Prelude.{◌≡◌, ℕ, suc, ◌+◌, ◌-◌, ◌*◌, List, [], ◌∷◌, max}
+use mathlib.Core.Option.{some}
+use lib.ListN.{get_elem?}
 use Rattle.hs_words.specs.PoolHistory.{Event, Got, Empty, Given}
 use Rattle.hs_words.specs.Ends.{Answer, Turn, answered, met, stamps_in}
 use Rattle.hs_pool.specs.Pool.{waiting}
@@ -98,6 +100,44 @@ abbrev pub floor_of : View → ℕ
 floor_of (drawing desk hand stand) = desk.floor
 floor_of (giving post palm stand) = post.floor
 floor_of _ = 0
+
+-- ---- what a seat has
+
+-- a buffer: a drawer's in hand, a lease's, or the giver's
+abbrev pub InHand : ℕ → Hand → Type 0
+InHand buffer nothing = ⊥
+InHand buffer (kept b stamp) = b ≡ buffer
+
+abbrev pub InPalm : ℕ → Palm → Type 0
+InPalm buffer bare = ⊥
+InPalm buffer (holds b draw) = b ≡ buffer
+
+abbrev pub Has : ℕ → View → Type 0
+Has buffer nobody = ⊥
+Has buffer (drawing desk hand stand) = InHand buffer hand
+Has buffer (leasing b draw) = b ≡ buffer
+Has buffer (giving post palm stand) = InPalm buffer palm
+Has buffer (drawer_note floor stamps) = ⊥
+Has buffer (giver_note floor) = ⊥
+
+-- the store, while its turn lasts or for good
+abbrev pub StandHas : Store → Stand → Type 0
+StandHas store away = ⊥
+StandHas store (queued ticket) = ⊥
+StandHas store (inside st) = st ≡ store
+StandHas store (closing st) = st ≡ store
+
+abbrev pub HasStore : Store → View → Type 0
+HasStore store nobody = ⊥
+HasStore store (drawing desk hand stand) = StandHas store stand
+HasStore store (leasing buffer draw) = ⊥
+HasStore store (giving post palm stand) = StandHas store stand
+HasStore store (drawer_note floor stamps) = ⊥
+HasStore store (giver_note floor) = ⊥
+
+-- the seat j is one of which this holds
+abbrev pub AtSeat : List View → (View → Type 0) → ℕ → Type 0
+AtSeat views P j = (v : View) × (get_elem? views j ≡ some v) × P v
 
 -- ---- at the lock
 
