@@ -29,6 +29,9 @@ begins_record_1 = sheet 7 0 1 1 (piece 5 3 ∷ [])
 abbrev pub ends_record_1 : Sheet
 ends_record_1 = sheet 7 0 2 1 (piece 5 4 ∷ piece 8 5 ∷ [])
 
+abbrev pub behind_an_evicted_page : Sheet
+behind_an_evicted_page = sheet 1 0 1 1 (piece 3 187 ∷ [])
+
 -- ---- they are pages
 
 fits_piece : (moment byte : ℕ) → moment < 2 ^ 64 → byte < 256 → FitsPiece (piece moment byte)
@@ -61,6 +64,9 @@ ends_record_1_is_page =
       some = omega arith;
     }
 
+pub behind_an_evicted_page_is_page : IsPage behind_an_evicted_page
+behind_an_evicted_page_is_page = is_page 1 0 1 1 3 187 (omega arith) (omega arith) (omega arith) (omega arith) (omega arith) (omega arith)
+
 -- ---- they come in an order in which they can be added
 
 other_client : (before sheet : Sheet) → before.header.client.node ≢ sheet.header.client.node → CanPrecede before sheet
@@ -88,6 +94,9 @@ none = record { pairs = λ i j d lt within. absurd (omega arith); fits = All-nil
 
 pub one_page : CanBeAdded (of_trace_9 ∷ [])
 one_page = add_one [] of_trace_9 none (All-nil (λ before. CanPrecede before of_trace_9)) (omega arith)
+
+pub the_later_page : CanBeAdded (behind_an_evicted_page ∷ [])
+the_later_page = add_one [] behind_an_evicted_page none (All-nil (λ before. CanPrecede before behind_an_evicted_page)) (omega arith)
 
 pub two_pages : CanBeAdded (of_trace_9 ∷ of_node_1 ∷ [])
 two_pages =

@@ -61,6 +61,27 @@ fn records_are_joined_in_order(rt: HostRuntime) -> Result<(), Fail> {
     Ok(())
 }
 
+/// Trace 1, client 0 of node 0, page 1: the record 1, at moment 3, with bb.
+const BEHIND_AN_EVICTED_PAGE: [u8; 43] = [
+    0, 0, 0, 0, 0, 0, 0, 0, 0, 0, 0, 0, 0, 0, 0, 1, 0, 0, 0, 0, 0, 0, 0, 1, 0, 0, 0, 1, 0, 1, 0,
+    35, 0, 1, 0, 0, 0, 0, 0, 0, 0, 3, 0xbb,
+];
+
+/// The page 0 with the record 0 was evicted, then the trace was claimed, and the page 1 is reported. It is the only one of the trace.
+#[test]
+fn a_trace_that_was_evicted_before_it_was_claimed(rt: HostRuntime) -> Result<(), Fail> {
+    let mut collector = Collector::make(rt.alloc())?;
+    collector.add(&BEHIND_AN_EVICTED_PAGE)?;
+    let traces = collector.traces()?;
+    assert_eq!(rt; traces.as_slice(), [TraceId(1)].as_slice());
+    let records = collector.trace(TraceId(1)).expect(&rt, "the trace 1");
+    assert_eq!(rt; records.entries.len(), 1);
+    for record in records.entries.as_slice() {
+        assert!(rt; is_row(record, (0, 1, 3, &[0xbb])));
+    }
+    Ok(())
+}
+
 /// 80 pages of the greatest size have 261,920 records of one trace.
 #[test]
 fn a_trace_of_all_records(rt: HostRuntime) -> Result<(), Fail> {
