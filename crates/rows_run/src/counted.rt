@@ -3,12 +3,15 @@
 ghost use Rattle.std.specs.Prelude.{◌<◌};
 
 use crate::calls::called;
-use crate::inputs::THREE_NODES;
+use crate::inputs::{A_TRIGGER_ALONE, THREE_NODES};
 use hs_base::Gate;
 use std::alloc::{AllocError, Global};
+use std::marker::Sync;
 use std::process::Abort;
+use std::sync::Wait;
 use std::sync::atomic::{AtomicU32, Ordering};
 use std::test::Fail;
+use std::thread::Threads;
 
 /// Six clients, three agents and the coordinator.
 const ACTORS: u32 = 10;
@@ -132,28 +135,84 @@ fn assert_coordinator<R: Abort>(rt: &R, gate: &Counting, items: &[u32; 5]) {
     assert_eq!(rt; gate.of(9), ROUNDS.saturating_add(items[4]));
 }
 
-#[test]
-fn each_actor_counts_its_steps(rt: HostRuntime) -> Result<(), Fail> {
+/// Each actor of a run counts its steps over all rounds.
+fn assert_steps<R: Threads + Wait + Sync + AllocGlobal + Abort>(
+    rt: &R,
+    words: &[&str],
+) -> Result<(), Fail> {
     let gate = Counting::new(rt.alloc())?;
-    let output = called(&rt, &["run"], THREE_NODES, &gate)?;
+    let output = called(rt, words, THREE_NODES, &gate)?;
     let items = noted_in(&output)?;
     assert!(rt; gate.were_in_order());
-    assert_clients(&rt, &gate);
-    assert_agent(&rt, &gate, &items, 0);
-    assert_agent(&rt, &gate, &items, 1);
-    assert_agent(&rt, &gate, &items, 2);
-    assert_coordinator(&rt, &gate, &items);
+    assert_clients(rt, &gate);
+    assert_agent(rt, &gate, &items, 0);
+    assert_agent(rt, &gate, &items, 1);
+    assert_agent(rt, &gate, &items, 2);
+    assert_coordinator(rt, &gate, &items);
     Ok(())
 }
 
-/// One thread asks nobody.
 #[test]
-fn a_replay_passes_no_gate(rt: HostRuntime) -> Result<(), Fail> {
+fn each_actor_counts_its_steps(rt: HostRuntime) -> Result<(), Fail> {
+    assert_steps(&rt, &["run"])
+}
+
+/// Those that publish and look pass none.
+#[test]
+fn each_actor_counts_its_steps_under_watch(rt: HostRuntime) -> Result<(), Fail> {
+    assert_steps(&rt, &["run", "--watch"])
+}
+
+/// Behind the only round it is done on one thread, which asks nobody, that the coordinator hears of the trigger. The agent may take
+/// it in the round.
+#[test]
+fn closing_passes_no_gate(rt: HostRuntime) -> Result<(), Fail> {
     let gate = Counting::new(rt.alloc())?;
-    called(&rt, &["replay"], THREE_NODES, &gate)?;
+    called(&rt, &["run"], A_TRIGGER_ALONE, &gate)?;
+    assert!(rt; gate.were_in_order());
+    assert_eq!(rt; gate.of(0), 1);
+    assert!(rt; gate.of(1) == 2 || gate.of(1) == 3);
+    assert_eq!(rt; gate.of(2), 1);
+    Ok(())
+}
+
+/// No actor passed this gate.
+fn assert_unpassed<R: Abort>(rt: &R, gate: &Counting) {
     assert!(rt; gate.were_in_order());
     for actor in 0..ACTORS {
         assert_eq!(rt; gate.of(actor as usize), 0, "{actor}");
     }
+}
+
+/// The commands without actors, but for `check`.
+const ON_ONE_THREAD: [&[&str]; 6] = [
+    &["replay"],
+    &["replay", "--json"],
+    &["convert"],
+    &["compare", "2", "2"],
+    &["make", "1", "2"],
+    &["drill", "1", "2"],
+];
+
+/// One thread asks nobody.
+#[test]
+fn other_commands_pass_no_gate(rt: HostRuntime) -> Result<(), Fail> {
+    let gate = Counting::new(rt.alloc())?;
+    for words in ON_ONE_THREAD {
+        called(&rt, words, THREE_NODES, &gate)?;
+    }
+    assert_unpassed(&rt, &gate);
+    Ok(())
+}
+
+/// Nor does a check.
+#[test]
+fn a_check_passes_no_gate(rt: HostRuntime) -> Result<(), Fail> {
+    let gate = Counting::new(rt.alloc())?;
+    let output = called(&rt, &["replay"], THREE_NODES, &gate)?;
+    let text = str::from_utf8(&output).ok().ok_or("a text")?;
+    let both = format!(in rt.alloc(); "{THREE_NODES}{text}")?;
+    called(&rt, &["check"], both.as_str(), &gate)?;
+    assert_unpassed(&rt, &gate);
     Ok(())
 }

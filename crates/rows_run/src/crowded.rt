@@ -13,7 +13,12 @@ fn push_client(alloc: Global, text: &mut String, node: u32, client: u32) -> Resu
 }
 
 /// A workload of such clients.
-fn segments(alloc: Global, nodes: u32, clients: u32, buffers: u32) -> Result<String, AllocError> {
+pub(crate) fn segments(
+    alloc: Global,
+    nodes: u32,
+    clients: u32,
+    buffers: u32,
+) -> Result<String, AllocError> {
     let mut text = format!(in alloc;
         "hindsight 1\nnodes {nodes}\nclients {clients}\nbuffers {buffers}\nsize 64\nthreshold {buffers}\ntraces 8\npins 4\nstride 16\n"
     )?;

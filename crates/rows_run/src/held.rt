@@ -1,6 +1,6 @@
 //! Steps of threads in an order that a gate brings about.
 
-use crate::calls::{Row, assert_held};
+use crate::calls::{Row, assert_held, called};
 use crate::hold::{At, Both, Hold};
 use crate::inputs::{FOUR_SEGMENTS, TWO_CLIENTS, TWO_NODES, TWO_SEGMENTS};
 use std::test::Fail;
@@ -20,6 +20,19 @@ got 0 0
 0 1 0 0000000000000002 live
 total 2 live 1 reported 0 null 1 evicted 0 abandoned 0
 done
+",
+    ],
+};
+
+/// The first client gets it, though the second one has come to its draw before.
+const THE_FIRST_DRAWS_FIRST: Row = Row {
+    name: "the first client draws first",
+    input: TWO_CLIENTS,
+    parts: &[
+        "draws 0 0
+got 0 0
+draws 0 1
+empty 1
 ",
     ],
 };
@@ -71,6 +84,20 @@ fn a_client_waits_for_another(rt: HostRuntime) -> Result<(), Fail> {
     Ok(())
 }
 
+/// The second client comes to its point before the first one begins. A client that passed behind its operations would have drawn
+/// by then.
+#[test]
+fn a_client_passes_before_it_draws(rt: HostRuntime) -> Result<(), Fail> {
+    let both = Both {
+        first: Hold::new(At { actor: 0, step: 0 }, At { actor: 1, step: 1 }),
+        second: Hold::new(At { actor: 1, step: 1 }, At { actor: 0, step: 2 }),
+    };
+    assert_held(&rt, &["run"], &THE_FIRST_DRAWS_FIRST, &both)?;
+    assert!(rt; both.first.was_kept());
+    assert!(rt; both.second.was_kept());
+    Ok(())
+}
+
 #[test]
 fn an_agent_waits_for_its_client(rt: HostRuntime) -> Result<(), Fail> {
     let hold = Hold::new(At { actor: 1, step: 0 }, At { actor: 0, step: 5 });
@@ -103,5 +130,23 @@ fn a_client_and_the_coordinator_meet_in_a_second_round(rt: HostRuntime) -> Resul
     assert_held(&rt, &["run"], &A_SECOND_ROUND, &both)?;
     assert!(rt; both.first.was_kept());
     assert!(rt; both.second.was_kept());
+    Ok(())
+}
+
+/// Two clients, an agent and the coordinator have no actor 4.
+#[test]
+fn a_hold_to_which_nobody_comes_is_not_kept(rt: HostRuntime) -> Result<(), Fail> {
+    let hold = Hold::new(At { actor: 4, step: 0 }, At { actor: 0, step: 1 });
+    called(&rt, &["run"], TWO_CLIENTS, &hold)?;
+    assert!(rt; !hold.was_kept());
+    Ok(())
+}
+
+/// A client of three operations has no step 9.
+#[test]
+fn a_hold_that_waits_in_vain_is_not_kept(rt: HostRuntime) -> Result<(), Fail> {
+    let hold = Hold::with_looks(At { actor: 0, step: 0 }, At { actor: 1, step: 9 }, 10);
+    called(&rt, &["run"], TWO_CLIENTS, &hold)?;
+    assert!(rt; !hold.was_kept());
     Ok(())
 }

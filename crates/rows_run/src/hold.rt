@@ -19,6 +19,8 @@ pub(crate) struct At {
 pub(crate) struct Hold {
     held: At,
     until: At,
+    /// How often it looks for the other one.
+    looks: u32,
     /// The last step that the other one came to.
     seen: AtomicU32,
     /// Whether the held one came to its step at all.
@@ -29,9 +31,14 @@ pub(crate) struct Hold {
 
 impl Hold {
     pub(crate) fn new(held: At, until: At) -> Hold {
+        Hold::with_looks(held, until, LOOKS)
+    }
+
+    pub(crate) fn with_looks(held: At, until: At, looks: u32) -> Hold {
         Hold {
             held,
             until,
+            looks,
             seen: AtomicU32::new(0),
             came: AtomicU32::new(0),
             broken: AtomicU32::new(0),
@@ -44,7 +51,7 @@ impl Hold {
     }
 
     fn wait(&self) {
-        for _look in 0..LOOKS {
+        for _look in 0..self.looks {
             if self.seen.load(Ordering::SeqCst) >= self.until.step {
                 return;
             }

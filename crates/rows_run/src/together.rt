@@ -1,6 +1,7 @@
 //! A gate that lets nobody pass a first step before all actors have come to theirs.
 
 use crate::calls::called;
+use crate::crowded::segments;
 use crate::inputs::TWO_NODES;
 use hs_base::Gate;
 use std::sync::atomic::{AtomicU32, Ordering};
@@ -57,6 +58,16 @@ impl Gate for Together {
 fn all_act_at_once(rt: HostRuntime) -> Result<(), Fail> {
     let together = Together::of(5);
     called(&rt, &["run"], TWO_NODES, &together)?;
+    assert!(rt; together.were_together());
+    Ok(())
+}
+
+/// Three nodes of three clients each, so that no two threads are enough for the nodes, nor for the clients of one.
+#[test]
+fn all_of_three_nodes_act_at_once(rt: HostRuntime) -> Result<(), Fail> {
+    let together = Together::of(13);
+    let input = segments(rt.alloc(), 3, 3, 3)?;
+    called(&rt, &["run"], input.as_str(), &together)?;
     assert!(rt; together.were_together());
     Ok(())
 }
