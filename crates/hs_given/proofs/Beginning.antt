@@ -1,7 +1,8 @@
--- A client that has done nothing has sent nothing.
+-- A client that has done nothing has sent nothing, and all its chunks are to be filled.
 use Rattle.std.proofs.lemmas.Bool.{le-ltb}
 use Rattle.std.proofs.Common.{◌≡◌, ◌≤◌, arith, List, [], ◌∷◌, length, map, refl, sym, ap, subst, ◌∙◌}
 use Rattle.hs_base.specs.declared.ids.ClientId.{ClientId}
+use Rattle.hs_clauses.specs.Finding.{numbers_of}
 use Rattle.hs_journal.specs.declared.journal.Draw.{Draw}
 use Rattle.hs_player.specs.Places.{IsAt}
 use Rattle.hs_player.specs.Playing.{Playing}
@@ -11,10 +12,11 @@ use Rattle.hs_sent.specs.Drawn.{has_buffer}
 use Rattle.hs_sent.specs.Sending.{Sent, sends_of, sent_within}
 use Rattle.hs_sent.specs.SoFar.{started_within}
 use Rattle.hs_sent.specs.Timing.{TimedPage, timed_pages}
-use Rattle.hs_words.specs.Buffers.{buffer_of}
+use Rattle.hs_given.specs.declared.filling.Filling.{Filling}
 use Rattle.hs_given.specs.declared.gathering.Gathering.{Gathering}
 use Rattle.hs_given.specs.declared.script.Script.{Script}
-use Rattle.hs_given.specs.Gathering.{HasItems, HasChunks, IsNew, IsSentBy, count_within}
+use Rattle.hs_given.specs.Fillings.{IsFilling}
+use Rattle.hs_given.specs.Gathering.{HasItems, IsNew, IsSentBy, count_within}
 
 none_within : {A : Type 0} (items : List (Sent A)) → sent_within 0 items ≡ []
 none_within [] = refl
@@ -39,11 +41,23 @@ begins_so settings client ops draws script player g each left size at new =
       at =
           subst (λ k. IsAt settings client ops [] 0 k (count_within 0 sends.crumbs) (count_within 0 sends.triggers) player) (sym (ap length chunks))
           (subst (λ l. IsAt settings client ops [] 0 0 l (count_within 0 sends.triggers) player) (sym (ap length crumbs)) (subst (λ m. IsAt settings client ops [] 0 0 0 m player) (sym (ap length triggers)) at));
-      chunks =
-          subst (λ items. HasChunks settings.size items (map buffer_of g.chunks.items) g.found.chunks.items) (sym chunks)
-          (subst (λ buffers. HasChunks settings.size [] (map buffer_of buffers) g.found.chunks.items) (sym new.chunks)
-          (subst (λ numbers. HasChunks settings.size [] [] numbers) (sym new.chunk_numbers) (record { pages = refl; sizes = tt; numbers_are = refl })));
+      chunks = new.chunk_numbers ∙ sym (ap numbers_of chunks);
       crumbs = subst (λ items. HasItems items g.crumbs.items g.found.crumbs.items) (sym crumbs) (record { queue_is = new.crumbs; numbers_are = new.crumb_numbers });
       triggers = subst (λ items. HasItems items g.triggers.items g.found.triggers.items) (sym triggers) (record { queue_is = new.triggers; numbers_are = new.trigger_numbers });
       started = new.started ∙ sym (ap (map (λ (page : TimedPage). page.started)) (none_started (timed_pages settings.size ops)));
+    }
+
+pub fills_so : (settings : PlainSettings) (client : ClientId) (ops : List Operation) (draws : List Draw) (f : Filling) → f.client ≡ client → length draws ≡ length (pages_of settings.size ops) → f.script.left.items ≡ draws
+    → f.script.size ≡ settings.size → IsAt settings client ops [] 0 0 0 0 f.player → IsFilling settings client ops draws 0 f
+fills_so settings client ops draws f client_is each left size at =
+    record {
+      client_is = client_is;
+      each = each;
+      drawn = [];
+      kinds = ap (map has_buffer) left;
+      size_is = size;
+      done = 0;
+      l = 0;
+      m = 0;
+      at = at;
     }

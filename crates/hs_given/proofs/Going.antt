@@ -1,12 +1,12 @@
 -- One operation more: where the player stands when it has gone on, and what was taken then.
-use Rattle.std.proofs.Common.{◌≡◌, ℕ, ◌+◌, ◌<◌, ◌≤◌, false, List, [], ◌++◌, length, map, take, drop, sym, ap, subst, ◌∙◌, arith, append_assoc, length-append}
-use Rattle.std.proofs.lemmas.List.{append-nil, length-map, map-append, length-take-le, take-append-drop}
+use Rattle.std.proofs.Common.{◌≡◌, ℕ, ◌+◌, ◌<◌, ◌≤◌, false, List, [], ◌++◌, length, map, take, drop, sym, ap, subst, ◌∙◌, arith, length-append}
+use Rattle.std.proofs.lemmas.List.{append-nil, length-map, length-take-le, take-append-drop}
 use Rattle.std.specs.Prelude.{replicate}
 use Rattle.hs_base.specs.declared.ids.ClientId.{ClientId}
 use Rattle.hs_base.specs.declared.told.Crumb.{Crumb}
 use Rattle.hs_journal.specs.declared.journal.Draw.{Draw}
 use Rattle.hs_player.specs.Places.{IsAt, WentOn, done_behind}
-use Rattle.hs_player.specs.Playing.{Playing, Unleased}
+use Rattle.hs_player.specs.Playing.{Playing}
 use Rattle.hs_records.specs.Pages.{pages_of}
 use Rattle.hs_records.specs.Plain.{Operation, PlainSettings}
 use Rattle.hs_records.specs.Records.{AreBracketed}
@@ -15,14 +15,14 @@ use Rattle.hs_sent.specs.Drawn.{has_buffer, drawn_from, drawn_pages}
 use Rattle.hs_sent.specs.Laws.{TimedPagesAreThePages, TimedPagesAreTimely}
 use Rattle.hs_sent.specs.Sending.{sends_of, sent_chunks, sent_within}
 use Rattle.hs_sent.specs.SoFar.{FirstChunksAreSent, FirstOperationsSend, pages_within}
-use Rattle.hs_sent.specs.Timing.{TimedPage, timed_pages}
-use Rattle.hs_words.specs.Buffers.{buffer_of}
+use Rattle.hs_sent.specs.Timing.{timed_pages}
 use Rattle.hs_given.specs.declared.gathering.Gathering.{Gathering}
 use Rattle.hs_given.specs.declared.script.Script.{Script}
-use Rattle.hs_given.specs.Gathering.{HasChunks, IsSentBy, Where, WereChunks, AreChunks, WereCrumbs, AreCrumbs, WereTriggers, AreTriggers, count_within, starts_within}
+use Rattle.hs_given.specs.Gathering.{AreNumbers, IsSentBy, Where, WereChunks, AreChunks, WereCrumbs, AreCrumbs, WereTriggers, AreTriggers, count_within, starts_within}
 use Rattle.hs_given.specs.Scripts.{script_way}
-use Rattle.hs_given.proofs.Scripted.{size_stays, left_falls, kinds_are}
-use Rattle.hs_given.proofs.Starts.{started_short, starts_more}
+use Rattle.hs_given.proofs.Drawing.{drawn_more, kinds_left, kinds_more}
+use Rattle.hs_given.proofs.Scripted.{size_stays, left_falls}
+use Rattle.hs_given.proofs.Starts.{starts_more}
 
 -- what is known of what clients send
 pub record Sends : Type 0 where
@@ -38,14 +38,6 @@ module _ (k : Sends) (settings : PlainSettings) (client : ClientId) (ops : List 
 
   bracketed : AreBracketed false ops
   bracketed = s.at.playable.client.bracketed
-
-  -- as many pages are started as the client has in all, at most
-  started_few : (m : ℕ) → count_started size ops m ≤ length draws
-  started_few m =
-      let few = started_short m (timed_pages size ops) in
-      let all = sym (length-map (timed_pages size ops) (λ (p : TimedPage). p.page)) ∙ ap length (k.paged size ops bracketed) in
-      let each = s.each in
-      omega (arith, few, all, each)
 
   -- what the first operations sent does not change by later draws
   same_chunks : (more : List Draw) → sent_within n (sends_of settings client ops (s.drawn ++ more)).chunks ≡ sent_within n (sends_of settings client ops s.drawn).chunks
@@ -97,8 +89,8 @@ module _ (k : Sends) (settings : PlainSettings) (client : ClientId) (ops : List 
     abbrev pub first : Where
     first = record { settings = settings; client = client; ops = ops; drawn = drawn; others = (count_within n (sends_of settings client ops drawn).crumbs, count_within n (sends_of settings client ops drawn).triggers) }
 
-    pub were_chunks : WereChunks first n player' (map buffer_of g.chunks.items) g.found.chunks.items
-    were_chunks = record { at = at_here; holds = subst (λ items. HasChunks size items (map buffer_of g.chunks.items) g.found.chunks.items) (sym (same_chunks went.more)) s.chunks }
+    pub were_chunks : WereChunks first n player' g.found.chunks.items
+    were_chunks = record { at = at_here; holds = subst (λ items. AreNumbers items g.found.chunks.items) (sym (same_chunks went.more)) s.chunks }
 
     abbrev pub second : Where
     second = record { settings = settings; client = client; ops = ops; drawn = drawn; others = (count_within (n + 1) (sends_of settings client ops drawn).chunks, count_within n (sends_of settings client ops drawn).triggers) }
@@ -106,7 +98,7 @@ module _ (k : Sends) (settings : PlainSettings) (client : ClientId) (ops : List 
     abbrev pub third : Where
     third = record { settings = settings; client = client; ops = ops; drawn = drawn; others = (count_within (n + 1) (sends_of settings client ops drawn).chunks, count_within (n + 1) (sends_of settings client ops drawn).crumbs) }
 
-    module _ (player1 : Playing) (buffers : List Unleased) (numbers : List ℕ) (chunks : AreChunks first n player1 buffers numbers) where
+    module _ (player1 : Playing) (numbers : List ℕ) (chunks : AreChunks first n player1 numbers) where
       pub were_crumbs : WereCrumbs second n player1 g.crumbs.items g.found.crumbs.items
       were_crumbs = record { at = chunks.at; holds = s.crumbs }
 
@@ -120,32 +112,18 @@ module _ (k : Sends) (settings : PlainSettings) (client : ClientId) (ops : List 
     fewer = left_falls went.more script script' went.draws
 
     drawn_long : length s.drawn + length went.more ≡ count_started size ops (n + 1)
-    drawn_long = sym (length-append s.drawn went.more) ∙ at_here.each
+    drawn_long = drawn_more settings client ops draws s.each s.drawn script s.kinds k.paged went.more script' went.draws (n + 1) _ _ _ player' at_here
 
-    left_long : length s.drawn + length script.left.items ≡ length draws
-    left_long =
-        let both = length-append (map has_buffer s.drawn) (map has_buffer script.left.items) in
-        let kinds = ap length s.kinds in
-        let x = length-map s.drawn has_buffer in
-        let y = length-map script.left.items has_buffer in
-        let z = length-map draws has_buffer in
-        omega (arith, both, kinds, x, y, z)
-
-    few : length went.more ≤ length script.left.items
-    few = let most = started_few (n + 1) in let a = drawn_long in let b = left_long in omega (arith, most, a, b)
-
-    kinds_left : map has_buffer went.more ++ map has_buffer script'.left.items ≡ map has_buffer script.left.items
-    kinds_left = kinds_are went.more script script' went.draws few
+    left_kinds : map has_buffer went.more ++ map has_buffer script'.left.items ≡ map has_buffer script.left.items
+    left_kinds = kinds_left settings client ops draws s.each s.drawn script s.kinds k.paged went.more script' went.draws (n + 1) _ _ _ player' at_here
 
     pub kinds : map has_buffer drawn ++ map has_buffer script'.left.items ≡ map has_buffer draws
-    kinds =
-        ap (λ l. l ++ map has_buffer script'.left.items) (map-append has_buffer s.drawn went.more) ∙ append_assoc (map has_buffer s.drawn) (map has_buffer went.more) (map has_buffer script'.left.items)
-        ∙ ap (λ l. map has_buffer s.drawn ++ l) kinds_left ∙ s.kinds
+    kinds = kinds_more settings client ops draws s.each s.drawn script s.kinds k.paged went.more script' went.draws (n + 1) _ _ _ player' at_here
 
     pub starts_here : (started : List ℕ) (count : ℕ) → count + length script'.left.items ≡ length script.left.items → started ≡ g.found.started.items ++ replicate count n → started ≡ starts_within (n + 1) (timed_pages size ops)
     starts_here started count count_is is =
         let both = length-append (map has_buffer went.more) (map has_buffer script'.left.items) in
-        let kinds = ap length kinds_left in
+        let kinds = ap length left_kinds in
         let x = length-map went.more has_buffer in
         let y = length-map script'.left.items has_buffer in
         let z = length-map script.left.items has_buffer in
@@ -156,7 +134,7 @@ module _ (k : Sends) (settings : PlainSettings) (client : ClientId) (ops : List 
 
     -- ---- all of it
 
-    pub sent_by : (player1 : Playing) (g' : Gathering) → AreChunks first n player1 (map buffer_of g'.chunks.items) g'.found.chunks.items → (player2 : Playing) → AreCrumbs second n player2 g'.crumbs.items g'.found.crumbs.items
+    pub sent_by : (player1 : Playing) (g' : Gathering) → AreChunks first n player1 g'.found.chunks.items → (player2 : Playing) → AreCrumbs second n player2 g'.crumbs.items g'.found.crumbs.items
         → (player3 : Playing) → AreTriggers third n player3 g'.triggers.items g'.found.triggers.items → g'.found.started.items ≡ starts_within (n + 1) (timed_pages size ops) → IsSentBy settings client ops draws (n + 1) script' player3 g'
     sent_by player1 g' chunks player2 crumbs player3 triggers starts =
         record {

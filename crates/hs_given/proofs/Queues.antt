@@ -1,17 +1,15 @@
 -- What one operation more sends of a kind, and taking it item by item.
-use Rattle.std.proofs.Common.{◌≡◌, ℕ, zero, suc, ◌+◌, ◌<◌, ◌≤◌, Bool, true, false, cond, List, [], ◌∷◌, ◌++◌, length, map, take, Option, Some, None, refl, sym, ap, subst, ◌∙◌, arith}
+use Rattle.std.proofs.Common.{◌≡◌, ℕ, zero, suc, ◌+◌, ◌<◌, ◌≤◌, Bool, true, false, cond, List, [], ◌∷◌, ◌++◌, length, take, Some, None, refl, sym, ap, subst, ◌∙◌, arith}
 use Rattle.std.proofs.lemmas.Bool.{ltb-true, ltb-false, lt-ltb, le-ltb}
 use Rattle.std.proofs.lemmas.List.{map-append}
 use Rattle.std.proofs.lemmas.Option.{same_Some}
 use Rattle.std.specs.Prelude.{slice_get, nat_lt}
-use Rattle.std.specs.List.{AllByRecursion}
 use Rattle.hs_clauses.specs.Finding.{numbers_of}
-use Rattle.hs_player.specs.Playing.{Playing, Unleased}
+use Rattle.hs_player.specs.Playing.{Playing}
 use Rattle.hs_sent.specs.OneMore.{items_of}
 use Rattle.hs_sent.specs.Order.{AreInOrder}
 use Rattle.hs_sent.specs.Sending.{Sent, sent_within}
-use Rattle.hs_words.specs.Pages.{Sheet}
-use Rattle.hs_given.specs.Gathering.{HasItems, HasChunks, page_in, count_within, Was, Is}
+use Rattle.hs_given.specs.Gathering.{HasItems, AreNumbers, count_within, Was, Is}
 
 module _ {A : Type 0} where
   -- what is sent later is not sent within
@@ -108,25 +106,14 @@ module _ {A : Type 0} where
 
   -- ---- one item more
 
+  pub one_number : (front : List (Sent A)) (item : Sent A) (number : ℕ) (numbers numbers' : List ℕ) → numbers' ≡ numbers ++ number ∷ [] → item.number ≡ number → AreNumbers front numbers → AreNumbers (front ++ item ∷ []) numbers'
+  one_number front item number numbers numbers' numbers_are own are =
+      numbers_are ∙ ap (λ (l : List ℕ). l ++ number ∷ []) are ∙ ap (λ n. numbers_of front ++ n ∷ []) (sym own) ∙ sym (map-append (λ (s : Sent A). s.number) front (item ∷ []))
+
   pub one_item : (front : List (Sent A)) (item : Sent A) (x : A) (number : ℕ) (queue queue' : List A) (numbers numbers' : List ℕ) → item.item ≡ x → queue' ≡ queue ++ x ∷ [] → numbers' ≡ numbers ++ number ∷ []
       → item.number ≡ number → HasItems front queue numbers → HasItems (front ++ item ∷ []) queue' numbers'
   one_item front item x number queue queue' numbers numbers' is queue_is numbers_are own h =
       record {
         queue_is = queue_is ∙ ap (λ (l : List A). l ++ x ∷ []) h.queue_is ∙ ap (λ y. items_of front ++ y ∷ []) (sym is) ∙ sym (map-append (λ (s : Sent A). s.item) front (item ∷ []));
-        numbers_are = numbers_are ∙ ap (λ (l : List ℕ). l ++ number ∷ []) h.numbers_are ∙ ap (λ n. numbers_of front ++ n ∷ []) (sym own) ∙ sym (map-append (λ (s : Sent A). s.number) front (item ∷ []));
+        numbers_are = one_number front item number numbers numbers' numbers_are own h.numbers_are;
       }
-
-all_behind : {A : Type 0} (P : A → Type 0) (xs : List A) (x : A) → AllByRecursion P xs → P x → AllByRecursion P (xs ++ x ∷ [])
-all_behind P [] x all p = (p, tt)
-all_behind P (y ∷ xs) x all p = (all.0, all_behind P xs x all.1 p)
-
-pub one_chunk : (size : ℕ) (front : List (Sent Sheet)) (item : Sent Sheet) (x : Unleased) (number : ℕ) (buffers buffers' : List Unleased) (numbers numbers' : List ℕ) → x.chunk.page ≡ Some item.item → x.chunk.size ≡ size
-    → buffers' ≡ buffers ++ x ∷ [] → numbers' ≡ numbers ++ number ∷ [] → item.number ≡ number → HasChunks size front buffers numbers → HasChunks size (front ++ item ∷ []) buffers' numbers'
-one_chunk size front item x number buffers buffers' numbers numbers' page size_is buffers_are numbers_are own h =
-    record {
-      pages =
-          ap (map page_in) buffers_are ∙ map-append page_in buffers (x ∷ []) ∙ ap (λ (l : List (Option Sheet)). l ++ page_in x ∷ []) h.pages
-          ∙ ap (λ p. map (λ (s : Sent Sheet). Some s.item) front ++ p ∷ []) page ∙ sym (map-append (λ (s : Sent Sheet). Some s.item) front (item ∷ []));
-      sizes = subst (AllByRecursion (λ (b : Unleased). b.chunk.size ≡ size)) (sym buffers_are) (all_behind (λ (b : Unleased). b.chunk.size ≡ size) buffers x h.sizes size_is);
-      numbers_are = numbers_are ∙ ap (λ (l : List ℕ). l ++ number ∷ []) h.numbers_are ∙ ap (λ n. numbers_of front ++ n ∷ []) (sym own) ∙ sym (map-append (λ (s : Sent Sheet). s.number) front (item ∷ []));
-    }

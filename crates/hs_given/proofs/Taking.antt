@@ -4,7 +4,6 @@ use Rattle.hs_player.specs.Places.{Waits}
 use Rattle.hs_player.specs.Playing.{Playing}
 use Rattle.hs_sent.specs.Order.{AreInOrder, ChunksAreInOrder}
 use Rattle.hs_given.specs.Gathering.{Where, AtChunk, AtCrumb, AtTrigger, WereChunks, chunks_at}
-use Rattle.hs_player.specs.Playing.{Unleased}
 
 fewer : {A : Type 0} (sent waiting waiting' : List A) (k : ℕ) → Waits k sent waiting → Waits (k + 1) sent waiting' → length waiting' < length waiting
 fewer sent waiting waiting' k was is =
@@ -22,5 +21,5 @@ crumbs_fewer w number k player next at after = fewer _ player.works.crumbs next.
 pub triggers_fewer : (w : Where) (number k : ℕ) (player next : Playing) → AtTrigger w number k player → AtTrigger w number (k + 1) next → length next.works.triggers < length player.works.triggers
 triggers_fewer w number k player next at after = fewer _ player.works.triggers next.works.triggers k at.triggers after.triggers
 
-pub chunks_ordered : ChunksAreInOrder → (w : Where) (number : ℕ) (player : Playing) {buffers : List Unleased} {numbers : List ℕ} → WereChunks w number player buffers numbers → AreInOrder 0 (chunks_at w)
+pub chunks_ordered : ChunksAreInOrder → (w : Where) (number : ℕ) (player : Playing) {numbers : List ℕ} → WereChunks w number player numbers → AreInOrder 0 (chunks_at w)
 chunks_ordered order w number player was = order w.settings.size w.client w.ops w.drawn was.at.playable.least was.at.playable.client.bracketed

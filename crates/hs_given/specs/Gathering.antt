@@ -1,7 +1,6 @@
--- What was taken of a client when it has done so many operations: all that these sent, each item with its operation, and of each page that
--- they started the operation that started it.
-use Rattle.std.specs.Prelude.{◌≡◌, ℕ, ◌+◌, List, [], ◌++◌, length, map, Option, Some}
-use Rattle.std.specs.List.{AllByRecursion}
+-- What was taken of a client when it has done so many operations: the crumbs and triggers that these sent, the operations of all that they
+-- sent, and of each page that they started the operation that started it.
+use Rattle.std.specs.Prelude.{◌≡◌, ℕ, ◌+◌, List, [], ◌++◌, length, map}
 use Rattle.hs_base.specs.declared.ids.ClientId.{ClientId}
 use Rattle.hs_base.specs.declared.settings.AutoRule.{AutoRule}
 use Rattle.hs_base.specs.declared.told.Crumb.{Crumb}
@@ -9,7 +8,7 @@ use Rattle.hs_base.specs.declared.told.Trigger.{Trigger}
 use Rattle.hs_clauses.specs.Finding.{numbers_of}
 use Rattle.hs_journal.specs.declared.journal.Draw.{Draw}
 use Rattle.hs_player.specs.Places.{IsAt}
-use Rattle.hs_player.specs.Playing.{Playing, Unleased}
+use Rattle.hs_player.specs.Playing.{Playing}
 use Rattle.hs_records.specs.Pages.{pages_of}
 use Rattle.hs_records.specs.Plain.{Operation, PlainSettings}
 use Rattle.hs_sent.specs.Drawn.{has_buffer}
@@ -17,7 +16,6 @@ use Rattle.hs_sent.specs.OneMore.{items_of}
 use Rattle.hs_sent.specs.Sending.{Sent, sends_of, sent_within}
 use Rattle.hs_sent.specs.SoFar.{started_within}
 use Rattle.hs_sent.specs.Timing.{TimedPage, timed_pages}
-use Rattle.hs_words.specs.Buffers.{buffer_of}
 use Rattle.hs_words.specs.Pages.{Sheet}
 use Rattle.hs_given.specs.declared.gathering.Gathering.{Gathering}
 use Rattle.hs_given.specs.declared.script.Script.{Script}
@@ -27,14 +25,9 @@ pub record HasItems {A : Type 0} (items : List (Sent A)) (queue : List A) (numbe
   pub queue_is : queue ≡ items_of items
   pub numbers_are : numbers ≡ numbers_of items
 
-abbrev pub page_in : Unleased → Option Sheet
-page_in buffer = buffer.chunk.page
-
--- These chunks have these pages in buffers of one size, and the operations of the pages are noted.
-pub record HasChunks (size : ℕ) (items : List (Sent Sheet)) (buffers : List Unleased) (numbers : List ℕ) : Type 0 where
-  pub pages : map page_in buffers ≡ map (λ item. Some item.item) items
-  pub sizes : AllByRecursion (λ (buffer : Unleased). buffer.chunk.size ≡ size) buffers
-  pub numbers_are : numbers ≡ numbers_of items
+-- The operations of these items are noted.
+abbrev pub AreNumbers : {A : Type 0} → List (Sent A) → List ℕ → Type 0
+AreNumbers items numbers = numbers ≡ numbers_of items
 
 -- how many of these items the first so many operations send
 abbrev pub count_within : {A : Type 0} → ℕ → List (Sent A) → ℕ
@@ -53,7 +46,7 @@ pub record IsSentBy (settings : PlainSettings) (client : ClientId) (ops : List O
   pub at :
       IsAt settings client ops drawn n (count_within n (sends_of settings client ops drawn).chunks) (count_within n (sends_of settings client ops drawn).crumbs)
       (count_within n (sends_of settings client ops drawn).triggers) player
-  pub chunks : HasChunks settings.size (sent_within n (sends_of settings client ops drawn).chunks) (map buffer_of g.chunks.items) g.found.chunks.items
+  pub chunks : AreNumbers (sent_within n (sends_of settings client ops drawn).chunks) g.found.chunks.items
   pub crumbs : HasItems (sent_within n (sends_of settings client ops drawn).crumbs) g.crumbs.items g.found.crumbs.items
   pub triggers : HasItems (sent_within n (sends_of settings client ops drawn).triggers) g.triggers.items g.found.triggers.items
   pub started : g.found.started.items ≡ starts_within n (timed_pages settings.size ops)
@@ -68,7 +61,6 @@ SendsOneMore rules ops n script player g script' player' g' =
     (settings : PlainSettings) (client : ClientId) (draws : List Draw) → rules ≡ settings.autos → IsSentBy settings client ops draws n script player g → IsSentBy settings client ops draws (n + 1) script' player' g'
 
 pub record IsNew (g : Gathering) : Type 0 where
-  pub chunks : g.chunks.items ≡ []
   pub crumbs : g.crumbs.items ≡ []
   pub triggers : g.triggers.items ≡ []
   pub started : g.found.started.items ≡ []
@@ -116,17 +108,17 @@ AtTrigger w number m player = IsAt w.settings w.client w.ops w.drawn (number + 1
 
 -- ---- chunks
 
-abbrev pub WereChunks : Where → ℕ → Playing → List Unleased → List ℕ → Type 0
-WereChunks w number player buffers numbers = Was (AtChunk w number) (λ items. HasChunks w.settings.size items buffers numbers) (chunks_at w) number player
+abbrev pub WereChunks : Where → ℕ → Playing → List ℕ → Type 0
+WereChunks w number player numbers = Was (AtChunk w number) (λ items. AreNumbers items numbers) (chunks_at w) number player
 
-abbrev pub AreChunks : Where → ℕ → Playing → List Unleased → List ℕ → Type 0
-AreChunks w number player buffers numbers = Is (AtChunk w number) (λ items. HasChunks w.settings.size items buffers numbers) (chunks_at w) number player
+abbrev pub AreChunks : Where → ℕ → Playing → List ℕ → Type 0
+AreChunks w number player numbers = Is (AtChunk w number) (λ items. AreNumbers items numbers) (chunks_at w) number player
 
-abbrev pub WasSentChunks : ℕ → Playing → List Unleased → List ℕ → Type 0
-WasSentChunks number player buffers numbers = (w : Where) × WereChunks w number player buffers numbers
+abbrev pub WasSentChunks : ℕ → Playing → List ℕ → Type 0
+WasSentChunks number player numbers = (w : Where) × WereChunks w number player numbers
 
-abbrev pub IsSentChunks : ℕ → Playing → List Unleased → List ℕ → Playing → List Unleased → List ℕ → Type 0
-IsSentChunks number player buffers numbers player' buffers' numbers' = (w : Where) → WereChunks w number player buffers numbers → AreChunks w number player' buffers' numbers'
+abbrev pub IsSentChunks : ℕ → Playing → List ℕ → Playing → List ℕ → Type 0
+IsSentChunks number player numbers player' numbers' = (w : Where) → WereChunks w number player numbers → AreChunks w number player' numbers'
 
 -- ---- crumbs
 

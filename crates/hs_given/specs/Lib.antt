@@ -1,3 +1,4 @@
 pub mod Scripts
+pub mod Fillings
 pub mod Gathering
 pub mod Sendings

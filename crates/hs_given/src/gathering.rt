@@ -1,7 +1,6 @@
 //! What was taken of a client so far.
 
 ghost use Rattle.std.specs.Prelude.{◌≡◌, ◌<◌, ◌++◌, length, map, replicate, OnOk};
-ghost use Rattle.hs_words.specs.Buffers.{buffer_of};
 ghost use Rattle.hs_workload.specs.Views.{operation_of};
 ghost use Rattle.hs_given.specs.Gathering.{IsNew, WasSent, SendsOneMore, WasSentChunks, IsSentChunks, WasSentCrumbs, IsSentCrumbs, WasSentTriggers, IsSentTriggers};
 
@@ -13,15 +12,13 @@ use hs_sent::laws::{
     items_are_sent_in_order, the_first_chunks_are_sent, the_first_operations_send,
     timed_pages_are_the_pages, timed_pages_are_timely,
 };
-use hs_words::Held;
 use hs_workload::Op;
 use std::alloc::Global;
 use std::collections::VecDeque;
 
-/// What a client sent with the operations that it has done, and which operations these items are of.
+/// The crumbs and triggers that a client sent with the operations that it has done, and which operations all that it sent is of.
 #[derive(Drop)]
 pub(crate) struct Gathering {
-    pub(crate) chunks: VecDeque<Held<()>>,
     pub(crate) crumbs: VecDeque<Crumb>,
     pub(crate) triggers: VecDeque<Trigger>,
     pub(crate) found: FoundClient,
@@ -33,7 +30,6 @@ impl Gathering {
         ensures { IsNew result }
     {
         Gathering {
-            chunks: VecDeque::new(alloc),
             crumbs: VecDeque::new(alloc),
             triggers: VecDeque::new(alloc),
             found: FoundClient {
@@ -66,7 +62,7 @@ impl Gathering {
         player.go_on(script, rules, operations, 1)?;
         let started = left - script.left.len();
         note_started(&mut self.found.started, number, started)?;
-        take_chunks(&mut self.chunks, &mut self.found.chunks, number, player)?;
+        count_chunks(&mut self.found.chunks, number, player)?;
         take_crumbs(&mut self.crumbs, &mut self.found.crumbs, number, player)?;
         take_triggers(&mut self.triggers, &mut self.found.triggers, number, player)
     }
@@ -82,19 +78,13 @@ fn note_started(started: &mut List<usize>, number: usize, count: usize) -> Resul
     Ok(())
 }
 
-/// Takes the chunks that the operation of this number sent.
-fn take_chunks(
-    queue: &mut VecDeque<Held<()>>,
-    numbers: &mut List<usize>,
-    number: usize,
-    player: &mut Player,
-) -> Result<(), Memory>
-    requires { WasSentChunks number player.old (map buffer_of queue.old.items) numbers.old.items }
-    ensures { OnOk result (IsSentChunks number player.old (map buffer_of queue.old.items) numbers.old.items player.new (map buffer_of queue.new.items) numbers.new.items) }
+/// Notes the chunks that the operation of this number sent, and lets them go.
+fn count_chunks(numbers: &mut List<usize>, number: usize, player: &mut Player) -> Result<(), Memory>
+    requires { WasSentChunks number player.old numbers.old.items }
+    ensures { OnOk result (IsSentChunks number player.old numbers.old.items player.new numbers.new.items) }
 {
     items_are_sent_in_order();
-    while let Some(held) = player.next_chunk() {
-        queue.push_back(held)?;
+    while let Some(_held) = player.next_chunk() {
         numbers.append(number)?;
     }
     Ok(())

@@ -2,8 +2,10 @@
 //! (`docs/RULES.md`, "What clients send").
 #![tactic(auto)]
 
+mod filling;
 mod gathering;
 mod script;
 mod sending;
 
+pub use filling::Filling;
 pub use sending::{Sending, send};

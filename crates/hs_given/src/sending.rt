@@ -7,6 +7,7 @@ ghost use Rattle.hs_player.specs.Places.{IsPlayable};
 ghost use Rattle.hs_workload.specs.Views.{operation_of};
 ghost use Rattle.hs_given.specs.Sendings.{IsSending};
 
+use crate::filling::Filling;
 use crate::gathering::Gathering;
 use crate::script::Script;
 use hs_base::{ClientId, Crumb, List, Memory, Settings, Trigger};
@@ -14,16 +15,16 @@ use hs_clauses::FoundClient;
 use hs_journal::{ClientBook, Draw};
 use hs_player::Player;
 use hs_sent::laws::{all_is_sent_in_the_end, timed_pages_are_the_pages, timed_pages_are_timely};
-use hs_words::Held;
 use hs_workload::Op;
 use std::alloc::Global;
 use std::collections::VecDeque;
 
-/// What a client sends at the draws of a journal: its chunks, crumbs and triggers, each in order and with the number of the
-/// operation that sends it, and what it notes. The buffers of the chunks have numbers of their own, and not those of the draws.
+/// What a client sends at the draws of a journal: its chunks, which are filled one by one when they are asked for, its crumbs and triggers,
+/// all in order and with the number of the operation that sends them, and what it notes. The buffers of the chunks have numbers of their
+/// own, and not those of the draws.
 #[derive(Drop)]
 pub struct Sending {
-    pub chunks: VecDeque<Held<()>>,
+    pub chunks: Filling,
     pub crumbs: VecDeque<Crumb>,
     pub triggers: VecDeque<Trigger>,
     pub found: FoundClient,
@@ -55,8 +56,8 @@ pub fn send(
     let noted = player.finish();
     let mut draws_noted = List::new(alloc);
     draws_noted.append_slice(draws)?;
+    let chunks = Filling::make(alloc, client, settings, operations, draws)?;
     let Gathering {
-        chunks,
         crumbs,
         triggers,
         found,

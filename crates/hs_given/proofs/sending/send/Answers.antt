@@ -8,7 +8,7 @@ use Rattle.hs_records.specs.Plain.{settings_of}
 use Rattle.hs_workload.specs.Views.{operation_of}
 use Rattle.hs_given.specs.Gathering.{IsSentBy}
 use Rattle.hs_given.proofs.Beginning.{begins_so}
-use Rattle.hs_given.proofs.Whole.{Ends, chunks, crumbs, triggers, found}
+use Rattle.hs_given.proofs.Whole.{Ends, crumbs, triggers, found}
 use Rattle.hs_given.proofs.sending.send.Goals as goal
 
 pub loop-number-init : goal.loop-number-init
@@ -51,7 +51,7 @@ returns c =
     let noted = c.finish-noted.ensures settings client ops s.drawn _ _ _ s.at in
     let copied : c.append_slice.new.self.items ≡ draws = c.in_ok-append_slice.ensures.ok ∙ ap (λ (l : List Draw). l ++ draws) c.new-draws_noted.ensures.items in
     record {
-      chunks = chunks k settings client ops draws script player g s;
+      chunks = c.in_ok-chunks.ensures;
       crumbs = crumbs k settings client ops draws script player g s;
       triggers = triggers k settings client ops draws script player g s;
       found = found k settings client ops draws script player g s;
