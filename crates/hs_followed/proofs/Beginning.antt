@@ -122,15 +122,17 @@ module _ (W : PlainWorkload) (J : PlainJournal) (may : MayBegin W J) where
       ap (λ n. let c : ClientId = record { node = n; number = number } in c) (sym (div-mul-add node each number low))
       ∙ ap (λ k. let c : ClientId = record { node = (node * each + number) / each; number = k } in c) (sym (mod-mul-add node each number low))
 
-  pub client_begins : (node number : ℕ) (client : ClientId) → client.node ≡ node → client.number ≡ number → number < W.settings.clients → (ops : List Operation) → ops ≡ operations_at W (place_of W.settings.clients node number) → (draws : List Draw)
+  pub client_begins : (node number : ℕ) (client : ClientId) → client.node ≡ node → client.number ≡ number → node < W.settings.nodes → number < W.settings.clients → (ops : List Operation) → ops ≡ operations_at W (place_of W.settings.clients node number) → (draws : List Draw)
       → draws ≡ draws_at J (place_of W.settings.clients node number) → (s : Sending) → IsSending W.settings client ops draws s → ClientStands W J node [] number s
-  client_begins node number client node_is number_is low ops ops_are draws draws_are s is =
+  client_begins node number client node_is number_is there low ops ops_are draws draws_are s is =
       let each = W.settings.clients in
       let same : (λ (c : ClientId). c) client ≡ record { node = node; number = number } = λ i. record { node = node_is i; number = number_is i } in
       let is' = subst (λ (c : ClientId). IsSending W.settings c (operations_at W (place_of each node number)) (draws_at J (place_of each node number)) s) same
       (subst (λ (o : List Operation). IsSending W.settings client o (draws_at J (place_of each node number)) s) ops_are (subst (λ (d : List Draw). IsSending W.settings client ops d s) draws_are is)) in
       record {
-        left = record { chunks = is'.chunks; crumbs = is'.crumbs; triggers = is'.triggers; found = is'.found };
+        low = place_below node number there low;
+        chunks = is'.chunks;
+        left = record { crumbs = is'.crumbs; triggers = is'.triggers; found = is'.found };
         book = is'.book ∙ ap (λ (c : ClientId). let b : PlainClientBook = record { client = c; draws = draws_at J (place_of each node number); pages = map note_of (pages_of W.settings.size (operations_at W (place_of each node number))) } in b) (client_is each node number low);
       }
 

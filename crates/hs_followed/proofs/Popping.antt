@@ -1,12 +1,13 @@
 -- Taking an item out of a client's queues: the step that takes it is ready, and all else stays.
-use Rattle.std.proofs.Common.{◌≡◌, inl, inr, ℕ, suc, ◌+◌, ◌<◌, ◌≤◌, true, false, List, [], ◌∷◌, ◌++◌, length, map, drop, set, Option, Some, None, refl, sym, ap, subst, ◌∙◌, arith, option_map, eq-eqb, nat_eq, length-set}
+use Rattle.std.proofs.Common.{◌≡◌, inl, inr, ℕ, suc, ◌+◌, ◌<◌, ◌≤◌, true, false, List, [], ◌∷◌, ◌++◌, length, drop, set, Option, Some, None, refl, sym, ap, subst, ◌∙◌, arith, option_map, eq-eqb, nat_eq, length-set}
 use Rattle.std.proofs.lemmas.List.{length-map, nil_from_length}
-use Rattle.std.specs.Prelude.{slice_get}
-use Rattle.std.specs.List.{AllByRecursion}
+use Rattle.std.specs.Prelude.{slice_get, MatchOption}
 use Rattle.std.specs.Option.{option_and_then}
-use Rattle.hs_clauses.specs.Finding.{IsFoundClient, numbers_of}
+use Rattle.hs_base.specs.declared.ids.ClientId.{ClientId}
+use Rattle.hs_clauses.specs.Finding.{IsFoundClient}
 use Rattle.hs_journal.specs.Books.{client_book_of}
-use Rattle.hs_given.specs.Gathering.{HasChunks, page_in}
+use Rattle.hs_given.specs.Fillings.{IsFilled, Fills, MayFill}
+use Rattle.hs_given.specs.declared.filling.Filling.{Filling}
 use Rattle.hs_given.specs.declared.sending.Sending.{Sending}
 use Rattle.hs_journal.specs.Views.{PlainJournal}
 use Rattle.hs_journal.specs.declared.journal.Step.{Step}
@@ -14,12 +15,10 @@ use Rattle.hs_journal.specs.declared.journal.Step.TheVariants as steps
 use Rattle.hs_lawful.specs.Following.{Queue, Chunks, Crumbs, Triggers, takes, taken, NodeRun, next_of}
 use Rattle.hs_model.specs.Stepping.{Event}
 use Rattle.hs_player.specs.Playing.{Unleased}
-use Rattle.hs_records.specs.Plain.{PlainWorkload}
+use Rattle.hs_records.specs.Plain.{Operation, PlainWorkload}
 use Rattle.hs_sent.specs.OneMore.{items_of}
-use Rattle.hs_sent.specs.Sending.{Sent, ClientSends, client_sends, node_sends}
-use Rattle.hs_words.specs.Buffers.{buffer_of}
-use Rattle.hs_words.specs.Pages.{Sheet}
-use Rattle.hs_followed.specs.Clients.{IsLeft, ClientStands, ClientsStand, SameBeside}
+use Rattle.hs_sent.specs.Sending.{Sent, ClientSends, client_sends, draws_at, node_sends, operations_at, place_of}
+use Rattle.hs_followed.specs.Clients.{IsLeft, ClientStands, ClientsStand, FillsAt, MayFillNext, MayFillAny, PopsChunk, SameBeside, own_operations}
 use Rattle.hs_followed.proofs.Counting.{taken_still, taken_once, drop_next, drop_none, range_get, range_past}
 use Rattle.hs_followed.proofs.Lists.{found_in}
 
@@ -49,43 +48,39 @@ none_left items k e =
     let none = ap length e in
     drop_none items k (nil_from_length (drop k items) (omega (arith, long, none)))
 
-pub record IsNextChunk (size : ℕ) (items : List (Sent Sheet)) (k : ℕ) (x : Unleased) (buffers : List Unleased) : Type 0 where
-  pub item : Sent Sheet
-  pub at : slice_get items k ≡ Some item
-  pub page : x.chunk.page ≡ Some item.item
-  pub size_is : x.chunk.size ≡ size
-  pub rest : HasChunks size (drop (suc k) items) buffers (numbers_of (drop (suc k) items))
+-- ---- chunks
 
-pub next_of_chunks : (size : ℕ) (items : List (Sent Sheet)) (k : ℕ) (x : Unleased) (all buffers : List Unleased) → all ≡ x ∷ buffers → HasChunks size (drop k items) all (numbers_of (drop k items)) → IsNextChunk size items k x buffers
-next_of_chunks size items k x all buffers same has = go (drop k items) refl (sym (ap (map page_in) same) ∙ has.pages)
-  where
-    sizes : AllByRecursion (λ (b : Unleased). b.chunk.size ≡ size) (x ∷ buffers)
-    sizes = subst (AllByRecursion (λ (b : Unleased). b.chunk.size ≡ size)) same has.sizes
+-- the operations of a client whose chunks these are
+own_is : (W : PlainWorkload) (J : PlainJournal) (node client k : ℕ) (f : Filling) → FillsAt W J node client k f → own_operations W f ≡ operations_at W (place_of W.settings.clients node client)
+own_is W J node client k f fills = ap (λ (c : ClientId). operations_at W (place_of W.settings.clients c.node c.number)) fills.client_is
 
-    go : (left : List (Sent Sheet)) → drop k items ≡ left → page_in x ∷ map page_in buffers ≡ map (λ item. Some item.item) left → IsNextChunk size items k x buffers
-    go [] d e = absurd cc
-    go (item ∷ left) d e =
-        let next = drop_next items k item left d in
-        let first : page_in x ≡ Some item.item = cc in
-        let others : map page_in buffers ≡ map (λ item. Some item.item) left = cc in
-        record {
-          item = item;
-          at = next.0;
-          page = first;
-          size_is = sizes.0;
-          rest =
-              record {
-                pages = others ∙ ap (map (λ (item : Sent Sheet). Some item.item)) (sym next.1);
-                sizes = sizes.1;
-                numbers_are = refl;
-              };
-        }
+may_fill : (W : PlainWorkload) (J : PlainJournal) (node : ℕ) (log : List Step) (client : ℕ) (s : Sending) → ClientStands W J node log client s → MayFillNext W s
+may_fill W J node log client s stands =
+    let place = place_of W.settings.clients node client in
+    let c : ClientId = record { node = node; number = client } in
+    record {
+      low = subst (λ (c : ClientId). place_of W.settings.clients c.node c.number < length W.clients) (sym stands.chunks.client_is) stands.low;
+      may =
+          subst (λ (ops : List Operation). MayFill W.settings.autos ops s.chunks) (sym (own_is W J node client (taken (Chunks client) log) s.chunks stands.chunks))
+          (W.settings, c, draws_at J place, taken (Chunks client) log, refl, stands.chunks);
+    }
 
-pub no_chunk : (size : ℕ) (items : List (Sent Sheet)) (k : ℕ) (all : List Unleased) → all ≡ [] → HasChunks size (drop k items) all (numbers_of (drop k items)) → slice_get items k ≡ None
-no_chunk size items k all none has =
-    let pages = ap length (sym (ap (map page_in) none) ∙ has.pages) in
-    let long = length-map (drop k items) (λ (item : Sent Sheet). Some item.item) in
-    drop_none items k (nil_from_length (drop k items) (omega (arith, pages, long)))
+pub may_fill_any : (W : PlainWorkload) (J : PlainJournal) (node : ℕ) (log : List Step) (clients : List Sending) → ClientsStand W J node log clients → MayFillAny W clients
+may_fill_any W J node log clients stand = λ client s at. may_fill W J node log client s (stand.each client s at)
+
+-- the next chunk of a client, or that there is none
+abbrev pub FillsThere : PlainWorkload → PlainJournal → (node client k : ℕ) → Option Unleased → Filling → Type 0
+FillsThere W J node client k answer f =
+    MatchOption answer ((slice_get (client_sends W J node client).chunks k ≡ None) × FillsAt W J node client k f)
+    (λ buffer. IsFilled W.settings (record { node = node; number = client }) (operations_at W (place_of W.settings.clients node client)) (draws_at J (place_of W.settings.clients node client)) k buffer.chunk
+    × FillsAt W J node client (k + 1) f)
+
+pub fills_there : (W : PlainWorkload) (J : PlainJournal) (node : ℕ) (log : List Step) (client : ℕ) (s : Sending) (answer : Option Unleased) (s' : Sending) → ClientStands W J node log client s → PopsChunk W s answer s'
+    → FillsThere W J node client (taken (Chunks client) log) answer s'.chunks
+fills_there W J node log client s answer s' stands pops =
+    let k = taken (Chunks client) log in
+    let c : ClientId = record { node = node; number = client } in
+    subst (λ (ops : List Operation). Fills W.settings.autos ops s.chunks answer s'.chunks) (own_is W J node client k s.chunks stands.chunks) pops.fills W.settings c (draws_at J (place_of W.settings.clients node client)) k refl stands.chunks
 
 -- ---- clients
 
@@ -96,10 +91,11 @@ module _ (W : PlainWorkload) (J : PlainJournal) (node : ℕ) (log : List Step) w
   client_as step client s a b c stands =
       let sends = client_sends W J node client in
       record {
+        low = stands.low;
+        chunks = subst (λ k. FillsAt W J node client k s.chunks) (sym (taken_still (Chunks client) log step a)) stands.chunks;
         left =
-            subst (λ k. IsLeft W.settings.size sends k (taken (Crumbs client) (log ++ step ∷ [])) (taken (Triggers client) (log ++ step ∷ [])) s) (sym (taken_still (Chunks client) log step a))
-            (subst (λ l. IsLeft W.settings.size sends (taken (Chunks client) log) l (taken (Triggers client) (log ++ step ∷ [])) s) (sym (taken_still (Crumbs client) log step b))
-            (subst (λ m. IsLeft W.settings.size sends (taken (Chunks client) log) (taken (Crumbs client) log) m s) (sym (taken_still (Triggers client) log step c)) stands.left));
+            subst (λ l. IsLeft sends l (taken (Triggers client) (log ++ step ∷ [])) s) (sym (taken_still (Crumbs client) log step b))
+            (subst (λ m. IsLeft sends (taken (Crumbs client) log) m s) (sym (taken_still (Triggers client) log step c)) stands.left);
         book = stands.book;
       }
 
@@ -141,14 +137,15 @@ module _ (W : PlainWorkload) (J : PlainJournal) (node : ℕ) (log : List Step) w
             ];
       }
 
-  pub client_same : (client : ℕ) (s s' : Sending) → map buffer_of s'.chunks.items ≡ map buffer_of s.chunks.items → s'.crumbs.items ≡ s.crumbs.items → s'.triggers.items ≡ s.triggers.items → SameBeside s s' → ClientStands W J node log client s
+  pub client_same : (client : ℕ) (s s' : Sending) → FillsAt W J node client (taken (Chunks client) log) s'.chunks → s'.crumbs.items ≡ s.crumbs.items → s'.triggers.items ≡ s.triggers.items → SameBeside s s' → ClientStands W J node log client s
       → ClientStands W J node log client s'
   client_same client s s' chunks crumbs triggers beside stands =
       let sends = client_sends W J node client in
       record {
+        low = stands.low;
+        chunks = chunks;
         left =
             record {
-              chunks = subst (λ buffers. HasChunks W.settings.size (drop (taken (Chunks client) log) sends.chunks) buffers (numbers_of (drop (taken (Chunks client) log) sends.chunks))) (sym chunks) stands.left.chunks;
               crumbs = crumbs ∙ stands.left.crumbs;
               triggers = triggers ∙ stands.left.triggers;
               found = subst (λ f. IsFoundClient sends f) (sym beside.found) stands.left.found;
@@ -163,7 +160,7 @@ module _ (W : PlainWorkload) (J : PlainJournal) (node : ℕ) (log : List Step) w
     abbrev sends : ClientSends
     sends = client_sends W J node client
 
-    pub chunk_gone : HasChunks W.settings.size (drop (suc (taken (Chunks client) log)) sends.chunks) (map buffer_of s'.chunks.items) (numbers_of (drop (suc (taken (Chunks client) log)) sends.chunks)) → s'.crumbs ≡ s.crumbs → s'.triggers ≡ s.triggers → SameBeside s s'
+    pub chunk_gone : FillsAt W J node client (taken (Chunks client) log + 1) s'.chunks → s'.crumbs ≡ s.crumbs → s'.triggers ≡ s.triggers → SameBeside s s'
         → ClientStands W J node (log ++ steps.Chunk client ∷ []) client s'
     chunk_gone rest crumbs triggers beside =
         let step = steps.Chunk client in
@@ -171,9 +168,10 @@ module _ (W : PlainWorkload) (J : PlainJournal) (node : ℕ) (log : List Step) w
         let l = taken_still (Crumbs client) log step refl in
         let m = taken_still (Triggers client) log step refl in
         record {
+          low = stands.low;
+          chunks = let more : taken (Chunks client) log + 1 ≡ taken (Chunks client) (log ++ step ∷ []) = omega (arith, k) in subst (λ k. FillsAt W J node client k s'.chunks) more rest;
           left =
               record {
-                chunks = subst (λ k. HasChunks W.settings.size (drop k sends.chunks) (map buffer_of s'.chunks.items) (numbers_of (drop k sends.chunks))) (sym k) rest;
                 crumbs = ap (λ q. q.items) crumbs ∙ stands.left.crumbs ∙ ap (λ l. items_of (drop l sends.crumbs)) (sym l);
                 triggers = ap (λ q. q.items) triggers ∙ stands.left.triggers ∙ ap (λ m. items_of (drop m sends.triggers)) (sym m);
                 found = subst (λ f. IsFoundClient sends f) (sym beside.found) stands.left.found;
@@ -188,11 +186,10 @@ module _ (W : PlainWorkload) (J : PlainJournal) (node : ℕ) (log : List Step) w
         let l = taken_once (Crumbs client) log step own in
         let m = taken_still (Triggers client) log step refl in
         record {
+          low = stands.low;
+          chunks = subst (λ k. FillsAt W J node client k s'.chunks) (sym k) (subst (λ (f : Filling). FillsAt W J node client (taken (Chunks client) log) f) (sym chunks) stands.chunks);
           left =
               record {
-                chunks =
-                    subst (λ k. HasChunks W.settings.size (drop k sends.chunks) (map buffer_of s'.chunks.items) (numbers_of (drop k sends.chunks))) (sym k)
-                    (subst (λ q. HasChunks W.settings.size (drop (taken (Chunks client) log) sends.chunks) (map buffer_of q.items) (numbers_of (drop (taken (Chunks client) log) sends.chunks))) (sym chunks) stands.left.chunks);
                 crumbs = rest ∙ ap (λ l. items_of (drop l sends.crumbs)) (sym l);
                 triggers = ap (λ q. q.items) triggers ∙ stands.left.triggers ∙ ap (λ m. items_of (drop m sends.triggers)) (sym m);
                 found = subst (λ f. IsFoundClient sends f) (sym beside.found) stands.left.found;
@@ -208,11 +205,10 @@ module _ (W : PlainWorkload) (J : PlainJournal) (node : ℕ) (log : List Step) w
         let l = taken_still (Crumbs client) log step refl in
         let m = taken_once (Triggers client) log step own in
         record {
+          low = stands.low;
+          chunks = subst (λ k. FillsAt W J node client k s'.chunks) (sym k) (subst (λ (f : Filling). FillsAt W J node client (taken (Chunks client) log) f) (sym chunks) stands.chunks);
           left =
               record {
-                chunks =
-                    subst (λ k. HasChunks W.settings.size (drop k sends.chunks) (map buffer_of s'.chunks.items) (numbers_of (drop k sends.chunks))) (sym k)
-                    (subst (λ q. HasChunks W.settings.size (drop (taken (Chunks client) log) sends.chunks) (map buffer_of q.items) (numbers_of (drop (taken (Chunks client) log) sends.chunks))) (sym chunks) stands.left.chunks);
                 crumbs = ap (λ q. q.items) crumbs ∙ stands.left.crumbs ∙ ap (λ l. items_of (drop l sends.crumbs)) (sym l);
                 triggers = rest ∙ ap (λ m. items_of (drop m sends.triggers)) (sym m);
                 found = subst (λ f. IsFoundClient sends f) (sym beside.found) stands.left.found;

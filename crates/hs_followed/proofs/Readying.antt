@@ -1,5 +1,5 @@
 -- The input of a step is taken out of its queue where the step is ready.
-use Rattle.std.proofs.Common.{◌≡◌, inl, inr, ℕ, ◌+◌, ◌<◌, ◌≤◌, false, List, [], ◌∷◌, ◌++◌, map, drop, Option, Some, None, IsSome, refl, sym, ap, subst, ◌∙◌, arith, option_map}
+use Rattle.std.proofs.Common.{◌≡◌, inl, inr, ℕ, ◌+◌, ◌<◌, ◌≤◌, false, List, [], ◌∷◌, ◌++◌, drop, Option, Some, None, IsSome, refl, sym, ap, subst, ◌∙◌, arith, option_map}
 use Rattle.std.proofs.lemmas.Bool.{ne_eqb}
 use Rattle.std.specs.Prelude.{slice_get}
 use Rattle.hs_agent.specs.Points.{sheet_in}
@@ -10,6 +10,7 @@ use Rattle.hs_base.specs.declared.told.Ask.{Ask}
 use Rattle.hs_base.specs.declared.told.Crumb.{Crumb}
 use Rattle.hs_base.specs.declared.told.Trigger.{Trigger}
 use Rattle.hs_coord.specs.Following.{Messages}
+use Rattle.hs_given.specs.declared.filling.Filling.{Filling}
 use Rattle.hs_given.specs.declared.sending.Sending.{Sending}
 use Rattle.hs_journal.specs.Views.{PlainJournal}
 use Rattle.hs_journal.specs.declared.journal.Step.{Step}
@@ -22,12 +23,12 @@ use Rattle.hs_sent.specs.Sending.{ClientSends, client_sends}
 use Rattle.hs_words.specs.Buffers.{buffer_of}
 use Rattle.hs_words.specs.Pages.{Sheet}
 use Rattle.hs_words.specs.declared.token.Held.{Held}
-use Rattle.hs_followed.specs.Clients.{ClientsStand, IsNoClient, Pops, PopsChunk, PopsCrumb, PopsTrigger}
+use Rattle.hs_followed.specs.Clients.{ClientsStand, FillsAt, IsNoClient, Pops, PopsChunk, PopsCrumb, PopsTrigger}
 use Rattle.hs_followed.specs.Nodes.{IsNotReady, IsReadied, Stands}
 use Rattle.hs_followed.specs.declared.follower.Follower.{Follower}
 use Rattle.hs_followed.proofs.Counting.{taken_still, taken_once}
 use Rattle.hs_followed.proofs.Lists.{found_within, nil_of_rest}
-use Rattle.hs_followed.proofs.Popping.{next_item, none_left, next_of_chunks, no_chunk, clients_as, one_moves, one_same, client_same, chunk_gone, crumb_gone, trigger_gone, event_there, event_none, event_past}
+use Rattle.hs_followed.proofs.Popping.{next_item, none_left, fills_there, clients_as, one_moves, one_same, client_same, chunk_gone, crumb_gone, trigger_gone, event_there, event_none, event_past}
 
 module _ (W : PlainWorkload) (J : PlainJournal) (heard : Messages) (run : NodeRun) (f : Follower) (s : Stands W J run run.state.log f) where
   -- the node with other queues, or with the count of one ask more
@@ -63,37 +64,37 @@ module _ (W : PlainWorkload) (J : PlainJournal) (heard : Messages) (run : NodeRu
 
   -- ---- chunks
 
-  pub chunk_readied : {g : _} (client : ℕ) (held : Held (Unit {0}) g) (clients : Listing Sending) → Pops PopsChunk client f.clients.items (Some (buffer_of held)) clients.items → IsReadied {g = g} W J heard run (steps.Chunk client) (inputs.Chunk client held) (with_clients clients)
+  pub chunk_readied : {g : _} (client : ℕ) (held : Held (Unit {0}) g) (clients : Listing Sending) → Pops (PopsChunk W) client f.clients.items (Some (buffer_of held)) clients.items → IsReadied {g = g} W J heard run (steps.Chunk client) (inputs.Chunk client held) (with_clients clients)
   chunk_readied client held clients (inl gap) = let never : Some (buffer_of held) ≡ None = gap.0 in absurd cc
   chunk_readied {g = g} client held clients (inr ch) =
       let stands = s.clients.each client ch.before ch.stood in
       let low = low_client client ch.before ch.stood in
       let log = run.state.log in
       let sends = client_sends W J run.node client in
-      let next = next_of_chunks W.settings.size sends.chunks (taken (Chunks client) log) (buffer_of held) (map buffer_of ch.before.chunks.items) (map buffer_of ch.now.chunks.items) ch.became.items stands.left.chunks in
-      let gone = chunk_gone W J run.node log client ch.before ch.now stands next.rest ch.became.crumbs ch.became.triggers ch.became.beside in
+      let fills = fills_there W J run.node log client ch.before (Some (buffer_of held)) ch.now stands ch.became in
+      let next = fills.0 in
+      let gone = chunk_gone W J run.node log client ch.before ch.now stands fills.1 ch.became.crumbs ch.became.triggers ch.became.beside in
       let sheet : next.item.item ≡ sheet_in (buffer_of held) = sym (ap (λ (p : Option Sheet). sheet_in (record (buffer_of held) { chunk = record ((buffer_of held).chunk) { page = p } })) next.page) in
       record {
         stands =
             moved_stands (steps.Chunk client) clients refl
             (subst (ClientsStand W J run.node (log ++ steps.Chunk client ∷ [])) (sym ch.set)
             (one_moves W J run.node log (steps.Chunk client) client f.clients.items ch.before ch.now ch.stood (λ other apart. (ne_eqb client other apart, refl, refl)) gone s.clients));
-        ready = event_there W J run s.sends (λ (sheet : Sheet). Took (Chunk client sheet)) (Chunks client) (λ (s : ClientSends). s.chunks) client next.item low next.at ∙ ap (λ (x : Sheet). Some (Took (Chunk client x))) sheet;
+        ready = event_there W J run s.sends (λ (sheet : Sheet). Took (Chunk client sheet)) (Chunks client) (λ (s : ClientSends). s.chunks) client next.item low next.next ∙ ap (λ (x : Sheet). Some (Took (Chunk client x))) sheet;
         noted = refl;
-        chunk = (subst (λ (p : Option Sheet). IsSome p) (sym next.page) refl, next.size_is);
+        chunk = (subst (λ (p : Option Sheet). IsSome p) (sym next.page) refl, next.size);
       }
 
-  pub no_chunk_readied : (client : ℕ) (clients : Listing Sending) → Pops {X = Unleased} PopsChunk client f.clients.items None clients.items → IsNotReady W J heard run (steps.Chunk client) (with_clients clients)
+  pub no_chunk_readied : (client : ℕ) (clients : Listing Sending) → Pops {X = Unleased} (PopsChunk W) client f.clients.items None clients.items → IsNotReady W J heard run (steps.Chunk client) (with_clients clients)
   no_chunk_readied client clients (inl gap) = record { stands = no_client client clients gap.1; none = event_past W J run s.sends (λ (sheet : Sheet). Took (Chunk client sheet)) (Chunks client) (λ (s : ClientSends). s.chunks) client (high_client client clients gap.1) }
   no_chunk_readied client clients (inr ch) =
       let stands = s.clients.each client ch.before ch.stood in
       let low = low_client client ch.before ch.stood in
-      let sends = client_sends W J run.node client in
-      let none : map buffer_of ch.before.chunks.items ≡ [] = nil_of_rest (map buffer_of ch.before.chunks.items) (ch.became.items ∙ ch.became.rest) in
-      let same = client_same W J run.node run.state.log client ch.before ch.now (ch.became.rest ∙ ap (drop 1) none ∙ sym none) (ap (λ q. q.items) ch.became.crumbs) (ap (λ q. q.items) ch.became.triggers) ch.became.beside stands in
+      let fills = fills_there W J run.node run.state.log client ch.before None ch.now stands ch.became in
+      let same = client_same W J run.node run.state.log client ch.before ch.now fills.1 (ap (λ q. q.items) ch.became.crumbs) (ap (λ q. q.items) ch.became.triggers) ch.became.beside stands in
       record {
         stands = same_stands clients (subst (ClientsStand W J run.node run.state.log) (sym ch.set) (one_same W J run.node run.state.log client f.clients.items ch.before ch.now ch.stood same s.clients));
-        none = event_none W J run s.sends (λ (sheet : Sheet). Took (Chunk client sheet)) (Chunks client) (λ (s : ClientSends). s.chunks) client low (no_chunk W.settings.size sends.chunks (taken (Chunks client) run.state.log) (map buffer_of ch.before.chunks.items) none stands.left.chunks);
+        none = event_none W J run s.sends (λ (sheet : Sheet). Took (Chunk client sheet)) (Chunks client) (λ (s : ClientSends). s.chunks) client low fills.0;
       }
 
   -- ---- crumbs
@@ -124,7 +125,7 @@ module _ (W : PlainWorkload) (J : PlainJournal) (heard : Messages) (run : NodeRu
       let low = low_client client ch.before ch.stood in
       let sends = client_sends W J run.node client in
       let none : ch.before.crumbs.items ≡ [] = nil_of_rest (ch.before.crumbs.items) (ch.became.items ∙ ch.became.rest) in
-      let same = client_same W J run.node run.state.log client ch.before ch.now (ap (λ q. map buffer_of q.items) ch.became.chunks) (ch.became.rest ∙ ap (drop 1) none ∙ sym none) (ap (λ q. q.items) ch.became.triggers) ch.became.beside stands in
+      let same = client_same W J run.node run.state.log client ch.before ch.now (subst (λ (f : Filling). FillsAt W J run.node client (taken (Chunks client) run.state.log) f) (sym ch.became.chunks) stands.chunks) (ch.became.rest ∙ ap (drop 1) none ∙ sym none) (ap (λ q. q.items) ch.became.triggers) ch.became.beside stands in
       record {
         stands = same_stands clients (subst (ClientsStand W J run.node run.state.log) (sym ch.set) (one_same W J run.node run.state.log client f.clients.items ch.before ch.now ch.stood same s.clients));
         none = event_none W J run s.sends (λ (crumb : Crumb). Took (Crumbed client crumb)) (Crumbs client) (λ (s : ClientSends). s.crumbs) client low (none_left sends.crumbs (taken (Crumbs client) run.state.log) (sym none ∙ stands.left.crumbs));
@@ -158,7 +159,7 @@ module _ (W : PlainWorkload) (J : PlainJournal) (heard : Messages) (run : NodeRu
       let low = low_client client ch.before ch.stood in
       let sends = client_sends W J run.node client in
       let none : ch.before.triggers.items ≡ [] = nil_of_rest (ch.before.triggers.items) (ch.became.items ∙ ch.became.rest) in
-      let same = client_same W J run.node run.state.log client ch.before ch.now (ap (λ q. map buffer_of q.items) ch.became.chunks) (ap (λ q. q.items) ch.became.crumbs) (ch.became.rest ∙ ap (drop 1) none ∙ sym none) ch.became.beside stands in
+      let same = client_same W J run.node run.state.log client ch.before ch.now (subst (λ (f : Filling). FillsAt W J run.node client (taken (Chunks client) run.state.log) f) (sym ch.became.chunks) stands.chunks) (ap (λ q. q.items) ch.became.crumbs) (ch.became.rest ∙ ap (drop 1) none ∙ sym none) ch.became.beside stands in
       record {
         stands = same_stands clients (subst (ClientsStand W J run.node run.state.log) (sym ch.set) (one_same W J run.node run.state.log client f.clients.items ch.before ch.now ch.stood same s.clients));
         none = event_none W J run s.sends (λ (trigger : Trigger). Took (Triggered client trigger)) (Triggers client) (λ (s : ClientSends). s.triggers) client low (none_left sends.triggers (taken (Triggers client) run.state.log) (sym none ∙ stands.left.triggers));

@@ -172,10 +172,10 @@ module _ (fit : RunsFit) (runs : RunsAreOfTheJournal) (W : PlainWorkload) (J : P
 
 module _ (fit : RunsFit) (runs : RunsAreOfTheJournal) (W : PlainWorkload) (J : PlainJournal) (run : Run) (old : Following) (a : AllAt W J run old.nodes.items old.hearing) where
   pub node_done : (n : ℕ) (t t' : Tracked) → slice_get old.nodes.items n ≡ Some t → (log : List Step) → slice_get J.logs n ≡ Some log → (list : Listing Ask) → slice_get old.hearing.asks.items n ≡ Some list → (done : Bool)
-      → StepsOn log list.items t t' done → (f : Following) → f.nodes.items ≡ set old.nodes.items n t' → f.hearing ≡ old.hearing → NodeSteppedIf W J run n old f done
+      → StepsOn W log list.items t t' done → (f : Following) → f.nodes.items ≡ set old.nodes.items n t' → f.hearing ≡ old.hearing → NodeSteppedIf W J run n old f done
   node_done n t t' at log log_there list list_there true on f nodes hearing =
       let m = may_step fit runs W J run old.nodes.items old.hearing a n t at log log_there list list_there in
-      let s = on.1 W J run.heard m.0 m.2 in
+      let s = on.1 J run.heard m.0 m.2 in
       let w = node_went fit runs W J run old.nodes.items old.hearing a n t t' at m.0 m.1 f.nodes.items nodes s in
       let less = steps_fall old.nodes.items J.logs n t t' log at log_there on.0.0 on.0.1 in
       let left = ap (λ (l : List Tracked). left_steps l J.logs) nodes in
@@ -183,7 +183,7 @@ module _ (fit : RunsFit) (runs : RunsAreOfTheJournal) (W : PlainWorkload) (J : P
       record { next = w.0; performs = w.1; at = subst (AllAt W J w.0 f.nodes.items) (sym hearing) w.2; falls = omega (arith, less, left, told) }
   node_done n t t' at log log_there list list_there false on f nodes hearing =
       let m = may_step fit runs W J run old.nodes.items old.hearing a n t at log log_there list list_there in
-      let s = on.1 W J run.heard m.0 m.2 in
+      let s = on.1 J run.heard m.0 m.2 in
       record {
         at = subst (AllAt W J run f.nodes.items) (sym hearing) (node_stayed fit runs W J run old.nodes.items old.hearing a n t t' at m.0 m.1 f.nodes.items nodes s);
         stays = ap (λ (l : List Tracked). left_steps l J.logs + (length J.told - f.hearing.next)) nodes ∙ ap (λ (h : Hearing). left_steps (set old.nodes.items n t') J.logs + (length J.told - h.next)) hearing

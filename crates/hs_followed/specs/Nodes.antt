@@ -98,9 +98,9 @@ pub record IsNotReady (W : PlainWorkload) (J : PlainJournal) (heard : Messages) 
   pub none : event_of run heard step ≡ None
 
 -- The input was taken out where the step is ready.
-abbrev pub Readies : {g : _} → Step → List Ask → Follower → Option (Input (Unit {0}) g) → Follower → Type 0
-Readies step asks old answer new =
-    (W : PlainWorkload) (J : PlainJournal) (heard : Messages) (run : NodeRun) → asks ≡ asks_to run.node heard → Stands W J run run.state.log old
+abbrev pub Readies : {g : _} → PlainWorkload → Step → List Ask → Follower → Option (Input (Unit {0}) g) → Follower → Type 0
+Readies W step asks old answer new =
+    (J : PlainJournal) (heard : Messages) (run : NodeRun) → asks ≡ asks_to run.node heard → Stands W J run run.state.log old
     → MatchOption answer (IsNotReady W J heard run step new) (λ input. IsReadied W J heard run step input new)
 
 -- ---- whole steps
@@ -112,9 +112,13 @@ MayTakeNext W heard run step = (input : model.Input) → event_of run heard step
 abbrev pub KnowsRun : Follower → Type 0
 KnowsRun f = (W : PlainWorkload) × (J : PlainJournal) × (run : NodeRun) × Stands W J run run.state.log f
 
-abbrev pub MayPerform : Step → List Ask → Follower → Type 0
-MayPerform step asks f =
-    (W : PlainWorkload) × (J : PlainJournal) × (heard : Messages) × (run : NodeRun) × (asks ≡ asks_to run.node heard) × Stands W J run run.state.log f × MayTakeNext W heard run step
+-- of this workload
+abbrev pub KnowsRunOf : PlainWorkload → Follower → Type 0
+KnowsRunOf W f = (J : PlainJournal) × (run : NodeRun) × Stands W J run run.state.log f
+
+abbrev pub MayPerform : PlainWorkload → Step → List Ask → Follower → Type 0
+MayPerform W step asks f =
+    (J : PlainJournal) × (heard : Messages) × (run : NodeRun) × (asks ≡ asks_to run.node heard) × Stands W J run run.state.log f × MayTakeNext W heard run step
 
 -- The step was ready, and its event happened.
 pub record HasPerformed (W : PlainWorkload) (J : PlainJournal) (heard : Messages) (run : NodeRun) (step : Step) (f : Follower) : Type 0 where
@@ -126,9 +130,9 @@ abbrev pub PerformsIf : PlainWorkload → PlainJournal → Messages → NodeRun 
 PerformsIf W J heard run step f true = HasPerformed W J heard run step f
 PerformsIf W J heard run step f false = IsNotReady W J heard run step f
 
-abbrev pub Performs : Step → List Ask → Follower → Follower → Bool → Type 0
-Performs step asks old new done =
-    (W : PlainWorkload) (J : PlainJournal) (heard : Messages) (run : NodeRun) → asks ≡ asks_to run.node heard → Stands W J run run.state.log old → MayTakeNext W heard run step
+abbrev pub Performs : PlainWorkload → Step → List Ask → Follower → Follower → Bool → Type 0
+Performs W step asks old new done =
+    (J : PlainJournal) (heard : Messages) (run : NodeRun) → asks ≡ asks_to run.node heard → Stands W J run run.state.log old → MayTakeNext W heard run step
     → PerformsIf W J heard run step new done
 
 abbrev pub PerformsOffer : Step → Follower → Follower → Bool → Type 0

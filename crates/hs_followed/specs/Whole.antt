@@ -64,12 +64,12 @@ abbrev pub WentIf : List Step → Tracked → Tracked → Bool → Type 0
 WentIf log old new true = (old.next < length log) × (new.next ≡ old.next + 1)
 WentIf log old new false = new.next ≡ old.next
 
-abbrev pub MayStep : List Step → List Ask → Tracked → Type 0
-MayStep log asks t = (W : PlainWorkload) × (J : PlainJournal) × (heard : Messages) × (run : NodeRun) × MayStepAt W J heard run log asks t
+abbrev pub MayStep : PlainWorkload → List Step → List Ask → Tracked → Type 0
+MayStep W log asks t = (J : PlainJournal) × (heard : Messages) × (run : NodeRun) × MayStepAt W J heard run log asks t
 
-abbrev pub StepsOn : List Step → List Ask → Tracked → Tracked → Bool → Type 0
-StepsOn log asks old new done =
-    WentIf log old new done × ((W : PlainWorkload) (J : PlainJournal) (heard : Messages) (run : NodeRun) → MayStepAt W J heard run log asks old → SteppedIf W J heard run new done)
+abbrev pub StepsOn : PlainWorkload → List Step → List Ask → Tracked → Tracked → Bool → Type 0
+StepsOn W log asks old new done =
+    WentIf log old new done × ((J : PlainJournal) (heard : Messages) (run : NodeRun) → MayStepAt W J heard run log asks old → SteppedIf W J heard run new done)
 
 -- ---- the coordinator
 
@@ -153,6 +153,10 @@ HearsOn told nodes old new done =
 abbrev pub Knows : PlainJournal → Following → Type 0
 Knows J f = (W : PlainWorkload) × (run : Run) × AllAt W J run f.nodes.items f.hearing
 
+-- for this workload
+abbrev pub KnowsAt : PlainWorkload → PlainJournal → Following → Type 0
+KnowsAt W J f = (run : Run) × AllAt W J run f.nodes.items f.hearing
+
 -- how many steps are left of the logs behind those that were performed
 abbrev pub left_steps : List Tracked → List (List Step) → ℕ
 left_steps [] logs = 0
@@ -179,8 +183,8 @@ abbrev pub NodeSteppedIf : PlainWorkload → PlainJournal → Run → ℕ → Fo
 NodeSteppedIf W J run n old f true = NodeStepped W J run old f
 NodeSteppedIf W J run n old f false = NodeNotReady W J run n old f
 
-abbrev pub StepsNode : PlainJournal → ℕ → Following → Following → Bool → Type 0
-StepsNode J n old f done = (W : PlainWorkload) (run : Run) → AllAt W J run old.nodes.items old.hearing → NodeSteppedIf W J run n old f done
+abbrev pub StepsNode : PlainWorkload → PlainJournal → ℕ → Following → Following → Bool → Type 0
+StepsNode W J n old f done = (run : Run) → AllAt W J run old.nodes.items old.hearing → NodeSteppedIf W J run n old f done
 
 -- Some step was performed, or none is ready.
 pub record NothingIsReady (W : PlainWorkload) (J : PlainJournal) (run : Run) (f : Following) : Type 0 where
@@ -191,9 +195,9 @@ abbrev pub SteppedAnyIf : PlainWorkload → PlainJournal → Run → Following �
 SteppedAnyIf W J run old f true = NodeStepped W J run old f
 SteppedAnyIf W J run old f false = NothingIsReady W J run f
 
-abbrev pub StepsAny : PlainJournal → Following → Following → Bool → Type 0
-StepsAny J old f done = (W : PlainWorkload) (run : Run) → AllAt W J run old.nodes.items old.hearing → SteppedAnyIf W J run old f done
+abbrev pub StepsAny : PlainWorkload → PlainJournal → Following → Following → Bool → Type 0
+StepsAny W J old f done = (run : Run) → AllAt W J run old.nodes.items old.hearing → SteppedAnyIf W J run old f done
 
 -- All stand where following the journal leads.
-abbrev pub FollowsAll : PlainJournal → Following → Following → Type 0
-FollowsAll J old f = (W : PlainWorkload) (run : Run) → AllAt W J run old.nodes.items old.hearing → AllAt W J (followed W J) f.nodes.items f.hearing
+abbrev pub FollowsAll : PlainWorkload → PlainJournal → Following → Following → Type 0
+FollowsAll W J old f = (run : Run) → AllAt W J run old.nodes.items old.hearing → AllAt W J (followed W J) f.nodes.items f.hearing

@@ -1,7 +1,8 @@
 //! An agent that follows its log.
 
 ghost use Rattle.std.specs.Prelude.{◌≡◌, IfOk, IfSome, IsSome};
-ghost use Rattle.hs_followed.specs.Nodes.{IsTake, IsOffer, Readies, MayPerform, KnowsRun, Performs, PerformsOffer, name_of};
+ghost use Rattle.hs_workload.specs.Views.{workload_of};
+ghost use Rattle.hs_followed.specs.Nodes.{IsTake, IsOffer, Readies, MayPerform, KnowsRun, KnowsRunOf, Performs, PerformsOffer, name_of};
 
 use crate::clients::{next_chunk, next_crumb, next_trigger};
 use hs_agent::{Agent, Input};
@@ -11,6 +12,7 @@ use hs_given::Sending;
 use hs_journal::Step;
 use hs_model::laws::{events_add_this, events_go_on, steps_say_what_they_tell};
 use hs_words::{Chunk, Given};
+use hs_workload::Workload;
 
 /// An agent that performs the steps of its log, with what its clients send. Where a call answers that memory is wanted, it is of
 /// no more use.
@@ -28,46 +30,52 @@ pub struct Follower {
 
 impl Follower {
     /// The input of a step that takes one, where it is there, out of its queue. These are all asks that were sent to the agent.
-    fn next_input(&mut self, step: Step, asks: &[Ask]) -> Option<Input<()>>
-        requires { IsTake step }
-        ensures { Readies step asks.now self.old result self.new }
+    fn next_input(
+        &mut self,
+        workload: &Workload,
+        step: Step,
+        asks: &[Ask],
+    ) -> Result<Option<Input<()>>, Memory>
+        requires kind { IsTake step }
+        requires stands { KnowsRunOf (workload_of workload.now) self.old }
+        ensures { IfOk result (λ input. Readies (workload_of workload.now) step asks.now self.old input self.new) }
     {
         match step {
-            Step::Chunk { client } => match next_chunk(&mut self.clients, client) {
-                Some(held) => Some(Input::Chunk { client, held }),
-                None => None,
+            Step::Chunk { client } => match next_chunk(&mut self.clients, workload, client)? {
+                Some(held) => Ok(Some(Input::Chunk { client, held })),
+                None => Ok(None),
             },
             Step::Crumb { client } => match next_crumb(&mut self.clients, client) {
-                Some(crumb) => Some(Input::Crumb { client, crumb }),
-                None => None,
+                Some(crumb) => Ok(Some(Input::Crumb { client, crumb })),
+                None => Ok(None),
             },
             Step::Trigger { client } => match next_trigger(&mut self.clients, client) {
-                Some(trigger) => Some(Input::Trigger { client, trigger }),
-                None => None,
+                Some(trigger) => Ok(Some(Input::Trigger { client, trigger })),
+                None => Ok(None),
             },
             Step::Ask => {
                 if self.asked >= asks.len() {
-                    return None;
+                    return Ok(None);
                 }
                 let ask = asks[self.asked];
                 self.asked += 1;
-                Some(Input::Ask { ask })
+                Ok(Some(Input::Ask { ask }))
             }
-            Step::Turn => Some(Input::Turn),
+            Step::Turn => Ok(Some(Input::Turn)),
             Step::Given { .. } | Step::Missed { .. } | Step::Unread => unreachable!(),
         }
     }
 
     /// Performs a step that takes an input, where it is ready. Answers whether it was. These are all asks that were sent to the agent.
-    fn take(&mut self, step: Step, asks: &[Ask]) -> Result<bool, Memory>
+    fn take(&mut self, workload: &Workload, step: Step, asks: &[Ask]) -> Result<bool, Memory>
         requires kind { IsTake step }
-        requires may { MayPerform step asks.now self.old }
-        ensures { IfOk result (Performs step asks.now self.old self.new) }
+        requires may { MayPerform (workload_of workload.now) step asks.now self.old }
+        ensures { IfOk result (Performs (workload_of workload.now) step asks.now self.old self.new) }
     {
         events_go_on();
         events_add_this();
         steps_say_what_they_tell();
-        match self.next_input(step, asks) {
+        match self.next_input(workload, step, asks)? {
             None => Ok(false),
             Some(input) => match self.agent.step(input)? {
                 None => Ok(true),
@@ -110,13 +118,18 @@ impl Follower {
     }
 
     /// Performs a step, where it is ready. Answers whether it was. These are all asks that were sent to the agent.
-    pub(crate) fn perform(&mut self, step: Step, asks: &[Ask]) -> Result<bool, Memory>
-        requires { MayPerform step asks.now self.old }
-        ensures { IfOk result (Performs step asks.now self.old self.new) }
+    pub(crate) fn perform(
+        &mut self,
+        workload: &Workload,
+        step: Step,
+        asks: &[Ask],
+    ) -> Result<bool, Memory>
+        requires { MayPerform (workload_of workload.now) step asks.now self.old }
+        ensures { IfOk result (Performs (workload_of workload.now) step asks.now self.old self.new) }
     {
         match step {
             Step::Given { .. } | Step::Missed { .. } | Step::Unread => self.offer(step),
-            _ => self.take(step, asks),
+            _ => self.take(workload, step, asks),
         }
     }
 }

@@ -4,7 +4,8 @@ ghost use Rattle.std.specs.Prelude.{◌≡◌, ◌<◌, length, IfOk, OnOk};
 ghost use Rattle.hs_journal.specs.Views.{journal_of};
 ghost use Rattle.hs_lawful.specs.Following.{Run, is_done};
 ghost use Rattle.hs_records.specs.Plain.{PlainWorkload};
-ghost use Rattle.hs_followed.specs.Whole.{AllAt, Knows, StepsNode, StepsAny, FollowsAll};
+ghost use Rattle.hs_workload.specs.Views.{workload_of};
+ghost use Rattle.hs_followed.specs.Whole.{AllAt, Knows, KnowsAt, StepsNode, StepsAny, FollowsAll};
 
 use crate::hearing::Hearing;
 use crate::tracked::Tracked;
@@ -12,6 +13,7 @@ use hs_base::{List, Memory};
 use hs_journal::Journal;
 use hs_lawful::laws::{orders_agree, runs_are_of_the_journal};
 use hs_lockstep::laws::runs_fit;
+use hs_workload::Workload;
 
 /// All nodes and the coordinator, on the way through a journal.
 #[derive(Drop)]
@@ -22,28 +24,33 @@ pub struct Following {
 
 impl Following {
     /// Performs the next step of a node, where it is ready. Answers whether it was.
-    fn step_node(&mut self, node: usize, journal: &Journal) -> Result<bool, Memory>
+    fn step_node(
+        &mut self,
+        node: usize,
+        workload: &Workload,
+        journal: &Journal,
+    ) -> Result<bool, Memory>
         requires node { node < length self.old.nodes.items }
-        requires knows { Knows (journal_of journal.now) self.old }
-        ensures { IfOk result (StepsNode (journal_of journal.now) node self.old self.new) }
+        requires knows { KnowsAt (workload_of workload.now) (journal_of journal.now) self.old }
+        ensures { IfOk result (StepsNode (workload_of workload.now) (journal_of journal.now) node self.old self.new) }
     {
         runs_fit();
         runs_are_of_the_journal();
         let log = journal.logs.as_slice()[node].as_slice();
         let asks = self.hearing.asks.as_slice()[node].as_slice();
-        let done = self.nodes.as_mut_slice()[node].step(log, asks)?;
+        let done = self.nodes.as_mut_slice()[node].step(workload, log, asks)?;
         Ok(done)
     }
 
     /// Performs one step: the next of the lowest node where it is ready, else the coordinator's next. Answers whether one was ready.
-    fn step_any(&mut self, journal: &Journal) -> Result<bool, Memory>
-        requires { Knows (journal_of journal.now) self.old }
-        ensures { IfOk result (StepsAny (journal_of journal.now) self.old self.new) }
+    fn step_any(&mut self, workload: &Workload, journal: &Journal) -> Result<bool, Memory>
+        requires { KnowsAt (workload_of workload.now) (journal_of journal.now) self.old }
+        ensures { IfOk result (StepsAny (workload_of workload.now) (journal_of journal.now) self.old self.new) }
     {
         runs_fit();
         runs_are_of_the_journal();
         for node in 0..self.nodes.len() {
-            if self.step_node(node, journal)? {
+            if self.step_node(node, workload, journal)? {
                 return Ok(true);
             }
         }
@@ -53,12 +60,12 @@ impl Following {
     }
 
     /// Follows the journal as far as that is possible.
-    pub(crate) fn follow(&mut self, journal: &Journal) -> Result<(), Memory>
-        requires { Knows (journal_of journal.now) self.old }
-        ensures { OnOk result (FollowsAll (journal_of journal.now) self.old self.new) }
+    pub(crate) fn follow(&mut self, workload: &Workload, journal: &Journal) -> Result<(), Memory>
+        requires { KnowsAt (workload_of workload.now) (journal_of journal.now) self.old }
+        ensures { OnOk result (FollowsAll (workload_of workload.now) (journal_of journal.now) self.old self.new) }
     {
         orders_agree();
-        'steps: while self.step_any(journal)? {}
+        'steps: while self.step_any(workload, journal)? {}
         Ok(())
     }
 

@@ -9,6 +9,7 @@ ghost use Rattle.hs_followed.specs.Beginning.{MayBegin, IsNewHearing};
 ghost use Rattle.hs_followed.specs.Clients.{ClientStands};
 ghost use Rattle.hs_followed.specs.Whole.{NodeAt, AllAt};
 
+use crate::clients::operations_of;
 use crate::follower::Follower;
 use crate::following::Following;
 use crate::hearing::Hearing;
@@ -28,7 +29,7 @@ pub fn follow(alloc: Global, workload: &Workload, journal: &Journal) -> Result<F
     ensures { IfOk result (λ f. AllAt (workload_of workload.now) (journal_of journal.now) (followed (workload_of workload.now) (journal_of journal.now)) f.nodes.items f.hearing) }
 {
     let mut following = begin(alloc, workload, journal)?;
-    following.follow(journal)?;
+    following.follow(workload, journal)?;
     Ok(following)
 }
 
@@ -93,7 +94,7 @@ fn make_client(
     valid_clients_may_be_played();
     let settings = &workload.settings;
     let place = client.node as usize * settings.clients as usize + client.number as usize;
-    let operations = workload.clients.as_slice()[place].as_slice();
+    let operations = operations_of(workload, client);
     let draws = journal.draws.as_slice()[place].as_slice();
     let sending = send(alloc, client, settings, operations, draws)?;
     Ok(sending)

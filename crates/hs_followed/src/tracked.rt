@@ -1,6 +1,7 @@
 //! An agent with how far it has followed its log.
 
 ghost use Rattle.std.specs.Prelude.{IfOk, OnOk};
+ghost use Rattle.hs_workload.specs.Views.{workload_of};
 ghost use Rattle.hs_followed.specs.Noting.{Notes};
 ghost use Rattle.hs_followed.specs.Whole.{MayStep, StepsOn, KnowsFollower};
 
@@ -8,6 +9,7 @@ use crate::follower::Follower;
 use hs_base::{Ask, List, Memory};
 use hs_clauses::is_last;
 use hs_journal::Step;
+use hs_workload::Workload;
 
 /// An agent that follows its log, how many steps of the log it has performed, and how many buffers were in the hand and how many
 /// messages it had said behind each pass.
@@ -22,14 +24,19 @@ pub struct Tracked {
 impl Tracked {
     /// Performs the next step of the log, where there is one and it is ready. Answers whether it was. These are all asks that were sent
     /// to the agent.
-    pub(crate) fn step(&mut self, log: &[Step], asks: &[Ask]) -> Result<bool, Memory>
-        requires { MayStep log.now asks.now self.old }
-        ensures { IfOk result (StepsOn log.now asks.now self.old self.new) }
+    pub(crate) fn step(
+        &mut self,
+        workload: &Workload,
+        log: &[Step],
+        asks: &[Ask],
+    ) -> Result<bool, Memory>
+        requires { MayStep (workload_of workload.now) log.now asks.now self.old }
+        ensures { IfOk result (StepsOn (workload_of workload.now) log.now asks.now self.old self.new) }
     {
         if self.next >= log.len() {
             return Ok(false);
         }
-        if !self.follower.perform(log[self.next], asks)? {
+        if !self.follower.perform(workload, log[self.next], asks)? {
             return Ok(false);
         }
         self.note(is_last(log, self.next))?;

@@ -4,7 +4,7 @@ use Rattle.hs_workload.specs.Views.{workload_of}
 use Rattle.hs_followed.proofs.making.follow.Goals as goal
 
 pub follow-requires : goal.follow-requires
-follow-requires c = (workload_of c.args.workload.now, run_start (workload_of c.args.workload.now) (journal_of c.args.journal.now), c.in_ok-following.ensures)
+follow-requires c = (run_start (workload_of c.args.workload.now) (journal_of c.args.journal.now), c.in_ok-following.ensures)
 
 pub returns : goal.returns
-returns c = c.in_ok-follow.ensures (workload_of c.args.workload.now) (run_start (workload_of c.args.workload.now) (journal_of c.args.journal.now)) c.in_ok-following.ensures
+returns c = c.in_ok-follow.ensures (run_start (workload_of c.args.workload.now) (journal_of c.args.journal.now)) c.in_ok-following.ensures

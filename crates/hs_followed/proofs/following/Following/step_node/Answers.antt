@@ -6,6 +6,7 @@ use Rattle.hs_base.specs.Listing.{Listing}
 use Rattle.hs_base.specs.declared.told.Ask.{Ask}
 use Rattle.hs_journal.specs.Views.{journal_of}
 use Rattle.hs_journal.specs.declared.journal.Step.{Step}
+use Rattle.hs_workload.specs.Views.{workload_of}
 use Rattle.hs_followed.proofs.Lists.{lent_is, lent_from}
 use Rattle.hs_followed.proofs.Steps.{may_step, node_done}
 use Rattle.hs_followed.specs.Whole.{MayStepAt, StepsOn}
@@ -13,7 +14,8 @@ use Rattle.hs_followed.proofs.following.Following.step_node.Goals as goal
 
 pub step-requires : goal.step-requires
 step-requires c =
-    let (W, run, at) = c.requires.knows in
+    let W = workload_of c.args.workload.now in
+    let (run, at) = c.requires.knows in
     let J = journal_of c.args.journal.now in
     let node = c.args.node in
     let low = c.requires.node in
@@ -31,10 +33,11 @@ step-requires c =
     let t = get_or now node x in
     let may = may_step c.runs_fit.ensures c.runs_are_of_the_journal.ensures W J run c.args.self.now.nodes.items c.args.self.now.hearing at node t
     (lent_from c.args.self.now.nodes.items now node x c.as_mut_slice.ensures.value low) c.as_slice-log.result.now log_there list list_there in
-    (W, J, run.heard, may.0, subst (λ (asks : List Ask). MayStepAt W J run.heard may.0 c.as_slice-log.result.now asks t) (sym c.as_slice-asks.ensures) may.2)
+    (J, run.heard, may.0, subst (λ (asks : List Ask). MayStepAt W J run.heard may.0 c.as_slice-log.result.now asks t) (sym c.as_slice-asks.ensures) may.2)
 
 pub returns : goal.returns
-returns c = λ W run at.
+returns c = λ run at.
+    let W = workload_of c.args.workload.now in
     let J = journal_of c.args.journal.now in
     let node = c.args.node in
     let low = c.requires.node in
@@ -52,5 +55,5 @@ returns c = λ W run at.
     let t = get_or now node x in
     node_done c.runs_fit.ensures c.runs_are_of_the_journal.ensures W J run c.args.self.now at node t c.step.new.self
     (lent_from c.args.self.now.nodes.items now node x c.as_mut_slice.ensures.value low) c.as_slice-log.result.now log_there list list_there c.in_ok-done.done
-    (subst (λ (asks : List Ask). StepsOn c.as_slice-log.result.now asks t c.step.new.self c.in_ok-done.done) c.as_slice-asks.ensures c.in_ok-done.ensures)
+    (subst (λ (asks : List Ask). StepsOn W c.as_slice-log.result.now asks t c.step.new.self c.in_ok-done.done) c.as_slice-asks.ensures c.in_ok-done.ensures)
     _ (lent_is c.args.self.now.nodes.items now node c.step.new.self c.as_mut_slice.ensures.value) refl
