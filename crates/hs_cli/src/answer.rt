@@ -129,7 +129,7 @@ fn done(text: Bytes) -> Answer
 }
 
 /// What a command without watchers answers for a workload, and `check` for a workload and the text of a journal. Each actor of a
-/// run passes the gate before each of its steps.
+/// run passes the gate before each of its steps. A workload that was played is let go before its outcome is written.
 pub(crate) fn answer_for<R: Threads + Sync, G: Gate>(
     rt: &R,
     alloc: Global,
@@ -149,10 +149,12 @@ pub(crate) fn answer_for<R: Threads + Sync, G: Gate>(
         Command::Replay { form } => {
             schedule_is_lawful();
             let outcome = replay(alloc, &workload)?;
+            drop(workload);
             Ok(done(write_outcome(alloc, &outcome, form)?))
         }
         Command::Run { form } => {
             let outcome = run(rt, alloc, &workload, gate)?;
+            drop(workload);
             Ok(done(write_outcome(alloc, &outcome, form)?))
         }
         Command::Watch => unreachable!(),
