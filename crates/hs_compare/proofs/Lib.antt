@@ -18,3 +18,4 @@ pub mod Lined
 pub mod Outcomed
 pub mod Few
 pub mod Together
+pub mod Quiet

@@ -1,10 +1,10 @@
 -- The script of a client.
-use Rattle.std.specs.Prelude.{List, length}
+use Rattle.std.specs.Prelude.{Bool, true, false, List, length}
 use Rattle.std.specs.List.{flat_map}
 use Rattle.hs_base.specs.declared.ids.ClientId.{ClientId}
 use Rattle.hs_base.specs.declared.settings.AutoRule.{AutoRule}
 use Rattle.hs_base.specs.declared.told.Trigger.{Trigger}
-use Rattle.hs_records.specs.Plain.{Operation}
+use Rattle.hs_records.specs.Plain.{Operation, Fire, Sample}
 use Rattle.hs_sent.specs.Sending.{Sent, sent_triggers}
 use Rattle.hs_samplers.specs.Coming as samplers
 use Rattle.hs_compare.specs.Happens.{names_at, points_by}
@@ -13,6 +13,12 @@ use Rattle.hs_compare.specs.declared.happening.Event.{Event}
 use Rattle.hs_compare.specs.declared.happening.Event.TheVariants.{Comes, Names}
 use Rattle.hs_compare.specs.declared.happening.Happening.{Happening}
 use Rattle.hs_compare.specs.declared.script.Script.{Script}
+
+-- a trigger is sent at no other operation
+abbrev pub may_trigger : Operation → Bool
+may_trigger (Fire trigger) = true
+may_trigger (Sample moment auto value) = true
+may_trigger _ = false
 
 -- the names of these triggers
 abbrev pub sent_names : List (Sent Trigger) → List Happening

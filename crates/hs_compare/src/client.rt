@@ -1,13 +1,15 @@
 //! The script of a client.
 
 ghost use Rattle.std.specs.Prelude.{◌≡◌, ◌++◌, length, map, IfOk, OnOk};
+ghost use Rattle.std.specs.List.{list_any};
 ghost use Rattle.hs_records.specs.Pages.{pages_of};
 ghost use Rattle.hs_records.specs.Plain.{settings_of};
 ghost use Rattle.hs_player.specs.Places.{IsPlayable};
 ghost use Rattle.hs_workload.specs.Views.{operation_of};
+ghost use Rattle.hs_workload.specs.declared.operation.Op.{Op};
 ghost use Rattle.hs_samplers.specs.Coming.{comings_of};
 ghost use Rattle.hs_compare.specs.Happens.{coming_of};
-ghost use Rattle.hs_compare.specs.Scripts.{names_of, IsClientScript};
+ghost use Rattle.hs_compare.specs.Scripts.{may_trigger, names_of, IsClientScript};
 
 use crate::coming::Coming;
 use crate::happening::Happening;
@@ -21,7 +23,21 @@ use hs_sent::laws::items_are_sent_in_order;
 use hs_workload::Op;
 use std::alloc::Global;
 
-/// The names of a client of a valid workload at these draws.
+/// Whether an operation may send a trigger.
+fn may_trigger(operation: &Op) -> bool
+    ensures { result ≡ may_trigger (operation_of operation.now) }
+{
+    matches!(operation, Op::Trigger { .. } | Op::Sample { .. })
+}
+
+/// Whether one of these operations may send a trigger.
+fn any_may_trigger(operations: &[Op]) -> bool
+    ensures { result ≡ list_any (λ (op : Op). may_trigger (operation_of op)) operations.now }
+{
+    operations.iter().any(may_trigger)
+}
+
+/// The names of a client of a valid workload at these draws. A client without triggers and samples names nothing, and is not played.
 fn client_names(
     alloc: Global,
     client: ClientId,
@@ -33,6 +49,9 @@ fn client_names(
     requires each { length draws.now ≡ length (pages_of settings.now.size (map operation_of operations.now)) }
     ensures { IfOk result (λ names. names.items ≡ names_of (settings_of settings.now).autos (map operation_of operations.now)) }
 {
+    if !any_may_trigger(operations) {
+        return Ok(List::new(alloc));
+    }
     let sending = send(alloc, client, settings, operations, draws)?;
     let Sending {
         triggers,

@@ -1,10 +1,11 @@
-use Rattle.std.proofs.Common.{map, ap₂, ◌∙◌}
+use Rattle.std.proofs.Common.{map, ap₂, sym, ◌∙◌}
 use Rattle.hs_records.specs.Plain.{settings_of}
 use Rattle.hs_sent.specs.Sending.{sent_triggers}
 use Rattle.hs_workload.specs.Views.{operation_of}
 use Rattle.hs_compare.specs.Happens.{names_by}
 use Rattle.hs_compare.proofs.Firsts.{if_ok}
 use Rattle.hs_compare.proofs.Named.{names_are}
+use Rattle.hs_compare.proofs.Quiet.{names_nothing}
 use Rattle.hs_compare.proofs.client.client_names.Goals as goal
 
 pub returns : goal.returns
@@ -15,3 +16,7 @@ returns c =
     (λ names is.
     is ∙ ap₂ names_by (c.as_slice.ensures ∙ c.in_ok-sending.ensures.found.triggers) c.in_ok-sending.ensures.triggers ∙ names_are (sent_triggers autos ops))
     c.names_of.ensures
+
+pub returns-then-not-any_may_trigger : goal.returns-then-not-any_may_trigger
+returns-then-not-any_may_trigger c =
+    c.new.ensures.items ∙ names_nothing (settings_of c.args.settings.now).autos c.args.operations.now (sym c.any_may_trigger.ensures ∙ c.if-not-any_may_trigger.true)
