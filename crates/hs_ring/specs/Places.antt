@@ -30,7 +30,7 @@ pub record Waits (size : ℕ) (s : Table) (buffer e : ℕ) : Type 0 where
   pub published : number < published_of (slice_index s.words 0)
   pub clear : get_elem? s.homes e ≡ some (some (Some (clear_chunk size buffer)))
 
--- The buffer is in one place and in no other. Where that is an entry, a draw will get it.
+-- The buffer is in one place and in no other. Where that is an entry, it waits there for a draw.
 pub record IsInOnePlace (size : ℕ) (s : Table) (buffer : ℕ) : Type 0 where
   pub site : Site
   pub there : IsThere s buffer site
