@@ -1,15 +1,17 @@
 -- Any calls of an agent, from its beginning. Each leads the run on as the contract of that call says. What was told in all of
 -- them, the steps in the log, and the state that the run has come to, are those of the model after the events among these calls.
 use Rattle.std.specs.Prelude.{◌≡◌, ◌≤◌, ℕ, List, [], ◌∷◌, ◌++◌, length, map, fold, flat_map, Option, None, refl}
+use Rattle.std.proofs.Common.{append-nil, ap, sym}
 use Rattle.std.specs.Option.{option_to_list}
 use Rattle.hs_base.specs.declared.told.Told.{Told}
 use Rattle.hs_journal.specs.declared.journal.Step.{Step}
 use Rattle.hs_records.specs.Plain.{PlainSettings}
 use Rattle.hs_words.specs.Buffers.{Buffer}
 use Rattle.hs_words.specs.declared.token.Given.{Given}
-use Rattle.hs_model.specs.Stepping.{Input, Answered, Event, Took, Gave, step_of, step_of_answer, told_by, after}
+use Rattle.hs_model.specs.Stepping.{Input, Chunk, Turn, Answered, Event, Took, Gave, step_of, step_of_answer, told_by, after}
 use Rattle.hs_agent.specs.declared.input.Input.{Input as Taken}
-use Rattle.hs_agent.specs.Runs.{Run, new_run, state_of, input_of, buffers_in, after_input, after_offer, answer_of, back_in, with_back, after_answer}
+use Rattle.hs_agent.specs.Points.{sheet_in}
+use Rattle.hs_agent.specs.Runs.{Run, new_run, state_of, input_of, buffers_in, after_input, after_chunk, after_turn, after_offer, answer_of, back_in, with_back, after_answer}
 
 -- an input, with the chunk that came if one did; an offer; or the pool's answer, with the chunk that came back if one did
 pub data Call (L : Type 0) : Type 0 where
@@ -25,6 +27,16 @@ after_call run (Answers answer back) = record run { events = run.events ++ Gave 
 -- the runs to which the contracts of `step` and `gave` lead
 a_step_takes : {L : Type 0} {g : _} → (run : Run L) (input : Taken L g) → after_input run input ≡ after_call run (Takes (input_of input) (buffers_in input))
 a_step_takes run input = refl
+
+-- `take_chunk` and `turn` lead to the same runs as `step` of these inputs, of which nothing is told
+a_chunk_is_taken : {L : Type 0} → (run : Run L) (client : ℕ) (buffer : Buffer L) → after_chunk run client buffer ≡ after_call run (Takes (Chunk client (sheet_in buffer)) (buffer ∷ []))
+a_chunk_is_taken run client buffer = refl
+
+a_turn_is_made : {L : Type 0} → (run : Run L) → after_turn run ≡ after_call run (Takes Turn [])
+a_turn_is_made run = ap (λ buffers. record (after_turn run) { buffers = buffers }) (sym (append-nil run.buffers))
+
+they_tell_nothing : {L : Type 0} → (run : Run L) (client : ℕ) (buffer : Buffer L) → (told_by run.settings run.node (state_of run) (Chunk client (sheet_in buffer)) ≡ None) × (told_by run.settings run.node (state_of run) Turn ≡ None)
+they_tell_nothing run client buffer = (refl, refl)
 
 an_answer_comes : {L : Type 0} {g : _} → (run : Run L) (given : Given L g) → after_answer run given ≡ after_call run (Answers (answer_of given) (back_in given))
 an_answer_comes run given = refl

@@ -105,6 +105,13 @@ taken_in input point = record point { state = take_input point.settings point.no
 abbrev pub after_input : {L : Type 0} {g : _} → Run L → Input L g → Run L
 after_input run input = record run { events = run.events ++ Took (input_of input) ∷ []; buffers = run.buffers ++ buffers_in input }
 
+-- the run after a chunk of a client, and after a turn
+abbrev pub after_chunk : {L : Type 0} → Run L → ℕ → Buffer L → Run L
+after_chunk run client buffer = record run { events = run.events ++ Took (model.Chunk client (sheet_in buffer)) ∷ []; buffers = run.buffers ++ buffer ∷ [] }
+
+abbrev pub after_turn : {L : Type 0} → Run L → Run L
+after_turn run = record run { events = run.events ++ Took model.Turn ∷ [] }
+
 -- what an input makes the agent tell
 abbrev pub told_in : {L : Type 0} {g : _} → Run L → Input L g → Option Told
 told_in run input = told_by run.settings run.node (state_of run) (input_of input)

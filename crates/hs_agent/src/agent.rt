@@ -11,7 +11,7 @@ ghost use Rattle.hs_model.specs.Laws.{PlacesMatch};
 ghost use Rattle.hs_model.specs.Stepping.{step_of, step_of_answer, told_by};
 ghost use Rattle.hs_model.specs.Turning as model;
 ghost use Rattle.hs_agent.specs.Keeping.{Point, Holds, HoldsThat, with_state};
-ghost use Rattle.hs_agent.specs.Runs.{Run, point_of, state_of, new_run, StandsAt, Follows, Knows, IsSpent, IsTakable, input_of, taken_in, after_input, told_in, offered_next, after_offer, answer_of, back_in, after_answer};
+ghost use Rattle.hs_agent.specs.Runs.{Run, point_of, state_of, new_run, StandsAt, Follows, Knows, IsSpent, IsTakable, input_of, taken_in, after_input, after_chunk, after_turn, told_in, IsChunkFor, offered_next, after_offer, answer_of, back_in, after_answer};
 ghost use Rattle.hs_agent.specs.Points.{buffers_left};
 
 use crate::holdings::Holdings;
@@ -27,7 +27,7 @@ use std::marker::Model;
 
 /// A node's agent. Contracts speak of the run that it follows: the settings, the node and the events so far, which the
 /// agent's model takes to a state. Once a call has answered `Memory` the agent is spent and follows no run: each later
-/// `step` and `offer` answers so too, and `gave` does nothing.
+/// `step`, `take_chunk`, `turn` and `offer` answers so too, and `gave` does nothing.
 #[derive(Drop)]
 pub struct Agent<L: Token> {
     holdings: Holdings<L>,
@@ -99,6 +99,69 @@ impl<L: Token> Agent<L> {
         let told = take_input(&mut self.scheduler, &mut self.holdings, input)?;
         self.log.push(step);
         Ok(told)
+    }
+
+    /// Takes a chunk of a client, and notes one step in the log, as `step` does of this input. Nothing is told of it.
+    pub fn take_chunk(&mut self, client: u16, held: Held<L>) -> Result<(), Memory>
+        requires { Knows self.old (λ run. IsChunkFor run.settings run.node client (buffer_of held)) }
+        ensures after { (run : Run L) → Follows self.old run → OnOk result (Follows self.new (after_chunk run client (buffer_of held))) }
+        ensures spent { OnErr result (IsSpent self.new) }
+        ensures stays { IsSpent self.old → IsErr result }
+    {
+        if self.spent {
+            return Err(Memory);
+        }
+        match self.note_chunk(client, held) {
+            Ok(()) => Ok(()),
+            Err(_) => {
+                self.spent = true;
+                Err(Memory)
+            }
+        }
+    }
+
+    /// Takes a chunk where memory was never wanting.
+    fn note_chunk(&mut self, client: u16, held: Held<L>) -> Result<(), Memory>
+        requires { (run : Run L) × Follows self.old run × IsChunkFor run.settings run.node client (buffer_of held) }
+        ensures { (run : Run L) → Follows self.old run → OnOk result (Follows self.new (after_chunk run client (buffer_of held))) }
+    {
+        events_go_on();
+        self.log.reserve(2)?;
+        self.holdings.take_chunk(held)?;
+        self.log.push(Step::Chunk { client });
+        Ok(())
+    }
+
+    /// Makes a fair turn, and notes one step in the log, as `step` does of this input. Nothing is told of it.
+    pub fn turn(&mut self) -> Result<(), Memory>
+        requires { Knows self.old (λ run. Unit {0}) }
+        ensures after { (run : Run L) → Follows self.old run → OnOk result (Follows self.new (after_turn run)) }
+        ensures spent { OnErr result (IsSpent self.new) }
+        ensures stays { IsSpent self.old → IsErr result }
+    {
+        if self.spent {
+            return Err(Memory);
+        }
+        match self.note_turn() {
+            Ok(()) => Ok(()),
+            Err(_) => {
+                self.spent = true;
+                Err(Memory)
+            }
+        }
+    }
+
+    /// Makes a fair turn where memory was never wanting.
+    fn note_turn(&mut self) -> Result<(), Memory>
+        requires { (run : Run L) × Follows self.old run }
+        ensures { (run : Run L) → Follows self.old run → OnOk result (Follows self.new (after_turn run)) }
+    {
+        events_go_on();
+        lists_have_their_chunks();
+        self.log.reserve(2)?;
+        turn(&mut self.scheduler, &mut self.holdings)?;
+        self.log.push(Step::Turn);
+        Ok(())
     }
 
     /// The first of the hand, to be offered to the pool, or `None` where the hand is empty. `gave` takes the pool's answer.
