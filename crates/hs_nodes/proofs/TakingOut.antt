@@ -1,6 +1,6 @@
 -- What each call that takes an item out of a queue leads to.
 use Rattle.std.proofs.Common.{◌≡◌, ℕ, ◌<◌, false, List, [], ◌∷◌, ◌++◌, length, Option, Some, None, refl, sym, ap, subst, ◌∙◌, arith, option_map, append_assoc, append-nil, length-append}
-use Rattle.std.specs.Prelude.{slice_get, IsSome, MatchOption}
+use Rattle.std.specs.Prelude.{slice_get, IsSome}
 use Rattle.hs_agent.specs.declared.input.Input.{Input}
 use Rattle.hs_agent.specs.declared.input.Input.TheVariants as inputs
 use Rattle.hs_base.specs.declared.told.Ask.{Ask}
@@ -17,7 +17,7 @@ use Rattle.hs_player.specs.Playing.{Playing}
 use Rattle.hs_records.specs.Plain.{PlainWorkload}
 use Rattle.hs_sent.specs.Sending.{draws_at, operations_at, place_of}
 use Rattle.hs_words.specs.declared.token.Held.{Held}
-use Rattle.hs_words.specs.Buffers.{buffer_of, buffer_in}
+use Rattle.hs_words.specs.Buffers.{buffer_of}
 use Rattle.hs_agent.specs.Points.{sheet_in}
 use Rattle.hs_lawful.specs.Pooled.{pool_history}
 use Rattle.hs_words.specs.Pages.{Sheet}
@@ -29,12 +29,6 @@ use Rattle.hs_nodes.specs.Standing.{Remain, PlayersStand, Stands}
 use Rattle.hs_nodes.proofs.Lists.{at_seam, found_within}
 use Rattle.hs_nodes.proofs.Counting.{taken_still, taken_once}
 use Rattle.hs_nodes.proofs.Readying.{none_moves, sheet_is, chunk_ready, crumb_ready, trigger_ready, chunk_lent, chunk_moved, crumb_moved, trigger_moved, players_set, players_same, chunks_else, crumbs_else, triggers_else}
-
-abbrev pub crumb_input : {g : _} → ℕ → Crumb → Input (Unit {0}) g
-crumb_input client crumb = inputs.Crumb client crumb
-
-abbrev pub trigger_input : {g : _} → ℕ → Trigger → Input (Unit {0}) g
-trigger_input client trigger = inputs.Trigger client trigger
 
 module _ (W : PlainWorkload) (m : Machine) (n : ℕ) (run : NodeRun) (old : Parts) (amid : IsAmid W m n run old) where
   -- all but the players and the asks stand where they stood
@@ -158,31 +152,28 @@ module _ (W : PlainWorkload) (m : Machine) (n : ℕ) (run : NodeRun) (old : Part
           none = at.0;
         }
 
-    -- ---- what the calls answer
+    -- ---- what was there
 
-    pub chunks_answer : {g : _} (queue : queues.the_data) (answer : Option (Held (Unit {0}) g)) → queue ≡ queues.Chunks client → ChangesAt client old.players new (λ before now. TakesChunk before (buffer_in answer) now)
-        → MatchOption (option_map (inputs.Chunk client) answer) (IsDrained W m n queue run (record old { players = new })) (λ input. IsThere W m n queue run input (record old { players = new }))
-    chunks_answer queue None e ch = subst (λ (q : queues.the_data). IsDrained W m n q run (record old { players = new })) (sym e) (chunks_out ch)
-    chunks_answer queue (Some held) e ch =
+    pub chunk_there : {g : _} (held : Held (Unit {0}) g) → ChangesAt client old.players new (λ before now. TakesChunk before (Some (buffer_of held)) now)
+        → IsThere W m n (queues.Chunks client) run (inputs.Chunk client held) (record old { players = new })
+    chunk_there held ch =
         let at = ch.became W.settings (record { node = run.node; number = client }) (operations_at W place) (draws_at m.journal place) (done_at m place)
         (taken (Chunks client) run.state.log) (taken (Crumbs client) run.state.log) (taken (Triggers client) run.state.log) (amid.stands.players.each client ch.before ch.stood) in
-        subst (λ (q : queues.the_data). IsThere W m n q run (inputs.Chunk client held) (record old { players = new })) (sym e) (record { ready = chunk_out held ch; within = found_within _ _ _ at.0.within })
+        record { ready = chunk_out held ch; within = found_within _ _ _ at.0.within }
 
-    pub crumbs_answer : (g : _) (queue : queues.the_data) (answer : Option Crumb) → queue ≡ queues.Crumbs client → ChangesAt client old.players new (λ before now. TakesCrumb before answer now)
-        → MatchOption (option_map (crumb_input {g = g} client) answer) (IsDrained W m n queue run (record old { players = new })) (λ input. IsThere W m n queue run input (record old { players = new }))
-    crumbs_answer g queue None e ch = subst (λ (q : queues.the_data). IsDrained W m n q run (record old { players = new })) (sym e) (crumbs_out ch)
-    crumbs_answer g queue (Some crumb) e ch =
+    pub crumb_there : {g : _} (crumb : Crumb) → ChangesAt client old.players new (λ before now. TakesCrumb before (Some crumb) now)
+        → IsThere {g = g} W m n (queues.Crumbs client) run (inputs.Crumb client crumb) (record old { players = new })
+    crumb_there crumb ch =
         let at = ch.became W.settings (record { node = run.node; number = client }) (operations_at W place) (draws_at m.journal place) (done_at m place)
         (taken (Chunks client) run.state.log) (taken (Crumbs client) run.state.log) (taken (Triggers client) run.state.log) (amid.stands.players.each client ch.before ch.stood) in
-        subst (λ (q : queues.the_data). IsThere {g = g} W m n q run (inputs.Crumb client crumb) (record old { players = new })) (sym e) (record { ready = crumb_out crumb ch; within = found_within _ _ _ at.0.within })
+        record { ready = crumb_out crumb ch; within = found_within _ _ _ at.0.within }
 
-    pub triggers_answer : (g : _) (queue : queues.the_data) (answer : Option Trigger) → queue ≡ queues.Triggers client → ChangesAt client old.players new (λ before now. TakesTrigger before answer now)
-        → MatchOption (option_map (trigger_input {g = g} client) answer) (IsDrained W m n queue run (record old { players = new })) (λ input. IsThere W m n queue run input (record old { players = new }))
-    triggers_answer g queue None e ch = subst (λ (q : queues.the_data). IsDrained W m n q run (record old { players = new })) (sym e) (triggers_out ch)
-    triggers_answer g queue (Some trigger) e ch =
+    pub trigger_there : {g : _} (trigger : Trigger) → ChangesAt client old.players new (λ before now. TakesTrigger before (Some trigger) now)
+        → IsThere {g = g} W m n (queues.Triggers client) run (inputs.Trigger client trigger) (record old { players = new })
+    trigger_there trigger ch =
         let at = ch.became W.settings (record { node = run.node; number = client }) (operations_at W place) (draws_at m.journal place) (done_at m place)
         (taken (Chunks client) run.state.log) (taken (Crumbs client) run.state.log) (taken (Triggers client) run.state.log) (amid.stands.players.each client ch.before ch.stood) in
-        subst (λ (q : queues.the_data). IsThere {g = g} W m n q run (inputs.Trigger client trigger) (record old { players = new })) (sym e) (record { ready = trigger_out trigger ch; within = found_within _ _ _ at.0.within })
+        record { ready = trigger_out trigger ch; within = found_within _ _ _ at.0.within }
 
   -- ---- asks
 

@@ -1,6 +1,6 @@
 //! A node.
 
-ghost use Rattle.std.specs.Prelude.{◌≡◌, ℕ, ◌+◌, ◌^◌, ◌<◌, map, [], ◌∷◌, ◌++◌, length, set, slice_get, Some, None, IfOk, OnOk, MatchOption, MatchBool};
+ghost use Rattle.std.specs.Prelude.{◌≡◌, ℕ, ◌+◌, ◌^◌, ◌<◌, map, [], ◌∷◌, ◌++◌, length, set, slice_get, Some, None, IfOk, OnOk, MatchBool};
 ghost use Rattle.hs_lawful.specs.Following.{NodeRun, perform};
 ghost use Rattle.hs_lockstep.specs.Lockstep.{Machine, agents_take, agents_give, client_goes};
 ghost use Rattle.hs_nodes.specs.Standing.{NodeIsAt};
@@ -17,7 +17,8 @@ ghost use Rattle.hs_nodes.specs.Going.{node_goes, AreOf, IsOneOf};
 ghost use Rattle.hs_player.specs.Places.{IsWithin, Goes, KeepsPool, TakesChunk, TakesCrumb, TakesTrigger};
 ghost use Rattle.hs_nodes.specs.Changing.{ChangesAt};
 ghost use Rattle.hs_nodes.specs.Queues.{IsQueueOf};
-ghost use Rattle.hs_nodes.specs.Passing.{IsAmid, IsReady, IsDrained, IsThere, TakesNext, WentBy, WentOf, StandsStill, takes_by, takes_first, IsGiving, GivesNextOf};
+ghost use Rattle.hs_nodes.specs.declared.queue.Queue.TheVariants as queues;
+ghost use Rattle.hs_nodes.specs.Passing.{IsAmid, IsReady, TakesNext, WentBy, WentOf, StandsStill, takes_by, takes_first, IsGiving, GivesNextOf};
 
 use crate::queue::Queue;
 use hs_agent::{Agent, Input, few_are_admitted};
@@ -55,33 +56,6 @@ impl Model for Node {
 }
 
 impl Node {
-    /// Takes the next item out of a queue, for the agent.
-    fn next_input(&mut self, queue: Queue) -> Option<Input<()>>
-        requires { IsQueueOf (length self.old.players) queue }
-        ensures { (W : PlainWorkload) (m : Machine) (n : ℕ) (run : NodeRun) → IsAmid W m n run self.old
-            → MatchOption result (IsDrained W m n queue run self.new)
-            (λ input. IsThere W m n queue run input self.new) }
-    {
-        match queue {
-            Queue::Chunks { client } => match next_chunk(&mut self.players, client) {
-                Some(held) => Some(Input::Chunk { client, held }),
-                None => None,
-            },
-            Queue::Crumbs { client } => match next_crumb(&mut self.players, client) {
-                Some(crumb) => Some(Input::Crumb { client, crumb }),
-                None => None,
-            },
-            Queue::Triggers { client } => match next_trigger(&mut self.players, client) {
-                Some(trigger) => Some(Input::Trigger { client, trigger }),
-                None => None,
-            },
-            Queue::Asks => match self.asks.pop_front() {
-                Some(ask) => Some(Input::Ask { ask }),
-                None => None,
-            },
-        }
-    }
-
     /// The agent takes an input, and what it tells waits for the coordinator.
     fn take(&mut self, input: Input<()>) -> Result<(), Memory>
         requires { (W : PlainWorkload) × (m : Machine) × (n : ℕ) × (run : NodeRun) × (step : Step) × IsReady W m n run step input self.old }
@@ -102,6 +76,77 @@ impl Node {
         }
     }
 
+    /// The agent takes the next chunk of a client. Answers whether there was one.
+    fn take_chunk(&mut self, client: u16) -> Result<bool, Memory>
+        requires client { client < length self.old.players }
+        requires amid { (W : PlainWorkload) × (m : Machine) × (n : ℕ) × (run : NodeRun) × IsAmid W m n run self.old }
+        ensures { (W : PlainWorkload) (m : Machine) (n : ℕ) (run : NodeRun) → IsAmid W m n run self.old
+            → IfOk result (TakesNext W m n (queues.Chunks client) run self.new) }
+    {
+        machines_fit();
+        step_by_step();
+        events_go_on();
+        events_add_this();
+        steps_say_what_they_tell();
+        match next_chunk(&mut self.players, client) {
+            None => Ok(false),
+            Some(held) => {
+                self.agent.take_chunk(client, held)?;
+                Ok(true)
+            }
+        }
+    }
+
+    /// The agent takes the next crumb of a client. Answers whether there was one.
+    fn take_crumb(&mut self, client: u16) -> Result<bool, Memory>
+        requires client { client < length self.old.players }
+        requires amid { (W : PlainWorkload) × (m : Machine) × (n : ℕ) × (run : NodeRun) × IsAmid W m n run self.old }
+        ensures { (W : PlainWorkload) (m : Machine) (n : ℕ) (run : NodeRun) → IsAmid W m n run self.old
+            → IfOk result (TakesNext W m n (queues.Crumbs client) run self.new) }
+    {
+        events_add_this();
+        match next_crumb(&mut self.players, client) {
+            None => Ok(false),
+            Some(crumb) => {
+                self.take(Input::Crumb { client, crumb })?;
+                Ok(true)
+            }
+        }
+    }
+
+    /// The agent takes the next trigger of a client. Answers whether there was one.
+    fn take_trigger(&mut self, client: u16) -> Result<bool, Memory>
+        requires client { client < length self.old.players }
+        requires amid { (W : PlainWorkload) × (m : Machine) × (n : ℕ) × (run : NodeRun) × IsAmid W m n run self.old }
+        ensures { (W : PlainWorkload) (m : Machine) (n : ℕ) (run : NodeRun) → IsAmid W m n run self.old
+            → IfOk result (TakesNext W m n (queues.Triggers client) run self.new) }
+    {
+        events_add_this();
+        match next_trigger(&mut self.players, client) {
+            None => Ok(false),
+            Some(trigger) => {
+                self.take(Input::Trigger { client, trigger })?;
+                Ok(true)
+            }
+        }
+    }
+
+    /// The agent takes the next ask. Answers whether there was one.
+    fn take_ask(&mut self) -> Result<bool, Memory>
+        requires { (W : PlainWorkload) × (m : Machine) × (n : ℕ) × (run : NodeRun) × IsAmid W m n run self.old }
+        ensures { (W : PlainWorkload) (m : Machine) (n : ℕ) (run : NodeRun) → IsAmid W m n run self.old
+            → IfOk result (TakesNext W m n queues.Asks run self.new) }
+    {
+        events_add_this();
+        match self.asks.pop_front() {
+            None => Ok(false),
+            Some(ask) => {
+                self.take(Input::Ask { ask })?;
+                Ok(true)
+            }
+        }
+    }
+
     /// The agent takes the next item of a queue. Answers whether there was one.
     fn take_next(&mut self, queue: Queue) -> Result<bool, Memory>
         requires queue { IsQueueOf (length self.old.players) queue }
@@ -109,13 +154,11 @@ impl Node {
         ensures { (W : PlainWorkload) (m : Machine) (n : ℕ) (run : NodeRun) → IsAmid W m n run self.old
             → IfOk result (TakesNext W m n queue run self.new) }
     {
-        events_add_this();
-        match self.next_input(queue) {
-            None => Ok(false),
-            Some(input) => {
-                self.take(input)?;
-                Ok(true)
-            }
+        match queue {
+            Queue::Chunks { client } => self.take_chunk(client),
+            Queue::Crumbs { client } => self.take_crumb(client),
+            Queue::Triggers { client } => self.take_trigger(client),
+            Queue::Asks => self.take_ask(),
         }
     }
 
@@ -168,8 +211,11 @@ impl Node {
         ensures { (W : PlainWorkload) (m : Machine) (n : ℕ) (run : NodeRun) → IsAmid W m n run self.old
             → OnOk result (WentBy W m n run (Turn ∷ []) self.new) }
     {
+        step_by_step();
+        events_go_on();
         events_add_this();
-        self.take(Input::Turn)?;
+        steps_say_what_they_tell();
+        self.agent.turn()?;
         Ok(())
     }
 

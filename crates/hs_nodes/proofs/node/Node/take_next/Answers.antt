@@ -1,13 +1,31 @@
-use Rattle.hs_nodes.specs.Queues.{step_from}
-use Rattle.hs_nodes.proofs.Taken.{took_one}
+use Rattle.std.proofs.Common.{◌<◌, length, subst, sym}
+use Rattle.std.specs.Prelude.{IfOk}
+use Rattle.hs_nodes.specs.declared.queue.Queue.TheVariants as queues
+use Rattle.hs_nodes.specs.Passing.{TakesNext}
+use Rattle.hs_nodes.specs.Queues.{IsQueueOf}
 use Rattle.hs_nodes.proofs.node.Node.take_next.Goals as goal
 
-pub take-requires : goal.take-requires
-take-requires c =
-    let (W, m, n, run, amid) = c.requires.amid in
-    (W, m, n, run, step_from c.args.queue, (c.in-Some.ensures W m n run amid).ready)
+pub take_chunk-requires-clause-client : goal.take_chunk-requires-clause-client
+take_chunk-requires-clause-client c = subst (λ (q : queues.the_data). IsQueueOf (length c.args.self.now.players) q) c.in-Chunks.is c.requires.queue
 
-pub returns-in_ok-take-in-Some : goal.returns-in_ok-take-in-Some
-returns-in_ok-take-in-Some c = λ W m n run amid.
-    let there = c.in-Some.ensures W m n run amid in
-    took_one c.events_add_this.ensures W m n c.args.queue run c.in-Some.input c.next_input.new.self c.take.new.self there (c.in_ok-take-in-Some.ensures W m n run (step_from c.args.queue) there.ready)
+pub returns-in-Chunks : goal.returns-in-Chunks
+returns-in-Chunks c = λ W m n run amid.
+    subst (λ (q : queues.the_data). IfOk c.take_chunk.result (TakesNext W m n q run c.take_chunk.new.self)) (sym c.in-Chunks.is) (c.take_chunk.ensures W m n run amid)
+
+pub take_crumb-requires-clause-client : goal.take_crumb-requires-clause-client
+take_crumb-requires-clause-client c = subst (λ (q : queues.the_data). IsQueueOf (length c.args.self.now.players) q) c.in-Crumbs.is c.requires.queue
+
+pub returns-in-Crumbs : goal.returns-in-Crumbs
+returns-in-Crumbs c = λ W m n run amid.
+    subst (λ (q : queues.the_data). IfOk c.take_crumb.result (TakesNext W m n q run c.take_crumb.new.self)) (sym c.in-Crumbs.is) (c.take_crumb.ensures W m n run amid)
+
+pub take_trigger-requires-clause-client : goal.take_trigger-requires-clause-client
+take_trigger-requires-clause-client c = subst (λ (q : queues.the_data). IsQueueOf (length c.args.self.now.players) q) c.in-Triggers.is c.requires.queue
+
+pub returns-in-Triggers : goal.returns-in-Triggers
+returns-in-Triggers c = λ W m n run amid.
+    subst (λ (q : queues.the_data). IfOk c.take_trigger.result (TakesNext W m n q run c.take_trigger.new.self)) (sym c.in-Triggers.is) (c.take_trigger.ensures W m n run amid)
+
+pub returns-in-Asks : goal.returns-in-Asks
+returns-in-Asks c = λ W m n run amid.
+    subst (λ (q : queues.the_data). IfOk c.take_ask.result (TakesNext W m n q run c.take_ask.new.self)) (sym c.in-Asks.is) (c.take_ask.ensures W m n run amid)
