@@ -35,8 +35,8 @@ fn write_json(alloc: Global, outcome: &Outcome) -> Result<Bytes, Memory>
     close_text(out, outcome)
 }
 
-/// The text of an outcome: its journal, its reports and its ledger (`docs/FORMATS.md`, "The outcome"). Sorting
-/// the entries by trace is all that takes more than one pass. The one error is want of memory.
+/// The text of an outcome: its journal, its reports and its ledger (`docs/FORMATS.md`, "The outcome"). Sorting the entries of claimed
+/// traces by trace is all that takes more than one pass. The one error is want of memory.
 pub fn write_outcome(alloc: Global, outcome: &Outcome, form: Form) -> Result<Bytes, Memory>
     // Some valid workload and some lawful journal of it come to this outcome.
     requires { (W : PlainWorkload) × (J : PlainJournal) × IsValid W × IsLawful W J × IsOutcome W J outcome.now }

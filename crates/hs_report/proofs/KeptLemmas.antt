@@ -20,9 +20,9 @@ use Rattle.hs_workload.specs.Validity.{IsValid}
 use Rattle.hs_report.specs.declared.fates.Sorted.{Sorted}
 use Rattle.hs_report.specs.declared.outcome.Outcome.{Outcome}
 use Rattle.hs_report.specs.Fates.{AreFatesOf, has_entry}
-use Rattle.hs_report.specs.Kept.{same_trace, is_among, is_kept, kept_of, AreSortedKept}
+use Rattle.hs_report.specs.Kept.{same_trace, is_among, is_kept, kept_of}
 use Rattle.hs_report.specs.Outcomes.{IsOutcome}
-use Rattle.hs_report.specs.Sorted.{records_by}
+use Rattle.hs_report.specs.Sorted.{AreSorted, records_by}
 use Rattle.hs_report.specs.Sources.{report_by, gaps_of}
 use Rattle.hs_report.proofs.Basics.{first_true, second_true}
 use Rattle.hs_report.proofs.Stable.{within}
@@ -91,7 +91,7 @@ gaps_kept claimed entries trace among =
 -- ---- the reports
 
 pub sorted_kept : CollectedRecordsAreWhole → (W : PlainWorkload) (J : PlainJournal) (outcome : Outcome) (sorted : Sorted) → IsValid W → IsLawful W J → IsOutcome W J outcome
-    → AreFatesOf (kept_of outcome) sorted.fates → sorted.traces.items ≡ filter (has_entry (kept_of outcome)) outcome.claimed.items → AreSortedKept W J outcome sorted
+    → AreFatesOf (kept_of outcome) sorted.fates → sorted.traces.items ≡ filter (has_entry (kept_of outcome)) outcome.claimed.items → AreSorted W J outcome sorted
 sorted_kept whole W J outcome sorted valid lawful is are found =
     let claimed = outcome.claimed.items in
     let entries = outcome.ledger.entries.items in

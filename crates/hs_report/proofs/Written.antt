@@ -17,13 +17,13 @@ use Rattle.hs_outcome.specs.Reports.{Report, report_of, reports_in}
 use Rattle.hs_records.specs.Plain.{PlainWorkload}
 use Rattle.hs_text.specs.Text.{text_of}
 use Rattle.hs_workload.specs.Validity.{IsValid}
-use Rattle.hs_report.specs.declared.fates.Fates.{Fates}
 use Rattle.hs_report.specs.declared.fates.Sorted.{Sorted}
 use Rattle.hs_report.specs.declared.outcome.Outcome.{Outcome}
-use Rattle.hs_report.specs.Fates.{AreFatesOf, has_entry}
+use Rattle.hs_report.specs.Fates.{has_entry}
+use Rattle.hs_report.specs.Kept.{kept_of}
 use Rattle.hs_report.specs.Outcomes.{IsOutcome}
 use Rattle.hs_report.specs.Sorted.{AreSorted, count_line, records_by}
-use Rattle.hs_report.specs.Sources.{Hold, report_by}
+use Rattle.hs_report.specs.Sources.{report_by}
 use Rattle.hs_report.proofs.Shapes.{ends_its_traces}
 
 -- what the collector joined of a trace, as far as it was reported, is what the trace's report shows
@@ -32,16 +32,6 @@ pub shown : CollectedRecordsAreWhole → (W : PlainWorkload) (J : PlainJournal) 
 shown whole W J outcome valid lawful is trace wholes all =
     ap (λ entries. reported_wholes entries wholes) is.entries ∙ whole W J (outcome_of W J).reported trace wholes (ends_its_traces W valid) valid.count lawful (λ client of. refl) all
     ∙ ap (λ entries. records_by W entries trace) (sym is.entries)
-
-pub hold : CollectedRecordsAreWhole → (W : PlainWorkload) (J : PlainJournal) (outcome : Outcome) (fates : Fates) → IsValid W → IsLawful W J → IsOutcome W J outcome → AreFatesOf outcome.ledger.entries.items fates
-    → Hold outcome.ledger.entries.items (records_by W outcome.ledger.entries.items) fates outcome.collector
-hold whole W J outcome fates valid lawful is are =
-    record {
-      are = are;
-      sheets = (outcome_of W J).reported;
-      collected = is.collected;
-      show = shown whole W J outcome valid lawful is;
-    }
 
 -- the reports of the traces that were found are those of the workload and the journal
 pub reports_are : (W : PlainWorkload) (J : PlainJournal) (outcome : Outcome) (traces : List TraceId) → IsOutcome W J outcome
@@ -73,7 +63,7 @@ text_joined W J outcome form count reports o1 o2 o3 body is are e1 e2 whole e3 =
 pub text_written : (W : PlainWorkload) (J : PlainJournal) (outcome : Outcome) (form : Form) (sorted : Sorted) (o1 o2 o3 body : List ℕ) → IsOutcome W J outcome → AreSorted W J outcome sorted
     → o1 ≡ journal_text (journal_of outcome.journal) ++ (count_line (length sorted.traces.items) ++ 10 ∷ []) → o2 ≡ o1 ++ body
     → (count_line (length sorted.traces.items) ++ 10 ∷ []) ++ body
-    ≡ reports_text outcome.version form (map (report_by outcome.ledger.entries.items (records_by W outcome.ledger.entries.items)) sorted.traces.items)
+    ≡ reports_text outcome.version form (map (report_by (kept_of outcome) (records_by W outcome.ledger.entries.items)) sorted.traces.items)
     → o3 ≡ o2 ++ ledger_text outcome.version outcome.ledger.entries.items outcome.ledger.totals → o3 ≡ outcome_text W J form
 text_written W J outcome form sorted o1 o2 o3 body is are e1 e2 whole e3 =
-    text_joined W J outcome form (length sorted.traces.items) (map (report_by outcome.ledger.entries.items (records_by W outcome.ledger.entries.items)) sorted.traces.items) o1 o2 o3 body is are.reports e1 e2 whole e3
+    text_joined W J outcome form (length sorted.traces.items) (map (report_by (kept_of outcome) (records_by W outcome.ledger.entries.items)) sorted.traces.items) o1 o2 o3 body is are.reports e1 e2 whole e3

@@ -1,4 +1,4 @@
-//! The entries that the reports of an outcome in lines are written from.
+//! The entries that the reports of an outcome are written from.
 
 ghost use Rattle.std.specs.Prelude.{◌≡◌, ◌||◌, [], ◌∷◌, ◌++◌, filter, IfOk, OnOk};
 ghost use Rattle.std.specs.HashSet.{contains};

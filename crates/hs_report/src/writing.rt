@@ -9,7 +9,6 @@ ghost use Rattle.hs_outcome.specs.OutcomeText.{ledger_text, outcome_text, total_
 ghost use Rattle.hs_outcome.specs.declared.form.Form.TheVariants.{Text};
 ghost use Rattle.hs_records.specs.Plain.{PlainWorkload};
 ghost use Rattle.hs_report.specs.Fates.{AreFatesOf, has_entry};
-ghost use Rattle.hs_report.specs.Kept.{AreSortedKept};
 ghost use Rattle.hs_report.specs.Outcomes.{IsOutcome};
 ghost use Rattle.hs_report.specs.Sorted.{AreSorted, count_line};
 ghost use Rattle.hs_text.specs.Text.{text_of};
@@ -55,22 +54,11 @@ fn reported_traces(
     Ok(traces)
 }
 
-/// The entries of an outcome by trace, and the traces that have a report. Sorting the entries is all that takes more than one pass.
-/// The one error is want of memory.
+/// The entries of the claimed traces by trace, and the traces that have a report. Of other traces nothing is copied or sorted, and
+/// sorting is all that takes more than one pass. The one error is want of memory.
 pub fn sort_out(alloc: Global, outcome: &Outcome) -> Result<Sorted, Memory>
     ensures { IfOk result (λ sorted. (W : PlainWorkload) (J : PlainJournal) → IsValid W → IsLawful W J → IsOutcome W J outcome.now
         → AreSorted W J outcome.now sorted) }
-{
-    collected_records_are_whole();
-    let fates = Fates::make(alloc, outcome.ledger.entries.as_slice())?;
-    let traces = reported_traces(alloc, &fates, outcome.claimed.as_slice())?;
-    Ok(Sorted { fates, traces })
-}
-
-/// The entries of the claimed traces by trace, and the traces that have a report. Of other traces nothing is copied or sorted.
-fn sort_kept(alloc: Global, outcome: &Outcome) -> Result<Sorted, Memory>
-    ensures { IfOk result (λ sorted. (W : PlainWorkload) (J : PlainJournal) → IsValid W → IsLawful W J → IsOutcome W J outcome.now
-        → AreSortedKept W J outcome.now sorted) }
 {
     collected_records_are_whole();
     let claimed = outcome.claimed.as_slice();
@@ -123,7 +111,7 @@ pub fn write_lines(alloc: Global, outcome: &Outcome) -> Result<Bytes, Memory>
     ensures { IfOk result (λ bytes. (W : PlainWorkload) (J : PlainJournal) → IsValid W → IsLawful W J → IsOutcome W J outcome.now
         → bytes.items ≡ outcome_text W J Text) }
 {
-    let sorted = sort_kept(alloc, outcome)?;
+    let sorted = sort_out(alloc, outcome)?;
     let traces = sorted.traces.as_slice();
     let mut out = open_text(alloc, outcome, traces.len())?;
     push_reports(

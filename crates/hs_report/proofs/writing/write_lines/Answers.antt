@@ -8,7 +8,7 @@ use Rattle.hs_outcome.specs.declared.form.Form.TheVariants.{Text}
 use Rattle.hs_report.specs.Kept.{kept_of}
 use Rattle.hs_report.specs.Sorted.{count_line, records_by}
 use Rattle.hs_report.specs.Sources.{report_by}
-use Rattle.hs_report.proofs.Written.{counted_lines, text_joined}
+use Rattle.hs_report.proofs.Written.{counted_lines, text_written}
 use Rattle.hs_text.specs.Text.{text_of}
 use Rattle.hs_report.proofs.writing.write_lines.Goals as goal
 
@@ -24,6 +24,6 @@ returns c =
     let opened = c.in_ok-out.ensures ∙ ap (λ traces. journal_text (journal_of outcome.journal) ++ (count_line (length traces) ++ 10 ∷ [])) c.as_slice-traces.ensures.value in
     let written = c.in_ok-push_reports.ensures kept records are.hold
     ∙ ap (λ traces. c.in_ok-out.out.items ++ text_of (flat_map (report_lines outcome.version) (map (report_by kept records) traces))) c.as_slice-traces.ensures.value in
-    text_joined W J outcome Text (length sorted.traces.items) (map (report_by kept records) sorted.traces.items) c.in_ok-out.out.items c.push_reports.new.out.items bytes.items _ is are.reports opened written
+    text_written W J outcome Text sorted c.in_ok-out.out.items c.push_reports.new.out.items bytes.items _ is are opened written
     (counted_lines outcome.version kept records sorted.traces.items) closed)
     c.close_text.ensures
