@@ -12,11 +12,10 @@ use Rattle.hs_records.specs.Pages.{pages_of}
 use Rattle.hs_records.specs.Plain.{Operation, PlainWorkload}
 use Rattle.hs_samplers.specs.Coming.{comings_of}
 use Rattle.hs_sent.specs.Sending.{draws_at, operations_at}
-use Rattle.hs_compare.specs.declared.coming.Coming.{Coming}
+use Rattle.hs_workload.specs.Validity.{IsValid}
 use Rattle.hs_compare.specs.declared.script.Script.{Script}
-use Rattle.hs_compare.specs.Happens.{coming_of}
 use Rattle.hs_compare.specs.Scripts.{IsClientScript}
-use Rattle.hs_compare.specs.Beginning.{MayBegin, AreFirstScripts}
+use Rattle.hs_compare.specs.Beginning.{MayBegin, AreFirstScripts, first_comings}
 use Rattle.hs_compare.proofs.Walked.{range-append}
 
 and_parts : (a b : Bool) → (a && b) ≡ true → (a ≡ true) × (b ≡ true)
@@ -64,11 +63,11 @@ row_is {A = A} {X = X} rows seen row_of place row same low is =
     ap row_of is ∙ ap (λ (o : Option (List X)). unwrap_or o []) (sym there)
 
 -- a place is below the number of clients, which have numbers of 16 bits
-pub place_low : (W : PlainWorkload) (J : PlainJournal) → MayBegin W J → (place : ℕ) → W.settings.nodes < 2 ^ 16 → place < length W.clients → place < 2 ^ 16 * W.settings.clients
-place_low W J may place few low =
+pub place_low : (W : PlainWorkload) → IsValid W → (place : ℕ) → W.settings.nodes < 2 ^ 16 → place < length W.clients → place < 2 ^ 16 * W.settings.clients
+place_low W valid place few low =
     let less : W.settings.nodes ≤ 2 ^ 16 = omega arith in
     let rows = mul-le-mul_right W.settings.clients less in
-    omega (arith, may.valid.count, rows, low)
+    omega (arith, valid.count, rows, low)
 
 -- ---- one script more
 
@@ -78,14 +77,12 @@ at_push [] x (suc place) found h = inr h
 at_push (y ∷ xs) x zero found h = inr h
 at_push (y ∷ xs) x (suc place) found h = elim (at_push xs x place found h) [ inl here ↦ inl (ap suc here.0, here.1) | inr old ↦ inr old ]
 
-pub no_scripts : (W : PlainWorkload) → AreFirstScripts W 0 [] []
-no_scripts W = record { many = refl; each = λ place script is. absurd (cc); records = refl }
+pub no_scripts : (W : PlainWorkload) → AreFirstScripts W 0 []
+no_scripts W = record { many = refl; each = λ place script is. absurd (cc) }
 
-pub script_more : (W : PlainWorkload) (count : ℕ) (scripts : List Script) (all more : List Coming) (script : Script) → AreFirstScripts W count scripts all
-    → IsClientScript W.settings.autos (client_at W.settings.clients count) (operations_at W count) script
-    → map coming_of more ≡ map coming_of all ++ comings_of (client_at W.settings.clients count) (operations_at W count) → AreFirstScripts W (count + 1) (scripts ++ script ∷ []) more
-script_more W count scripts all more script are is joins =
-    let comings = λ (place : ℕ). comings_of (client_at W.settings.clients place) (operations_at W place) in
+pub script_more : (W : PlainWorkload) (count : ℕ) (scripts : List Script) (script : Script) → AreFirstScripts W count scripts
+    → IsClientScript W.settings.autos (client_at W.settings.clients count) (operations_at W count) script → AreFirstScripts W (count + 1) (scripts ++ script ∷ [])
+script_more W count scripts script are is =
     record {
       many = length_push scripts script ∙ ap (λ n. n + 1) are.many;
       each = λ place found at.
@@ -95,9 +92,12 @@ script_more W count scripts all more script are is joins =
                 (subst (IsClientScript W.settings.autos (client_at W.settings.clients count) (operations_at W count)) (sym here.1) is)
             | inr old ↦ are.each place found old
           ];
-      records =
-          joins ∙ ap (λ cs. cs ++ comings count) are.records
-          ∙ sym (ap (flat_map comings) (range-append 0 count 1) ∙ flat_map-append comings (range_with_len 0 count) (range_with_len (0 + count) 1)
-          ∙ ap (λ k. flat_map comings (range_with_len 0 count) ++ flat_map comings (range_with_len k 1)) (let e : 0 + count ≡ count = omega arith in e)
-          ∙ ap (λ cs. flat_map comings (range_with_len 0 count) ++ cs) (append-nil (comings count)));
     }
+
+-- the records of one client more
+pub comings_more : (W : PlainWorkload) (count : ℕ) → first_comings W (count + 1) ≡ first_comings W count ++ comings_of (client_at W.settings.clients count) (operations_at W count)
+comings_more W count =
+    let comings = λ (place : ℕ). comings_of (client_at W.settings.clients place) (operations_at W place) in
+    ap (flat_map comings) (range-append 0 count 1) ∙ flat_map-append comings (range_with_len 0 count) (range_with_len (0 + count) 1)
+    ∙ ap (λ k. flat_map comings (range_with_len 0 count) ++ flat_map comings (range_with_len k 1)) (let e : 0 + count ≡ count = omega arith in e)
+    ∙ ap (λ cs. flat_map comings (range_with_len 0 count) ++ cs) (append-nil (comings count))

@@ -10,6 +10,7 @@ pub mod Rounded
 pub mod Pointed
 pub mod Named
 pub mod Parts
+pub mod Scripted
 pub mod Ringed
 pub mod Ordered
 pub mod Compared

@@ -61,7 +61,7 @@ all_of n m (t ∷ traces) same =
     ap (λ b. events_in (cond b (name_at m t ∷ filter (λ (h : Happening). h.number == n) (map (name_at m) traces)) (filter (λ (h : Happening). h.number == n) (map (name_at m) traces)))) same
     ∙ ap (λ es. Names t ∷ es) (all_of n m traces same)
 
-events-both : (xs ys : List Happening) (n : ℕ) → events_of (xs ++ ys) n ≡ events_of xs n ++ events_of ys n
+pub events-both : (xs ys : List Happening) (n : ℕ) → events_of (xs ++ ys) n ≡ events_of xs n ++ events_of ys n
 events-both xs ys n = ap events_in (filter-append (λ (h : Happening). h.number == n) xs ys) ∙ map-append (λ (h : Happening). h.event) (filter (λ (h : Happening). h.number == n) xs) (filter (λ (h : Happening). h.number == n) ys)
 
 pub names_at_one : (triggers : List (Sent Trigger)) (n : ℕ) → events_of (sent_names triggers) n ≡ map Names (flat_map names_in (items_at n triggers))

@@ -20,7 +20,7 @@ use Rattle.hs_compare.specs.Rounds.{IsSound, events_before, part_of}
 use Rattle.hs_compare.proofs.Walked.{events-append}
 
 -- past the last operation nothing happens
-none_past : (n : ℕ) (hs : List Happening) (k : ℕ) → AreOf k hs → k ≤ n → events_of hs n ≡ []
+pub none_past : (n : ℕ) (hs : List Happening) (k : ℕ) → AreOf k hs → k ≤ n → events_of hs n ≡ []
 none_past n [] k low le = refl
 none_past n (h ∷ hs) k low le =
     let first = low.0 in

@@ -1,7 +1,8 @@
 -- One operation more.
-use Rattle.std.proofs.Common.{◌≡◌, ℕ, suc, ◌+◌, ◌≤◌, List, [], ◌∷◌, ◌++◌, length, map, Option, Some, None, refl, sym, ap, ap₂, ◌∙◌, subst, arith, append_assoc, length-append}
+use Rattle.std.proofs.Common.{◌≡◌, ℕ, suc, ◌+◌, ◌≤◌, List, [], ◌∷◌, ◌++◌, length, map, Option, Some, None, option_map, refl, sym, ap, ap₂, ◌∙◌, arith, append_assoc, length-append}
 use Rattle.std.specs.Prelude.{zip}
 use Rattle.std.specs.List.{flat_map, range_with_len}
+use Rattle.std.specs.Option.{option_to_list}
 use Rattle.std.proofs.lemmas.Option.{same_Some}
 use Rattle.std.proofs.lemmas.List.{append-nil, map-append, length_push}
 use Rattle.std.proofs.lemmas.List.Concat.{flat_map-append}
@@ -16,11 +17,8 @@ use Rattle.hs_sent.specs.Timing.{point_numbers}
 use Rattle.hs_samplers.specs.Coming.{comings_of, sent_comings}
 use Rattle.hs_samplers.specs.Coming as samplers
 use Rattle.hs_compare.specs.Happens.{coming_of, comes_at, points_by}
-use Rattle.hs_compare.specs.Walking.{AreInTurn, AreOf}
-use Rattle.hs_compare.specs.Points.{HasGone, Gone, record_seen}
+use Rattle.hs_compare.specs.Points.{HasGone, brought, coming_seen, record_seen}
 use Rattle.hs_compare.specs.declared.coming.Coming.{Coming}
-use Rattle.hs_compare.specs.declared.happening.Event.TheVariants.{Comes}
-use Rattle.hs_compare.specs.declared.happening.Happening.{Happening}
 use Rattle.hs_compare.specs.declared.points.Seen.{Seen}
 use Rattle.hs_compare.specs.declared.points.Walk.{Walk}
 use Rattle.hs_compare.proofs.Walked.{range-append}
@@ -136,42 +134,23 @@ more_points one client ops op r some =
     ∙ ap (map comes_at) (map-append sent_by (zip (point_numbers ops) (comings_of client ops)) ((length ops, c) ∷ []))
     ∙ map-append comes_at (sent_comings client ops) (record { number = length ops; item = c } ∷ [])
 
--- ---- numbers
-
-turn_push : (k n : ℕ) (hs : List Happening) (h : Happening) → AreInTurn k hs → AreOf n hs → k ≤ n → h.number ≡ n → AreInTurn k (hs ++ h ∷ [])
-turn_push k n [] h turn low le is = (omega (arith, le, is), tt)
-turn_push k n (x ∷ hs) h turn low le is = let first = low.0 in (turn.0, turn_push x.number n hs h turn.1 low.1 (omega (arith, first)) is)
-
-low_more : (n : ℕ) (hs : List Happening) → AreOf n hs → AreOf (n + 1) hs
-low_more n [] low = tt
-low_more n (h ∷ hs) low = let first = low.0 in (omega (arith, first), low_more n hs low.1)
-
-low_push : (n : ℕ) (hs : List Happening) (h : Happening) → AreOf n hs → h.number ≡ n → AreOf (n + 1) (hs ++ h ∷ [])
-low_push n [] h low is = (omega (arith, is), tt)
-low_push n (x ∷ hs) h low is = let first = low.0 in (omega (arith, first), low_push n hs h low.1 is)
+-- ---- steps of a walk
 
 open_push : (trace : Option TraceId) (ops : List Operation) (op : Operation) → open_after trace (ops ++ op ∷ []) ≡ open_behind (open_after trace ops) op
 open_push trace [] op = refl
 open_push trace (o ∷ ops) op = open_push (open_behind trace o) ops op
 
--- ---- steps of a walk
-
 seen_none : (rs : List Record) → None ≡ record_seen rs → rs ≡ []
 seen_none [] h = refl
 seen_none (r ∷ rs) h = absurd (cc)
 
-pub gone_quiet : OneMoreOperation → (ops : List Operation) (first all : List Coming) (op : Operation) (walk next : Walk) → HasGone ops first walk all → None ≡ record_seen (record_in walk.current op)
-    → next.client ≡ walk.client → next.points ≡ walk.points → next.count ≡ walk.count → next.current ≡ open_behind walk.current op → HasGone (ops ++ op ∷ []) first next all
-gone_quiet one ops first all op walk next gone none client points count current =
+pub gone_quiet : OneMoreOperation → (ops : List Operation) (op : Operation) (walk next : Walk) → HasGone ops walk → None ≡ record_seen (record_in walk.current op) → next.count ≡ walk.count
+    → next.current ≡ open_behind walk.current op → HasGone (ops ++ op ∷ []) next
+gone_quiet one ops op walk next gone none count current =
     let quiet : record_in (open_after None ops) op ≡ [] = ap (λ t. record_in t op) (sym gone.current) ∙ seen_none (record_in walk.current op) none in
-    let items : next.points.items ≡ walk.points.items = ap (λ p. p.items) points in
     record {
-      points = items ∙ gone.points ∙ sym (same_points one walk.client ops op quiet) ∙ ap (λ c. points_by c (ops ++ op ∷ [])) (sym client);
-      turn = subst (AreInTurn 0) (sym items) gone.turn;
-      low = subst (λ n. AreOf n next.points.items) (sym (length_push ops op)) (subst (AreOf (length ops + 1)) (sym items) (low_more (length ops) walk.points.items gone.low));
       current = current ∙ ap (λ t. open_behind t op) gone.current ∙ sym (open_push None ops op);
       count = count ∙ gone.count ∙ ap length (sym (same_records one ops op quiet));
-      joined = gone.joined ∙ ap (λ cs. map coming_of first ++ cs) (sym (same_comings one walk.client ops op quiet)) ∙ ap (λ c. map coming_of first ++ comings_of c (ops ++ op ∷ [])) (sym client);
     }
 
 seen_some : (current : Option TraceId) (op : Operation) (seen : Seen) → Some seen ≡ record_seen (record_in current op)
@@ -185,40 +164,53 @@ seen_some (Some trace) End seen h = absurd (cc)
 seen_some (Some trace) (Fire trigger) seen h = absurd (cc)
 seen_some (Some trace) (Sample moment auto value) seen h = absurd (cc)
 
-abbrev pub point_at : ℕ → ClientId → ℕ → TraceId → Happening
-point_at number client count trace = record { number = number; event = Comes (record { id = record { client = client; number = count }; trace = trace }) }
-
-abbrev pub the_coming : ClientId → ℕ → Seen → Coming
-the_coming client count seen = record { id = record { client = client; number = count }; trace = seen.trace; bytes = seen.bytes }
-
-pub gone_seen : OneMoreOperation → (ops : List Operation) (first all more : List Coming) (op : Operation) (walk noted next : Walk) (seen : Seen) → HasGone ops first walk all
-    → Some seen ≡ record_seen (record_in walk.current op) → Gone (length ops) seen walk all noted more → next.client ≡ noted.client → next.points ≡ noted.points → next.count ≡ noted.count
-    → next.current ≡ open_behind walk.current op → HasGone (ops ++ op ∷ []) first next more
-gone_seen one ops first all more op walk noted next seen gone some is client points count current =
+pub gone_seen : OneMoreOperation → (ops : List Operation) (op : Operation) (walk next : Walk) (seen : Seen) → HasGone ops walk → Some seen ≡ record_seen (record_in walk.current op) → next.count ≡ walk.count + 1
+    → next.current ≡ open_behind walk.current op → HasGone (ops ++ op ∷ []) next
+gone_seen one ops op walk next seen gone some count current =
     let found = seen_some walk.current op seen some in
-    let r = found.0 in
-    let there : record_in (open_after None ops) op ≡ r ∷ [] = ap (λ t. record_in t op) (sym gone.current) ∙ found.1 in
-    let same : next.client ≡ walk.client = client ∙ is.client in
-    let n = length (records_of ops) in
-    let items : next.points.items ≡ walk.points.items ++ point_at (length ops) walk.client walk.count seen.trace ∷ [] = ap (λ p. p.items) points ∙ is.points in
+    let there : record_in (open_after None ops) op ≡ found.0 ∷ [] = ap (λ t. record_in t op) (sym gone.current) ∙ found.1 in
     record {
-      points =
-          items
-          ∙ ap (λ ps. ps ++ point_at (length ops) walk.client walk.count seen.trace ∷ []) gone.points
-          ∙ ap (λ k. points_by walk.client ops ++ point_at (length ops) walk.client k seen.trace ∷ []) gone.count
-          ∙ ap (λ (s : Seen). points_by walk.client ops ++ point_at (length ops) walk.client n s.trace ∷ []) found.2
-          ∙ sym (more_points one walk.client ops op r there) ∙ ap (λ c. points_by c (ops ++ op ∷ [])) (sym same);
-      turn = subst (AreInTurn 0) (sym items) (turn_push 0 (length ops) walk.points.items (point_at (length ops) walk.client walk.count seen.trace) gone.turn gone.low (omega arith) refl);
-      low =
-          subst (λ k. AreOf k next.points.items) (sym (length_push ops op))
-          (subst (AreOf (length ops + 1)) (sym items) (low_push (length ops) walk.points.items (point_at (length ops) walk.client walk.count seen.trace) gone.low refl));
       current = current ∙ ap (λ t. open_behind t op) gone.current ∙ sym (open_push None ops op);
-      count = count ∙ is.count ∙ ap (λ k. k + 1) gone.count ∙ sym (length_push (records_of ops) r) ∙ ap length (sym (more_records one ops op r there));
-      joined =
-          ap (map coming_of) is.joined ∙ map-append coming_of all (the_coming walk.client walk.count seen ∷ [])
-          ∙ ap (λ cs. cs ++ coming_of (the_coming walk.client walk.count seen) ∷ []) gone.joined
-          ∙ append_assoc (map coming_of first) (comings_of walk.client ops) (coming_of (the_coming walk.client walk.count seen) ∷ [])
-          ∙ ap (λ k. map coming_of first ++ (comings_of walk.client ops ++ coming_of (the_coming walk.client k seen) ∷ [])) gone.count
-          ∙ ap (λ s. map coming_of first ++ (comings_of walk.client ops ++ coming_of (the_coming walk.client n s) ∷ [])) found.2
-          ∙ ap (λ cs. map coming_of first ++ cs) (sym (more_comings one walk.client ops op r there)) ∙ ap (λ c. map coming_of first ++ comings_of c (ops ++ op ∷ [])) (sym same);
+      count = count ∙ ap (λ k. k + 1) gone.count ∙ sym (length_push (records_of ops) found.0) ∙ ap length (sym (more_records one ops op found.0 there));
     }
+
+-- what the operation brings, by what is known before it
+pub brought_by : (ops : List Operation) (op : Operation) (walk : Walk) (found : Option Seen) → HasGone ops walk → found ≡ record_seen (record_in walk.current op)
+    → option_map (coming_seen walk.client walk.count) found ≡ brought walk.client ops op
+brought_by ops op walk found gone is =
+    ap (option_map (coming_seen walk.client walk.count)) is ∙ ap₂ (λ n t. option_map (coming_seen walk.client n) (record_seen (record_in t op))) gone.count gone.current
+
+-- ---- what was brought
+
+pub brought_none : (client : ClientId) (ops : List Operation) (op : Operation) → None ≡ brought client ops op → record_in (open_after None ops) op ≡ []
+brought_none client ops op none = by (record_in (open_after None ops) op) none
+  where
+    by : (rs : List Record) → None ≡ option_map (coming_seen client (length (records_of ops))) (record_seen rs) → rs ≡ []
+    by [] h = refl
+    by (r ∷ rs) h = absurd (cc)
+
+pub brought_some : (client : ClientId) (ops : List Operation) (op : Operation) (coming : Coming) → Some coming ≡ brought client ops op
+    → (r : Record) × (record_in (open_after None ops) op ≡ r ∷ []) × (coming ≡ coming_seen client (length (records_of ops)) (record { trace = r.trace; bytes = length r.payload }))
+brought_some client ops op coming some = by (record_seen (record_in (open_after None ops) op)) refl some
+  where
+    by : (found : Option Seen) → found ≡ record_seen (record_in (open_after None ops) op) → Some coming ≡ option_map (coming_seen client (length (records_of ops))) found
+        → (r : Record) × (record_in (open_after None ops) op ≡ r ∷ []) × (coming ≡ coming_seen client (length (records_of ops)) (record { trace = r.trace; bytes = length r.payload }))
+    by None is h = absurd (cc)
+    by (Some seen) is h =
+        let found = seen_some (open_after None ops) op seen is in (
+          found.0,
+          found.1,
+          same_Some coming (coming_seen client (length (records_of ops)) seen) h ∙ ap (coming_seen client (length (records_of ops))) found.2,
+        )
+
+-- it joins the records
+pub joined_on : OneMoreOperation → (client : ClientId) (ops : List Operation) (op : Operation) (first all more : List Coming) (found : Option Coming) → found ≡ brought client ops op
+    → map coming_of all ≡ map coming_of first ++ comings_of client ops → more ≡ all ++ option_to_list found → map coming_of more ≡ map coming_of first ++ comings_of client (ops ++ op ∷ [])
+joined_on one client ops op first all more None none joined is =
+    ap (map coming_of) (is ∙ append-nil all) ∙ joined ∙ ap (λ cs. map coming_of first ++ cs) (sym (same_comings one client ops op (brought_none client ops op none)))
+joined_on one client ops op first all more (Some coming) some joined is =
+    let found = brought_some client ops op coming some in
+    ap (map coming_of) is ∙ map-append coming_of all (coming ∷ []) ∙ ap (λ cs. cs ++ coming_of coming ∷ []) joined
+    ∙ append_assoc (map coming_of first) (comings_of client ops) (coming_of coming ∷ [])
+    ∙ ap (λ (c : Coming). map coming_of first ++ (comings_of client ops ++ coming_of c ∷ [])) found.2
+    ∙ ap (λ cs. map coming_of first ++ cs) (sym (more_comings one client ops op found.0 found.1))

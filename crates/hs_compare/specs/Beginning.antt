@@ -1,18 +1,15 @@
 -- A valid workload with a journal of its shape, and the scripts of its clients.
-use Rattle.std.specs.Prelude.{◌≡◌, ℕ, true, List, length, map, Some, slice_get}
+use Rattle.std.specs.Prelude.{◌≡◌, ℕ, true, List, length, Some, slice_get}
 use Rattle.std.specs.List.{flat_map, range_with_len}
 use Rattle.hs_journal.specs.Views.{PlainJournal}
 use Rattle.hs_lawful.specs.Played.{played}
 use Rattle.hs_lawful.specs.Shape.{has_shape}
 use Rattle.hs_outcome.specs.Outcomes.{client_at}
 use Rattle.hs_records.specs.Plain.{PlainWorkload}
-use Rattle.hs_samplers.specs.Coming.{all_comings, comings_of}
+use Rattle.hs_samplers.specs.Coming.{Coming, comings_of}
 use Rattle.hs_sent.specs.Sending.{operations_at}
 use Rattle.hs_workload.specs.Validity.{IsValid}
-use Rattle.hs_compare.specs.declared.coming.Coming.{Coming}
 use Rattle.hs_compare.specs.declared.script.Script.{Script}
-use Rattle.hs_compare.specs.declared.scripts.Scripts.{Scripts}
-use Rattle.hs_compare.specs.Happens.{coming_of}
 use Rattle.hs_compare.specs.Scripts.{IsClientScript}
 
 pub record MayBegin (W : PlainWorkload) (J : PlainJournal) : Type 0 where
@@ -24,13 +21,11 @@ pub record AreScripts (W : PlainWorkload) (scripts : List Script) : Type 0 where
   pub count : length scripts ≡ length W.clients
   pub each : (place : ℕ) (script : Script) → slice_get scripts place ≡ Some script → IsClientScript W.settings.autos (client_at W.settings.clients place) (operations_at W place) script
 
--- With all records.
-pub record AreScriptsOf (W : PlainWorkload) (found : Scripts) : Type 0 where
-  pub scripts : AreScripts W found.scripts.items
-  pub all : map coming_of found.all.items ≡ all_comings W
-
--- The first so many clients have a script, and all has their records.
-pub record AreFirstScripts (W : PlainWorkload) (count : ℕ) (scripts : List Script) (all : List Coming) : Type 0 where
+-- The first so many clients have a script.
+pub record AreFirstScripts (W : PlainWorkload) (count : ℕ) (scripts : List Script) : Type 0 where
   pub many : length scripts ≡ count
   pub each : (place : ℕ) (script : Script) → slice_get scripts place ≡ Some script → IsClientScript W.settings.autos (client_at W.settings.clients place) (operations_at W place) script
-  pub records : map coming_of all ≡ flat_map (λ place. comings_of (client_at W.settings.clients place) (operations_at W place)) (range_with_len 0 count)
+
+-- the records of the first so many clients
+abbrev pub first_comings : PlainWorkload → ℕ → List Coming
+first_comings W count = flat_map (λ place. comings_of (client_at W.settings.clients place) (operations_at W place)) (range_with_len 0 count)

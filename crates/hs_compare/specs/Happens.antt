@@ -30,7 +30,7 @@ abbrev pub coming_of : Coming → samplers.Coming
 coming_of c = record { id = c.id; trace = c.trace; bytes = c.bytes }
 
 abbrev pub comes_at : Sent samplers.Coming → Happening
-comes_at sent = record { number = sent.number; event = Comes (record { id = sent.item.id; trace = sent.item.trace }) }
+comes_at sent = record { number = sent.number; event = Comes sent.item.id sent.item.trace }
 
 abbrev pub points_by : ClientId → List Operation → List Happening
 points_by client ops = map comes_at (sent_comings client ops)

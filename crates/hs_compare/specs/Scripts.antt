@@ -1,5 +1,5 @@
 -- The script of a client.
-use Rattle.std.specs.Prelude.{Bool, true, false, List, length}
+use Rattle.std.specs.Prelude.{Bool, true, false, List}
 use Rattle.std.specs.List.{flat_map}
 use Rattle.hs_base.specs.declared.ids.ClientId.{ClientId}
 use Rattle.hs_base.specs.declared.settings.AutoRule.{AutoRule}
@@ -7,8 +7,8 @@ use Rattle.hs_base.specs.declared.told.Trigger.{Trigger}
 use Rattle.hs_records.specs.Plain.{Operation, Fire, Sample}
 use Rattle.hs_sent.specs.Sending.{Sent, sent_triggers}
 use Rattle.hs_samplers.specs.Coming as samplers
-use Rattle.hs_compare.specs.Happens.{names_at, points_by}
-use Rattle.hs_compare.specs.Walking.{IsScript, AreOf}
+use Rattle.hs_compare.specs.Happens.{names_at}
+use Rattle.hs_compare.specs.Points.{IsScriptOf}
 use Rattle.hs_compare.specs.declared.happening.Event.{Event}
 use Rattle.hs_compare.specs.declared.happening.Event.TheVariants.{Comes, Names}
 use Rattle.hs_compare.specs.declared.happening.Happening.{Happening}
@@ -28,11 +28,10 @@ sent_names triggers = flat_map (λ (s : Sent Trigger). names_at s.number s.item)
 abbrev pub names_of : List AutoRule → List Operation → List Happening
 names_of autos ops = sent_names (sent_triggers autos ops)
 
-pub record IsClientScript (autos : List AutoRule) (client : ClientId) (ops : List Operation) (script : Script) : Type 0 where
-  pub is : IsScript (points_by client ops) (names_of autos ops) (length ops) script
-  pub low : AreOf (length ops) (points_by client ops)
+abbrev pub IsClientScript : List AutoRule → ClientId → List Operation → Script → Type 0
+IsClientScript autos client ops script = IsScriptOf client (names_of autos ops) ops script
 
 -- an event without its payload
 abbrev pub event_of : samplers.Event → Event
-event_of (samplers.Comes coming) = Comes (record { id = coming.id; trace = coming.trace })
+event_of (samplers.Comes coming) = Comes coming.id coming.trace
 event_of (samplers.Names trace) = Names trace

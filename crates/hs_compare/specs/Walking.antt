@@ -11,7 +11,7 @@ use Rattle.hs_compare.specs.declared.script.Script.{Script}
 
 -- the ring after an event
 abbrev pub ring_after : Ringing → Event → Ringing
-ring_after ring (Comes noted) = comes noted ring
+ring_after ring (Comes id trace) = comes (record { id = id; trace = trace }) ring
 ring_after ring (Names trace) = names trace ring
 
 abbrev pub rings_after : Ringing → List Event → Ringing

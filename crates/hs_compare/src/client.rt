@@ -1,20 +1,16 @@
 //! The script of a client.
 
-ghost use Rattle.std.specs.Prelude.{◌≡◌, ◌++◌, length, map, IfOk, OnOk};
+ghost use Rattle.std.specs.Prelude.{◌≡◌, length, map, IfOk};
 ghost use Rattle.std.specs.List.{list_any};
 ghost use Rattle.hs_records.specs.Pages.{pages_of};
 ghost use Rattle.hs_records.specs.Plain.{settings_of};
 ghost use Rattle.hs_player.specs.Places.{IsPlayable};
 ghost use Rattle.hs_workload.specs.Views.{operation_of};
 ghost use Rattle.hs_workload.specs.declared.operation.Op.{Op};
-ghost use Rattle.hs_samplers.specs.Coming.{comings_of};
-ghost use Rattle.hs_compare.specs.Happens.{coming_of};
 ghost use Rattle.hs_compare.specs.Scripts.{may_trigger, names_of, IsClientScript};
 
-use crate::coming::Coming;
 use crate::happening::Happening;
 use crate::names::names_of;
-use crate::points::points_of;
 use crate::script::{Script, script_of};
 use hs_base::{ClientId, List, Memory, Settings};
 use hs_given::{Sending, send};
@@ -61,11 +57,9 @@ fn client_names(
     names_of(alloc, triggers, found.triggers.as_slice())
 }
 
-/// The script of a client of a valid workload at these draws, one for each of its pages. Its records join all
-/// records.
+/// The script of a client of a valid workload at these draws, one for each of its pages.
 pub(crate) fn client_script(
     alloc: Global,
-    all: &mut List<Coming>,
     client: ClientId,
     settings: &Settings,
     operations: &[Op],
@@ -73,11 +67,9 @@ pub(crate) fn client_script(
 ) -> Result<Script, Memory>
     requires playable { IsPlayable (settings_of settings.now) (map operation_of operations.now) }
     requires each { length draws.now ≡ length (pages_of settings.now.size (map operation_of operations.now)) }
-    ensures script { IfOk result (IsClientScript (settings_of settings.now).autos client (map operation_of operations.now)) }
-    ensures all { OnOk result (map coming_of all.new.items ≡ map coming_of all.old.items ++ comings_of client (map operation_of operations.now)) }
+    ensures { IfOk result (IsClientScript (settings_of settings.now).autos client (map operation_of operations.now)) }
 {
     items_are_sent_in_order();
     let names = client_names(alloc, client, settings, operations, draws)?;
-    let points = points_of(alloc, all, client, operations)?;
-    script_of(alloc, points.as_slice(), names.as_slice(), operations.len())
+    script_of(alloc, client, operations, names.as_slice())
 }

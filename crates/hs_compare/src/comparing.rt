@@ -1,6 +1,7 @@
 //! What other samplers would have kept of a workload.
 
 ghost use Rattle.std.specs.Prelude.{◌≤◌, ◌≡◌, fold, IfOk};
+ghost use Rattle.hs_journal.specs.Views.{journal_of};
 ghost use Rattle.hs_lockstep.specs.Lockstep.{lockstep};
 ghost use Rattle.hs_report.specs.Outcomes.{IsOutcome};
 ghost use Rattle.hs_samplers.specs.Coming.{events_in_order};
@@ -8,41 +9,43 @@ ghost use Rattle.hs_samplers.specs.Laws.{compared_by, SumsToTail};
 ghost use Rattle.hs_samplers.specs.Samplers.{ring_step, empty_ring};
 ghost use Rattle.hs_workload.specs.Validity.{IsValid};
 ghost use Rattle.hs_workload.specs.Views.{workload_of};
-ghost use Rattle.hs_compare.specs.Beginning.{AreScripts};
+ghost use Rattle.hs_compare.specs.Beginning.{MayBegin};
 ghost use Rattle.hs_compare.specs.Plain.{plain_comparison};
 ghost use Rattle.hs_compare.specs.Whole.{ringing_by};
 
 use crate::comparison::{Comparison, compared};
 use crate::limits::{MAX_ONE_IN, MAX_ROOM};
+use crate::records::all_records;
 use crate::ring_tail::RingTail;
-use crate::script::Script;
-use crate::scripts::{Scripts, scripts_of};
+use crate::scripts::scripts_of;
 use crate::walk::walk;
 use hs_base::Memory;
 use hs_clauses::count_rounds;
+use hs_journal::Journal;
 use hs_lockstep::laws::schedule_is_lawful;
 use hs_report::Outcome;
 use hs_samplers::laws::{kept_is_parted, ring_keeps_each_once, tail_is_the_sum};
 use hs_workload::Workload;
 use std::alloc::Global;
 
-/// A ring for so many records, behind all that comes and is named in the workload of these scripts.
+/// A ring for so many records, behind all that comes and is named in a valid workload, with a journal of its shape. The scripts that it
+/// walks through are gone then.
 fn ring_of(
     alloc: Global,
     workload: &Workload,
-    scripts: &[Script],
+    journal: &Journal,
     room: u32,
 ) -> Result<RingTail, Memory>
-    requires valid { IsValid (workload_of workload.now) }
-    requires scripts { AreScripts (workload_of workload.now) scripts.now }
+    requires may { MayBegin (workload_of workload.now) (journal_of journal.now) }
     requires room { (1 ≤ room) × (room ≤ MAX_ROOM) }
     ensures { IfOk result (λ ring. ring ≡ ringing_by room (fold (ring_step room) empty_ring (events_in_order (workload_of workload.now)))) }
 {
+    let scripts = scripts_of(alloc, workload, journal)?;
     let mut ring = RingTail::make(alloc, room)?;
     let rounds = count_rounds(workload);
     walk(
         &mut ring,
-        scripts,
+        scripts.as_slice(),
         workload.settings.stride as usize,
         rounds,
     )?;
@@ -69,8 +72,8 @@ pub fn compare(
     kept_is_parted();
     ring_keeps_each_once();
     tail_is_the_sum();
-    let Scripts { scripts, all } = scripts_of(alloc, workload, &outcome.journal)?;
-    let ring = ring_of(alloc, workload, scripts.as_slice(), room)?;
+    let ring = ring_of(alloc, workload, &outcome.journal, room)?;
+    let all = all_records(alloc, workload)?;
     compared(
         alloc,
         all.as_slice(),

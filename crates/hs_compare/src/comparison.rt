@@ -217,6 +217,14 @@ fn rest_of(
     })
 }
 
+/// How many of these records each trace has. The list of their traces is gone then.
+fn counts_of(alloc: Global, all: &[Coming]) -> Result<Counts, Memory>
+    ensures { IfOk result (λ counts. AreCounted (traces_of all.now) counts.entries) }
+{
+    let traces = all_traces(alloc, all)?;
+    counted(alloc, &traces)
+}
+
 /// What the samplers keep of these records, where the ring went through them and `claimed` are the claimed
 /// traces.
 pub(crate) fn compared(
@@ -235,8 +243,7 @@ pub(crate) fn compared(
     requires once { (trace : TraceId) → times ring.now.named trace ≤ 1 }
     ensures { IfOk result (λ comparison. comparison ≡ comparison_by one_in all.now ring.now.named ring.now.traces entries.now claimed.now) }
 {
-    let traces = all_traces(alloc, all)?;
-    let counts = counted(alloc, &traces)?;
+    let counts = counts_of(alloc, all)?;
     let rest = rest_of(alloc, &counts, entries, ring, claimed)?;
     let named = counted_of(alloc, &counts, ring.named())?;
     let shipped = all_bytes(all);

@@ -1,12 +1,11 @@
 //! What happens in an operation.
 
-use crate::ring::Noted;
-use hs_base::TraceId;
+use hs_base::{RecordId, TraceId};
 
 /// A record comes, or a trace is named.
 #[derive(Clone, Copy)]
 pub(crate) enum Event {
-    Comes { noted: Noted },
+    Comes { id: RecordId, trace: TraceId },
     Names { trace: TraceId },
 }
 

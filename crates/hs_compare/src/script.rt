@@ -1,12 +1,18 @@
 //! The events of a client, operation by operation.
 
-ghost use Rattle.std.specs.Prelude.{◌≡◌, ◌≤◌, ◌<◌, ◌+◌, ◌++◌, length, drop, IfOk, OnOk};
+ghost use Rattle.std.specs.Prelude.{◌≡◌, ◌≤◌, ◌<◌, ◌+◌, ◌++◌, ◌∷◌, [], length, map, drop, IfOk, OnOk};
+ghost use Rattle.hs_workload.specs.Views.{operation_of};
 ghost use Rattle.hs_compare.specs.declared.happening.Happening.{Happening};
-ghost use Rattle.hs_compare.specs.Walking.{AreInTurn, AreLeft, IsScript, events_in, run_of, rest_of, rings_after, events_from};
+ghost use Rattle.hs_compare.specs.Points.{Operations, HasGone, HasScript, IsScriptOf, brought, comes_in};
+ghost use Rattle.hs_compare.specs.Walking.{AreInTurn, AreLeft, events_in, run_of, rest_of, rings_after};
 
 use crate::happening::{Event, Happening};
+use crate::points::Walk;
 use crate::ring_tail::RingTail;
-use hs_base::{List, Memory};
+use hs_base::limits::MAX_OPERATIONS;
+use hs_base::{ClientId, List, Memory};
+use hs_sent::laws::one_operation_more;
+use hs_workload::Op;
 use std::alloc::Global;
 
 /// The events of a client in the order of its operations, and how many there are before each operation and at the
@@ -15,13 +21,6 @@ use std::alloc::Global;
 pub(crate) struct Script {
     pub(crate) events: List<Event>,
     pub(crate) ends: List<usize>,
-}
-
-/// How many of the happenings of two kinds were taken.
-#[derive(Clone, Copy)]
-struct Taken {
-    points: usize,
-    names: usize,
 }
 
 /// Appends the events of an operation, from the happening at this place on, and answers the place behind them.
@@ -42,50 +41,70 @@ fn take_at(
     Ok(next)
 }
 
-/// The script of so many operations, at which these records come and these traces are named.
+/// Goes on by an operation. The record that it brings comes next.
+fn note_record(events: &mut List<Event>, walk: &mut Walk, operation: &Op) -> Result<(), Memory>
+    requires few { walk.old.count < MAX_OPERATIONS }
+    ensures client { walk.new.client ≡ walk.old.client }
+    ensures gone { (before : Operations) → HasGone before walk.old → HasGone (before ++ operation_of operation.now ∷ []) walk.new }
+    ensures comes { (before : Operations) → HasGone before walk.old
+        → OnOk result (events.new.items ≡ events.old.items ++ comes_in (brought walk.old.client before (operation_of operation.now))) }
+{
+    match walk.go(operation) {
+        Some(coming) => events.append(Event::Comes {
+            id: coming.id,
+            trace: coming.trace,
+        }),
+        None => Ok(()),
+    }
+}
+
+/// Goes on by the operation of this number: its record comes, and then what it names is named, which stands next among the names.
+/// Answers how many of these were taken then.
+fn take_operation(
+    script: &mut Script,
+    walk: &mut Walk,
+    names: &[Happening],
+    taken: usize,
+    number: usize,
+    operation: &Op,
+) -> Result<usize, Memory>
+    requires few { walk.old.count < MAX_OPERATIONS }
+    requires names { AreLeft names.now (drop taken names.now) number }
+    ensures client { OnOk result (walk.new.client ≡ walk.old.client) }
+    ensures script { (before : Operations) → length before ≡ number → HasScript names.now before walk.old script.old
+        → OnOk result (HasScript names.now (before ++ operation_of operation.now ∷ []) walk.new script.new) }
+    ensures names { IfOk result (λ next. AreLeft names.now (drop next names.now) (number + 1)) }
+{
+    one_operation_more();
+    note_record(&mut script.events, walk, operation)?;
+    let next = take_at(&mut script.events, names, taken, number)?;
+    script.ends.append(script.events.len())?;
+    Ok(next)
+}
+
+/// The script of a client with these operations, in which these traces are named.
 pub(crate) fn script_of(
     alloc: Global,
-    points: &[Happening],
+    client: ClientId,
+    operations: &[Op],
     names: &[Happening],
-    operations: usize,
 ) -> Result<Script, Memory>
-    requires points { AreInTurn 0 points.now }
+    requires few { length operations.now ≤ MAX_OPERATIONS }
     requires names { AreInTurn 0 names.now }
-    ensures { IfOk result (IsScript points.now names.now operations) }
+    ensures { IfOk result (IsScriptOf client names.now (map operation_of operations.now)) }
 {
     let mut script = Script {
         events: List::new(alloc),
         ends: List::new(alloc),
     };
     script.ends.append(0)?;
-    let mut taken = Taken {
-        points: 0,
-        names: 0,
-    };
-    for number in 0..operations {
-        taken = take_operation(&mut script, points, names, taken, number)?;
+    let mut walk = Walk::make(client);
+    let mut taken = 0;
+    for number in 0..operations.len() {
+        let operation = &operations[number];
+        taken = take_operation(&mut script, &mut walk, names, taken, number, operation)?;
     }
     Ok(script)
-}
-
-/// Appends the events of an operation, which are the next of both kinds.
-fn take_operation(
-    script: &mut Script,
-    points: &[Happening],
-    names: &[Happening],
-    taken: Taken,
-    number: usize,
-) -> Result<Taken, Memory>
-    requires points { AreLeft points.now (drop taken.points points.now) number }
-    requires names { AreLeft names.now (drop taken.names names.now) number }
-    ensures script { IsScript points.now names.now number script.old → OnOk result (IsScript points.now names.now (number + 1) script.new) }
-    ensures points { IfOk result (λ next. AreLeft points.now (drop next.points points.now) (number + 1)) }
-    ensures names { IfOk result (λ next. AreLeft names.now (drop next.names names.now) (number + 1)) }
-{
-    let points = take_at(&mut script.events, points, taken.points, number)?;
-    let names = take_at(&mut script.events, names, taken.names, number)?;
-    script.ends.append(script.events.len())?;
-    Ok(Taken { points, names })
 }
 
 /// Takes a ring through these events.
@@ -94,7 +113,7 @@ pub(crate) fn go_through(ring: &mut RingTail, events: &[Event]) -> Result<(), Me
 {
     for event in events {
         match *event {
-            Event::Comes { noted } => ring.note(noted.id, noted.trace)?,
+            Event::Comes { id, trace } => ring.note(id, trace)?,
             Event::Names { trace } => ring.name(trace)?,
         }
     }

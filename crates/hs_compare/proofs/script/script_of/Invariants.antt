@@ -1,10 +1,12 @@
-use Rattle.std.proofs.Common.{drop}
-use Rattle.hs_compare.specs.Walking.{AreLeft, IsScript}
+use Rattle.std.proofs.Common.{◌≡◌, drop, map, take}
+use Rattle.hs_workload.specs.Views.{operation_of}
+use Rattle.hs_compare.specs.Points.{HasScript}
+use Rattle.hs_compare.specs.Walking.{AreLeft}
 use Rattle.hs_compare.proofs.script.script_of.Given as goal
 
 abbrev pub invariant-loop-number : goal.invariant-loop-number
 invariant-loop-number l = record {
-  script : IsScript l.points l.names l.number l.script;
-  points : AreLeft l.points (drop l.taken.points l.points) l.number;
-  names : AreLeft l.names (drop l.taken.names l.names) l.number;
+  client : l.walk.client ≡ l.initial.walk.client;
+  script : HasScript l.names (map operation_of (take l.number l.operations)) l.walk l.script;
+  names : AreLeft l.names (drop l.taken l.names) l.number;
 }

@@ -1,4 +1,4 @@
-use Rattle.std.proofs.Common.{◌≡◌, ◌++◌, List, length, map, sym, ap, subst, ◌∙◌, arith}
+use Rattle.std.proofs.Common.{◌≡◌, List, length, map, sym, ap, subst, ◌∙◌, arith}
 use Rattle.std.proofs.lemmas.List.{length-map}
 use Rattle.hs_base.specs.Listing.{Listing}
 use Rattle.hs_journal.specs.Views.{journal_of}
@@ -7,23 +7,20 @@ use Rattle.hs_outcome.specs.Outcomes.{client_at}
 use Rattle.hs_player.specs.Places.{IsPlayable}
 use Rattle.hs_records.specs.Pages.{pages_of}
 use Rattle.hs_records.specs.Plain.{Operation}
-use Rattle.hs_samplers.specs.Coming.{comings_of}
 use Rattle.hs_sent.specs.Sending.{draws_at, operations_at}
 use Rattle.hs_workload.specs.Views.{workload_of, operation_of, operations_of}
 use Rattle.hs_workload.specs.declared.word.Setting.TheVariants.{Nodes}
-use Rattle.hs_compare.specs.Happens.{coming_of}
 use Rattle.hs_compare.specs.Scripts.{IsClientScript}
 use Rattle.hs_compare.proofs.Beginning.{place_low, draws_many, draws_each, row_is}
-use Rattle.hs_compare.proofs.Firsts.{if_ok, on_ok}
+use Rattle.hs_compare.proofs.Firsts.{if_ok}
 use Rattle.hs_compare.proofs.scripts.place_script.Goals as goal
 
 pub client_at-client-requires-clause-low : goal.client_at-client-requires-clause-low
 client_at-client-requires-clause-low c =
     let W = workload_of c.args.workload.now in
-    let J = journal_of c.args.journal.now in
     let nodes = (c.requires.may.valid.head Nodes).1 in
     let rows = length-map c.args.workload.now.clients.items operations_of in
-    place_low W J c.requires.may c.args.place (omega (arith, nodes)) (omega (arith, c.requires.low, rows))
+    place_low W c.requires.may.valid c.args.place (omega (arith, nodes)) (omega (arith, c.requires.low, rows))
 
 pub bounds-as_slice-place-2 : goal.bounds-as_slice-place-2
 bounds-as_slice-place-2 c =
@@ -60,8 +57,8 @@ client_script-requires-clause-each c =
     ∙ row_is c.args.journal.now.draws.items c.as_slice-2.result.now (λ (l : Listing Draw). l.items) place c.index-as_slice-place-2.result c.as_slice-2.ensures (omega (arith, c.requires.low, rows, rows', many)) c.index-as_slice-place-2.is in
     ap length draws ∙ draws_each W J c.requires.may place ∙ ap (λ (o : List Operation). length (pages_of W.settings.size o)) (sym is)
 
-pub returns-clause-script : goal.returns-clause-script
-returns-clause-script c =
+pub returns : goal.returns
+returns c =
     let W = workload_of c.args.workload.now in
     let is : map operation_of c.as_slice-operations.result.now ≡ operations_at W c.args.place =
     ap (map operation_of) c.as_slice-operations.ensures
@@ -70,16 +67,4 @@ returns-clause-script c =
     (λ script found.
     subst (λ (o : List Operation). IsClientScript W.settings.autos (client_at W.settings.clients c.args.place) o script) is
     (subst (λ client. IsClientScript W.settings.autos client (map operation_of c.as_slice-operations.result.now) script) c.client_at-client.ensures found))
-    c.client_script.ensures.script
-
-pub returns-clause-all : goal.returns-clause-all
-returns-clause-all c =
-    let W = workload_of c.args.workload.now in
-    let is : map operation_of c.as_slice-operations.result.now ≡ operations_at W c.args.place =
-    ap (map operation_of) c.as_slice-operations.ensures
-    ∙ row_is c.args.workload.now.clients.items c.as_slice.result.now operations_of c.args.place c.index-as_slice-place.result c.as_slice.ensures c.requires.low c.index-as_slice-place.is in
-    on_ok c.client_script.result _ _
-    (λ joins.
-    joins ∙ ap (λ client. map coming_of c.args.all.now.items ++ comings_of client (map operation_of c.as_slice-operations.result.now)) c.client_at-client.ensures
-    ∙ ap (λ (o : List Operation). map coming_of c.args.all.now.items ++ comings_of (client_at W.settings.clients c.args.place) o) is)
-    c.client_script.ensures.all
+    c.client_script.ensures

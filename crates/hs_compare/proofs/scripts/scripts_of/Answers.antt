@@ -9,5 +9,5 @@ pub loop-place-preserved : goal.loop-place-preserved
 loop-place-preserved c =
     let W = workload_of c.args.workload.now in
     let place = c.loop-place.place in
-    subst (λ (xs : List Script). AreFirstScripts W (place + 1) xs c.place_script.new.all.items) (sym c.in_ok-append.ensures.ok)
-    (script_more W place c.loop-place.scripts.items c.loop-place.all.items c.place_script.new.all.items c.in_ok-place_script.field-0 c.loop-place.invariant c.in_ok-place_script.ensures.script c.in_ok-place_script.ensures.all)
+    subst (λ (xs : List Script). AreFirstScripts W (place + 1) xs) (sym c.in_ok-append.ensures.ok)
+    (script_more W place c.loop-place.scripts.items c.in_ok-place_script.field-0 c.loop-place.invariant c.in_ok-place_script.ensures)

@@ -1,10 +1,10 @@
 use Rattle.std.proofs.Common.{◌≡◌, map, take}
 use Rattle.hs_workload.specs.Views.{operation_of}
-use Rattle.hs_compare.specs.Points.{HasGone}
-use Rattle.hs_compare.proofs.points.points_of.Given as goal
+use Rattle.hs_compare.specs.Points.{HasJoined}
+use Rattle.hs_compare.proofs.records.add_records.Given as goal
 
 abbrev pub invariant-loop-number : goal.invariant-loop-number
 invariant-loop-number l = record {
   client : l.walk.client ≡ l.initial.walk.client;
-  gone : HasGone (map operation_of (take l.number l.operations)) l.fn.all.items l.walk l.all.items;
+  joined : HasJoined (map operation_of (take l.number l.operations)) l.fn.all.items l.walk l.all.items;
 }
