@@ -21,16 +21,16 @@ abbrev pub alive_at : Bool → Noted → List Noted → List Noted
 alive_at named noted rest = cond (not named) (noted ∷ rest) rest
 
 -- the first record is taken out
-pub alive_first : (named : List TraceId) (records : List Noted) (noted : Noted) (b : Bool) → Some noted ≡ slice_get records 0 → b ≡ list_any (λ (other : TraceId). noted.trace.0 == other.0) named
+pub alive_first : (named : List TraceId) (records : List Noted) (noted : Noted) (b : Bool) → Some noted ≡ slice_get records 0 → b ≡ is_among named noted.trace
     → alive named records ≡ alive_at b noted (alive named (drop 1 records))
 alive_first named records noted b first among =
-    ap (alive named) (first_some records noted first) ∙ ap (λ c. alive_at c noted (alive named (drop 1 records))) (sym (among ∙ among_is named noted.trace))
+    ap (alive named) (first_some records noted first) ∙ ap (λ c. alive_at c noted (alive named (drop 1 records))) (sym among)
 
 -- a record that passes goes from the front to the back, if it is alive
-pub passed : (named : List TraceId) (records : List Noted) (noted : Noted) (b : Bool) → Some noted ≡ slice_get records 0 → b ≡ list_any (λ (other : TraceId). noted.trace.0 == other.0) named
+pub passed : (named : List TraceId) (records : List Noted) (noted : Noted) (b : Bool) → Some noted ≡ slice_get records 0 → b ≡ is_among named noted.trace
     → alive named (take 1 records) ≡ alive_at b noted []
 passed named records noted b first among =
-    ap (λ rs. alive named (take 1 rs)) (first_some records noted first) ∙ ap (λ c. alive_at c noted []) (sym (among ∙ among_is named noted.trace))
+    ap (λ rs. alive named (take 1 rs)) (first_some records noted first) ∙ ap (λ c. alive_at c noted []) (sym among)
 
 -- so many have passed
 abbrev pub after_passing : List TraceId → List Noted → ℕ → List Noted

@@ -16,6 +16,7 @@ use crate::lines::{Counts, Line, counted, counted_of, line_of};
 use crate::marks::{
     all_bytes, all_traces, head_marks, marked_bytes, marked_traces, named_marks, reported_marks,
 };
+use crate::ring::is_in;
 use crate::ring_tail::RingTail;
 use hs_base::limits::MAX_OPERATIONS;
 use hs_base::{Memory, TraceId};
@@ -160,7 +161,7 @@ fn claims_of(
 fn is_in_gap(entry: &Entry, claims: &IndexSet<TraceId>) -> bool
     ensures { result ≡ is_gap claims.now.keys entry.now }
 {
-    claims.contains(&entry.trace) && !is_reported(entry.fate)
+    is_in(claims, entry.trace) && !is_reported(entry.fate)
 }
 
 /// How many of these records are in gap lines.
@@ -180,7 +181,7 @@ fn count_gaps(entries: &[Entry], claims: &IndexSet<TraceId>) -> usize
 fn is_unclaimed(entry: &Entry, ring: &RingTail, claims: &IndexSet<TraceId>) -> bool
     ensures { result ≡ is_limited ring.now.named claims.now.keys entry.now }
 {
-    ring.is_named(entry.trace) && !claims.contains(&entry.trace)
+    ring.is_named(entry.trace) && !is_in(claims, entry.trace)
 }
 
 /// How many of these records are of named traces that no node claimed.

@@ -42,8 +42,11 @@ fn count_one(counts: &mut Counts, trace: TraceId) -> Result<(), Memory>
     ensures { (traces : List TraceId) → AreCounted traces counts.old.entries
         → OnOk result (AreCounted (traces ++ trace ∷ []) counts.new.entries) }
 {
-    let count = times_of(counts, trace);
-    counts.insert(trace, count + 1)?;
+    if let Some(count) = counts.get_mut(&trace) {
+        *count += 1;
+        return Ok(());
+    }
+    counts.insert(trace, 1)?;
     Ok(())
 }
 

@@ -21,6 +21,16 @@ pub struct Noted {
 /// The ring, the oldest record first.
 pub type Records = HeapCircularBuffer<Noted>;
 
+/// Whether a trace is among these. Where there is none, nothing is looked up.
+pub fn is_in(traces: &IndexSet<TraceId>, trace: TraceId) -> bool
+    ensures { result ≡ is_among traces.now.keys trace }
+{
+    if traces.is_empty() {
+        return false;
+    }
+    traces.contains(&trace)
+}
+
 /// Makes way for one record more where there is no room: the first that is alive goes. Answers how many are
 /// alive then.
 pub fn make_way(
@@ -93,7 +103,7 @@ fn first_alive(ring: &mut Records, named: &IndexSet<TraceId>) -> Option<Noted>
     ensures shorter { length ring.new.items ≤ length ring.old.items }
 {
     while let Some(noted) = ring.pop_front() {
-        if !named.contains(&noted.trace) {
+        if !is_in(named, noted.trace) {
             return Some(noted);
         }
     }
@@ -119,7 +129,7 @@ fn pass(ring: &mut Records, named: &IndexSet<TraceId>)
     ensures capacity { ring.new.capacity ≡ ring.old.capacity }
 {
     if let Some(noted) = ring.pop_front() {
-        if !named.contains(&noted.trace) {
+        if !is_in(named, noted.trace) {
             ring.push_back(noted);
         }
     }

@@ -5,7 +5,7 @@ ghost use Rattle.hs_compare.specs.Ringing.{new_ring, comes, names, is_among};
 
 use crate::limits::MAX_ROOM;
 use crate::queue::{Queue, Queues, add, take};
-use crate::ring::{Noted, Records, join, make_way};
+use crate::ring::{Noted, Records, is_in, join, make_way};
 use hs_base::{List, Memory, RecordId, TraceId};
 use indexmap::{IndexMap, IndexSet};
 use std::alloc::Global;
@@ -66,7 +66,7 @@ impl RingTail {
         ensures err { OnErr result (self.new ≡ self.old) }
     {
         make_room(&mut self.kept, &mut self.traces, self.waiting + 1)?;
-        if self.named.contains(&trace) {
+        if is_in(&self.named, trace) {
             keep(&mut self.kept, &mut self.traces, id, trace);
             return Ok(());
         }
@@ -102,7 +102,7 @@ impl RingTail {
     pub fn is_named(&self, trace: TraceId) -> bool
         ensures { result ≡ is_among self.now.named trace }
     {
-        self.named.contains(&trace)
+        is_in(&self.named, trace)
     }
 
     /// The named traces, each once, in the order in which they were first named.

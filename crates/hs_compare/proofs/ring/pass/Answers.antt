@@ -6,8 +6,8 @@ use Rattle.hs_compare.proofs.Firsts.{first_some, kept_whole}
 use Rattle.hs_compare.proofs.Rings.{passed, alive_at}
 use Rattle.hs_compare.proofs.ring.pass.Goals as goal
 
-pub returns-then-not-contains-clause-passes : goal.returns-then-not-contains-clause-passes
-returns-then-not-contains-clause-passes c =
+pub returns-then-not-is_in-clause-passes : goal.returns-then-not-is_in-clause-passes
+returns-then-not-is_in-clause-passes c =
     let named = c.args.named.now.keys in
     let ring = c.args.ring.now.items in
     let noted = c.in-Some.noted in
@@ -18,10 +18,10 @@ returns-then-not-contains-clause-passes c =
     omega (arith, length_push c.pop_front.new.self.items noted, ap length popped, ap length (first_some ring noted c.in-Some.ensures.value), capacity, c.requires) in
     ap (λ (b : Buffer Noted). b.items) c.push_back.ensures.items ∙ kept_whole c.pop_front.new.self.capacity (c.pop_front.new.self.items ++ noted ∷ []) fits
     ∙ ap (λ xs. xs ++ noted ∷ []) popped
-    ∙ ap (λ xs. rest ++ xs) (ap (λ b. alive_at b noted []) (sym c.if-not-contains.true) ∙ sym (passed named ring noted c.contains.result c.in-Some.ensures.value c.contains.ensures))
+    ∙ ap (λ xs. rest ++ xs) (ap (λ b. alive_at b noted []) (sym c.if-not-is_in.true) ∙ sym (passed named ring noted c.is_in.result c.in-Some.ensures.value c.is_in.ensures))
 
-pub returns-then-not-contains-clause-shorter : goal.returns-then-not-contains-clause-shorter
-returns-then-not-contains-clause-shorter c =
+pub returns-then-not-is_in-clause-shorter : goal.returns-then-not-is_in-clause-shorter
+returns-then-not-is_in-clause-shorter c =
     let ring = c.args.ring.now.items in
     let noted = c.in-Some.noted in
     let popped = ap (λ (b : Buffer Noted). b.items) c.pop_front.ensures.items in
@@ -32,11 +32,11 @@ returns-then-not-contains-clause-shorter c =
     let items = ap (λ (b : Buffer Noted). b.items) c.push_back.ensures.items ∙ kept_whole c.pop_front.new.self.capacity (c.pop_front.new.self.items ++ noted ∷ []) fits in
     omega (arith, ap length items, length_push c.pop_front.new.self.items noted, ap length popped, long)
 
-pub returns-else-not-contains-clause-passes : goal.returns-else-not-contains-clause-passes
-returns-else-not-contains-clause-passes c =
+pub returns-else-not-is_in-clause-passes : goal.returns-else-not-is_in-clause-passes
+returns-else-not-is_in-clause-passes c =
     let named = c.args.named.now.keys in
     let ring = c.args.ring.now.items in
     let noted = c.in-Some.noted in
     let rest = drop 1 ring in
     ap (λ (b : Buffer Noted). b.items) c.pop_front.ensures.items ∙ sym (append-nil rest)
-    ∙ ap (λ xs. rest ++ xs) (ap (λ b. alive_at b noted []) (sym c.if-not-contains.false) ∙ sym (passed named ring noted c.contains.result c.in-Some.ensures.value c.contains.ensures))
+    ∙ ap (λ xs. rest ++ xs) (ap (λ b. alive_at b noted []) (sym c.if-not-is_in.false) ∙ sym (passed named ring noted c.is_in.result c.in-Some.ensures.value c.is_in.ensures))

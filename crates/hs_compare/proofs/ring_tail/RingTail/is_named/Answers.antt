@@ -1,7 +1,6 @@
 use Rattle.std.proofs.Common.{◌∙◌, ap}
 use Rattle.hs_compare.specs.Ringing.{Ringing, is_among}
-use Rattle.hs_compare.proofs.Rings.{among_is}
 use Rattle.hs_compare.proofs.ring_tail.RingTail.is_named.Goals as goal
 
 pub returns : goal.returns
-returns c = c.contains.ensures ∙ among_is c.self.inside.named.keys c.args.trace ∙ ap (λ (r : Ringing). is_among r.named c.args.trace) c.self.view_is
+returns c = c.is_in.ensures ∙ ap (λ (r : Ringing). is_among r.named c.args.trace) c.self.view_is
