@@ -17,7 +17,7 @@ use hs_check::split_input;
 use hs_json::write_outcome;
 use hs_lockstep::laws::schedule_is_lawful;
 use hs_make::make_workload;
-use hs_replay::{replay, write_total};
+use hs_replay::{into_outcome, replay, write_total};
 use hs_run::run;
 use hs_streams::{Input, Status, read_all, refusal_line};
 use hs_workload::{ReadError, Workload, read_workload, versions_are_exchanged, write_workload};
@@ -129,7 +129,8 @@ fn done(text: Bytes) -> Answer
 }
 
 /// What a command without watchers answers for a workload, and `check` for a workload and the text of a journal. Each actor of a
-/// run passes the gate before each of its steps. A workload that was played is let go before its outcome is written.
+/// run passes the gate before each of its steps. A workload that was played is let go before its outcome is written, and one that was
+/// replayed before its outcome is made.
 pub(crate) fn answer_for<R: Threads + Sync, G: Gate>(
     rt: &R,
     alloc: Global,
@@ -148,8 +149,7 @@ pub(crate) fn answer_for<R: Threads + Sync, G: Gate>(
         Command::Check => judge(alloc, &workload, journal),
         Command::Replay { form } => {
             schedule_is_lawful();
-            let outcome = replay(alloc, &workload)?;
-            drop(workload);
+            let outcome = into_outcome(alloc, workload)?;
             Ok(done(write_outcome(alloc, &outcome, form)?))
         }
         Command::Run { form } => {

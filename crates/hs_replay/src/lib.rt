@@ -5,4 +5,4 @@ mod books;
 mod replaying;
 
 pub use hs_report::{Outcome, write_lines, write_total};
-pub use replaying::replay;
+pub use replaying::{into_outcome, replay};

@@ -23,6 +23,17 @@ pub fn replay(alloc: Global, workload: &Workload) -> Result<Outcome, Memory>
     gather(alloc, books)
 }
 
+/// Replays a workload as `replay` does, and lets it go before it makes the outcome. So the operations and the ledger are never there
+/// together. The one error is want of memory.
+pub fn into_outcome(alloc: Global, workload: Workload) -> Result<Outcome, Memory>
+    requires { IsValid (workload_of workload) }
+    ensures { IfOk result (λ outcome. IsOutcome (workload_of workload) (lockstep (workload_of workload)) outcome) }
+{
+    let books = play(alloc, &workload)?;
+    drop(workload);
+    gather(alloc, books)
+}
+
 /// Plays the schedule to its end, and answers what all noted.
 fn play(alloc: Global, workload: &Workload) -> Result<Books, Memory>
     requires { IsValid (workload_of workload.now) }

@@ -1,0 +1,12 @@
+use Rattle.hs_lockstep.specs.Lockstep.{lockstep}
+use Rattle.hs_workload.specs.Views.{workload_of}
+use Rattle.hs_replay.proofs.Lists.{on_ok_value}
+use Rattle.hs_replay.proofs.replaying.into_outcome.Goals as goal
+
+pub gather-requires : goal.gather-requires
+gather-requires c = let W = workload_of c.args.workload in (W, lockstep W, c.in_ok-books.ensures)
+
+pub returns : goal.returns
+returns c =
+    let W = workload_of c.args.workload in
+    on_ok_value c.gather.result _ _ c.gather.ensures (λ outcome is. is W (lockstep W) c.in_ok-books.ensures)
