@@ -58,13 +58,13 @@ pub record Stands (W : PlainWorkload) (J : PlainJournal) (run : NodeRun) (log : 
 
 -- ---- steps
 
--- a step that takes an input, or that offers a buffer
+-- a step that takes a crumb, a trigger or an ask, of which something may be told; or that offers a buffer
 abbrev pub IsTake : Step → Type 0
-IsTake (steps.Chunk client) = Unit {0}
+IsTake (steps.Chunk client) = ⊥
 IsTake (steps.Crumb client) = Unit {0}
 IsTake (steps.Trigger client) = Unit {0}
 IsTake steps.Ask = Unit {0}
-IsTake steps.Turn = Unit {0}
+IsTake steps.Turn = ⊥
 IsTake (steps.Given stamp) = ⊥
 IsTake (steps.Missed stamp) = ⊥
 IsTake steps.Unread = ⊥
@@ -112,10 +112,6 @@ MayTakeNext W heard run step = (input : model.Input) → event_of run heard step
 abbrev pub KnowsRun : Follower → Type 0
 KnowsRun f = (W : PlainWorkload) × (J : PlainJournal) × (run : NodeRun) × Stands W J run run.state.log f
 
--- of this workload
-abbrev pub KnowsRunOf : PlainWorkload → Follower → Type 0
-KnowsRunOf W f = (J : PlainJournal) × (run : NodeRun) × Stands W J run run.state.log f
-
 abbrev pub MayPerform : PlainWorkload → Step → List Ask → Follower → Type 0
 MayPerform W step asks f =
     (J : PlainJournal) × (heard : Messages) × (run : NodeRun) × (asks ≡ asks_to run.node heard) × Stands W J run run.state.log f × MayTakeNext W heard run step
@@ -134,6 +130,13 @@ abbrev pub Performs : PlainWorkload → Step → List Ask → Follower → Follo
 Performs W step asks old new done =
     (J : PlainJournal) (heard : Messages) (run : NodeRun) → asks ≡ asks_to run.node heard → Stands W J run run.state.log old → MayTakeNext W heard run step
     → PerformsIf W J heard run step new done
+
+-- the same of a step that takes no ask, whatever the asks are
+abbrev pub MayDo : PlainWorkload → Step → Follower → Type 0
+MayDo W step f = (asks : List Ask) × MayPerform W step asks f
+
+abbrev pub Does : PlainWorkload → Step → Follower → Follower → Bool → Type 0
+Does W step old new done = (asks : List Ask) → Performs W step asks old new done
 
 abbrev pub PerformsOffer : Step → Follower → Follower → Bool → Type 0
 PerformsOffer step old new done = (W : PlainWorkload) (J : PlainJournal) (heard : Messages) (run : NodeRun) → Stands W J run run.state.log old → PerformsIf W J heard run step new done

@@ -1,8 +1,10 @@
 //! An agent that follows its log.
 
 ghost use Rattle.std.specs.Prelude.{◌≡◌, IfOk, IfSome, IsSome};
+ghost use Rattle.hs_journal.specs.declared.journal.Step.TheVariants as steps;
+ghost use Rattle.hs_records.specs.Plain.{PlainWorkload};
 ghost use Rattle.hs_workload.specs.Views.{workload_of};
-ghost use Rattle.hs_followed.specs.Nodes.{IsTake, IsOffer, Readies, MayPerform, KnowsRun, KnowsRunOf, Performs, PerformsOffer, name_of};
+ghost use Rattle.hs_followed.specs.Nodes.{IsTake, IsOffer, Readies, MayPerform, MayDo, KnowsRun, Performs, Does, PerformsOffer, name_of};
 
 use crate::clients::{next_chunk, next_crumb, next_trigger};
 use hs_agent::{Agent, Input};
@@ -29,53 +31,77 @@ pub struct Follower {
 }
 
 impl Follower {
-    /// The input of a step that takes one, where it is there, out of its queue. These are all asks that were sent to the agent.
-    fn next_input(
-        &mut self,
-        workload: &Workload,
-        step: Step,
-        asks: &[Ask],
-    ) -> Result<Option<Input<()>>, Memory>
-        requires kind { IsTake step }
-        requires stands { KnowsRunOf (workload_of workload.now) self.old }
-        ensures { IfOk result (λ input. Readies (workload_of workload.now) step asks.now self.old input self.new) }
-    {
-        match step {
-            Step::Chunk { client } => match next_chunk(&mut self.clients, workload, client)? {
-                Some(held) => Ok(Some(Input::Chunk { client, held })),
-                None => Ok(None),
-            },
-            Step::Crumb { client } => match next_crumb(&mut self.clients, client) {
-                Some(crumb) => Ok(Some(Input::Crumb { client, crumb })),
-                None => Ok(None),
-            },
-            Step::Trigger { client } => match next_trigger(&mut self.clients, client) {
-                Some(trigger) => Ok(Some(Input::Trigger { client, trigger })),
-                None => Ok(None),
-            },
-            Step::Ask => {
-                if self.asked >= asks.len() {
-                    return Ok(None);
-                }
-                let ask = asks[self.asked];
-                self.asked += 1;
-                Ok(Some(Input::Ask { ask }))
-            }
-            Step::Turn => Ok(Some(Input::Turn)),
-            Step::Given { .. } | Step::Missed { .. } | Step::Unread => unreachable!(),
-        }
-    }
-
-    /// Performs a step that takes an input, where it is ready. Answers whether it was. These are all asks that were sent to the agent.
-    fn take(&mut self, workload: &Workload, step: Step, asks: &[Ask]) -> Result<bool, Memory>
-        requires kind { IsTake step }
-        requires may { MayPerform (workload_of workload.now) step asks.now self.old }
-        ensures { IfOk result (Performs (workload_of workload.now) step asks.now self.old self.new) }
+    /// Takes the next chunk of a client, where it is there. Answers whether it was.
+    fn take_chunk(&mut self, workload: &Workload, client: u16) -> Result<bool, Memory>
+        requires { MayDo (workload_of workload.now) (steps.Chunk client) self.old }
+        ensures { IfOk result (Does (workload_of workload.now) (steps.Chunk client) self.old self.new) }
     {
         events_go_on();
         events_add_this();
         steps_say_what_they_tell();
-        match self.next_input(workload, step, asks)? {
+        match next_chunk(&mut self.clients, workload, client)? {
+            None => Ok(false),
+            Some(held) => {
+                self.agent.take_chunk(client, held)?;
+                Ok(true)
+            }
+        }
+    }
+
+    /// Makes a turn, which is always ready.
+    fn turn(&mut self) -> Result<bool, Memory>
+        requires { (W : PlainWorkload) × MayDo W steps.Turn self.old }
+        ensures { (W : PlainWorkload) → IfOk result (Does W steps.Turn self.old self.new) }
+    {
+        events_go_on();
+        events_add_this();
+        steps_say_what_they_tell();
+        self.agent.turn()?;
+        Ok(true)
+    }
+
+    /// The input of a step that takes a crumb, a trigger or an ask, where it is there, out of its queue. These are all asks that were sent
+    /// to the agent.
+    fn next_input(&mut self, step: Step, asks: &[Ask]) -> Option<Input<()>>
+        requires { IsTake step }
+        ensures { (W : PlainWorkload) → Readies W step asks.now self.old result self.new }
+    {
+        match step {
+            Step::Crumb { client } => match next_crumb(&mut self.clients, client) {
+                Some(crumb) => Some(Input::Crumb { client, crumb }),
+                None => None,
+            },
+            Step::Trigger { client } => match next_trigger(&mut self.clients, client) {
+                Some(trigger) => Some(Input::Trigger { client, trigger }),
+                None => None,
+            },
+            Step::Ask => {
+                if self.asked >= asks.len() {
+                    return None;
+                }
+                let ask = asks[self.asked];
+                self.asked += 1;
+                Some(Input::Ask { ask })
+            }
+            Step::Chunk { .. }
+            | Step::Turn
+            | Step::Given { .. }
+            | Step::Missed { .. }
+            | Step::Unread => unreachable!(),
+        }
+    }
+
+    /// Performs a step that takes a crumb, a trigger or an ask, where it is ready. Answers whether it was. These are all asks that were
+    /// sent to the agent.
+    fn take(&mut self, step: Step, asks: &[Ask]) -> Result<bool, Memory>
+        requires kind { IsTake step }
+        requires may { (W : PlainWorkload) × MayPerform W step asks.now self.old }
+        ensures { (W : PlainWorkload) → IfOk result (Performs W step asks.now self.old self.new) }
+    {
+        events_go_on();
+        events_add_this();
+        steps_say_what_they_tell();
+        match self.next_input(step, asks) {
             None => Ok(false),
             Some(input) => match self.agent.step(input)? {
                 None => Ok(true),
@@ -128,8 +154,10 @@ impl Follower {
         ensures { IfOk result (Performs (workload_of workload.now) step asks.now self.old self.new) }
     {
         match step {
+            Step::Chunk { client } => self.take_chunk(workload, client),
+            Step::Turn => self.turn(),
             Step::Given { .. } | Step::Missed { .. } | Step::Unread => self.offer(step),
-            _ => self.take(workload, step, asks),
+            Step::Crumb { .. } | Step::Trigger { .. } | Step::Ask => self.take(step, asks),
         }
     }
 }
