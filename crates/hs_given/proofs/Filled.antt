@@ -51,6 +51,24 @@ module _ (settings : PlainSettings) (client : ClientId) (ops : List Operation) (
     behind_trigger l m old None new at takes = let h = takes settings client ops drawn done k l m at in (m, h.1)
     behind_trigger l m old (Some trigger) new at takes = let h = takes settings client ops drawn done k l m at in (m + 1, h.1)
 
+    -- nothing was sent
+    pub done_quiet : player.done ≡ done_behind 1 is.done ops
+    done_quiet = went.at.done_is
+
+    pub fills_quiet : TimedPagesAreThePages → IsFilling settings client ops draws k (record { client = f.client; script = script; player = player })
+    fills_quiet paged =
+        record {
+          client_is = is.client_is;
+          each = is.each;
+          drawn = drawn;
+          kinds = kinds_more settings client ops draws is.each is.drawn f.script is.kinds paged went.more script went.draws done k is.l is.m player went.at;
+          size_is = size_stays went.more f.script script went.draws ∙ is.size_is;
+          done = done;
+          l = is.l;
+          m = is.m;
+          at = went.at;
+        }
+
     module _ (crumb : Option Crumb) (player1 : Playing) (takes : TakesCrumb player crumb player1) (trigger : Option Trigger) (player2 : Playing) (takes' : TakesTrigger player1 trigger player2) where
       first : (n : ℕ) × At n is.m player1
       first = behind_crumb is.l is.m player crumb player1 went.at takes

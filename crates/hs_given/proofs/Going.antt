@@ -1,11 +1,12 @@
 -- One operation more: where the player stands when it has gone on, and what was taken then.
-use Rattle.std.proofs.Common.{◌≡◌, ℕ, ◌+◌, ◌<◌, ◌≤◌, false, List, [], ◌++◌, length, map, take, drop, sym, ap, subst, ◌∙◌, arith, length-append}
+use Rattle.std.proofs.Common.{◌≡◌, ℕ, ◌+◌, ◌<◌, ◌≤◌, Bool, false, List, [], ◌++◌, length, map, take, drop, sym, ap, subst, ◌∙◌, arith, length-append}
 use Rattle.std.proofs.lemmas.List.{append-nil, length-map, length-take-le, take-append-drop}
-use Rattle.std.specs.Prelude.{replicate}
+use Rattle.std.specs.Prelude.{IsTrue, replicate}
 use Rattle.hs_base.specs.declared.ids.ClientId.{ClientId}
 use Rattle.hs_base.specs.declared.told.Crumb.{Crumb}
+use Rattle.hs_base.specs.declared.told.Trigger.{Trigger}
 use Rattle.hs_journal.specs.declared.journal.Draw.{Draw}
-use Rattle.hs_player.specs.Places.{IsAt, WentOn, done_behind}
+use Rattle.hs_player.specs.Places.{IsAt, TellsBare, WentOn, done_behind}
 use Rattle.hs_player.specs.Playing.{Playing}
 use Rattle.hs_records.specs.Pages.{pages_of}
 use Rattle.hs_records.specs.Plain.{Operation, PlainSettings}
@@ -13,16 +14,20 @@ use Rattle.hs_records.specs.Records.{AreBracketed}
 use Rattle.hs_sent.specs.Draws.{count_started}
 use Rattle.hs_sent.specs.Drawn.{has_buffer, drawn_from, drawn_pages}
 use Rattle.hs_sent.specs.Laws.{TimedPagesAreThePages, TimedPagesAreTimely}
-use Rattle.hs_sent.specs.Sending.{sends_of, sent_chunks, sent_within}
+use Rattle.hs_sent.specs.Order.{ChunksAreInOrder, CrumbsAreInOrder, TriggersAreInOrder}
+use Rattle.hs_sent.specs.Sending.{ClientSends, Sent, sends_of, sent_chunks, sent_within}
 use Rattle.hs_sent.specs.SoFar.{FirstChunksAreSent, FirstOperationsSend, pages_within}
 use Rattle.hs_sent.specs.Timing.{timed_pages}
+use Rattle.hs_words.specs.Pages.{Sheet}
 use Rattle.hs_given.specs.declared.gathering.Gathering.{Gathering}
 use Rattle.hs_given.specs.declared.script.Script.{Script}
-use Rattle.hs_given.specs.Gathering.{AreNumbers, IsSentBy, Where, WereChunks, AreChunks, WereCrumbs, AreCrumbs, WereTriggers, AreTriggers, count_within, starts_within}
+use Rattle.hs_given.specs.Gathering.{AreNumbers, HasItems, IsSentBy, Where, AtChunk, AtCrumb, AtTrigger, chunks_at, crumbs_at, triggers_at, WereChunks, AreChunks, WereCrumbs, AreCrumbs, WereTriggers, AreTriggers, count_within, starts_within}
 use Rattle.hs_given.specs.Scripts.{script_way}
 use Rattle.hs_given.proofs.Drawing.{drawn_more, kinds_left, kinds_more}
+use Rattle.hs_given.proofs.Queues.{none_more}
 use Rattle.hs_given.proofs.Scripted.{size_stays, left_falls}
 use Rattle.hs_given.proofs.Starts.{starts_more}
+use Rattle.hs_given.proofs.Taking.{chunks_ordered}
 
 -- what is known of what clients send
 pub record Sends : Type 0 where
@@ -148,3 +153,33 @@ module _ (k : Sends) (settings : PlainSettings) (client : ClientId) (ops : List 
           triggers = triggers.holds;
           started = starts;
         }
+
+    -- ---- where nothing was sent
+
+    module _ (chunks_order : ChunksAreInOrder) (crumbs_order : CrumbsAreInOrder) (triggers_order : TriggersAreInOrder) (bare : Bool) (tells : TellsBare player' bare) (is_bare : IsTrue bare) where
+      abbrev sends : ClientSends
+      sends = sends_of settings client ops drawn
+
+      all_gone : (count_within n sends.chunks ≡ count_within (n + 1) sends.chunks) × (count_within n sends.crumbs ≡ count_within (n + 1) sends.crumbs) × (count_within n sends.triggers ≡ count_within (n + 1) sends.triggers)
+      all_gone = (tells settings client ops drawn (n + 1) (count_within n sends.chunks) (count_within n sends.crumbs) (count_within n sends.triggers) at_here).0 is_bare
+
+      pub no_chunks : AreChunks first n player' g.found.chunks.items
+      no_chunks =
+          let Holds = λ (items : List (Sent Sheet)). AreNumbers items g.found.chunks.items in
+          none_more (AtChunk first n) Holds (chunks_at first) n player' (chunks_ordered chunks_order first n player' were_chunks) were_chunks all_gone.0
+
+      crumbs_were : WereCrumbs second n player' g.crumbs.items g.found.crumbs.items
+      crumbs_were = were_crumbs player' g.found.chunks.items no_chunks
+
+      pub no_crumbs : AreCrumbs second n player' g.crumbs.items g.found.crumbs.items
+      no_crumbs =
+          let Holds = λ (items : List (Sent Crumb)). HasItems items g.crumbs.items g.found.crumbs.items in
+          none_more (AtCrumb second n) Holds (crumbs_at second) n player' (crumbs_order ops) crumbs_were all_gone.1
+
+      triggers_were : WereTriggers third n player' g.triggers.items g.found.triggers.items
+      triggers_were = were_triggers player' g.found.chunks.items no_chunks player' g.crumbs.items g.found.crumbs.items no_crumbs
+
+      pub no_triggers : AreTriggers third n player' g.triggers.items g.found.triggers.items
+      no_triggers =
+          let Holds = λ (items : List (Sent Trigger)). HasItems items g.triggers.items g.found.triggers.items in
+          none_more (AtTrigger third n) Holds (triggers_at third) n player' (triggers_order settings.autos ops) triggers_were all_gone.2

@@ -104,6 +104,17 @@ module _ {A : Type 0} where
         holds = subst Holds (ap (λ k. take k (sent_within (number + 1) items)) all ∙ take_whole (sent_within (number + 1) items)) m.holds;
       }
 
+  -- the operation sends none
+  pub none_more : (At : ℕ → Playing → Type 0) (Holds : List (Sent A) → Type 0) (items : List (Sent A)) (number : ℕ) (player : Playing) → AreInOrder 0 items → Was At Holds items number player
+      → count_within number items ≡ count_within (number + 1) items → Is At Holds items number player
+  none_more At Holds items number player order was all =
+      record {
+        at = subst (λ k. At k player) all was.at;
+        holds =
+            subst Holds (ap (λ k. take k (sent_within (number + 1) items)) all ∙ take_whole (sent_within (number + 1) items))
+            (subst Holds (sym (first_within number 0 items order)) was.holds);
+      }
+
   -- ---- one item more
 
   pub one_number : (front : List (Sent A)) (item : Sent A) (number : ℕ) (numbers numbers' : List ℕ) → numbers' ≡ numbers ++ number ∷ [] → item.number ≡ number → AreNumbers front numbers → AreNumbers (front ++ item ∷ []) numbers'

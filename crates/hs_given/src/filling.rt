@@ -86,6 +86,9 @@ impl Filling {
     {
         timed_pages_are_the_pages();
         self.player.go_on(&mut self.script, rules, operations, 1)?;
+        if self.player.is_bare() {
+            return Ok(());
+        }
         let _crumb = self.player.next_crumb();
         let _trigger = self.player.next_trigger();
         Ok(())

@@ -41,7 +41,7 @@ impl Gathering {
         }
     }
 
-    /// The client does the operation of this number, and all that it sends with it joins what it sent before.
+    /// The client does the operation of this number, and all that it sends with it joins what it sent before. Most operations send nothing.
     pub(crate) fn go(
         &mut self,
         number: usize,
@@ -54,6 +54,7 @@ impl Gathering {
         requires sent { WasSent rules.now (map operation_of operations.now) number script.old player.old self.old }
         ensures { OnOk result (SendsOneMore rules.now (map operation_of operations.now) number script.old player.old self.old script.new player.new self.new) }
     {
+        items_are_sent_in_order();
         timed_pages_are_the_pages();
         timed_pages_are_timely();
         the_first_operations_send();
@@ -62,6 +63,9 @@ impl Gathering {
         player.go_on(script, rules, operations, 1)?;
         let started = left - script.left.len();
         note_started(&mut self.found.started, number, started)?;
+        if player.is_bare() {
+            return Ok(());
+        }
         count_chunks(&mut self.found.chunks, number, player)?;
         take_crumbs(&mut self.crumbs, &mut self.found.crumbs, number, player)?;
         take_triggers(&mut self.triggers, &mut self.found.triggers, number, player)

@@ -1,7 +1,7 @@
 use Rattle.std.proofs.Common.{map, arith}
 use Rattle.std.proofs.lemmas.List.{length-map}
 use Rattle.hs_workload.specs.Views.{operation_of}
-use Rattle.hs_given.proofs.Filled.{done_more, fills_on}
+use Rattle.hs_given.proofs.Filled.{done_more, fills_on, done_quiet, fills_quiet}
 use Rattle.hs_given.proofs.filling.Filling.go_on.Goals as goal
 
 pub go_on-requires : goal.go_on-requires
@@ -19,6 +19,22 @@ go_on-requires c =
       rules_are = rules_are;
       ready = λ fewer few. record { size_is = is.size_is; least = is.at.playable.least; most = is.at.playable.most };
     }
+
+pub returns-then-is_bare-clause-done : goal.returns-then-is_bare-clause-done
+returns-then-is_bare-clause-done c =
+    let (settings, client, draws, k, rules_are, is) = c.requires.may in
+    let ops = map operation_of c.args.operations.now in
+    let went = c.in_ok-go_on.ensures settings client is.drawn is.done k is.l is.m is.at in
+    let done = done_quiet settings client ops draws k c.args.self.now is c.go_on.new.well c.go_on.new.self went in
+    let was = is.at.done_is in
+    let left = c.requires.left in
+    let long = length-map c.args.operations.now operation_of in
+    omega (arith, done, was, left, long)
+
+pub returns-then-is_bare-clause-fills : goal.returns-then-is_bare-clause-fills
+returns-then-is_bare-clause-fills c = λ settings client draws k rules_are is.
+    let went = c.in_ok-go_on.ensures settings client is.drawn is.done k is.l is.m is.at in
+    fills_quiet settings client (map operation_of c.args.operations.now) draws k c.args.self.now is c.go_on.new.well c.go_on.new.self went c.timed_pages_are_the_pages.ensures
 
 pub returns-clause-done : goal.returns-clause-done
 returns-clause-done c =
