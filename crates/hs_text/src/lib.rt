@@ -13,7 +13,7 @@ mod values;
 mod words;
 mod writing;
 
-pub use opening::{LineReasons, open_line, open_seen_line};
+pub use opening::{LineReasons, open_seen_line};
 pub use reading::{
     LineFault, count_words, decode_payload, hex_number, is_payload, line_fault, number,
     payload_len, split_line, split_word,
@@ -21,7 +21,7 @@ pub use reading::{
 pub use spelled::{Spelled, spelled_word};
 pub use stop::Stop;
 pub use tidy::is_tidy;
-pub use words::{Words, hex_in, number_in, payload_length};
+pub use words::{Words, hex_in, number_in};
 pub use writing::{
     end_line, push_hex, push_number, push_payload, push_spaced, push_spaced_hex,
     push_spaced_number, push_spaced_numbers, push_spaced_payload, push_spaced_trace,

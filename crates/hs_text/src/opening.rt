@@ -49,14 +49,3 @@ pub fn open_seen_line<W: Spelled, R: Copy>(
         None => Err(Stop::Fault(reasons.word)),
     }
 }
-
-/// The first word of a line, one of the list, and the words behind it.
-pub fn open_line<W: Spelled, R: Copy>(
-    line: &[u8],
-    reasons: LineReasons<R>,
-) -> Result<(W, Words<'_>), Stop<R>>
-    ensures { Gives (λ found. (found.0, words_in found.1)) result
-        (opened reasons (spelled W.spelling W.every) line.now) }
-{
-    open_seen_line(line, false, reasons)
-}

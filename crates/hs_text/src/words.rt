@@ -1,9 +1,9 @@
 //! The words of a line, taken one after another, and what each says.
 
-ghost use Rattle.std.specs.Prelude.{◌≡◌, ◌≤◌, ◌∷◌, [], length, MatchOption, OnOk, IfOk, IfSome, IsTrue};
-ghost use Rattle.hs_text.specs.Text.{words_of, number_of, hex_of, is_payload, payload_of};
+ghost use Rattle.std.specs.Prelude.{◌≡◌, ◌≤◌, ◌∷◌, [], length, MatchOption, IfOk, IfSome, IsTrue};
+ghost use Rattle.hs_text.specs.Text.{words_of, number_of, hex_of, is_payload};
 ghost use Rattle.hs_text.specs.Steps.{Gives, value_or};
-ghost use Rattle.hs_text.specs.WordsLeft.{words_in, next_word, last_word, no_word, payload_length, payload_size};
+ghost use Rattle.hs_text.specs.WordsLeft.{words_in, next_word, last_word, no_word, payload_size};
 
 use crate::reading::{
     count_words, hex_number, is_one_word, is_payload, number, payload_len, split_word,
@@ -120,17 +120,5 @@ pub fn hex_in<R: Copy>(word: &[u8], digits: u32, wrong: R) -> Result<u128, Stop<
     match hex_number(word, digits) {
         Some(value) => Ok(value),
         None => Err(Stop::Fault(wrong)),
-    }
-}
-
-/// How many bytes the payload has that a word is.
-pub fn payload_length<R: Copy>(word: &[u8], wrong: R) -> Result<usize, Stop<R>>
-    ensures value { Gives (λ n. n) result (payload_length wrong word.now) }
-    ensures payload { OnOk result (IsTrue (is_payload word.now)) }
-{
-    if is_payload(word) {
-        Ok(payload_len(word))
-    } else {
-        Err(Stop::Fault(wrong))
     }
 }
