@@ -1,5 +1,6 @@
 -- What the windows say of the list of all samples.
 use Rattle.std.proofs.Common.{◌≡◌, ℕ, zero, suc, ◌≤◌, List, [], ◌∷◌, take, refl, ap, ◌∙◌, arith}
+use Rattle.hs_base.specs.declared.limits.TheConstants.{MAX_WINDOW, MAX_LATERALS}
 use Rattle.hs_base.specs.declared.ids.TraceId.{TraceId}
 use Rattle.hs_base.specs.declared.settings.AutoRule.{AutoRule}
 use Rattle.hs_base.specs.declared.settings.AutoRule.TheVariants.{Exception, Percentile, Category, Queue}
@@ -27,7 +28,7 @@ looked_joined (Category trigger window share) ranked counted v xs at = ap (λ ys
 looked_joined (Queue trigger window share laterals) ranked counted v xs at = ap (λ ys. take window (v ∷ ys)) at ∙ take_joined window v xs
 
 -- the limits bound the windows and the laterals
-pub small_rooms : (rule : AutoRule) → IsAutoRule rule → (ranked_of rule ≤ 1024) × (counted_of rule ≤ 1024) × (reach_of rule ≤ 32)
+pub small_rooms : (rule : AutoRule) → IsAutoRule rule → (ranked_of rule ≤ MAX_WINDOW) × (counted_of rule ≤ MAX_WINDOW) × (reach_of rule ≤ MAX_LATERALS)
 small_rooms (Exception trigger) limits = (omega arith, omega arith, omega arith)
 small_rooms (Percentile trigger window share) limits = (limits.0.1, omega arith, omega arith)
 small_rooms (Category trigger window share) limits = (omega arith, limits.0.1, omega arith)

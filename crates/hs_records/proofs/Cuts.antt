@@ -6,6 +6,7 @@ use Rattle.std.proofs.lemmas.List.{append-nil}
 use Rattle.std.proofs.lemmas.Bool.{le-leb, leb-true}
 use Rattle.std.proofs.lemmas.Bool.Decides.{nat_tests}
 use Rattle.std.specs.List.{concat}
+use Rattle.hs_base.specs.declared.limits.TheConstants.{MIN_SIZE}
 use Rattle.hs_records.specs.Records.{piece_limit, cut_within, payload_pieces, count_cuts, piece_count}
 use Rattle.hs_records.specs.Laws.{AreFullButLast}
 
@@ -38,7 +39,7 @@ pieces-short size payload short = step (length payload) refl
     step (suc n) e = rw (le-leb (length payload) (piece_limit size) short, cut_within) refl
 
 -- a longer one gives its front and is cut again
-pub pieces-long : (size : ℕ) (payload : List ℕ) → 64 ≤ size → piece_limit size < length payload
+pub pieces-long : (size : ℕ) (payload : List ℕ) → MIN_SIZE ≤ size → piece_limit size < length payload
     → payload_pieces size payload ≡ take (piece_limit size) payload ∷ payload_pieces size (drop (piece_limit size) payload)
 pieces-long size payload wide long = step (length payload) refl
   where
@@ -82,7 +83,7 @@ full (suc most) limit payload some few one = step (full most limit (drop limit p
         let less = length-drop limit payload in
         behind (cut_within most limit (drop limit payload)) long (rest (omega arith) (omega arith))
 
-pub pieces-full : (size : ℕ) (payload : List ℕ) → 64 ≤ size → 1 ≤ length payload → AreFullButLast (piece_limit size) (payload_pieces size payload)
+pub pieces-full : (size : ℕ) (payload : List ℕ) → MIN_SIZE ≤ size → 1 ≤ length payload → AreFullButLast (piece_limit size) (payload_pieces size payload)
 pieces-full size payload wide one = full (length payload) (piece_limit size) payload (omega arith) (omega arith) one
 
 -- ---- counted
@@ -118,5 +119,5 @@ by_division (suc most) limit bytes some few = step (by_division most limit (byte
         let one_more = ap (λ n. n / limit) whole ∙ add-div_right (bytes - limit - 1) {k = limit} (omega arith) in
         omega arith
 
-pub count_by_division : (size bytes : ℕ) → 64 ≤ size → piece_count size bytes ≡ 1 + (bytes - 1) / piece_limit size
+pub count_by_division : (size bytes : ℕ) → MIN_SIZE ≤ size → piece_count size bytes ≡ 1 + (bytes - 1) / piece_limit size
 count_by_division size bytes wide = let cuts = by_division bytes (piece_limit size) bytes (omega arith) (omega arith) in omega arith

@@ -3,6 +3,7 @@
 use Rattle.std.proofs.Common.{◌≡◌, ◌⊎◌, ℕ, zero, suc, ◌+◌, ◌≤◌, Bool, true, false, cond, nat_le, List, [], ◌∷◌, ◌++◌, map, flat_map, length, take, drop, Some, None, refl, sym, ap, ◌∙◌, subst, arith, length-drop, one-add, true≢false, inl, inr}
 use Rattle.std.proofs.lemmas.Bool.{le-leb, leb-true}
 use Rattle.std.specs.List.{AllByRecursion}
+use Rattle.hs_base.specs.declared.limits.TheConstants.{MIN_SIZE}
 use Rattle.hs_base.specs.declared.ids.TraceId.{TraceId}
 use Rattle.hs_records.specs.Plain.{Operation, Begin, Point, Crumb, End, Fire, Sample}
 use Rattle.hs_records.specs.Records.{Record, Piece, AreBracketed, records_of, pieces_until_end, segments_from}
@@ -159,7 +160,7 @@ abbrev later_pages : ℕ → ℕ → List Operation → List PlainPage
 later_pages size number ops = flat_map (segment_pages size) (segments_from size number ops)
 
 mutual
-  closed-pages : (size : ℕ) (traces : Traces) (place number : ℕ) (ops : List Operation) → 64 ≤ size → AreBracketed false ops → Agree traces number (records_from place None ops)
+  closed-pages : (size : ℕ) (traces : Traces) (place number : ℕ) (ops : List Operation) → MIN_SIZE ≤ size → AreBracketed false ops → Agree traces number (records_from place None ops)
       → CarryRecords traces number (later_pages size number ops) (number + length (records_from place None ops))
   closed-pages size traces place number [] wide well agree = record { numbered = tt; ends = omega arith; each = tt }
   closed-pages size traces place number (Begin trace ∷ ops) wide well agree =
@@ -170,7 +171,7 @@ mutual
   closed-pages size traces place number (Fire trigger ∷ ops) wide well agree = closed-pages size traces (place + 1) number ops wide well agree
   closed-pages size traces place number (operation ∷ ops) wide well agree = absurd (true≢false (sym well.0))
 
-  open-pages : (size : ℕ) (traces : Traces) (trace : TraceId) (place number : ℕ) (ops : List Operation) → 64 ≤ size → AreBracketed true ops
+  open-pages : (size : ℕ) (traces : Traces) (trace : TraceId) (place number : ℕ) (ops : List Operation) → MIN_SIZE ≤ size → AreBracketed true ops
       → Agree traces number (records_from place (Some trace) ops)
       → CarryRecords traces (number + points ops) (later_pages size number ops) (number + length (records_from place (Some trace) ops))
   open-pages size traces trace place number [] wide well agree = absurd (true≢false well)
@@ -192,7 +193,7 @@ mutual
 
 -- ---- all pages of a client
 
-pub pages_are : (size : ℕ) (ops : List Operation) → 64 ≤ size → AreBracketed false ops → CarryRecords (traces_of (records_of ops)) 0 (pages_of size ops) (length (records_of ops))
+pub pages_are : (size : ℕ) (ops : List Operation) → MIN_SIZE ≤ size → AreBracketed false ops → CarryRecords (traces_of (records_of ops)) 0 (pages_of size ops) (length (records_of ops))
 pages_are size ops wide bracketed =
     let traces = traces_of (records_of ops) in
     let all : 0 + length (records_of ops) ≡ length (records_of ops) = omega arith in

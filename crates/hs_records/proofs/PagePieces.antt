@@ -3,6 +3,7 @@
 use Rattle.std.proofs.Common.{◌≡◌, ℕ, zero, suc, ◌+◌, ◌≤◌, true, false, cond, nat_le, List, [], ◌∷◌, ◌++◌, map, flat_map, length, take, drop, Some, None, refl, sym, ap, ◌∙◌, arith, length-drop, one-add, true≢false, take-append-drop, append_assoc}
 use Rattle.std.proofs.lemmas.Bool.{le-leb}
 use Rattle.std.specs.List.{AllByRecursion}
+use Rattle.hs_base.specs.declared.limits.TheConstants.{MIN_SIZE}
 use Rattle.hs_base.specs.declared.ids.TraceId.{TraceId}
 use Rattle.hs_records.specs.Plain.{Operation, Begin, Point, Crumb, End, Fire, Sample}
 use Rattle.hs_records.specs.Records.{Record, Piece, Segment, AreBracketed, records_of, record_pieces, pieces_until_end, segments_from}
@@ -56,7 +57,7 @@ abbrev later_pieces : ℕ → ℕ → List Operation → List Piece
 later_pieces size number ops = pieces_on (flat_map (segment_pages size) (segments_from size number ops))
 
 mutual
-  closed-pieces : (size : ℕ) (traces : Traces) (place number : ℕ) (ops : List Operation) → 64 ≤ size → AreBracketed false ops → Agree traces number (records_from place None ops)
+  closed-pieces : (size : ℕ) (traces : Traces) (place number : ℕ) (ops : List Operation) → MIN_SIZE ≤ size → AreBracketed false ops → Agree traces number (records_from place None ops)
       → later_pieces size number ops ≡ pieces_of_records size number (records_from place None ops)
   closed-pieces size traces place number [] wide well agree = refl
   closed-pieces size traces place number (Begin trace ∷ ops) wide well agree =
@@ -68,7 +69,7 @@ mutual
   closed-pieces size traces place number (Fire trigger ∷ ops) wide well agree = closed-pieces size traces (place + 1) number ops wide well agree
   closed-pieces size traces place number (operation ∷ ops) wide well agree = absurd (true≢false (sym well.0))
 
-  open-pieces : (size : ℕ) (traces : Traces) (trace : TraceId) (place number : ℕ) (ops : List Operation) → 64 ≤ size → AreBracketed true ops
+  open-pieces : (size : ℕ) (traces : Traces) (trace : TraceId) (place number : ℕ) (ops : List Operation) → MIN_SIZE ≤ size → AreBracketed true ops
       → Agree traces number (records_from place (Some trace) ops)
       → pieces_until_end size number ops ++ later_pieces size number ops ≡ pieces_of_records size number (records_from place (Some trace) ops)
   open-pieces size traces trace place number [] wide well agree = absurd (true≢false well)

@@ -5,6 +5,7 @@ use Rattle.std.proofs.lemmas.Bool.{leb-true}
 use Rattle.std.proofs.lemmas.List.{length-map, length-take-le}
 use Rattle.std.proofs.lemmas.Bool.Decides.{nat_tests}
 use Rattle.std.specs.List.{AllByRecursion, slice_get}
+use Rattle.hs_base.specs.declared.limits.TheConstants.{MIN_SIZE}
 use Rattle.hs_base.specs.declared.ids.TraceId.{TraceId}
 use Rattle.hs_records.specs.Plain.{Operation, Begin, Point, Crumb, End, Fire, Sample}
 use Rattle.hs_records.specs.Records.{Record, Piece, AreBracketed, numbered_from, record_at, piece_limit, cut_within, record_pieces, pieces_until_end}
@@ -60,7 +61,7 @@ abbrev piece_of : (number moment : ℕ) → List ℕ → Piece
 piece_of number moment payload = record { number = number; moment = moment; payload = payload }
 
 -- a record's last piece, and what follows
-one_well : (size number moment : ℕ) (payload : List ℕ) (traces : Traces) (trace : TraceId) (more : List Piece) (last : ℕ) → 64 ≤ size → length payload ≤ piece_limit size
+one_well : (size number moment : ℕ) (payload : List ℕ) (traces : Traces) (trace : TraceId) (more : List Piece) (last : ℕ) → MIN_SIZE ≤ size → length payload ≤ piece_limit size
     → traces number ≡ Some trace → AreWell size traces trace (number + 1) more last → AreWell size traces trace number (piece_of number moment payload ∷ more) last
 one_well size number moment payload traces trace more last wide short traced later =
     record {
@@ -70,7 +71,7 @@ one_well size number moment payload traces trace more last wide short traced lat
     }
 
 -- a full piece, and the pieces behind it, some of which are of the same record
-full_well : (size number moment : ℕ) (payload : List ℕ) (traces : Traces) (trace : TraceId) (pieces more : List Piece) (last : ℕ) → 64 ≤ size → length payload ≡ piece_limit size
+full_well : (size number moment : ℕ) (payload : List ℕ) (traces : Traces) (trace : TraceId) (pieces more : List Piece) (last : ℕ) → MIN_SIZE ≤ size → length payload ≡ piece_limit size
     → traces number ≡ Some trace → 1 ≤ length pieces → AreWell size traces trace number (pieces ++ more) last
     → AreWell size traces trace number (piece_of number moment payload ∷ pieces ++ more) last
 full_well size number moment payload traces trace [] more last wide full traced some later = absurd (omega arith)
@@ -82,7 +83,7 @@ full_well size number moment payload traces trace (next ∷ pieces) more last wi
     }
 
 -- the pieces of what is cut at most so often, and what follows
-cut_well : (most size number moment : ℕ) (payload : List ℕ) (traces : Traces) (trace : TraceId) (more : List Piece) (last : ℕ) → 64 ≤ size → length payload ≤ most
+cut_well : (most size number moment : ℕ) (payload : List ℕ) (traces : Traces) (trace : TraceId) (more : List Piece) (last : ℕ) → MIN_SIZE ≤ size → length payload ≤ most
     → traces number ≡ Some trace → AreWell size traces trace (number + 1) more last
     → AreWell size traces trace number (map (piece_of number moment) (cut_within most (piece_limit size) payload) ++ more) last
 cut_well zero size number moment payload traces trace more last wide few traced later = one_well size number moment payload traces trace more last wide (omega arith) traced later
@@ -108,7 +109,7 @@ cut_well (suc most) size number moment payload traces trace more last wide few t
         (rest (omega arith))
 
 -- all pieces of a record, and what follows
-record_well : (size number moment : ℕ) (payload : List ℕ) (traces : Traces) (trace : TraceId) (more : List Piece) (last : ℕ) → 64 ≤ size → traces number ≡ Some trace
+record_well : (size number moment : ℕ) (payload : List ℕ) (traces : Traces) (trace : TraceId) (more : List Piece) (last : ℕ) → MIN_SIZE ≤ size → traces number ≡ Some trace
     → AreWell size traces trace (number + 1) more last → AreWell size traces trace number (record_pieces size number moment payload ++ more) last
 record_well size number moment payload traces trace more last wide traced later =
     cut_well (length payload) size number moment payload traces trace more last wide (omega arith) traced later
@@ -129,7 +130,7 @@ agree-head traces number r records agree = let here : number ≡ number + 0 = om
 pub agree-tail : (traces : Traces) (number : ℕ) (r : Record) (records : List Record) → Agree traces number (r ∷ records) → Agree traces (number + 1) records
 agree-tail traces number r records agree k = let there : number + 1 + k ≡ number + suc k = omega arith in ap traces there ∙ agree (suc k)
 
-pub segment_well : (size : ℕ) (traces : Traces) (trace : TraceId) (place number : ℕ) (ops : List Operation) → 64 ≤ size → AreBracketed true ops
+pub segment_well : (size : ℕ) (traces : Traces) (trace : TraceId) (place number : ℕ) (ops : List Operation) → MIN_SIZE ≤ size → AreBracketed true ops
     → Agree traces number (records_from place (Some trace) ops) → AreWell size traces trace number (pieces_until_end size number ops) (number + points ops)
 segment_well size traces trace place number [] wide well agree = absurd (true≢false well)
 segment_well size traces trace place number (End ∷ ops) wide well agree = record { goes = tt; ends = omega arith; each = tt }

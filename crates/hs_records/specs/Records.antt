@@ -4,7 +4,7 @@
 use Rattle.std.specs.Prelude.{◌≡◌, ℕ, zero, suc, ◌+◌, ◌-◌, nat_le, Bool, true, false, List, [], ◌∷◌, ◌++◌, length, take, drop, map, replicate, Option, Some, None, refl}
 use Rattle.std.specs.List.{flat_map}
 use Rattle.hs_base.specs.declared.ids.TraceId.{TraceId}
-use Rattle.hs_base.specs.declared.limits.TheConstants.{FRAME_COST}
+use Rattle.hs_base.specs.declared.limits.TheConstants.{FRAME_COST, MIN_SIZE, MAX_PAYLOAD}
 use Rattle.hs_records.specs.Plain.{Operation, Begin, Point, Crumb, End, Fire}
 
 -- ---- where operations stand
@@ -135,7 +135,7 @@ cut_in_three : payload_pieces 64 (replicate 70 7) ≡ replicate 30 7 ∷ replica
 cut_in_three = refl
 
 -- the longest payload, on pages of the least size
-most_pieces : piece_count 64 65535 ≡ 2185
+most_pieces : piece_count MIN_SIZE MAX_PAYLOAD ≡ 2185
 most_pieces = refl
 
 empty_segment : segments_of 64 (Begin one ∷ End ∷ []) ≡ record { trace = one; pieces = [] } ∷ []

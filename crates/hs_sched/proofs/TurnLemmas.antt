@@ -8,6 +8,7 @@ use Rattle.std.proofs.lemmas.List.{take_more, drop_more, map_more, take_all, dro
 use Rattle.std.proofs.lemmas.List.Folds.{find-append}
 use Rattle.std.proofs.lemmas.Grind.{flat_map-append}
 use borrow.Author.Tests.{ne_eqb, eqb-true}
+use Rattle.hs_base.specs.declared.limits.TheConstants.{MAX_WEIGHT, MAX_SIZE}
 use Rattle.hs_base.specs.declared.settings.TriggerRule.{TriggerRule}
 use Rattle.hs_sched.specs.declared.share.Share.{Share}
 use Rattle.hs_records.specs.Fronts.{count_within}
@@ -177,7 +178,7 @@ IsSchedule-after s waiting is cheap =
     }
 
 -- a budget fits its type
-pub budget_fits : (deficit weight size : ℕ) → deficit < size → weight ≤ 100 → size ≤ 32768 → deficit + weight * size < 2 ^ 64
+pub budget_fits : (deficit weight size : ℕ) → deficit < size → weight ≤ MAX_WEIGHT → size ≤ MAX_SIZE → deficit + weight * size < 2 ^ 64
 budget_fits deficit weight size small light page = omega (arith, mul-le-mul_left size light)
 
 -- the scheduler of these rules before the first turn

@@ -1,4 +1,5 @@
 use Rattle.std.proofs.Common.{◌≡◌, ◌+◌, ◌*◌, ◌<◌, ◌≤◌, ℕ, List, length, ◌==◌, find, get_or, sym, ap, ◌∙◌, subst, arith}
+use Rattle.hs_base.specs.declared.limits.TheConstants.{MAX_WEIGHT}
 use Rattle.hs_sched.specs.declared.share.Share.{Share}
 use Rattle.hs_sched.specs.Turns.{Schedule, IsSchedule, IsWeight}
 use Rattle.hs_sched.specs.Visits.{budget_of}
@@ -19,7 +20,7 @@ overflow_add-budget g c =
     served-at (served s.size (g.Q.Queues.costs c.args.queues.now)) s.shares c.loop-share.share-items at no_share within c.loop-share.invariant.items in
     let small : (get_or c.loop-share.share-items at no_share).deficit < s.size = subst (λ (y : Share). y.deficit < s.size) (sym here) (is.deficits at no_share within) in
     let light : IsWeight (get_or c.loop-share.share-items at no_share).weight = subst (λ (y : Share). IsWeight y.weight) (sym here) (is.weights at no_share within) in
-    let weight : c.from.result ≤ 100 = omega (arith, c.from.ensures, light.1) in
+    let weight : c.from.result ≤ MAX_WEIGHT = omega (arith, c.from.ensures, light.1) in
     let size : c.from-size.result ≡ s.size = c.from-size.ensures ∙ ap (λ (t : Schedule). t.size) c.self.view_is in
     omega (arith, budget_fits (get_or c.loop-share.share-items at no_share).deficit c.from.result c.from-size.result (omega (arith, size, small)) weight (omega (arith, size, is.size.1)))
 
