@@ -5,6 +5,7 @@ use Rattle.std.specs.List.{AllByRecursion, range_with_len}
 use Rattle.std.proofs.lemmas.List.Recursion.{is_sum_by}
 use Rattle.atomic_table.specs.Table.{opening, Splits}
 use Rattle.atomic_table.specs.Seated.{TableId}
+use Rattle.hs_base.specs.declared.limits.TheConstants.{MAX_BUFFERS, MAX_OPERATIONS}
 use Rattle.hs_words.specs.Chunks.{Contents, clear_chunk, clear_chunks}
 use Rattle.hs_words.specs.Pools.{PoolName}
 use Rattle.hs_words.specs.declared.token.Tally.{Tally}
@@ -48,7 +49,7 @@ pub record IsNew (chunks : List Contents) (store : Store) : Type 0 where
   pub tally : store.tally ≡ no_tally
 
 -- A new table keeps the rule.
-pub new_locked : (plan : Plan) (words : List ℕ) (slots : List Store) (store : Store) (chunks : List Contents) → 1 ≤ length chunks → length chunks ≤ 1024 → plan.buffers ≡ length chunks → sum plan.allowances ≤ 262144
+pub new_locked : (plan : Plan) (words : List ℕ) (slots : List Store) (store : Store) (chunks : List Contents) → 1 ≤ length chunks → length chunks ≤ MAX_BUFFERS → plan.buffers ≡ length chunks → sum plan.allowances ≤ MAX_OPERATIONS
     → chunks ≡ clear_chunks (length chunks) plan.size → IsNew chunks store → words ≡ 0 ∷ 0 ∷ [] → slots ≡ store ∷ [] → Locked plan (opening words slots (first_view plan))
 new_locked plan words slots store chunks some_there few buffers draws clear new words_are slots_are =
     let within : Within plan = record { some_there = omega arith; few = omega arith; draws = (let t = total_is_sum plan.allowances in omega arith) } in

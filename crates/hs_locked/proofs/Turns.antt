@@ -9,6 +9,7 @@ use borrow.Author.Tests.{eqb-true}
 use Rattle.std.specs.List.{list_any}
 use Rattle.atomic_table.specs.Table.{State, step, keeps, takes, stepped, Allows}
 use Rattle.atomic_table.proofs.Lists.{set_here}
+use Rattle.hs_base.specs.declared.limits.TheConstants.{MAX_OPERATIONS}
 use Rattle.hs_words.specs.Ends.{Deed, IsTogether, AreAnswers}
 use Rattle.hs_words.proofs.Deeds.{all_of, got_below}
 use Rattle.hs_pool.specs.Pool.{HasSize, IsOut, waiting}
@@ -27,10 +28,10 @@ St = State Store View
 abbrev pub Held : Type 0
 Held = List (ℕ × Store)
 
-pub one_more : (n word : ℕ) → n < 1048576 → word ≡ n → (word + 1) % 18446744073709551616 ≡ suc n
+pub one_more : (n word : ℕ) → n ≤ 2 * MAX_OPERATIONS → word ≡ n → (word + 1) % 18446744073709551616 ≡ suc n
 one_more n word small is = let below : word + 1 < 18446744073709551616 = omega arith in mod-eq_of_lt below ∙ (let e : word + 1 ≡ suc n = omega arith in e)
 
-pub few_tickets : (plan : Plan) (s : St) (f : Facts) → Kept plan s f → f.tickets ≤ 524288
+pub few_tickets : (plan : Plan) (s : St) (f : Facts) → Kept plan s f → f.tickets ≤ 2 * MAX_OPERATIONS
 few_tickets plan s f k = let left = k.left in let draws = k.within.draws in omega arith
 
 -- an end that has not the store stands otherwise

@@ -5,6 +5,7 @@ use lib.ListN.{get_elem?}
 use Rattle.std.specs.Prelude.{Option, slice_get, count_by}
 use Rattle.atomic_table.specs.Table.{State, Me, Act, Valid, carried_after, stepped}
 use Rattle.atomic_table.proofs.Lists.{at_set}
+use Rattle.hs_base.specs.declared.limits.TheConstants.{MAX_BUFFERS, MAX_OPERATIONS}
 use Rattle.hs_words.specs.Chunks.{Contents}
 use Rattle.hs_words.specs.PoolHistory.{is_missed, is_empty}
 use Rattle.hs_words.specs.Ends.{events_of, drawn_in, given_in, is_any_got, is_any_given}
@@ -81,10 +82,10 @@ module _ (plan : Plan) (s : State (Option Contents) View) (f : Facts) (k : Kept 
   pub lap : published n f.log ≤ drawn_in f.log + n
   lap = let l = line in let most = few n (events_of f.log) k.lawful in omega arith
 
-  pub few_drawn : drawn_in f.log ≤ 262144
+  pub few_drawn : drawn_in f.log ≤ MAX_OPERATIONS
   few_drawn = let most = k.left in let total = k.within.draws in omega arith
 
-  pub few_published : published n f.log ≤ 263168
+  pub few_published : published n f.log ≤ MAX_BUFFERS + MAX_OPERATIONS
   few_published = let l = lap in let d = few_drawn in let most = k.within.few in omega arith
 
   pub found_drawn : drawn_of (get_or s.words 0 0) ≡ drawn_in f.log

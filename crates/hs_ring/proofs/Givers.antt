@@ -1,6 +1,7 @@
 -- What is known of a giver's seat after a give.
 use Rattle.std.proofs.Common.{◌≡◌, ℕ, suc, ◌+◌, ◌*◌, ◌<◌, ◌≤◌, [], length, refl, sym, ap, ◌∙◌, subst, arith}
 use Rattle.atomic_table.specs.Seated.{TableId}
+use Rattle.hs_words.specs.declared.token.TheConstants.{MAX_PUBLISHED}
 use Rattle.hs_words.specs.Chunks.{Contents}
 use Rattle.hs_words.specs.Ends.{Answer, answers_in}
 use Rattle.hs_words.specs.declared.token.Given.{Given as Answered}
@@ -26,7 +27,7 @@ raised stamp post below le = (omega arith, all_of (answers_in post.turns) (λ (a
 
 -- the seat after one more answer
 answered_seat : (table : TableId) (old new : Place) (post : Post) (buffers number : ℕ) → IsAt table old → IsSameSeat old new → 2 * buffers ≡ table.slots → new.me ≡ (giving post bare, [])
-    → number + 1 ≡ buffers + length (answers_in post.turns) → post.closed ≡ [] → number < 4294967296 → post.misses ≤ 4294967296 → AllBelow post.floor (answers_in post.turns) → IsGiverSeat table new buffers (number + 1)
+    → number + 1 ≡ buffers + length (answers_in post.turns) → post.closed ≡ [] → number < MAX_PUBLISHED → post.misses ≤ MAX_PUBLISHED → AllBelow post.floor (answers_in post.turns) → IsGiverSeat table new buffers (number + 1)
 answered_seat table old new post buffers number at same halves is counted none few misses above =
     let there = post_there new post is in
     record {
@@ -36,12 +37,12 @@ answered_seat table old new post buffers number at same halves is counted none f
       published_is = counted ∙ ap (λ (p : Post). buffers + length (answers_in p.turns)) (sym there);
       none_closed = ap (λ (p : Post). p.closed) there ∙ none;
       few = omega arith;
-      few_misses = subst (λ (p : Post). p.misses ≤ 4294967296) (sym there) misses;
+      few_misses = subst (λ (p : Post). p.misses ≤ MAX_PUBLISHED) (sym there) misses;
       above = subst (λ (p : Post). AllBelow p.floor (answers_in p.turns)) (sym there) above;
     }
 
 pub still_giver : {g : _} (table : TableId) (first old new : Place) (buffers number : ℕ) (chunk : Contents) (result : Answered Leased g) → IsGiverSeat table first buffers number → IsAt table old
-    → post_of old.me.0 ≡ post_of first.me.0 → IsSameSeat old new → Publishes old chunk result new → number < 4294967296 → (post_of first.me.0).misses < 4294967296
+    → post_of old.me.0 ≡ post_of first.me.0 → IsSameSeat old new → Publishes old chunk result new → number < MAX_PUBLISHED → (post_of first.me.0).misses < MAX_PUBLISHED
     → IsGiverSeat table new buffers (published_after number result)
 still_giver table first old new buffers number chunk (given.Given stamp) seat at is same told few misses =
     answered_seat table old new (given_post old.me.0 stamp) buffers number at same seat.halves told.0

@@ -8,6 +8,7 @@ use Rattle.std.proofs.lemmas.List.Recursion.{is_sum_by}
 use Rattle.std.proofs.lemmas.List.FromFn.{length-range_with_len}
 use Rattle.atomic_table.specs.Table.{opening, Splits}
 use Rattle.atomic_table.specs.Seated.{TableId}
+use Rattle.hs_base.specs.declared.limits.TheConstants.{MAX_BUFFERS, MAX_OPERATIONS}
 use Rattle.hs_words.specs.Chunks.{Contents, clear_chunk, clear_chunks}
 use Rattle.hs_words.specs.Pools.{PoolName}
 use Rattle.hs_ring.specs.Parts.{Drawing, new_drawers}
@@ -80,7 +81,7 @@ laid_out plan =
     }
 
 -- A new table keeps the rule.
-pub new_ring : (plan : Plan) (words : List ℕ) (slots : List (Option Contents)) (chunks : List Contents) → 1 ≤ length chunks → length chunks ≤ 1024 → plan.buffers ≡ length chunks → sum plan.allowances ≤ 262144
+pub new_ring : (plan : Plan) (words : List ℕ) (slots : List (Option Contents)) (chunks : List Contents) → 1 ≤ length chunks → length chunks ≤ MAX_BUFFERS → plan.buffers ≡ length chunks → sum plan.allowances ≤ MAX_OPERATIONS
     → chunks ≡ clear_chunks (length chunks) plan.size → words ≡ first_words plan.buffers → slots ≡ first_slots chunks → Ring plan (opening words slots (first_view plan))
 new_ring plan words slots chunks some_there few buffers draws clear words_are slots_are =
     let n = plan.buffers in
@@ -99,7 +100,7 @@ first_size chunks size first clear some_there is = go (length chunks) some_there
 
 -- the giver's seat at a new table
 pub new_making : (table : TableId) (s : Place) (plan : Plan) (chunks : List Contents) (size : ℕ) (allowances : List ℕ) → s.table_id ≡ table → plan.buffers ≡ length chunks → table.words ≡ length (first_words plan.buffers)
-    → table.slots ≡ length (first_slots chunks) → s.me ≡ (first_view plan, []) → plan.size ≡ size → plan.allowances ≡ allowances → 1 ≤ length chunks → length chunks ≤ 1024
+    → table.slots ≡ length (first_slots chunks) → s.me ≡ (first_view plan, []) → plan.size ≡ size → plan.allowances ≡ allowances → 1 ≤ length chunks → length chunks ≤ MAX_BUFFERS
     → IsMaking table s size 0 allowances × (table.slots ≡ 2 * length chunks)
 new_making table s plan chunks size allowances at buffers words slots me size_is allowances_are some_there few =
     let n = plan.buffers in
