@@ -4,6 +4,7 @@ use Rattle.std.proofs.Math.Nat.{mul-le-mul}
 use Rattle.std.proofs.lemmas.List.{append-nil}
 use Rattle.std.specs.Prelude.{⊤}
 use Rattle.std.specs.List.{AllByRecursion}
+use Rattle.hs_base.specs.declared.limits.TheConstants.{MAX_NODES, MAX_CLIENTS}
 use Rattle.hs_journal.specs.declared.journal.Draw.{Draw}
 use Rattle.hs_journal.specs.declared.journal.Step.{Step}
 use Rattle.hs_journal.specs.declared.place.Place.{Place}
@@ -28,8 +29,8 @@ Counts places.Logs d = (length d.draws ≡ d.nodes * d.clients) × (0 < length d
 Counts _ d = (length d.draws ≡ d.nodes * d.clients) × (length d.logs ≡ d.nodes)
 
 pub record Keeps (d : Draft) : Type 0 where
-  pub nodes : d.nodes ≤ 16
-  pub clients : d.clients ≤ 16
+  pub nodes : d.nodes ≤ MAX_NODES
+  pub clients : d.clients ≤ MAX_CLIENTS
   pub some : HasBoth d.place d.nodes d.clients
   pub counts : Counts d.place d
   pub draws : AllByRecursion (AllByRecursion IsDraw) d.draws
@@ -80,7 +81,7 @@ few_logs _ d counts = let all = counts.1 in omega (arith, all)
 
 pub sound : (d : Draft) → Keeps d → IsSound d
 sound d keeps =
-    let most : d.nodes * d.clients ≤ 16 * 16 = mul-le-mul keeps.nodes keeps.clients in
+    let most : d.nodes * d.clients ≤ MAX_NODES * MAX_CLIENTS = mul-le-mul keeps.nodes keeps.clients in
     let draws = few_draws d.place d keeps.counts in
     let logs = few_logs d.place d keeps.counts in
     record {

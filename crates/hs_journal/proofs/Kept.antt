@@ -2,6 +2,7 @@
 use Rattle.std.proofs.Common.{◌≡◌, ℕ, ◌/◌, ◌<◌, ◌≤◌, ◌^◌, ◌&&◌, ◌||◌, nat_eq, nat_le, not, true, false, List, [], ◌∷◌, ◌++◌, length, get_or, refl, sym, ap, subst, ◌∙◌, append_assoc, arith}
 use Rattle.std.proofs.lemmas.Bool.{and_parts}
 use Rattle.std.specs.List.{AllByRecursion}
+use Rattle.hs_base.specs.declared.limits.TheConstants.{MAX_NODES, MAX_CLIENTS}
 use Rattle.hs_base.specs.declared.ids.NodeId.{NodeId}
 use Rattle.hs_journal.specs.declared.journal.Draw.TheVariants as draws
 use Rattle.hs_journal.specs.declared.journal.Step.TheVariants as steps
@@ -59,9 +60,9 @@ not_at_most a b is = grind arith
 record IsHead (version nodes clients : ℕ) : Type 0 where
   pub is_first : version ≡ 1
   pub some_nodes : 0 < nodes
-  pub few_nodes : nodes ≤ 16
+  pub few_nodes : nodes ≤ MAX_NODES
   pub some_clients : 0 < clients
-  pub few_clients : clients ≤ 16
+  pub few_clients : clients ≤ MAX_CLIENTS
 
 head_within : (version nodes clients : ℕ) → (not (nat_eq version 1) || is_out 1 16 nodes || is_out 1 16 clients) ≡ false → IsHead version nodes clients
 head_within version nodes clients is = record { is_first = grind arith; some_nodes = grind arith; few_nodes = grind arith; some_clients = grind arith; few_clients = grind arith }

@@ -3,6 +3,7 @@ use Rattle.std.proofs.Common.{◌≡◌, ℕ, ◌+◌, ◌*◌, ◌/◌, ◌%◌
 use Rattle.std.proofs.lemmas.List.{append-nil}
 use Rattle.std.proofs.Math.Nat.{mul-le-mul, div-le_self}
 use Rattle.std.specs.List.{AllByRecursion}
+use Rattle.hs_base.specs.declared.limits.TheConstants.{MAX_NODES, MAX_CLIENTS, MAX_BUFFERS}
 use Rattle.hs_base.specs.declared.ids.NodeId.{NodeId}
 use Rattle.hs_journal.specs.declared.refusal.JournalReason.{JournalReason}
 use Rattle.hs_journal.specs.declared.journal.Draw.{Draw}
@@ -76,7 +77,7 @@ past a b is = grind arith
 same : (a : ℕ) → nat_eq a a ≡ true
 same a = grind arith
 
-small_client : (clients client : ℕ) → clients ≤ 16 → client < clients → client < 2 ^ 64
+small_client : (clients client : ℕ) → clients ≤ MAX_CLIENTS → client < clients → client < 2 ^ 64
 small_client clients client few within = omega arith
 
 -- the draws of one client
@@ -86,7 +87,7 @@ run_draws nodes clients finished current [] all = ap (λ list. Ok (draws_draft n
 run_draws nodes clients finished current (draws.Got buffer stamp ∷ more) all =
     let d = draws_draft nodes clients (finished ++ current ∷ []) in
     first_run d (draws_draft nodes clients (finished ++ (current ++ draws.Got buffer stamp ∷ []) ∷ [])) _ (draw_statement (draws.Got buffer stamp)) (map draw_statement more)
-    (statement_taken d keywords.Got (buffer ∷ stamp ∷ []) (omega (arith, all.0.0), (all.0.1, tt)) refl refl (past 1024 buffer all.0.0) refl
+    (statement_taken d keywords.Got (buffer ∷ stamp ∷ []) (omega (arith, all.0.0), (all.0.1, tt)) refl refl (past MAX_BUFFERS buffer all.0.0) refl
     ∙ ap (λ lists. Ok (draws_draft nodes clients lists)) (onto_current finished current (draws.Got buffer stamp)))
     (run_draws nodes clients finished (current ++ draws.Got buffer stamp ∷ []) more all.1 ∙ ap (λ list. Ok (draws_draft nodes clients (finished ++ list ∷ []))) (append_assoc current (draws.Got buffer stamp ∷ []) more))
 run_draws nodes clients finished current (draws.Empty stamp ∷ more) all =
@@ -97,7 +98,7 @@ run_draws nodes clients finished current (draws.Empty stamp ∷ more) all =
     (run_draws nodes clients finished (current ++ draws.Empty stamp ∷ []) more all.1 ∙ ap (λ list. Ok (draws_draft nodes clients (finished ++ list ∷ []))) (append_assoc current (draws.Empty stamp ∷ []) more))
 
 -- the place of a client among all clients
-small_parts : (client clients : ℕ) → client < 256 → 0 < clients → clients ≤ 16 → (client / clients < 2 ^ 64) × (client % clients < 2 ^ 64)
+small_parts : (client clients : ℕ) → client < MAX_NODES * MAX_CLIENTS → 0 < clients → clients ≤ MAX_CLIENTS → (client / clients < 2 ^ 64) × (client % clients < 2 ^ 64)
 small_parts client clients small some few = (omega (arith, div-le_self client clients), omega arith)
 
 ordered_draws : (a b : ℕ) → (not (nat_eq a a) || not (nat_eq b b)) ≡ false
@@ -108,12 +109,12 @@ ordered_log a = let e = same a in grind arith
 
 record HasLimits (nodes clients : ℕ) : Type 0 where
   pub some_nodes : 0 < nodes
-  pub few_nodes : nodes ≤ 16
+  pub few_nodes : nodes ≤ MAX_NODES
   pub some_clients : 0 < clients
-  pub few_clients : clients ≤ 16
+  pub few_clients : clients ≤ MAX_CLIENTS
 
-few_of_all : (nodes clients k : ℕ) → HasLimits nodes clients → k < nodes * clients → k < 256
-few_of_all nodes clients k limits within = let most : nodes * clients ≤ 16 * 16 = mul-le-mul limits.few_nodes limits.few_clients in omega (arith, most, within)
+few_of_all : (nodes clients k : ℕ) → HasLimits nodes clients → k < nodes * clients → k < MAX_NODES * MAX_CLIENTS
+few_of_all nodes clients k limits within = let most : nodes * clients ≤ MAX_NODES * MAX_CLIENTS = mul-le-mul limits.few_nodes limits.few_clients in omega (arith, most, within)
 
 -- the draws of the clients behind some
 run_lists : (nodes clients : ℕ) (finished : List (List Draw)) (last : List Draw) (more : List (List Draw)) → HasLimits nodes clients → AllByRecursion (AllByRecursion IsDraw) more
@@ -154,7 +155,7 @@ run_all_draws nodes clients (drawn ∷ more) limits all count =
     (run_lists nodes clients [] drawn more limits all.1 (omega (arith, count))))
 
 -- the log of one node
-step_fits : (clients : ℕ) (step : Step) → IsStep clients step → clients ≤ 16 → AllByRecursion IsSmall (step_statement step).numbers
+step_fits : (clients : ℕ) (step : Step) → IsStep clients step → clients ≤ MAX_CLIENTS → AllByRecursion IsSmall (step_statement step).numbers
 step_fits clients (steps.Chunk client) fits few = (small_client clients client few fits, tt)
 step_fits clients (steps.Crumb client) fits few = (small_client clients client few fits, tt)
 step_fits clients (steps.Trigger client) fits few = (small_client clients client few fits, tt)
@@ -164,7 +165,7 @@ step_fits clients (steps.Given stamp) fits few = (fits, tt)
 step_fits clients (steps.Missed stamp) fits few = (fits, tt)
 step_fits clients steps.Unread fits few = tt
 
-step_taken : (nodes clients : ℕ) (lists : List (List Draw)) (logs : List (List Step)) (step : Step) → IsStep clients step → clients ≤ 16
+step_taken : (nodes clients : ℕ) (lists : List (List Draw)) (logs : List (List Step)) (step : Step) → IsStep clients step → clients ≤ MAX_CLIENTS
     → line_step (logs_draft nodes clients lists logs) (statement_line (step_statement step)) ≡ Ok (logs_draft nodes clients lists (onto_last logs step))
 step_taken nodes clients lists logs (steps.Chunk client) fits few = statement_taken (logs_draft nodes clients lists logs) keywords.Chunk (client ∷ []) (step_fits clients (steps.Chunk client) fits few) refl refl (past clients client fits) refl
 step_taken nodes clients lists logs (steps.Crumb client) fits few = statement_taken (logs_draft nodes clients lists logs) keywords.Crumb (client ∷ []) (step_fits clients (steps.Crumb client) fits few) refl refl (past clients client fits) refl
@@ -175,7 +176,7 @@ step_taken nodes clients lists logs (steps.Given stamp) fits few = statement_tak
 step_taken nodes clients lists logs (steps.Missed stamp) fits few = statement_taken (logs_draft nodes clients lists logs) keywords.Missed (stamp ∷ []) (fits, tt) refl refl refl refl
 step_taken nodes clients lists logs steps.Unread fits few = statement_taken (logs_draft nodes clients lists logs) keywords.Unread [] tt refl refl refl refl
 
-run_steps : (nodes clients : ℕ) (lists : List (List Draw)) (finished : List (List Step)) (current more : List Step) → clients ≤ 16 → AllByRecursion (IsStep clients) more
+run_steps : (nodes clients : ℕ) (lists : List (List Draw)) (finished : List (List Step)) (current more : List Step) → clients ≤ MAX_CLIENTS → AllByRecursion (IsStep clients) more
     → run_statements (logs_draft nodes clients lists (finished ++ current ∷ [])) (map step_statement more) ≡ Ok (logs_draft nodes clients lists (finished ++ (current ++ more) ∷ []))
 run_steps nodes clients lists finished current [] few all = ap (λ list. Ok (logs_draft nodes clients lists (finished ++ list ∷ []))) (sym (append-nil current))
 run_steps nodes clients lists finished current (step ∷ more) few all =
@@ -221,7 +222,7 @@ run_all_logs nodes clients lists (log ∷ more) limits draws_count all count =
     (run_logs nodes clients lists [] log more limits all.1 (omega (arith, count))))
 
 -- the coordinator's order
-run_told : (nodes clients : ℕ) (lists : List (List Draw)) (logs : List (List Step)) (told more : List NodeId) → nodes ≤ 16 → AllByRecursion (IsNodeBelow nodes) more
+run_told : (nodes clients : ℕ) (lists : List (List Draw)) (logs : List (List Step)) (told more : List NodeId) → nodes ≤ MAX_NODES → AllByRecursion (IsNodeBelow nodes) more
     → run_statements (order_draft nodes clients lists logs told) (map told_statement more) ≡ Ok (order_draft nodes clients lists logs (told ++ more))
 run_told nodes clients lists logs told [] few all = ap (λ nodes_told. Ok (order_draft nodes clients lists logs nodes_told)) (sym (append-nil told))
 run_told nodes clients lists logs told (node ∷ more) few all =

@@ -1,6 +1,6 @@
 -- A line at a time, forward: what is read so far, and what the next line makes of it or why it is refused. The reader's
 -- own functions are stated by these. That they agree with the look back over the earlier lines is proved apart.
-use Rattle.std.specs.Prelude.{◌≡◌, ℕ, ◌==◌, ◌<◌, ◌≤◌, Bool, true, false, not, List, [], ◌∷◌, ◌++◌, length, map, Result, Ok, Err, ⊤, codes, refl}
+use Rattle.std.specs.Prelude.{◌≡◌, ℕ, ◌*◌, ◌==◌, ◌<◌, ◌≤◌, Bool, true, false, not, List, [], ◌∷◌, ◌++◌, length, map, Result, Ok, Err, ⊤, codes, refl}
 use Rattle.hs_text.specs.Text.{number_of}
 use Rattle.hs_text.specs.Steps.{◌>>=◌, unless, value_or}
 use Rattle.hs_text.specs.Spelling.{spelled}
@@ -138,7 +138,7 @@ pub record IsSound (d : Draft) : Type 0 where
   pub nodes : d.nodes ≤ MAX_NODES
   pub clients : d.clients ≤ MAX_CLIENTS
   pub some : HasClients d.place d.clients
-  pub draws : length d.draws ≤ 256
+  pub draws : length d.draws ≤ MAX_NODES * MAX_CLIENTS
   pub logs : length d.logs ≤ MAX_NODES
 
 -- worked examples

@@ -1,7 +1,7 @@
 //! Writing a journal.
 
-ghost use Rattle.std.specs.Prelude.{◌≡◌, ◌<◌, ◌+◌, ◌≤◌, ◌++◌, ◌∷◌, [], map, length, IfOk, OnOk};
-ghost use Rattle.hs_base.specs.declared.limits.TheConstants.{MAX_NODES};
+ghost use Rattle.std.specs.Prelude.{◌≡◌, ◌<◌, ◌+◌, ◌*◌, ◌≤◌, ◌++◌, ◌∷◌, [], map, length, IfOk, OnOk};
+ghost use Rattle.hs_base.specs.declared.limits.TheConstants.{MAX_NODES, MAX_CLIENTS};
 ghost use Rattle.hs_journal.specs.Views.{journal_of};
 ghost use Rattle.hs_journal.specs.Statements.{statement_line, draw_statement, step_statement, told_statement};
 ghost use Rattle.hs_journal.specs.Grammar.{HasItsLists, draw_statements, log_statements, statements_text, journal_text};
@@ -62,7 +62,7 @@ fn push_draws(out: &mut Vec<u8>, draws: &[Draw]) -> Result<(), Memory>
 /// Appends the draws of all clients, where each node has so many.
 fn push_clients(out: &mut Vec<u8>, clients: u16, lists: &[List<Draw>]) -> Result<(), Memory>
     requires some { 0 < clients }
-    requires few { length lists.now ≤ 256 }
+    requires few { length lists.now ≤ MAX_NODES * MAX_CLIENTS }
     ensures { OnOk result (out.new.items ≡ out.old.items
         ++ statements_text (draw_statements clients 0 (map (λ draws. draws.items) lists.now))) }
 {

@@ -3,6 +3,8 @@ use Rattle.std.proofs.Common.{◌≡◌, ℕ, zero, suc, ◌+◌, ◌*◌, ◌/�
 use Rattle.std.specs.List.{AllByRecursion}
 use Rattle.std.proofs.lemmas.Bool.{le-ltb}
 use borrow.Author.Tests.{ne_eqb}
+use Rattle.std.proofs.Math.Nat.{mul-le-mul}
+use Rattle.hs_base.specs.declared.limits.TheConstants.{MAX_NODES, MAX_CLIENTS, MAX_AUTOS, MAX_PAYLOAD, MAX_OPERATIONS}
 use Rattle.hs_base.specs.Rules.{AreRules}
 use Rattle.hs_records.specs.Records.{AreBracketed}
 use Rattle.hs_records.specs.Plain.{Operation, Begin, Point, Crumb, End, Fire, Sample, PlainWorkload}
@@ -63,8 +65,8 @@ opened_shut is_open (op ∷ ops) b = opened_shut (open_after is_open op) ops (br
 record Operates (d : Draft) : Type 0 where
   started : 0 < d.started
   undone : d.is_done ≡ false
-  nodes : setting_in d.head settings.Nodes ≤ 16
-  autos : length d.autos ≤ 16
+  nodes : setting_in d.head settings.Nodes ≤ MAX_NODES
+  autos : length d.autos ≤ MAX_AUTOS
   rules : AreRules d.rules
 
 stood : (d : Draft) → Operates d → (nat_lt 0 d.started && not d.is_done) ≡ true
@@ -84,19 +86,19 @@ operation_form d (Sample m a v) w is =
     (is.0, (omega (arith, below, few), (is.2, tt)))
 
 operation_allowed : (d : Draft) (op : Operation) (ops : List Operation) → Operates d → IsOperation (version_in d) (settings_in d) op → AreBracketed d.is_open (op ∷ ops)
-    → d.pieces + operation_pieces (size_in d) op ≤ 262144 → Allowed (past_of d) (Operate op)
+    → d.pieces + operation_pieces (size_in d) op ≤ MAX_OPERATIONS → Allowed (past_of d) (Operate op)
 operation_allowed d (Begin t) ops w is b few =
-    record { stands = stood d w; range = refl; order = refl; known = refl; opens = b.0; trace = refl; left = refl; few = le-ltb 262144 (d.pieces + 1) few }
+    record { stands = stood d w; range = refl; order = refl; known = refl; opens = b.0; trace = refl; left = refl; few = le-ltb MAX_OPERATIONS (d.pieces + 1) few }
 operation_allowed d (Point m bytes) ops w is b few =
     record {
       stands = stood d w;
-      range = le-ltb 65535 (length bytes) is.1;
+      range = le-ltb MAX_PAYLOAD (length bytes) is.1;
       order = refl;
       known = refl;
       opens = refl;
       trace = ap not b.0;
       left = refl;
-      few = le-ltb 262144 (d.pieces + operation_pieces (size_in d) (Point m bytes)) few;
+      few = le-ltb MAX_OPERATIONS (d.pieces + operation_pieces (size_in d) (Point m bytes)) few;
     }
 operation_allowed d (Crumb node) ops w is b few =
     record {
@@ -107,12 +109,12 @@ operation_allowed d (Crumb node) ops w is b few =
       opens = refl;
       trace = ap not b.0;
       left = refl;
-      few = le-ltb 262144 (d.pieces + 1) few;
+      few = le-ltb MAX_OPERATIONS (d.pieces + 1) few;
     }
 operation_allowed d End ops w is b few =
-    record { stands = stood d w; range = refl; order = refl; known = refl; opens = refl; trace = ap not b.0; left = refl; few = le-ltb 262144 (d.pieces + 1) few }
+    record { stands = stood d w; range = refl; order = refl; known = refl; opens = refl; trace = ap not b.0; left = refl; few = le-ltb MAX_OPERATIONS (d.pieces + 1) few }
 operation_allowed d (Fire t) ops w is b few =
-    record { stands = stood d w; range = refl; order = refl; known = ap not is.1; opens = refl; trace = refl; left = refl; few = le-ltb 262144 (d.pieces + 1) few }
+    record { stands = stood d w; range = refl; order = refl; known = ap not is.1; opens = refl; trace = refl; left = refl; few = le-ltb MAX_OPERATIONS (d.pieces + 1) few }
 operation_allowed d (Sample m a v) ops w is b few =
     record {
       stands = stood d w;
@@ -122,11 +124,11 @@ operation_allowed d (Sample m a v) ops w is b few =
       opens = refl;
       trace = ap not b.0;
       left = refl;
-      few = le-ltb 262144 (d.pieces + 1) few;
+      few = le-ltb MAX_OPERATIONS (d.pieces + 1) few;
     }
 
 operations_allowed : (version : ℕ) (d : Draft) (ops : List Operation) (tail : List Statement) → version_in d ≡ version → Operates d → AllByRecursion (IsOperation (version_in d) (settings_in d)) ops
-    → AreBracketed d.is_open ops → d.pieces + client_pieces (size_in d) ops ≤ 262144 → AllowedFrom version (after_all d (map Operate ops)) tail → AllowedFrom version d (map Operate ops ++ tail)
+    → AreBracketed d.is_open ops → d.pieces + client_pieces (size_in d) ops ≤ MAX_OPERATIONS → AllowedFrom version (after_all d (map Operate ops)) tail → AllowedFrom version d (map Operate ops ++ tail)
 operations_allowed version d [] tail same w words b few rest = rest
 operations_allowed version d (op ∷ ops) tail same w words b few rest = (
   ap (λ (v : ℕ). statement_line v (Operate op)) (sym same),
@@ -145,12 +147,12 @@ record Awaits (d : Draft) (clients : List (List Operation)) : Type 0 where
   shut : d.is_open ≡ false
   some : 0 < d.started + length clients
   all : d.started + length clients ≡ setting_in d.head settings.Nodes * setting_in d.head settings.Clients
-  small : d.started + length clients ≤ 256
-  nodes : setting_in d.head settings.Nodes ≤ 16
-  autos : length d.autos ≤ 16
+  small : d.started + length clients ≤ MAX_NODES * MAX_CLIENTS
+  nodes : setting_in d.head settings.Nodes ≤ MAX_NODES
+  autos : length d.autos ≤ MAX_AUTOS
   rules : AreRules d.rules
   each : AllByRecursion (IsClient (version_in d) (settings_in d)) clients
-  few : d.pieces + workload_pieces (size_in d) clients ≤ 262144
+  few : d.pieces + workload_pieces (size_in d) clients ≤ MAX_OPERATIONS
 
 quotient_small : (a b : ℕ) → a / b ≤ a
 quotient_small a zero = omega arith
@@ -237,8 +239,8 @@ ruled W = with_rules (headed W) W.settings.triggers
 abbrev body : PlainWorkload → Draft
 body W = with_autos (ruled W) W.settings.autos
 
-product_few : (a b k : ℕ) → 1 ≤ a → a ≤ 16 → 1 ≤ b → b ≤ 16 → k ≡ a * b → (0 < k) × (k ≤ 256)
-product_few a b k p q r s e = (grind arith, grind arith)
+product_few : (a b k : ℕ) → 1 ≤ a → a ≤ MAX_NODES → 1 ≤ b → b ≤ MAX_CLIENTS → k ≡ a * b → (0 < k) × (k ≤ MAX_NODES * MAX_CLIENTS)
+product_few a b k p q r s e = let least = mul-le-mul p r in let most = mul-le-mul q s in (omega (arith, e, least), omega (arith, e, most))
 
 body_awaits : (W : PlainWorkload) → IsValid W → Awaits (body W) W.clients
 body_awaits W v =

@@ -3,6 +3,7 @@
 use Rattle.std.proofs.Common.{◌≡◌, ℕ, suc, ◌+◌, ◌≤◌, Bool, true, false, not, ◌||◌, nat_lt, nat_le, nat_eq, List, [], ◌∷◌, length, cond, Option, Some, None, Result, Ok, Err, refl, ap, arith}
 use Rattle.std.specs.Prelude.{is_none, option_map, option_and_then}
 use borrow.Author.Tests.{ne_eqb, leb-true}
+use Rattle.hs_base.specs.declared.limits.TheConstants.{MAX_PAYLOAD, MAX_OPERATIONS}
 use Rattle.hs_base.specs.declared.ids.TraceId.{TraceId}
 use Rattle.hs_text.specs.Text.{number_of, payload_of}
 use Rattle.hs_text.specs.Steps.{◌>>=◌, unless, value_or, first_that_holds}
@@ -148,7 +149,7 @@ begin_agrees d (a ∷ b ∷ words) = rw (not_one (length words)) refl
 point_of : (d : Draft) (o : Option ℕ) (p : Option (List ℕ))
     → Agrees (after d)
     (value_or reasons.Number o >>= λ m. (value_or reasons.Hex p >>= λ bytes. Ok (length bytes)) >>= λ n.
-    unless (nat_lt 65535 n) reasons.Range
+    unless (nat_lt MAX_PAYLOAD n) reasons.Range
     (unless (not d.is_open) reasons.NoTrace (counted d.pieces (piece_count (setting_in d.head settings.Size) n) >>= λ pieces. with_payload d m pieces p)))
     (first_that_holds ((is_none (option_and_then (λ n. option_map (λ ns. n ∷ ns) (Some [])) o), reasons.Number) ∷ (is_none p, reasons.Hex)
     ∷ statement_reasons (past_of d) (option_and_then (λ m. option_map (λ bytes. Operate (Point m bytes)) p) o)))
@@ -158,8 +159,8 @@ point_of d (Some m) None = refl
 point_of d (Some m) (Some bytes) =
     let said : Option Statement = Some (Operate (Point m bytes)) in
     let pieces = d.pieces + piece_count (setting_in d.head settings.Size) (length bytes) in
-    agrees_unless (after d) (nat_lt 65535 (length bytes)) reasons.Range _ _ said (λ _. agrees_unless (after d) (not d.is_open) reasons.NoTrace _ _ said (λ _.
-    agrees_check (after d) (nat_lt 262144 pieces) reasons.TooMany pieces (λ n. with_payload d m n (Some bytes)) None said (λ _. refl)))
+    agrees_unless (after d) (nat_lt MAX_PAYLOAD (length bytes)) reasons.Range _ _ said (λ _. agrees_unless (after d) (not d.is_open) reasons.NoTrace _ _ said (λ _.
+    agrees_check (after d) (nat_lt MAX_OPERATIONS pieces) reasons.TooMany pieces (λ n. with_payload d m n (Some bytes)) None said (λ _. refl)))
 
 point_agrees : (d : Draft) (words : List (List ℕ)) → FormAgrees d keywords.Point words
 unfolding point_step

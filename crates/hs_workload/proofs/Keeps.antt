@@ -4,6 +4,8 @@ use Rattle.std.specs.List.{AllByRecursion}
 use Rattle.std.proofs.Math.ListN.{get_or-eq_default}
 use Rattle.std.proofs.lemmas.Bool.{ltb-false}
 use borrow.Author.Tests.{ltb-true}
+use Rattle.std.proofs.Math.Nat.{mul-le-mul}
+use Rattle.hs_base.specs.declared.limits.TheConstants.{MAX_NODES, MAX_CLIENTS, MAX_OPERATIONS, MAX_TRIGGER}
 use Rattle.hs_base.specs.declared.settings.TriggerRule.{TriggerRule}
 use Rattle.hs_base.specs.declared.settings.AutoRule.{AutoRule}
 use Rattle.hs_base.specs.Rules.{AreRules, AreAutoRules}
@@ -171,7 +173,7 @@ pub record Keeps (d : Draft) : Type 0 where
   pub words : AllByRecursion (IsOperation (version_in d) (settings_in d)) d.current
   pub bracketed : Leads false d.current d.is_open
   pub pieces : d.pieces ≡ workload_pieces (size_in d) d.finished + client_pieces (size_in d) d.current
-  pub few : d.pieces ≤ 262144
+  pub few : d.pieces ≤ MAX_OPERATIONS
   pub ended : d.is_done ≡ true → (d.is_open ≡ false) × (setting_in d.head settings.Nodes * setting_in d.head settings.Clients ≤ d.started) × (0 < d.started)
   pub undone : d.is_done ≡ false → d.lines ≤ length d.head + length d.rules + length d.autos + d.started + d.pieces
   pub lines : d.lines ≤ 10 + length d.rules + length d.autos + d.started + d.pieces
@@ -220,7 +222,7 @@ rising_id rules are d (suc i) below =
     let next = are.rising i (suc i) d (omega arith) below in
     omega (arith, before, next)
 
-few_rules : (rules : List TriggerRule) → AreRules rules → length rules ≤ 64
+few_rules : (rules : List TriggerRule) → AreRules rules → length rules ≤ MAX_TRIGGER
 few_rules [] are = omega arith
 few_rules (rule ∷ rules) are =
     let below : length rules < length (rule ∷ rules) = omega arith in
@@ -228,8 +230,8 @@ few_rules (rule ∷ rules) are =
     let each = are.each (length rules) rule below in
     omega (arith, last, each.id.1)
 
-pub product_small : (a b k : ℕ) → a ≤ 16 → b ≤ 16 → k ≤ a * b → k ≤ 256
-product_small a b k p q r = grind arith
+pub product_small : (a b k : ℕ) → a ≤ MAX_NODES → b ≤ MAX_CLIENTS → k ≤ a * b → k ≤ MAX_NODES * MAX_CLIENTS
+product_small a b k p q r = let most = mul-le-mul p q in omega (arith, most, r)
 
 pub headed : (d : Draft) → Keeps d → 0 < d.started → length d.head ≡ 9
 headed d keeps some = at_nine (nat_lt (length d.head) 9) refl

@@ -7,6 +7,7 @@ use Rattle.std.proofs.lemmas.List.Elements.{All-push}
 use Rattle.std.proofs.lemmas.List.Quantifiers.{all_pairs_push}
 use Rattle.std.proofs.lemmas.Bool.{and_parts, ltb-false}
 use borrow.Author.Tests.{ltb-true, leb-true, eqb-true, ne_eqb}
+use Rattle.hs_base.specs.declared.limits.TheConstants.{MAX_TRIGGER, MAX_WEIGHT, MAX_BURST, MAX_RATE, MIN_WINDOW, MAX_WINDOW, WHOLE_SHARE, MAX_LATERALS, MAX_AUTOS, MAX_PAYLOAD, MAX_OPERATIONS}
 use Rattle.hs_base.specs.declared.settings.TriggerRule.{TriggerRule}
 use Rattle.hs_base.specs.declared.settings.AutoRule.{AutoRule}
 use Rattle.hs_base.specs.declared.settings.AutoRule.TheVariants.{Exception, Percentile, Category, Queue}
@@ -132,10 +133,10 @@ within low high n e =
 
 is_rule : (rule : TriggerRule) → is_rule_out rule ≡ false → IsRule rule
 is_rule rule e =
-    let a = or_false ((is_out 1 64 rule.id.0 || is_out 1 100 rule.weight) || is_out 1 1000 rule.burst) (nat_lt 1000000 rule.rate) e in
-    let b = or_false (is_out 1 64 rule.id.0 || is_out 1 100 rule.weight) (is_out 1 1000 rule.burst) a.0 in
-    let c = or_false (is_out 1 64 rule.id.0) (is_out 1 100 rule.weight) b.0 in
-    record { id = within 1 64 rule.id.0 c.0; weight = within 1 100 rule.weight c.1; burst = within 1 1000 rule.burst b.1; rate = ltb-false 1000000 rule.rate a.1 }
+    let a = or_false ((is_out 1 MAX_TRIGGER rule.id.0 || is_out 1 MAX_WEIGHT rule.weight) || is_out 1 MAX_BURST rule.burst) (nat_lt MAX_RATE rule.rate) e in
+    let b = or_false (is_out 1 MAX_TRIGGER rule.id.0 || is_out 1 MAX_WEIGHT rule.weight) (is_out 1 MAX_BURST rule.burst) a.0 in
+    let c = or_false (is_out 1 MAX_TRIGGER rule.id.0) (is_out 1 MAX_WEIGHT rule.weight) b.0 in
+    record { id = within 1 MAX_TRIGGER rule.id.0 c.0; weight = within 1 MAX_WEIGHT rule.weight c.1; burst = within 1 MAX_BURST rule.burst b.1; rate = ltb-false MAX_RATE rule.rate a.1 }
 
 not_at_most : (a b : ℕ) → nat_le a b ≡ false → b < a
 not_at_most a b is = grind arith
@@ -184,20 +185,20 @@ rule_kept d rule keeps a =
           (last_of (map Declare d.rules) (map Declare next.rules) (behind_rules d) (behind_rules next) (Declare rule) (nothing_behind_rules d autos none bare) (nothing_behind_rules next autos none bare') (map_more Declare d.rules rule));
     }
 
-window_within : (window share : ℕ) → is_window_out window share ≡ false → ((2 ≤ window) × (window ≤ 1024)) × ((1 ≤ share) × (share < 10000))
+window_within : (window share : ℕ) → is_window_out window share ≡ false → ((MIN_WINDOW ≤ window) × (window ≤ MAX_WINDOW)) × ((1 ≤ share) × (share < WHOLE_SHARE))
 window_within window share e =
-    let a = or_false (is_out 2 1024 window || nat_lt share 1) (nat_le 10000 share) e in
-    let b = or_false (is_out 2 1024 window) (nat_lt share 1) a.0 in
-    (within 2 1024 window b.0, (ltb-false share 1 b.1, not_at_most 10000 share a.1))
+    let a = or_false (is_out MIN_WINDOW MAX_WINDOW window || nat_lt share 1) (nat_le WHOLE_SHARE share) e in
+    let b = or_false (is_out MIN_WINDOW MAX_WINDOW window) (nat_lt share 1) a.0 in
+    (within MIN_WINDOW MAX_WINDOW window b.0, (ltb-false share 1 b.1, not_at_most WHOLE_SHARE share a.1))
 
 is_auto_rule : (rule : AutoRule) → is_auto_out rule ≡ false → IsAutoRule rule
 is_auto_rule (Exception t) e = tt
 is_auto_rule (Percentile t w s) e = window_within w s e
 is_auto_rule (Category t w s) e = window_within w s e
 is_auto_rule (Queue t w s l) e =
-    let a = or_false (is_window_out w s) (is_out 1 32 l) e in
+    let a = or_false (is_window_out w s) (is_out 1 MAX_LATERALS l) e in
     let b = window_within w s a.0 in
-    (b.0, b.1, within 1 32 l a.1)
+    (b.0, b.1, within 1 MAX_LATERALS l a.1)
 
 auto_kept : (d : Draft) (number : ℕ) (rule : AutoRule) → Keeps d → Allowed (past_of d) (Watch number rule) → Kept d (after d (Watch number rule)) (Watch number rule)
 auto_kept d number rule keeps a =
@@ -207,9 +208,9 @@ auto_kept d number rule keeps a =
     let none : d.started ≡ 0 = eqb-true d.started 0 p.1 in
     let bare : IsBare d = keeps.bare none in
     let bare' : IsBare next = record { finished = bare.finished; current = bare.current; shut = bare.shut; none = bare.none; undone = bare.undone } in
-    let range = or_false (nat_le 16 number) (is_auto_out rule) a.range in
+    let range = or_false (nat_le MAX_AUTOS number) (is_auto_out rule) a.range in
     let turn : number ≡ length d.autos = count_is number (length d.autos) a.order in
-    let few : number < 16 = not_at_most 16 number range.0 in
+    let few : number < MAX_AUTOS = not_at_most MAX_AUTOS number range.0 in
     let size : length (d.autos ++ rule ∷ []) ≡ length d.autos + 1 = length-append d.autos (rule ∷ []) in
     let lines = keeps.undone bare.undone in
     record {
@@ -319,7 +320,7 @@ record Fits (d : Draft) (op : Operation) : Type 0 where
   undone : d.is_done ≡ false
   is : IsOperation (version_in d) (settings_in d) op
   leads : (rest : List Operation) → AreBracketed (open_after d.is_open op) rest → AreBracketed d.is_open (op ∷ rest)
-  few : d.pieces + operation_pieces (size_in d) op ≤ 262144
+  few : d.pieces + operation_pieces (size_in d) op ≤ MAX_OPERATIONS
   once : 0 < operation_pieces (size_in d) op
 
 operation_kept : (d : Draft) (op : Operation) → Keeps d → Fits d op → Kept d (after d (Operate op)) (Operate op)
@@ -367,8 +368,8 @@ operation_kept d op keeps fits =
 behind_start : (d : Draft) → (nat_lt 0 d.started && not d.is_done) ≡ true → (0 < d.started) × (d.is_done ≡ false)
 behind_start d e = let p = and_parts (nat_lt 0 d.started) (not d.is_done) e in (ltb-true 0 d.started p.0, not_true d.is_done p.1)
 
-few_enough : (d : Draft) (op : Operation) → nat_lt 262144 (d.pieces + operation_pieces (size_in d) op) ≡ false → d.pieces + operation_pieces (size_in d) op ≤ 262144
-few_enough d op e = ltb-false 262144 (d.pieces + operation_pieces (size_in d) op) e
+few_enough : (d : Draft) (op : Operation) → nat_lt MAX_OPERATIONS (d.pieces + operation_pieces (size_in d) op) ≡ false → d.pieces + operation_pieces (size_in d) op ≤ MAX_OPERATIONS
+few_enough d op e = ltb-false MAX_OPERATIONS (d.pieces + operation_pieces (size_in d) op) e
 
 fits : (d : Draft) (op : Operation) → Form (version_in d) (Operate op) → Allowed (past_of d) (Operate op) → Fits d op
 fits d (Begin t) form a =
@@ -379,7 +380,7 @@ fits d (Point m bytes) form a =
     record {
       started = s.0;
       undone = s.1;
-      is = (form.0, ltb-false 65535 (length bytes) a.range, form.1);
+      is = (form.0, ltb-false MAX_PAYLOAD (length bytes) a.range, form.1);
       leads = λ rest b. (not_false d.is_open a.trace, b);
       few = few_enough d (Point m bytes) a.few;
       once = omega arith;

@@ -4,6 +4,7 @@ use Rattle.std.specs.List.{All}
 use Rattle.std.specs.Prelude.{List}
 use borrow.Author.Tests.{ne_eqb}
 use Rattle.std.proofs.lemmas.List.Folds.{list_any_none}
+use Rattle.hs_base.specs.declared.limits.TheConstants.{MIN_SIZE}
 use Rattle.hs_base.specs.declared.settings.TriggerRule.{TriggerRule}
 use Rattle.hs_base.specs.Rules.{is_declared}
 use Rattle.hs_workload.specs.declared.word.Setting.TheVariants as settings
@@ -17,5 +18,5 @@ factor_positive a b (suc c) h = omega arith
 pub undeclared : (rules : List TriggerRule) (id : ℕ) → All (λ (rule : TriggerRule). rule.id.0 ≢ id) rules → is_declared rules (record { 0 = id }) ≡ false
 undeclared rules id none = list_any_none (λ (rule : TriggerRule). nat_eq rule.id.0 id) rules (λ k d below. ne_eqb _ id (none k d below))
 
-pub least_size : (d : Draft) → IsSound d → 0 < d.started → 64 ≤ setting_in d.head settings.Size
+pub least_size : (d : Draft) → IsSound d → 0 < d.started → MIN_SIZE ≤ setting_in d.head settings.Size
 least_size d sound some = let head = sound.body some in sound.least settings.Size (omega (arith, head))

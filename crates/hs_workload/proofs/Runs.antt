@@ -6,6 +6,7 @@ use Rattle.std.proofs.Math.Seq.{get_or-append_seam}
 use Rattle.std.proofs.lemmas.List.Folds.{list_any_none, Any-from_list_any}
 use Rattle.std.proofs.lemmas.Bool.{le-ltb}
 use borrow.Author.Tests.{eqb-true}
+use Rattle.hs_base.specs.declared.limits.TheConstants.{MAX_TRIGGER, MAX_WEIGHT, MAX_BURST, MAX_RATE, MIN_WINDOW, MAX_WINDOW, WHOLE_SHARE, MAX_LATERALS, MAX_AUTOS}
 use Rattle.hs_base.specs.declared.settings.TriggerRule.{TriggerRule}
 use Rattle.hs_base.specs.declared.settings.AutoRule.{AutoRule}
 use Rattle.hs_base.specs.declared.settings.AutoRule.TheVariants.{Exception, Percentile, Category, Queue}
@@ -149,11 +150,11 @@ after_rules d (rule ∷ more) =
 
 rule_inside : (rule : TriggerRule) → IsRule rule → is_rule_out rule ≡ false
 rule_inside rule r =
-    both_false ((is_out 1 64 rule.id.0 || is_out 1 100 rule.weight) || is_out 1 1000 rule.burst) (nat_lt 1000000 rule.rate)
-    (both_false (is_out 1 64 rule.id.0 || is_out 1 100 rule.weight) (is_out 1 1000 rule.burst)
-    (both_false (is_out 1 64 rule.id.0) (is_out 1 100 rule.weight) (inside 1 64 rule.id.0 r.id.0 r.id.1) (inside 1 100 rule.weight r.weight.0 r.weight.1))
-    (inside 1 1000 rule.burst r.burst.0 r.burst.1))
-    (le-ltb 1000000 rule.rate r.rate)
+    both_false ((is_out 1 MAX_TRIGGER rule.id.0 || is_out 1 MAX_WEIGHT rule.weight) || is_out 1 MAX_BURST rule.burst) (nat_lt MAX_RATE rule.rate)
+    (both_false (is_out 1 MAX_TRIGGER rule.id.0 || is_out 1 MAX_WEIGHT rule.weight) (is_out 1 MAX_BURST rule.burst)
+    (both_false (is_out 1 MAX_TRIGGER rule.id.0) (is_out 1 MAX_WEIGHT rule.weight) (inside 1 MAX_TRIGGER rule.id.0 r.id.0 r.id.1) (inside 1 MAX_WEIGHT rule.weight r.weight.0 r.weight.1))
+    (inside 1 MAX_BURST rule.burst r.burst.0 r.burst.1))
+    (le-ltb MAX_RATE rule.rate r.rate)
 
 pub rules_allowed : (version : ℕ) (d : Draft) (more : List TriggerRule) → version_in d ≡ version → length d.head ≡ 9 → d.autos ≡ [] → d.started ≡ 0 → AreRules (d.rules ++ more) → AllowedFrom version d (map Declare more)
 rules_allowed version d [] same head autos none are = tt
@@ -198,15 +199,15 @@ after_autos d number (rule ∷ more) =
     let autos : (d.autos ++ rule ∷ []) ++ more ≡ d.autos ++ rule ∷ more = append_assoc d.autos (rule ∷ []) more in
     after_autos (after d (Watch number rule)) (number + 1) more ∙ (λ i. record d { lines = lines i; autos = autos i })
 
-window_inside : (window share : ℕ) → 2 ≤ window → window ≤ 1024 → 1 ≤ share → share < 10000 → is_window_out window share ≡ false
+window_inside : (window share : ℕ) → MIN_WINDOW ≤ window → window ≤ MAX_WINDOW → 1 ≤ share → share < WHOLE_SHARE → is_window_out window share ≡ false
 window_inside window share a b c e =
-    both_false (is_out 2 1024 window || nat_lt share 1) (nat_le 10000 share) (both_false (is_out 2 1024 window) (nat_lt share 1) (inside 2 1024 window a b) (le-ltb share 1 c)) (above 10000 share e)
+    both_false (is_out MIN_WINDOW MAX_WINDOW window || nat_lt share 1) (nat_le WHOLE_SHARE share) (both_false (is_out MIN_WINDOW MAX_WINDOW window) (nat_lt share 1) (inside MIN_WINDOW MAX_WINDOW window a b) (le-ltb share 1 c)) (above WHOLE_SHARE share e)
 
 auto_inside : (rule : AutoRule) → IsAutoRule rule → is_auto_out rule ≡ false
 auto_inside (Exception t) r = refl
 auto_inside (Percentile t w s) r = window_inside w s r.0.0 r.0.1 r.1.0 r.1.1
 auto_inside (Category t w s) r = window_inside w s r.0.0 r.0.1 r.1.0 r.1.1
-auto_inside (Queue t w s l) r = both_false (is_window_out w s) (is_out 1 32 l) (window_inside w s r.0.0 r.0.1 r.1.0 r.1.1) (inside 1 32 l r.2.0 r.2.1)
+auto_inside (Queue t w s l) r = both_false (is_window_out w s) (is_out 1 MAX_LATERALS l) (window_inside w s r.0.0 r.0.1 r.1.0 r.1.1) (inside 1 MAX_LATERALS l r.2.0 r.2.1)
 
 -- a declared id is small
 pub declared_small : (rules : List TriggerRule) (id : ℕ) → AreRules rules → is_declared rules (record { 0 = id }) ≡ true → IsSmall id
@@ -242,7 +243,7 @@ autos_allowed version d number (rule ∷ more) same head none turn rules are =
       (omega (arith, turn, few, size), auto_small d.rules rule is rules known),
       record {
         stands = both_true (nat_eq (length d.head) 9) (nat_eq d.started 0) (eq-eqb (length d.head) 9 head) (eq-eqb d.started 0 none);
-        range = both_false (nat_le 16 number) (is_auto_out rule) (above 16 number (omega (arith, turn, few, size))) (auto_inside rule is);
+        range = both_false (nat_le MAX_AUTOS number) (is_auto_out rule) (above MAX_AUTOS number (omega (arith, turn, few, size))) (auto_inside rule is);
         order = ap not (eq-eqb number (length d.autos) turn);
         known = ap not known;
         opens = refl;

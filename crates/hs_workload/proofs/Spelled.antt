@@ -2,6 +2,7 @@
 use Rattle.std.proofs.Common.{◌≡◌, ℕ, suc, ◌^◌, ◌<◌, ◌≤◌, Bool, true, false, cond, nat_eq, nat_le, ◌&&◌, List, [], ◌∷◌, length, map, drop, Option, Some, None, refl, sym, ap, subst, ◌∙◌, arith}
 use Rattle.std.specs.Prelude.{IfSome, option_map, option_and_then, decimal, ⊤}
 use Rattle.std.specs.List.{All, AllByRecursion, list_all}
+use Rattle.hs_base.specs.declared.limits.TheConstants.{MAX_LATERALS}
 use Rattle.hs_base.specs.declared.ids.TraceId.{TraceId}
 use Rattle.hs_base.specs.declared.settings.AutoRule.{AutoRule}
 use Rattle.hs_base.specs.declared.settings.AutoRule.TheVariants.{Exception, Percentile, Category, Queue}
@@ -27,7 +28,7 @@ OperationForm version (Point moment payload) = IsSmall moment × All (λ b. b < 
 OperationForm version (Crumb node) = AllByRecursion IsSmall (node.0 ∷ [])
 OperationForm version End = ⊤
 OperationForm version (Fire trigger) =
-    IsSmall trigger.moment × IsSmall trigger.trigger.0 × HasDigits version trigger.lead × (length trigger.laterals ≤ 32) × AllByRecursion (HasDigits version) trigger.laterals
+    IsSmall trigger.moment × IsSmall trigger.trigger.0 × HasDigits version trigger.lead × (length trigger.laterals ≤ MAX_LATERALS) × AllByRecursion (HasDigits version) trigger.laterals
 OperationForm version (Sample moment auto value) = AllByRecursion IsSmall (moment ∷ auto ∷ value ∷ [])
 
 abbrev pub Form : ℕ → Statement → Type 0
@@ -398,7 +399,7 @@ auto_said number (Category t w s) small smalls =
 auto_said number (Queue t w s l) small smalls =
     ap (option_and_then (λ kind. watch_said kind (decimal number) (map decimal (auto_numbers (Queue t w s l))))) (kinds_told_apart kinds.Queue) ∙ watch_read number (Queue t w s l) small smalls
 
-trigger_said : (version m i : ℕ) (l : TraceId) (ls : List TraceId) → IsSmall m → IsSmall i → HasDigits version l → length ls ≤ 32 → AllByRecursion (HasDigits version) ls
+trigger_said : (version m i : ℕ) (l : TraceId) (ls : List TraceId) → IsSmall m → IsSmall i → HasDigits version l → length ls ≤ MAX_LATERALS → AllByRecursion (HasDigits version) ls
     → says version keywords.Trigger (decimal m ∷ decimal i ∷ trace_word version l ∷ map (trace_word version) ls) ≡ Some (fire m i l ls)
 trigger_said version m i l ls small_m small_i digits few all =
     let many = length-words (trace_word version) ls in

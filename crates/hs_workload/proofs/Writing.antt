@@ -1,6 +1,7 @@
 -- The text of what is said, a line after the other.
-use Rattle.std.proofs.Common.{◌≡◌, ℕ, ◌+◌, ◌≤◌, ◌<◌, suc, List, [], ◌∷◌, ◌++◌, length, map, drop, drop-cons, add-one, get_or, refl, sym, ap, ◌∙◌, append_assoc, arith}
+use Rattle.std.proofs.Common.{◌≡◌, ℕ, ◌+◌, ◌*◌, ◌≤◌, ◌<◌, suc, List, [], ◌∷◌, ◌++◌, length, map, drop, drop-cons, add-one, get_or, refl, sym, ap, ◌∙◌, append_assoc, arith}
 use Rattle.std.proofs.lemmas.List.{append-nil, drop_all}
+use Rattle.hs_base.specs.declared.limits.TheConstants.{MAX_NODES, MAX_CLIENTS}
 use Rattle.hs_base.specs.declared.settings.TriggerRule.{TriggerRule}
 use Rattle.hs_base.specs.declared.settings.AutoRule.{AutoRule}
 use Rattle.hs_records.specs.Plain.{PlainWorkload}
@@ -82,7 +83,7 @@ written W a b d e f g a_is b_is d_is e_is f_is g_is =
     text ∙ regroup (statements_text v H) (statements_text v R) (statements_text v A) (statements_text v C) last ∙ sym from_head
 
 -- a valid workload has few clients
-pub few_clients : (W : PlainWorkload) → IsValid W → length W.clients ≤ 256
+pub few_clients : (W : PlainWorkload) → IsValid W → length W.clients ≤ MAX_NODES * MAX_CLIENTS
 few_clients W v =
     let count = v.count in
     product_small W.settings.nodes W.settings.clients (length W.clients) (v.head settings.Nodes).1 (v.head settings.Clients).1 (omega (arith, count))

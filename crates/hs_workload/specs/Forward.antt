@@ -1,12 +1,12 @@
 -- A line at a time, forward: what is read so far, and what the next line makes of it or why it is refused. The reader's
 -- own functions are stated by these. That they agree with the look back over the earlier lines is proved apart.
-use Rattle.std.specs.Prelude.{◌≡◌, ℕ, ◌+◌, ◌==◌, ◌<◌, ◌≤◌, nat_lt, Bool, true, false, not, List, [], ◌∷◌, ◌++◌, length, map, Option, Some, None, Result, Ok, Err, if◌then◌else◌}
+use Rattle.std.specs.Prelude.{◌≡◌, ℕ, ◌+◌, ◌*◌, ◌==◌, ◌<◌, ◌≤◌, nat_lt, Bool, true, false, not, List, [], ◌∷◌, ◌++◌, length, map, Option, Some, None, Result, Ok, Err, if◌then◌else◌}
 use Rattle.hs_text.specs.Text.{number_of, payload_of}
 use Rattle.hs_base.specs.declared.settings.TriggerRule.{TriggerRule}
 use Rattle.hs_base.specs.declared.settings.AutoRule.{AutoRule}
 use Rattle.hs_records.specs.Records.{piece_count}
 use Rattle.hs_records.specs.Plain.{Operation, Begin, Point, End, PlainWorkload}
-use Rattle.hs_base.specs.declared.limits.TheConstants.{MAX_TRIGGER, MAX_AUTOS, MAX_LATERALS, MAX_PAYLOAD, MAX_OPERATIONS}
+use Rattle.hs_base.specs.declared.limits.TheConstants.{MAX_TRIGGER, MAX_AUTOS, MAX_LATERALS, MAX_PAYLOAD, MAX_OPERATIONS, MAX_NODES, MAX_CLIENTS}
 use Rattle.hs_workload.specs.declared.refusal.Reason.{Reason}
 use Rattle.hs_workload.specs.declared.refusal.Reason.TheVariants as reasons
 use Rattle.hs_workload.specs.declared.refusal.ReadError.{ReadError}
@@ -236,7 +236,7 @@ pub record IsSound (d : Draft) : Type 0 where
   pub most : (setting : Setting) → setting_in d.head setting ≤ most setting
   pub rules : length d.rules ≤ MAX_TRIGGER
   pub autos : length d.autos ≤ MAX_AUTOS
-  pub started : d.started ≤ 256
+  pub started : d.started ≤ MAX_NODES * MAX_CLIENTS
   pub pieces : d.pieces ≤ MAX_OPERATIONS
   pub body : 0 < d.started → length d.head ≡ 9
   pub undone : d.is_done ≡ false → d.lines ≤ length d.head + length d.rules + length d.autos + d.started + d.pieces

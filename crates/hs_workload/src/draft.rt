@@ -1,6 +1,6 @@
 //! A workload as far as it has been read, and what each kind of line makes of it.
 
-ghost use Rattle.std.specs.Prelude.{◌≡◌, ◌≢◌, ◌==◌, nat_le, ◌&&◌, ◌<◌, ◌≤◌, ◌*◌, [], length, true, false, None, OnOk, IfOk, IfSome, IfNone};
+ghost use Rattle.std.specs.Prelude.{◌≡◌, ◌+◌, ◌≢◌, ◌==◌, nat_le, ◌&&◌, ◌<◌, ◌≤◌, ◌*◌, [], length, true, false, None, OnOk, IfOk, IfSome, IfNone};
 ghost use Rattle.std.specs.List.{All, list_any};
 ghost use Rattle.hs_base.specs.Rules.{is_declared};
 ghost use Rattle.hs_text.specs.LineFaults.{line_fault_of};
@@ -22,7 +22,7 @@ use crate::operation::{Op, Workload};
 use crate::refusal::Reason;
 use crate::rules::{is_auto_out, is_out, is_rule_out, rule_of};
 use crate::word::{Keyword, Kind, Setting};
-use hs_base::limits::{MAX_AUTOS, MAX_LATERALS, MAX_OPERATIONS, MAX_PAYLOAD};
+use hs_base::limits::{MAX_AUTOS, MAX_LATERALS, MAX_OPERATIONS, MAX_PAYLOAD, MAX_SIZE, MIN_SIZE};
 use hs_base::{
     AutoRule, Laterals, List, Memory, NodeId, Settings, TraceId, Trigger, TriggerId, TriggerRule,
 };
@@ -99,8 +99,8 @@ impl Reader {
         requires sound { IsSound (draft_of self.now) }
         requires started { 0 < (draft_of self.now).started }
         ensures value { result ≡ setting_in (draft_of self.now).head Size }
-        ensures least { 64 ≤ result }
-        ensures most { result ≤ 32768 }
+        ensures least { MIN_SIZE ≤ result }
+        ensures most { result ≤ MAX_SIZE }
     {
         self.setting(Setting::Size)
     }
@@ -297,7 +297,7 @@ impl Reader {
     /// The operations so far with so many more.
     fn counted(&self, more: u32) -> Result<u32, Stop<Reason>>
         requires sound { IsSound (draft_of self.now) }
-        requires few { more ≤ 65536 }
+        requires few { more ≤ MAX_PAYLOAD + 1 }
         ensures { Gives (λ n. n) result (counted (draft_of self.now).pieces more) }
     {
         let pieces = self.pieces + more;

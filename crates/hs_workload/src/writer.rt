@@ -1,7 +1,7 @@
 //! Writing a workload.
 
-ghost use Rattle.std.specs.Prelude.{◌≡◌, ◌<◌, ◌≤◌, ◌++◌, ◌∷◌, [], map, length, decimal, codes, IfOk, OnOk};
-ghost use Rattle.hs_base.specs.declared.limits.TheConstants.{MAX_AUTOS};
+ghost use Rattle.std.specs.Prelude.{◌≡◌, ◌<◌, ◌*◌, ◌≤◌, ◌++◌, ◌∷◌, [], map, length, decimal, codes, IfOk, OnOk};
+ghost use Rattle.hs_base.specs.declared.limits.TheConstants.{MAX_AUTOS, MAX_CLIENTS, MAX_NODES};
 ghost use Rattle.hs_text.specs.Text.{line_of};
 ghost use Rattle.hs_text.specs.Writing.{spaced, trace_word};
 ghost use Rattle.hs_records.specs.Plain.{Begin, Fire, Point};
@@ -242,7 +242,7 @@ fn push_clients(
     clients: &[List<Op>],
 ) -> Result<(), Memory>
     requires some { 0 < each }
-    requires few { length clients.now ≤ 256 }
+    requires few { length clients.now ≤ MAX_NODES * MAX_CLIENTS }
     ensures { OnOk result (out.new.items ≡ out.old.items
         ++ statements_text version (client_statements each 0 (map operations_of clients.now))) }
 {

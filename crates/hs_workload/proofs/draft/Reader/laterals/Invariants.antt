@@ -1,5 +1,6 @@
 use Rattle.std.proofs.Common.{◌≡◌, ◌+◌, ◌≤◌, ◌++◌, List, length}
 use Rattle.std.specs.Prelude.{option_map}
+use Rattle.hs_base.specs.declared.limits.TheConstants.{MAX_LATERALS}
 use Rattle.hs_base.specs.declared.ids.TraceId.{TraceId}
 use Rattle.hs_text.specs.WordsLeft.{words_in}
 use Rattle.hs_workload.specs.Statements.{traces_of}
@@ -11,7 +12,7 @@ abbrev pub invariant-loop-word : goal.invariant-loop-word
 invariant-loop-word l =
     record {
       read : traces_of (version_of (past_of (draft_of l.self))) (words_in l.fn.words) ≡ option_map (λ (more : List TraceId). l.laterals ++ more) (traces_of (version_of (past_of (draft_of l.self))) (words_in l.words));
-      few : length l.laterals + length (words_in l.words) ≤ 32;
+      few : length l.laterals + length (words_in l.words) ≤ MAX_LATERALS;
     }
 
 abbrev pub decreases-loop-word : goal.decreases-loop-word
