@@ -1,6 +1,6 @@
 -- The clients of a node in a valid workload, and their drawers.
 use Rattle.std.proofs.Common.{◌≡◌, ℕ, zero, suc, ◌+◌, ◌*◌, ◌<◌, ◌≤◌, List, [], ◌∷◌, length, map, take, drop, get_or, Some, None, refl, sym, ap, ◌∙◌, arith, length-take, length-drop}
-use Rattle.std.proofs.Math.Nat.{suc-mul, mul-le-mul_right}
+use Rattle.std.proofs.Math.Nat.{suc-mul, mul-le-mul, mul-le-mul_right}
 use Rattle.std.proofs.lemmas.List.{length-map}
 use Rattle.std.proofs.lemmas.List.FromFn.{length-map-range_with_len}
 use Rattle.std.proofs.lemmas.List.Sums.{sum_by-cons}
@@ -8,7 +8,7 @@ use Rattle.std.proofs.lemmas.Option.{same_Some, slice_get-get_or}
 use Rattle.std.specs.Prelude.{slice_get, unwrap_or, sum}
 use Rattle.std.specs.List.{AllByRecursion}
 use Rattle.hs_base.specs.Listing.{Listing}
-use Rattle.hs_base.specs.declared.limits.TheConstants.{MAX_OPERATIONS}
+use Rattle.hs_base.specs.declared.limits.TheConstants.{MAX_OPERATIONS, MAX_NODES, MAX_CLIENTS, MIN_SIZE, MAX_SIZE, MAX_BUFFERS}
 use Rattle.hs_records.specs.Plain.{Operation, PlainSettings, PlainWorkload, settings_of}
 use Rattle.hs_ring.specs.Parts.{Drawing, Giving, new_drawers}
 use Rattle.hs_sent.specs.Sending.{place_of}
@@ -24,18 +24,18 @@ use Rattle.hs_caller.specs.Standing.{IsDrawerFor}
 
 -- ---- how many there are
 
-product_few : (a b : ℕ) → a ≤ 16 → b ≤ 16 → a * b ≤ 256
-product_few a b x y = let one = mul-le-mul_right b x in let two : 16 * b ≤ 256 = omega (arith, y) in omega (arith, one, two)
+product_few : (a b : ℕ) → a ≤ MAX_NODES → b ≤ MAX_CLIENTS → a * b ≤ MAX_NODES * MAX_CLIENTS
+product_few a b x y = mul-le-mul x y
 
 pub record AreFew (W : PlainWorkload) : Type 0 where
-  pub nodes : W.settings.nodes ≤ 16
+  pub nodes : W.settings.nodes ≤ MAX_NODES
   pub some : 1 ≤ W.settings.clients
-  pub clients : W.settings.clients ≤ 16
+  pub clients : W.settings.clients ≤ MAX_CLIENTS
 
 pub are_few : (W : PlainWorkload) → IsValid W → AreFew W
 are_few W valid = record { nodes = (valid.head words.Nodes).1; some = (valid.head words.Clients).0; clients = (valid.head words.Clients).1 }
 
-pub first_few : (W : PlainWorkload) → IsValid W → (node : ℕ) → node < W.settings.nodes → node * W.settings.clients ≤ 256
+pub first_few : (W : PlainWorkload) → IsValid W → (node : ℕ) → node < W.settings.nodes → node * W.settings.clients ≤ MAX_NODES * MAX_CLIENTS
 first_few W valid node low = let few = are_few W valid in product_few node W.settings.clients (omega (arith, low, few.nodes)) few.clients
 
 pub last_low : (W : PlainWorkload) → IsValid W → (node : ℕ) → node < W.settings.nodes → node * W.settings.clients + W.settings.clients ≤ length W.clients
@@ -188,10 +188,10 @@ pub count_clear : (count size : ℕ) → length (clear_chunks count size) ≡ co
 count_clear count size = length-map-range_with_len (clear_chunk size) 0 count
 
 pub record IsSized (W : PlainWorkload) : Type 0 where
-  pub least : 64 ≤ W.settings.size
-  pub most : W.settings.size ≤ 32768
+  pub least : MIN_SIZE ≤ W.settings.size
+  pub most : W.settings.size ≤ MAX_SIZE
   pub some : 1 ≤ W.settings.buffers
-  pub few : W.settings.buffers ≤ 1024
+  pub few : W.settings.buffers ≤ MAX_BUFFERS
 
 pub is_sized : (W : PlainWorkload) → IsValid W → IsSized W
 is_sized W valid = record { least = (valid.head words.Size).0; most = (valid.head words.Size).1; some = (valid.head words.Buffers).0; few = (valid.head words.Buffers).1 }

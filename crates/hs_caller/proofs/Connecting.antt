@@ -2,7 +2,7 @@
 use Rattle.std.proofs.Common.{◌≡◌, ◌⊎◌, inl, inr, ℕ, zero, suc, ◌+◌, ◌<◌, ◌≤◌, List, [], ◌∷◌, ◌++◌, length, Some, None, refl, sym, ap, ◌∙◌, subst, arith, length-append}
 use Rattle.std.proofs.lemmas.Option.{same_Some}
 use Rattle.std.specs.Prelude.{slice_get}
-use Rattle.hs_base.specs.declared.limits.TheConstants.{MAX_TAKEN}
+use Rattle.hs_base.specs.declared.limits.TheConstants.{MAX_TAKEN, MAX_CLIENTS}
 use Rattle.hs_base.specs.declared.told.Crumb.{Crumb}
 use Rattle.hs_base.specs.declared.told.Trigger.{Trigger}
 use Rattle.hs_link.specs.Contents.{Outgoing, Incoming, AreNewEnds}
@@ -121,7 +121,7 @@ low_at [] place x e = let none : None ≡ Some x = e in absurd cc
 low_at (y ∷ xs) zero x e = omega arith
 low_at (y ∷ xs) (suc place) x e = let rest = low_at xs place x e in omega (arith, rest)
 
-pub is_port : (W : PlainWorkload) (node : ℕ) (giver : Giving) (callers : List Calling) (receiving : Receiving) → AreBegun W node giver W.settings.clients callers receiving → 1 ≤ W.settings.clients → W.settings.clients ≤ 16
+pub is_port : (W : PlainWorkload) (node : ℕ) (giver : Giving) (callers : List Calling) (receiving : Receiving) → AreBegun W node giver W.settings.clients callers receiving → 1 ≤ W.settings.clients → W.settings.clients ≤ MAX_CLIENTS
     → IsPort (record { giver = giver; chunks = receiving.chunks; crumbs = receiving.crumbs; triggers = receiving.triggers })
 is_port W node giver callers receiving are some few =
     let there : (number count : ℕ) → number < count → count ≡ W.settings.clients → (caller : Calling) × (slice_get callers number ≡ Some caller) = λ number count low is.

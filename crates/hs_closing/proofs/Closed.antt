@@ -3,6 +3,7 @@ use Rattle.std.proofs.Common.{◌≡◌, ℕ, suc, ◌<◌, ◌≤◌, List, [],
 use Rattle.std.specs.List.{AllByRecursion}
 use Rattle.std.specs.Option.{option_map_or}
 use Rattle.std.proofs.lemmas.List.{length-append}
+use Rattle.hs_base.specs.declared.limits.TheConstants.{MAX_NODES}
 use Rattle.hs_coord.specs.Messages.{Messages}
 use Rattle.hs_coord.specs.declared.asks.Asks.{Asks}
 use Rattle.hs_model.specs.Stepping.{Event}
@@ -24,7 +25,7 @@ use Rattle.hs_retell.specs.Laws.{ClosingGoesOn, DesksArePosts}
 use Rattle.hs_closing.specs.Shutting.{AllSents, PassedAlone, Stand, Passing, Asked, ClosingAt}
 use Rattle.hs_desk.proofs.Lists.{got, within}
 
-few_nodes : (W : PlainWorkload) → IsValid W → W.settings.nodes ≤ 16
+few_nodes : (W : PlainWorkload) → IsValid W → W.settings.nodes ≤ MAX_NODES
 few_nodes W valid = (valid.head settings.Nodes).1
 
 -- what was heard, and nothing was asked yet

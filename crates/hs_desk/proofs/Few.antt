@@ -3,6 +3,7 @@ use Rattle.std.proofs.Common.{◌≡◌, inl, inr, ℕ, zero, suc, ◌+◌, ◌*
 use Rattle.std.proofs.Math.Nat.{suc-mul, mul-le-mul_right}
 use Rattle.std.proofs.lemmas.List.Sums.{sum_by-cons}
 use Rattle.std.specs.List.{AllByRecursion}
+use Rattle.hs_base.specs.declared.limits.TheConstants.{MAX_CLIENTS}
 use Rattle.hs_actors.specs.Doings.{trigger_in, triggers_in}
 use Rattle.hs_base.specs.declared.told.Trigger.{Trigger}
 use Rattle.hs_model.specs.Stepping.{Chunk, Crumbed, Triggered, Asked, Turn, Event, Took, Gave}
@@ -15,7 +16,7 @@ use Rattle.hs_desk.proofs.Lists.{got, take_more, same_or_less}
 
 -- ---- the clients of a workload
 
-pub few_clients : (W : PlainWorkload) → IsValid W → W.settings.clients ≤ 16
+pub few_clients : (W : PlainWorkload) → IsValid W → W.settings.clients ≤ MAX_CLIENTS
 few_clients W valid = (valid.head settings.Clients).1
 
 -- the clients of a node are among all

@@ -4,6 +4,7 @@ use Rattle.std.proofs.lemmas.Option.{same_Some}
 use Rattle.std.specs.Prelude.{slice_get, slice_set, IsSome}
 use Rattle.std.specs.List.{AllByRecursion, flat_map}
 use Rattle.std.specs.Option.{option_and_then, option_map_or}
+use Rattle.hs_words.specs.declared.token.TheConstants.{MAX_PUBLISHED}
 use Rattle.hs_actors.specs.Doings.{asks_in}
 use Rattle.hs_actors.specs.Facts.{IsStamped}
 use Rattle.hs_agent.specs.Keeping.{Keeping}
@@ -222,7 +223,7 @@ module _ (W : PlainWorkload) (work : Work) (desk : Desking) (lines : Lines) (sta
     back_label : (back : Buffer Leased) → back.chunk.number ≡ buffer.chunk.number → back.lease ≡ buffer.lease → label_of back ≡ label_of buffer
     back_label back number lease = ap₂ (λ (n : ℕ) (l : Leased). record { number = n; lease = l }) number lease
 
-    module _ (go_on : EventsGoOn) (says : StepsSayWhatTheyTell) (agent' : Keeping Leased) (lines' : Lines) (few : length (answers_in lines'.giver.turns) ≤ 4294967296) (only : lines' ≡ record lines { giver = lines'.giver }) where
+    module _ (go_on : EventsGoOn) (says : StepsSayWhatTheyTell) (agent' : Keeping Leased) (lines' : Lines) (few : length (answers_in lines'.giver.turns) ≤ MAX_PUBLISHED) (only : lines' ≡ record lines { giver = lines'.giver }) where
       -- with a turn that has a stamp
       read : (answer : Answered) (a : Answer) (floor : ℕ) (buffers : List (Buffer Leased)) → IsStamped answer → lines'.giver ≡ after_turn lines.giver (answered a) floor → lines.giver.floor ≤ floor
           → AllByRecursion (λ (stamp : ℕ). lines.giver.floor ≤ stamp) (stamps_of (answer ∷ [])) → IsAnswered (work.came ++ []) (state_at W work) answer a → Follows agent' (run_at W (behind answer) buffers None)

@@ -2,6 +2,7 @@
 use Rattle.std.proofs.Common.{◌≡◌, ◌⊎◌, inl, inr, ℕ, suc, ◌-◌, ◌<◌, ◌≤◌, Bool, true, false, List, [], ◌∷◌, ◌++◌, length, map, refl, sym, ap, ap₂, subst, ◌∙◌, arith, append_assoc, append-nil, length-append}
 use Rattle.std.proofs.lemmas.List.{map-append}
 use Rattle.std.specs.List.{AllByRecursion}
+use Rattle.hs_words.specs.declared.token.TheConstants.{MAX_PUBLISHED}
 use Rattle.hs_base.specs.declared.told.Ask.{Ask}
 use Rattle.hs_base.specs.declared.told.Crumb.{Crumb}
 use Rattle.hs_base.specs.declared.told.Trigger.{Trigger}
@@ -101,7 +102,7 @@ module _ (W : PlainWorkload) (work : Work) (old : Lines) where
         }
 
     pub counts_on : (lines' : Lines) (desk' : Desking) (b : Bool) → b ≡ true → OffersNext W offers_work lines lines' desk' b
-        → 4294967296 - length (answers_in lines'.giver.turns) < 4294967296 - length (answers_in lines.giver.turns)
+        → MAX_PUBLISHED - length (answers_in lines'.giver.turns) < MAX_PUBLISHED - length (answers_in lines.giver.turns)
     counts_on lines' desk' false e next = absurd cc
     counts_on lines' desk' true e next = let more = next.3 in let few = next.4 in omega (arith, more, few)
 

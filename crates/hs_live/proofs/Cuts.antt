@@ -2,6 +2,7 @@
 use Rattle.std.proofs.Common.{◌≡◌, ℕ, suc, ◌+◌, ◌-◌, ◌<◌, ◌≤◌, List, [], ◌∷◌, ◌++◌, length, map, take, drop, Bool, Option, IsSome, refl, sym, ap, ap₂, ◌∙◌, arith, subst, append_assoc, length-append}
 use Rattle.std.specs.List.{AllByRecursion}
 use Rattle.std.specs.Option.{option_to_list}
+use Rattle.hs_base.specs.declared.limits.TheConstants.{MIN_SIZE}
 use Rattle.hs_records.specs.Records.{Piece, Segment, piece_limit, payload_pieces, piece_count, record_pieces}
 use Rattle.hs_words.specs.declared.token.Drawn.{Drawn}
 use Rattle.hs_words.specs.declared.token.Drawn.TheVariants as drawn
@@ -21,7 +22,7 @@ use Rattle.hs_live.proofs.Steps.{piece_of}
 -- what is known of the pieces of a payload
 pub record AreCut : Type 0 where
   pub fits : (size : ℕ) (payload : List ℕ) → length payload ≤ piece_limit size → payload_pieces size payload ≡ payload ∷ []
-  pub cut : (size : ℕ) (payload : List ℕ) → 64 ≤ size → piece_limit size < length payload
+  pub cut : (size : ℕ) (payload : List ℕ) → MIN_SIZE ≤ size → piece_limit size < length payload
       → payload_pieces size payload ≡ take (piece_limit size) payload ∷ payload_pieces size (drop (piece_limit size) payload)
   pub counted : (size : ℕ) (payload : List ℕ) → length (payload_pieces size payload) ≡ piece_count size (length payload)
 
@@ -157,7 +158,7 @@ pub cut_further : AreCut → (limit moment : ℕ) (payload rest full behind : Li
     → full ≡ take limit rest → behind ≡ drop limit rest → IsRecorded moment full now.core.number now new → IsCutTo moment payload behind old new
 cut_further are limit moment payload rest full behind old now new is limit_is long full_is behind_is recorded =
     let size = old.core.size in
-    let wide : 64 ≤ size = omega (arith, is.sound.least, is.spends.size) in
+    let wide : MIN_SIZE ≤ size = omega (arith, is.sound.least, is.spends.size) in
     let longer : piece_limit size < length rest = omega (arith, long, limit_is) in
     let cut : payload_pieces size rest ≡ full ∷ payload_pieces size behind =
     are.cut size rest wide longer ∙ ap (λ n. take n rest ∷ payload_pieces size (drop n rest)) (sym limit_is)

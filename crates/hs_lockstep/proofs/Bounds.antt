@@ -5,6 +5,7 @@ use Rattle.std.specs.Option.{option_map_or}
 use Rattle.std.proofs.lemmas.List.{length-map, map-append}
 use Rattle.std.proofs.lemmas.Grind.{flat_map-append}
 use Rattle.std.proofs.lemmas.Nat.{mul-add-lt}
+use Rattle.hs_base.specs.declared.limits.TheConstants.{MAX_OPERATIONS}
 use Rattle.hs_base.specs.declared.ids.ClientId.{ClientId}
 use Rattle.hs_journal.specs.Views.{PlainJournal}
 use Rattle.hs_records.specs.Plain.{PlainWorkload}
@@ -68,13 +69,13 @@ module _ (k : Known) (W : PlainWorkload) (runs : IsRunnable W) (valid : IsValid 
   abbrev row : ℕ → ℕ
   row i = sum_to (λ c. size_of k W runs.laid runs.size runs.weights (place_of clients i c)) clients
 
-  all_small : all_of k W runs.laid runs.size runs.weights ≤ 2 * 262144
+  all_small : all_of k W runs.laid runs.size runs.weights ≤ 2 * MAX_OPERATIONS
   all_small =
       let few = all_few k.counted W.settings.size W.clients runs.laid.ends in
       let most = valid.few in
       omega (arith, few, most)
 
-  row_few : (i : ℕ) → i < W.settings.nodes → row i ≤ 2 * 262144
+  row_few : (i : ℕ) → i < W.settings.nodes → row i ≤ 2 * MAX_OPERATIONS
   row_few i low =
       let one = term_few row W.settings.nodes i low in
       let all = sizes_are k W runs.laid runs.size runs.weights in

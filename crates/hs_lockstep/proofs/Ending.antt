@@ -2,6 +2,7 @@
 use Rattle.std.proofs.Common.{◌≡◌, ◌⊎◌, inl, inr, ℕ, zero, suc, ◌+◌, ◌-◌, ◌*◌, ◌<◌, ◌≤◌, ◌^◌, min, max, Bool, true, false, List, [], ◌∷◌, length, fold, refl, sym, ap, subst, ◌∙◌, arith, map, slice_get, unwrap_or}
 use Rattle.std.proofs.Math.Nat.{div-lt_iff_lt-mul, suc-mul, mul-le-mul_left, mul-le-mul_right}
 use Rattle.std.specs.List.{sum_by}
+use Rattle.hs_base.specs.declared.limits.TheConstants.{MAX_OPERATIONS}
 use Rattle.hs_records.specs.Pages.{pages_of}
 use Rattle.hs_records.specs.Plain.{Operation, PlainWorkload}
 use Rattle.hs_sent.specs.Sending.{operations_at}
@@ -34,19 +35,19 @@ max_few f (ops ∷ clients) from n low each =
     let here = each 0 (omega arith) in max_few f clients (max from (f ops)) n (omega (arith, low, here)) (λ place below. each (suc place) (omega (arith, below)))
 
 -- a round does one operation of the longest client at least
-rounds_small : PiecesCounted → (W : PlainWorkload) → IsLaidOut W → IsValid W → rounds_of W ≤ 262144
+rounds_small : PiecesCounted → (W : PlainWorkload) → IsLaidOut W → IsValid W → rounds_of W ≤ MAX_OPERATIONS
 rounds_small counted W laid valid =
-    max_few (λ ops. rounds_for W.settings.stride (length ops)) W.clients 0 262144 (omega arith)
+    max_few (λ ops. rounds_for W.settings.stride (length ops)) W.clients 0 MAX_OPERATIONS (omega arith)
     (λ place low.
     let few = client_few counted W.settings.size W.clients place in
     let most = valid.few in
     let stride = laid.stride in
-    let product = mul-le-mul_left 262144 stride in
-    rounds_few W.settings.stride (length (operations_at W place)) 262144 stride (omega (arith, few, most, product)))
+    let product = mul-le-mul_left MAX_OPERATIONS stride in
+    rounds_few W.settings.stride (length (operations_at W place)) MAX_OPERATIONS stride (omega (arith, few, most, product)))
 
 -- ---- so many rounds
 
-module _ (k : Known) (W : PlainWorkload) (laid : IsLaidOut W) (small : rounds_of W ≤ 262144) (n : ℕ) where
+module _ (k : Known) (W : PlainWorkload) (laid : IsLaidOut W) (small : rounds_of W ≤ MAX_OPERATIONS) (n : ℕ) where
   done_is : (place : ℕ) → place < length W.clients → done_at (rounds n W (machine_start W)) place ≡ min ((0 + n) * W.settings.stride) (length (operations_at W place))
   done_is place low = (rounds_go k W laid n 0 (machine_start W) (begins k W laid)).done place low
 

@@ -6,6 +6,7 @@ use Rattle.std.specs.Option.{option_map_or}
 use Rattle.std.proofs.lemmas.List.{length-map}
 use Rattle.std.proofs.lemmas.List.FromFn.{length-range_with_len}
 use Rattle.std.proofs.lemmas.Option.{slice_get-map}
+use Rattle.hs_base.specs.declared.limits.TheConstants.{MAX_OPERATIONS}
 use Rattle.hs_base.specs.Rules.{is_declared}
 use Rattle.hs_base.specs.declared.told.Ask.{Ask}
 use Rattle.hs_journal.specs.Views.{PlainJournal}
@@ -41,7 +42,7 @@ sum_small f most (suc n) each =
     omega (arith, rest, here, row)
 
 module _ (k : Known) (W : PlainWorkload) (valid : IsValid W) (J : PlainJournal) where
-  triggers_few : (i c : ℕ) → length (client_sends W J i c).triggers ≤ 262144
+  triggers_few : (i c : ℕ) → length (client_sends W J i c).triggers ≤ MAX_OPERATIONS
   triggers_few i c =
       let place = place_of W.settings.clients i c in
       let ops = operations_at W place in
@@ -63,7 +64,7 @@ module _ (k : Known) (W : PlainWorkload) (valid : IsValid W) (J : PlainJournal) 
         ap (λ (all : List ClientSends). slice_get all c) own.sends ∙ slice_get-map (client_sends W J node.node) (range_with_len 0 W.settings.clients) c
         ∙ ap (option_map (client_sends W J node.node)) (range_at 0 W.settings.clients c low ∙ ap Some zeroth)
 
-    taken_few : (c : ℕ) → c < W.settings.clients → taken (Triggers c) node.state.log ≤ 262144
+    taken_few : (c : ℕ) → c < W.settings.clients → taken (Triggers c) node.state.log ≤ MAX_OPERATIONS
     taken_few c low =
         let most = all_get (λ (n : NodeRun). (queue : Queue) → taken queue n.state.log ≤ supply n run.heard queue) run.nodes i node (k.unsent W J run leads).items stands (Triggers c) in
         let there = ap (λ o. option_map_or (sent_to (Triggers c)) o 0) (client_at c low) in
@@ -73,7 +74,7 @@ module _ (k : Known) (W : PlainWorkload) (valid : IsValid W) (J : PlainJournal) 
     admits_few : node.state.admitted ≤ triggers_in (length node.sends) node.state.log → node.state.admitted + 1 < 2 ^ 32
     admits_few few =
         let same = ap (λ (n : ℕ). triggers_in n node.state.log) long in
-        let small = sum_small (λ c. taken (Triggers c) node.state.log) 262144 W.settings.clients taken_few in
+        let small = sum_small (λ c. taken (Triggers c) node.state.log) MAX_OPERATIONS W.settings.clients taken_few in
         let clients = (valid.head settings.Clients).1 in
         omega (arith, few, same, small, clients)
 

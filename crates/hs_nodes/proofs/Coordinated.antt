@@ -4,6 +4,7 @@ use Rattle.std.specs.List.{AllByRecursion, flat_map}
 use Rattle.std.specs.Option.{option_and_then}
 use Rattle.std.proofs.lemmas.Grind.{flat_map-append}
 use Rattle.std.proofs.lemmas.Option.{same_Some}
+use Rattle.hs_base.specs.declared.limits.TheConstants.{MAX_TAKEN}
 use Rattle.hs_base.specs.declared.ids.NodeId.{NodeId}
 use Rattle.hs_coord.specs.Following.{Message, Messages}
 use Rattle.hs_coord.specs.Kept.{Kept}
@@ -53,7 +54,7 @@ told_below run k (suc first) start [] numbers low = tt
 told_below run k (suc first) start (node ∷ nodes) numbers low =
     let here = numbers 0 node refl in
     below_both k (told_of run node) (flat_map (told_of run) (take first nodes))
-    (below_same k (min (length node.state.said - count_by (is_from (record { 0 = node.node })) run.heard) 64) (record { 0 = node.node }) (omega (arith, here, low)))
+    (below_same k (min (length node.state.said - count_by (is_from (record { 0 = node.node })) run.heard) MAX_TAKEN) (record { 0 = node.node }) (omega (arith, here, low)))
     (told_below run k first (start + 1) nodes (λ i node at. let there = numbers (suc i) node at in omega (arith, there)) (omega (arith, low)))
 
 -- messages of other nodes are none of this one's
@@ -99,8 +100,8 @@ module _ (whole : MachinesAreWhole) (steps : StepByStep) (W : PlainWorkload) (m 
         let same : k ≡ node.run.node = omega (arith, number) in
         let names = flat_map (told_of run) (take k run.nodes) in
         let counted = others_counted run.nodes k names run.heard h.next (told_below run k k 0 run.nodes numbers (omega arith)) h.by in
-        ap (λ (n : ℕ). replicate (min (length node.run.state.said - n) 64) (name_of k)) counted
-        ∙ ap (λ (n : ℕ). replicate (min (length node.run.state.said - count_by (is_from (name_of n)) run.heard) 64) (name_of n)) same
+        ap (λ (n : ℕ). replicate (min (length node.run.state.said - n) MAX_TAKEN) (name_of k)) counted
+        ∙ ap (λ (n : ℕ). replicate (min (length node.run.state.said - count_by (is_from (name_of n)) run.heard) MAX_TAKEN) (name_of n)) same
 
     pub heard_node_more : HeardUpTo W m (k + 1) later kept
     heard_node_more =

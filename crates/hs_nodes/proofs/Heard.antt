@@ -4,6 +4,7 @@ use Rattle.std.specs.List.{AllByRecursion}
 use Rattle.std.specs.Option.{option_and_then}
 use Rattle.std.proofs.lemmas.List.Sums.{sum_by-cons, sum_by-append}
 use Rattle.std.proofs.lemmas.Option.{same_Some}
+use Rattle.hs_base.specs.declared.limits.TheConstants.{MAX_NODES, MAX_TAKEN}
 use Rattle.hs_base.specs.NodeSets.{has_node}
 use Rattle.hs_base.specs.declared.ids.NodeId.{NodeId}
 use Rattle.hs_base.specs.declared.told.Ask.{Ask}
@@ -202,7 +203,7 @@ module _ (steps : StepByStep) (W : PlainWorkload) (m : Machine) (heard : Message
 -- ---- all nodes
 
 -- there are few nodes
-pub few_nodes : (W : PlainWorkload) (m : Machine) (heard : Messages) (nodes : List Parts) (coordinator : Kept) → AllHeard W m heard nodes coordinator → length nodes ≤ 16
+pub few_nodes : (W : PlainWorkload) (m : Machine) (heard : Messages) (nodes : List Parts) (coordinator : Kept) → AllHeard W m heard nodes coordinator → length nodes ≤ MAX_NODES
 few_nodes W m heard nodes coordinator all = let count = all.nodes_are.count in let most = (all.valid.head settings.Nodes).1 in omega (arith, count, most)
 
 -- what a node tells leads to nodes that there are
@@ -356,13 +357,13 @@ module _ (steps : StepByStep) (W : PlainWorkload) (m : Machine) (heard : Message
         let both = length-append r.front (get_low nodes n low).0.said in
         omega (arith, counted, number, gone, long, both)
 
-    pub heard_full : count ≡ 64 → HearsNode W m heard n nodes coordinator
+    pub heard_full : count ≡ MAX_TAKEN → HearsNode W m heard n nodes coordinator
     heard_full full =
         let enough = said_enough in
         let same : count ≡ waiting heard n run_there = omega (arith, full, enough) in
         record { run = run_there; at = node_there.at; heard_of = subst (λ (k : ℕ). HeardOf W m heard n k nodes coordinator) same h }
 
-    pub heard_out : count < 64 → (later : List Parts) (kept : Kept) → IsHeardOut W m h.next n later kept → HearsNode W m heard n later kept
+    pub heard_out : count < MAX_TAKEN → (later : List Parts) (kept : Kept) → IsHeardOut W m h.next n later kept → HearsNode W m heard n later kept
     heard_out few later kept out =
         let enough = said_enough in
         let counted = names_counted (followed W m.journal).nodes n count heard h.next h.by in

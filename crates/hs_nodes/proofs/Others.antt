@@ -2,10 +2,11 @@
 use Rattle.std.proofs.Common.{◌≡◌, ◌≢◌, ◌⊎◌, inl, inr, ℕ, zero, suc, ◌+◌, ◌*◌, ◌/◌, ◌<◌, ◌≤◌, List, [], ◌∷◌, ◌++◌, length, take, drop, fold, map, refl, sym, ap, subst, ◌∙◌, Some, None, arith, slice_get, unwrap_or, length-set, length-take, length-drop}
 use Rattle.std.proofs.lemmas.List.{length-map}
 use Rattle.std.specs.List.{range_with_len}
-use Rattle.std.proofs.Math.Nat.{suc-mul, mul-le-mul_right}
+use Rattle.std.proofs.Math.Nat.{suc-mul, mul-le-mul, mul-le-mul_right}
 use Rattle.std.proofs.lemmas.List.Sums.{fold-append}
 use Rattle.std.proofs.lemmas.Nat.{mul-add-lt, div-mul-add}
 use Rattle.std.proofs.lemmas.Option.{same_Some}
+use Rattle.hs_base.specs.declared.limits.TheConstants.{MAX_NODES, MAX_CLIENTS}
 use Rattle.hs_base.specs.Listing.{Listing}
 use Rattle.hs_coord.specs.Following.{Messages}
 use Rattle.hs_coord.specs.Kept.{Kept}
@@ -269,19 +270,19 @@ heard_still takes gives whole W valid some m r =
 
 -- ---- sizes
 
-product_few : (a b : ℕ) → a ≤ 16 → b ≤ 16 → a * b ≤ 256
-product_few a b x y = let one = mul-le-mul_right b x in let two : 16 * b ≤ 256 = omega (arith, y) in omega (arith, one, two)
+product_few : (a b : ℕ) → a ≤ MAX_NODES → b ≤ MAX_CLIENTS → a * b ≤ MAX_NODES * MAX_CLIENTS
+product_few a b x y = mul-le-mul x y
 
 -- nodes and clients are few
 pub record AreFew (W : PlainWorkload) : Type 0 where
   pub some : 0 < W.settings.nodes
-  pub nodes : W.settings.nodes ≤ 16
-  pub clients : W.settings.clients ≤ 16
+  pub nodes : W.settings.nodes ≤ MAX_NODES
+  pub clients : W.settings.clients ≤ MAX_CLIENTS
 
 pub are_few : (W : PlainWorkload) → IsValid W → AreFew W
 are_few W valid = let n = valid.head settings.Nodes in let c = valid.head settings.Clients in record { some = n.0; nodes = n.1; clients = c.1 }
 
-pub first_few : (W : PlainWorkload) → IsValid W → (n : ℕ) → n < W.settings.nodes → n * W.settings.clients ≤ 256
+pub first_few : (W : PlainWorkload) → IsValid W → (n : ℕ) → n < W.settings.nodes → n * W.settings.clients ≤ MAX_NODES * MAX_CLIENTS
 first_few W valid n low = let few = are_few W valid in let a = few.nodes in product_few n W.settings.clients (omega (arith, low, a)) few.clients
 
 -- the clients of a node are among all

@@ -1,5 +1,6 @@
 -- A player that has recorded some pieces of a payload, and has the rest of it still to record.
 use Rattle.std.proofs.Common.{◌≡◌, ℕ, ◌+◌, ◌<◌, ◌≤◌, List, [], ◌∷◌, ◌++◌, length, map, take, drop, refl, sym, ap, ap₂, ◌∙◌, arith, subst}
+use Rattle.hs_base.specs.declared.limits.TheConstants.{MIN_SIZE}
 use Rattle.hs_records.specs.Records.{Piece, Segment, piece_limit, payload_pieces, piece_count, record_pieces}
 use Rattle.hs_player.specs.Playing.{Unleased}
 use Rattle.hs_player.specs.Wells.{Way, IsReadyFor}
@@ -10,7 +11,7 @@ use Rattle.hs_player.proofs.Steps.{piece_of}
 -- what is known of the pieces of a payload
 pub record AreCut : Type 0 where
   pub fits : (size : ℕ) (payload : List ℕ) → length payload ≤ piece_limit size → payload_pieces size payload ≡ payload ∷ []
-  pub cut : (size : ℕ) (payload : List ℕ) → 64 ≤ size → piece_limit size < length payload
+  pub cut : (size : ℕ) (payload : List ℕ) → MIN_SIZE ≤ size → piece_limit size < length payload
       → payload_pieces size payload ≡ take (piece_limit size) payload ∷ payload_pieces size (drop (piece_limit size) payload)
   pub counted : (size : ℕ) (payload : List ℕ) → length (payload_pieces size payload) ≡ piece_count size (length payload)
 
@@ -43,7 +44,7 @@ module _ {P : Type 0} (way : Way P) where
       → limit < length rest → full ≡ take limit rest → behind ≡ drop limit rest → Records way 1 now.core.number (piece_of now.core.number moment full ∷ []) now new middle well' → IsCutTo moment payload behind old new well well'
   cut_further are limit moment payload rest full behind old now new well middle well' is limit_is long full_is behind_is recorded =
       let size = old.core.size in
-      let wide : 64 ≤ size = omega (arith, is.sound.least, is.spends.size_is) in
+      let wide : MIN_SIZE ≤ size = omega (arith, is.sound.least, is.spends.size_is) in
       let longer : piece_limit size < length rest = omega (arith, long, limit_is) in
       let cut : payload_pieces size rest ≡ full ∷ payload_pieces size behind =
       are.cut size rest wide longer ∙ ap (λ n. take n rest ∷ payload_pieces size (drop n rest)) (sym limit_is)

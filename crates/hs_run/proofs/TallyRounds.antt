@@ -7,7 +7,7 @@ use Rattle.std.proofs.lemmas.Option.{same_Some}
 use Rattle.std.specs.List.{flat_map}
 use Rattle.hs_actors.specs.Doings.{steps_of}
 use Rattle.hs_base.specs.declared.ids.ClientId.{ClientId}
-use Rattle.hs_base.specs.declared.limits.TheConstants.{MAX_OPERATIONS}
+use Rattle.hs_base.specs.declared.limits.TheConstants.{MAX_OPERATIONS, MAX_NODES, MAX_CLIENTS}
 use Rattle.hs_caller.specs.Calling.{Calling}
 use Rattle.hs_counts.specs.declared.client.ClientCount.{ClientCount}
 use Rattle.hs_counts.specs.declared.log.LogCount.{LogCount}
@@ -124,8 +124,8 @@ module _ (W : PlainWorkload) (rounds : ℕ) (nodes : List Node) (c : Coordinatin
 
   -- each sum of two kinds of steps is a number of 32 bits, and no more is given than taken
   record LogSmall (log : List Step) : Type 0 where
-    taken : count_by is_chunk log ≤ 16 * MAX_OPERATIONS
-    given : count_by is_given log ≤ 16 * MAX_OPERATIONS
+    taken : count_by is_chunk log ≤ MAX_CLIENTS * MAX_OPERATIONS
+    given : count_by is_given log ≤ MAX_CLIENTS * MAX_OPERATIONS
 
   log_small : SendSo → EventsAddThis → ListsHaveTheirChunks → (node : ℕ) (at : Node) → slice_get nodes node ≡ Some at → LogSmall at.site.agent.agent.log
   log_small so adds lists node at there =
@@ -285,8 +285,8 @@ module _ (W : PlainWorkload) (rounds : ℕ) (nodes : List Node) (c : Coordinatin
 
       -- the count of a log is small
       record CountSmall (count : LogCount) : Type 0 where
-        taken : count.taken ≤ 16 * MAX_OPERATIONS
-        given : count.given ≤ 16 * MAX_OPERATIONS
+        taken : count.taken ≤ MAX_CLIENTS * MAX_OPERATIONS
+        given : count.given ≤ MAX_CLIENTS * MAX_OPERATIONS
 
       count_small : SendSo → EventsAddThis → ListsHaveTheirChunks → (node : ℕ) (count : LogCount) → slice_get logs' node ≡ Some count → CountSmall count
       count_small so adds lists node count at =
@@ -304,7 +304,7 @@ module _ (W : PlainWorkload) (rounds : ℕ) (nodes : List Node) (c : Coordinatin
           let given = small.given in
           record { taken = omega (arith, taken_is, taken); given = omega (arith, given_is, given) }
 
-      few_counts : length clients' ≤ 256
+      few_counts : length clients' ≤ MAX_NODES * MAX_CLIENTS
       few_counts =
           let many = gone_on.many in
           let were = counted.clients_are in
@@ -312,7 +312,7 @@ module _ (W : PlainWorkload) (rounds : ℕ) (nodes : List Node) (c : Coordinatin
           let few = few_products W.settings.nodes W.settings.clients (few_nodes W is_valid) (few_clients W is_valid) in
           omega (arith, many, were, all, few)
 
-      few_logs : length logs' ≤ 16
+      few_logs : length logs' ≤ MAX_NODES
       few_logs =
           let many = noted.many in
           let were = counted.logs_are in
@@ -321,11 +321,11 @@ module _ (W : PlainWorkload) (rounds : ℕ) (nodes : List Node) (c : Coordinatin
 
       pub fit : SendSo → EventsAddThis → ListsHaveTheirChunks → FitTotals (record { clients = clients'; logs = logs' })
       fit so adds lists =
-          let operations = sum_below (λ (x : ClientCount). x.done) 256 MAX_OPERATIONS clients' few_counts (λ place x at. (client_small place x at).done) in
-          let records = sum_below (λ (x : ClientCount). x.points) 256 MAX_OPERATIONS clients' few_counts (λ place x at. (client_small place x at).points) in
-          let nulls = sum_below (λ (x : ClientCount). x.nulls) 256 MAX_OPERATIONS clients' few_counts (λ place x at. (client_small place x at).nulls) in
-          let taken = sum_below (λ (x : LogCount). x.taken) 16 (16 * MAX_OPERATIONS) logs' few_logs (λ node x at. (count_small so adds lists node x at).taken) in
-          let given = sum_below (λ (x : LogCount). x.given) 16 (16 * MAX_OPERATIONS) logs' few_logs (λ node x at. (count_small so adds lists node x at).given) in
+          let operations = sum_below (λ (x : ClientCount). x.done) (MAX_NODES * MAX_CLIENTS) MAX_OPERATIONS clients' few_counts (λ place x at. (client_small place x at).done) in
+          let records = sum_below (λ (x : ClientCount). x.points) (MAX_NODES * MAX_CLIENTS) MAX_OPERATIONS clients' few_counts (λ place x at. (client_small place x at).points) in
+          let nulls = sum_below (λ (x : ClientCount). x.nulls) (MAX_NODES * MAX_CLIENTS) MAX_OPERATIONS clients' few_counts (λ place x at. (client_small place x at).nulls) in
+          let taken = sum_below (λ (x : LogCount). x.taken) MAX_NODES (MAX_CLIENTS * MAX_OPERATIONS) logs' few_logs (λ node x at. (count_small so adds lists node x at).taken) in
+          let given = sum_below (λ (x : LogCount). x.given) MAX_NODES (MAX_CLIENTS * MAX_OPERATIONS) logs' few_logs (λ node x at. (count_small so adds lists node x at).given) in
           record { operations = omega (arith, operations); records = omega (arith, records); nulls = omega (arith, nulls); taken = omega (arith, taken); given = omega (arith, given) }
 
 -- ---- before the first round

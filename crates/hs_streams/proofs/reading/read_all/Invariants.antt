@@ -1,4 +1,5 @@
 use Rattle.std.proofs.Common.{◌≡◌, ◌+◌, ◌-◌, ◌≤◌, vec_len}
+use Rattle.hs_base.specs.declared.limits.TheConstants.{MAX_INPUT}
 use Rattle.hs_base.specs.Outside.{Loses}
 use Rattle.hs_streams.proofs.reading.read_all.Given as goal
 
@@ -8,10 +9,10 @@ invariant-loop-text g l =
     let faults = g.S.Source.faults in
     record {
       lost : Loses (left l.fn.source) (left l.source) l.text.items;
-      within : vec_len l.text ≤ 16777216 + 1;
+      within : vec_len l.text ≤ MAX_INPUT + 1;
       piece : vec_len l.piece ≡ 65536;
       still : faults l.source ≡ faults l.fn.source;
     }
 
 abbrev pub decreases-loop-text : goal.decreases-loop-text
-decreases-loop-text g l = 16777216 + 1 - vec_len l.text
+decreases-loop-text g l = MAX_INPUT + 1 - vec_len l.text

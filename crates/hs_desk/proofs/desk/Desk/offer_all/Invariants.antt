@@ -1,4 +1,5 @@
 use Rattle.std.proofs.Common.{◌-◌, length}
+use Rattle.hs_words.specs.declared.token.TheConstants.{MAX_PUBLISHED}
 use Rattle.hs_records.specs.Plain.{PlainWorkload}
 use Rattle.hs_words.specs.Ends.{answers_in}
 use Rattle.hs_desk.specs.Desks.{desking}
@@ -12,4 +13,4 @@ invariant-offers g l = (W : PlainWorkload) (work : Work) → Stands W work (desk
 
 -- answers with a stamp are few
 abbrev pub decreases-offers : goal.decreases-offers
-decreases-offers g l = 4294967296 - length (answers_in (g.E.Ends.sees l.ends).giver.turns)
+decreases-offers g l = MAX_PUBLISHED - length (answers_in (g.E.Ends.sees l.ends).giver.turns)
