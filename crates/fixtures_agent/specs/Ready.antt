@@ -1,5 +1,6 @@
 -- An agent of node 0 whose pages are of 64 bytes and which knows the trigger id 1, after so many events at most, with no chunk out.
 use Rattle.std.specs.Prelude.{◌≡◌, ℕ, ◌<◌, ◌≤◌, List, [], ◌∷◌, length, Option, None, true, IsSome}
+use Rattle.hs_base.specs.declared.limits.TheConstants.{MIN_SIZE, MAX_NODES}
 use Rattle.hs_base.specs.Rules.{is_declared}
 use Rattle.hs_base.specs.declared.ids.TriggerId.{TriggerId}
 use Rattle.hs_words.specs.Buffers.{Buffer, buffer_of}
@@ -14,8 +15,8 @@ first_id = record { 0 = 1 }
 
 pub record IsOfSite {L : Type 0} (run : Run L) : Type 0 where
   pub node : run.node ≡ 0
-  pub size : run.settings.size ≡ 64
-  pub nodes : run.settings.nodes ≡ 16
+  pub size : run.settings.size ≡ MIN_SIZE
+  pub nodes : run.settings.nodes ≡ MAX_NODES
   pub declared : is_declared run.settings.triggers first_id ≡ true
 
 pub record IsRested {L : Type 0} (events : ℕ) (run : Run L) : Type 0 where
@@ -36,12 +37,12 @@ pub record IsWaiting {L : Type 0} (events : ℕ) (run : Run L) : Type 0 where
 pub record IsPageOf {L : Type 0} (client : ℕ) (buffer : Buffer L) : Type 0 where
   pub started : IsSome buffer.chunk.page
   pub from : (sheet_in buffer).header.client ≡ record { node = 0; number = client }
-  pub size : buffer.chunk.size ≡ 64
+  pub size : buffer.chunk.size ≡ MIN_SIZE
 
 -- what such an agent may take
 abbrev pub Fits : {L : Type 0} {g : _} → Input L g → Type 0
 Fits (inputs.Chunk client held) = IsPageOf client (buffer_of held)
-Fits (inputs.Crumb client crumb) = crumb.node.0 < 16
+Fits (inputs.Crumb client crumb) = crumb.node.0 < MAX_NODES
 Fits (inputs.Trigger client trigger) = trigger.trigger ≡ first_id
 Fits (inputs.Ask ask) = ask.group.trigger ≡ first_id
 Fits inputs.Turn = Unit {0}

@@ -1,6 +1,7 @@
 //! A client and the port of its node, made and closed.
 
 ghost use Rattle.std.specs.Prelude.{◌≡◌, ◌+◌, ◌<◌, ◌≤◌, [], ◌∷◌, None, IfOk};
+ghost use Rattle.hs_base.specs.declared.limits.TheConstants.{MAX_BUFFERS, MIN_SIZE, MAX_SIZE, MAX_OPERATIONS};
 ghost use Rattle.hs_client.specs.Core.{new_core};
 ghost use Rattle.hs_link.specs.Contents.{sent};
 ghost use Rattle.hs_live.specs.Calls.{IsOf};
@@ -61,9 +62,9 @@ fn only<T: Drop>(alloc: Global, item: T) -> Result<List<T>, Memory>
 
 /// The giver and the one drawer of a pool.
 fn pool(alloc: Global, buffers: u32, size: u32, draws: u32) -> Result<(Giver, Drawer), Memory>
-    requires buffers { (1 ≤ buffers) × (buffers ≤ 1024) }
-    requires size { (64 ≤ size) × (size ≤ 32768) }
-    requires draws { draws ≤ 262144 }
+    requires buffers { (1 ≤ buffers) × (buffers ≤ MAX_BUFFERS) }
+    requires size { (MIN_SIZE ≤ size) × (size ≤ MAX_SIZE) }
+    requires draws { draws ≤ MAX_OPERATIONS }
     ensures { IfOk result (λ ends. AreNewEnds buffers size (draws ∷ []) ends.0 (ends.1 ∷ [])) }
 {
     let chunks = Stock::make(alloc, buffers, size)?;
@@ -116,9 +117,9 @@ fn port_of(
 
 /// A client, and the port of its node.
 pub fn client_and_port(alloc: Global, making: Making) -> Result<(Client, AgentPort), Memory>
-    requires buffers { (1 ≤ making.buffers) × (making.buffers ≤ 1024) }
-    requires size { (64 ≤ making.size) × (making.size ≤ 32768) }
-    requires calls { making.calls ≤ 262144 }
+    requires buffers { (1 ≤ making.buffers) × (making.buffers ≤ MAX_BUFFERS) }
+    requires size { (MIN_SIZE ≤ making.size) × (making.size ≤ MAX_SIZE) }
+    requires calls { making.calls ≤ MAX_OPERATIONS }
     requires capacity { 1 ≤ making.capacity }
     ensures client { IfOk result (λ made. CanCall making.size making.calls made.0) }
     ensures closed { IfOk result (λ made. made.0.core.trace ≡ None) }

@@ -3,14 +3,12 @@
 ghost use Rattle.std.specs.Prelude.{◌≡◌, ◌+◌, ◌≤◌, OnOk};
 ghost use Rattle.rows_board.specs.Shown.{EndsBelow};
 
+use hs_base::limits::MAX_OPERATIONS;
 use hs_base::{List, Memory};
 use hs_board::{BoardReader, BoardWriter, Progress, board};
 use std::alloc::Global;
 use std::sync::Wait;
 use std::test::Fail;
-
-/// The most rounds that a run may have.
-const MAX_ROUNDS: u32 = 262144;
 
 /// What a row looks at.
 #[derive(Drop)]
@@ -50,7 +48,7 @@ fn publish_next<R: Wait>(rt: &R, writer: &mut BoardWriter, round: u32) -> bool
 /// Publishes the totals after each round from 1 to this one; answers how many publishes were Ok.
 fn publish_all<R: Wait>(rt: &R, writer: &mut BoardWriter, rounds: u32) -> u32
     requires fresh { EndsBelow writer.old 1 }
-    requires few { rounds ≤ MAX_ROUNDS }
+    requires few { rounds ≤ MAX_OPERATIONS }
 {
     let mut published = 0u32;
     for round in 1..rounds + 1 {
@@ -76,7 +74,7 @@ fn told(writer: &mut BoardWriter, readers: &mut List<BoardReader>) -> u32 {
 fn looked(readers: &mut List<BoardReader>) -> u32 {
     match readers.as_mut_slice().last_mut() {
         Some(reader) => reader.look().rounds,
-        None => MAX_ROUNDS + 1,
+        None => MAX_OPERATIONS + 1,
     }
 }
 
@@ -88,7 +86,7 @@ fn watch<R: Wait>(
     rounds: u32,
 ) -> Seen
     requires fresh { EndsBelow writer.old 1 }
-    requires few { rounds ≤ MAX_ROUNDS }
+    requires few { rounds ≤ MAX_OPERATIONS }
 {
     let before = looked(readers);
     let published = publish_all(rt, writer, rounds);
@@ -105,7 +103,7 @@ fn watch<R: Wait>(
 /// Makes a board, shows these rounds on it, and closes it; answers what was seen, and whether the close was Ok.
 fn play<R: Wait>(rt: &R, alloc: Global, count: u32, rounds: u32) -> Result<(Seen, bool), Memory>
     requires many { (1 ≤ count) × (count ≤ 16) }
-    requires few { rounds ≤ MAX_ROUNDS }
+    requires few { rounds ≤ MAX_OPERATIONS }
 {
     let (mut writer, mut readers) = board(alloc, count)?;
     let seen = watch(rt, &mut writer, &mut readers, rounds);
@@ -116,7 +114,7 @@ fn play<R: Wait>(rt: &R, alloc: Global, count: u32, rounds: u32) -> Result<(Seen
 /// Whether all readers saw nothing before, all rounds behind the last publish, and the close was Ok.
 fn all_seen<R: Wait>(rt: &R, alloc: Global, count: u32, rounds: u32) -> bool
     requires many { (1 ≤ count) × (count ≤ 16) }
-    requires few { rounds ≤ MAX_ROUNDS }
+    requires few { rounds ≤ MAX_OPERATIONS }
 {
     match play(rt, alloc, count, rounds) {
         Ok((seen, closed)) => {
@@ -150,6 +148,6 @@ fn sixteen_readers_see_the_last_of_all_rounds(rt: HostRuntime) -> Result<(), Fai
 
 #[test]
 fn as_many_rounds_as_a_run_may_have(rt: HostRuntime) -> Result<(), Fail> {
-    assert!(rt; all_seen(&rt, rt.alloc(), 2, MAX_ROUNDS));
+    assert!(rt; all_seen(&rt, rt.alloc(), 2, MAX_OPERATIONS));
     Ok(())
 }

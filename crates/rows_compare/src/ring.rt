@@ -4,6 +4,7 @@ ghost use Rattle.std.specs.Prelude.{◌≤◌};
 
 use hs_base::{ClientId, Memory, RecordId, TraceId};
 use hs_compare::RingTail;
+use hs_compare::limits::MAX_ROOM;
 use std::alloc::Global;
 use std::test::Fail;
 
@@ -50,7 +51,7 @@ fn has(ring: &RingTail, numbers: &[u32]) -> bool {
 
 /// Whether a ring with this room has kept these records behind the calls, in this order.
 fn keeps(alloc: Global, room: u32, calls: &[Call], numbers: &[u32]) -> Result<bool, Memory>
-    requires { (1 ≤ room) × (room ≤ 262144) }
+    requires { (1 ≤ room) × (room ≤ MAX_ROOM) }
 {
     let mut ring = RingTail::make(alloc, room)?;
     play(&mut ring, calls)?;
@@ -157,8 +158,8 @@ fn come(ring: &mut RingTail, count: u32) -> Result<(), Memory> {
 
 /// The number of the first record that the greatest ring has kept of twice as many, and how many it has kept.
 fn greatest(alloc: Global) -> Result<(Option<u32>, usize), Memory> {
-    let mut ring = RingTail::make(alloc, 262_144)?;
-    come(&mut ring, 524_288)?;
+    let mut ring = RingTail::make(alloc, MAX_ROOM)?;
+    come(&mut ring, 2 * MAX_ROOM)?;
     play_one(&mut ring, Call::Name(7))?;
     let kept = ring.kept().as_slice();
     Ok((kept.first().map(|id| id.number), kept.len()))
@@ -167,6 +168,6 @@ fn greatest(alloc: Global) -> Result<(Option<u32>, usize), Memory> {
 /// The greatest ring, and as many records again.
 #[test]
 fn the_greatest_room(rt: HostRuntime) -> Result<(), Fail> {
-    assert!(rt; greatest(rt.alloc())? == (Some(262_144), 262_144));
+    assert!(rt; greatest(rt.alloc())? == (Some(MAX_ROOM), MAX_ROOM as usize));
     Ok(())
 }

@@ -126,7 +126,7 @@ fn journal_of(alloc: Global, count: u32) -> Result<Vec<u8>, AllocError> {
 
 /// Whether the text is read as a journal that is written as this text.
 fn comes_back(alloc: Global, text: &[u8]) -> Result<bool, Fail> {
-    if text.len() >= 4_294_967_295 {
+    if text.len() >= u32::MAX as usize {
         return Ok(false);
     }
     let journal = read_journal(alloc, text)?;

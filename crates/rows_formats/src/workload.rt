@@ -2,6 +2,7 @@
 //! `cases/refused`.
 
 use hs_base::TraceId;
+use hs_base::limits::MAX_PAYLOAD;
 use hs_workload::{Op, ReadError, Reason, Refusal, Workload, read_workload};
 use std::alloc::{AllocError, Global};
 use std::process::Abort;
@@ -107,7 +108,7 @@ fn every_prefix_of_the_example_is_truncated(rt: HostRuntime) {
 fn a_long_payload_is_out_of_range(rt: HostRuntime) -> Result<(), Fail> {
     let mut text = HEAD.to_vec(rt.alloc())?;
     text.extend_from_slice(b"client 0 0\npoint 1 ")?;
-    push_often(&mut text, b"00", 65_536)?;
+    push_often(&mut text, b"00", MAX_PAYLOAD as u32 + 1)?;
     text.extend_from_slice(b"\n")?;
     expect_refusal(&rt, rt.alloc(), &text, 11, Reason::Range);
     Ok(())

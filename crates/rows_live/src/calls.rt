@@ -1,6 +1,7 @@
 //! Calls of a client, as tables name them.
 
 ghost use Rattle.std.specs.Prelude.{◌≡◌, ℕ, ◌+◌, ◌*◌, ◌≤◌, length, None, IsTrue};
+ghost use Rattle.hs_base.specs.declared.limits.TheConstants.{MIN_SIZE};
 ghost use Rattle.fixtures_live.specs.Pairs.{CanCall, KeepsClient};
 
 use fixtures_live::ID;
@@ -29,8 +30,8 @@ pub enum Call {
 
 /// Makes one call.
 pub fn do_call(client: &mut Client, call: Call) -> Called
-    requires { CanCall 64 2 client.old }
-    ensures left { (n : ℕ) → CanCall 64 (n + 2) client.old → CanCall 64 n client.new }
+    requires { CanCall MIN_SIZE 2 client.old }
+    ensures left { (n : ℕ) → CanCall MIN_SIZE (n + 2) client.old → CanCall MIN_SIZE n client.new }
     ensures same { KeepsClient client.old client.new }
 {
     match call {
@@ -53,8 +54,8 @@ pub fn do_call(client: &mut Client, call: Call) -> Called
 /// Makes the calls, and answers how many were answered otherwise than the table says.
 pub fn do_calls(client: &mut Client, calls: &[(Call, Called)]) -> u32
     requires few { length calls.now ≤ 100 }
-    requires left { CanCall 64 (2 * length calls.now) client.old }
-    ensures left { (n : ℕ) → CanCall 64 (2 * length calls.now + n) client.old → CanCall 64 n client.new }
+    requires left { CanCall MIN_SIZE (2 * length calls.now) client.old }
+    ensures left { (n : ℕ) → CanCall MIN_SIZE (2 * length calls.now + n) client.old → CanCall MIN_SIZE n client.new }
     ensures same { KeepsClient client.old client.new }
     ensures few { result ≤ length calls.now }
 {
@@ -69,7 +70,7 @@ pub fn do_calls(client: &mut Client, calls: &[(Call, Called)]) -> u32
 
 /// Whether no trace is open.
 pub fn is_closed(client: &mut Client) -> bool
-    requires { CanCall 64 1 client.old }
+    requires { CanCall MIN_SIZE 1 client.old }
     ensures closed { IsTrue result → client.new.core.trace ≡ None }
     ensures same { KeepsClient client.old client.new }
 {

@@ -9,6 +9,7 @@ use fixtures_live::{
     CLIENT, ID, Making, client_and_port, close_all, flush, meet, next_crumb, next_trigger,
     nothing_comes,
 };
+use hs_base::limits::MIN_SIZE;
 use hs_base::{Crumb, Laterals, NodeId, TraceId, Trigger};
 use hs_journal::{ClientBook, Draw, PageNote};
 use hs_live::{AgentPort, Called, Client};
@@ -19,7 +20,7 @@ use std::test::Fail;
 /// Two chunks of the least size.
 const TWO: Making = Making {
     buffers: 2,
-    size: 64,
+    size: MIN_SIZE,
     calls: 64,
     capacity: 16,
 };
@@ -27,21 +28,21 @@ const TWO: Making = Making {
 /// The same over links of one entry.
 const NARROW: Making = Making {
     buffers: 2,
-    size: 64,
+    size: MIN_SIZE,
     calls: 64,
     capacity: 1,
 };
 
 const ONE_CALL: Making = Making {
     buffers: 1,
-    size: 64,
+    size: MIN_SIZE,
     calls: 1,
     capacity: 1,
 };
 
 const NO_CALL: Making = Making {
     buffers: 1,
-    size: 64,
+    size: MIN_SIZE,
     calls: 0,
     capacity: 1,
 };
@@ -220,9 +221,9 @@ fn has_noted(book: &ClientBook, draws: &[Draw], pages: &[PageNote]) -> bool {
 /// Makes the calls that are refused. Answers how many were answered otherwise, how much waits to be sent, how many draws
 /// found nothing, and whether nothing came.
 fn refuses(client: &mut Client, port: &mut AgentPort) -> (u32, u32, u32, bool)
-    requires can { CanCall 64 13 client.old }
+    requires can { CanCall MIN_SIZE 13 client.old }
     requires ends { IsOnly port.old client.old }
-    ensures left { CanCall 64 1 client.new }
+    ensures left { CanCall MIN_SIZE 1 client.new }
     ensures same { KeepsPort port.old port.new × KeepsClient client.old client.new }
 {
     let others = do_calls(client, &REFUSED);
@@ -271,9 +272,9 @@ fn calls_all(
     client: &mut Client,
     port: &mut AgentPort,
 ) -> (u32, u32, u32, u32, Result<bool, Fail>)
-    requires can { CanCall 64 39 client.old }
+    requires can { CanCall MIN_SIZE 39 client.old }
     requires ends { IsOnly port.old client.old }
-    ensures left { CanCall 64 1 client.new }
+    ensures left { CanCall MIN_SIZE 1 client.new }
     ensures same { KeepsPort port.old port.new × KeepsClient client.old client.new }
 {
     let others = do_calls(client, &CALLS);
@@ -301,7 +302,7 @@ fn all_calls_on_one_thread(rt: HostRuntime) -> Result<(), Fail> {
 
 /// Makes the calls of `CALLS` over links of one entry each. A chunk and a trigger wait, until what was put before is taken.
 fn flushes(alloc: Global, client: &mut Client, port: &mut AgentPort) -> Result<bool, Fail>
-    requires can { CanCall 64 32 client.old }
+    requires can { CanCall MIN_SIZE 32 client.old }
     requires ends { HasClient port.old }
 {
     let others = do_calls(client, &CALLS);
@@ -334,7 +335,7 @@ fn what_waits_is_put_once_there_is_room(rt: HostRuntime) -> Result<(), Fail> {
 
 /// Makes calls of a client that may have one counted. Those that are not counted are done still.
 fn is_spent(client: &mut Client) -> bool
-    requires { CanCall 64 1 client.old }
+    requires { CanCall MIN_SIZE 1 client.old }
 {
     let opened = client.begin(TraceId(1));
     let opened_again = client.begin(TraceId(2));

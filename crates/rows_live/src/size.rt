@@ -6,6 +6,7 @@ ghost use Rattle.fixtures_live.specs.Pairs.{CanCall, KeepsPort, HasClient};
 
 use fixtures_live::{Making, client_and_port, flush, give_back, next_chunk, nothing_comes};
 use hs_base::TraceId;
+use hs_base::limits::{MAX_BUFFERS, MAX_PAYLOAD, MAX_SIZE};
 use hs_live::{AgentPort, Called, Client};
 use hs_ring::Lease;
 use hs_words::Held;
@@ -13,8 +14,8 @@ use std::alloc::{AllocError, Global};
 use std::test::Fail;
 
 const GREATEST: Making = Making {
-    buffers: 1024,
-    size: 32_768,
+    buffers: MAX_BUFFERS,
+    size: MAX_SIZE,
     calls: 1040,
     capacity: 64,
 };
@@ -31,25 +32,25 @@ fn payload_of(alloc: Global, count: usize) -> Result<Vec<u8>, AllocError>
 
 /// Opens a trace.
 fn begin(client: &mut Client) -> Called
-    ensures { (n : ℕ) → CanCall 32768 (n + 1) client.old → CanCall 32768 n client.new }
+    ensures { (n : ℕ) → CanCall MAX_SIZE (n + 1) client.old → CanCall MAX_SIZE n client.new }
 {
     client.begin(TraceId(1))
 }
 
 /// Records a payload of three pieces, or one that is a byte too long.
 fn point(client: &mut Client, moment: u64, payload: &[u8]) -> Called
-    requires pieces { piece_count 32768 (length payload.now) ≡ 3 }
-    requires can { CanCall 32768 3 client.old }
-    ensures { (n : ℕ) → CanCall 32768 (n + 3) client.old → CanCall 32768 n client.new }
+    requires pieces { piece_count MAX_SIZE (length payload.now) ≡ 3 }
+    requires can { CanCall MAX_SIZE 3 client.old }
+    ensures { (n : ℕ) → CanCall MAX_SIZE (n + 3) client.old → CanCall MAX_SIZE n client.new }
 {
     client.point(moment, payload)
 }
 
 /// Records the longest payload again and again. Answers how often that was done.
 fn record_all(client: &mut Client, payload: &[u8]) -> u32
-    requires pieces { piece_count 32768 (length payload.now) ≡ 3 }
-    requires can { CanCall 32768 1027 client.old }
-    ensures left { CanCall 32768 1 client.new }
+    requires pieces { piece_count MAX_SIZE (length payload.now) ≡ 3 }
+    requires can { CanCall MAX_SIZE 1027 client.old }
+    ensures left { CanCall MAX_SIZE 1 client.new }
     ensures few { result ≤ 342 }
 {
     let mut done = 0;
@@ -63,9 +64,9 @@ fn record_all(client: &mut Client, payload: &[u8]) -> u32
 
 /// A trace of the longest records, and one that is too long.
 fn records(client: &mut Client, longest: &[u8], too_long: &[u8]) -> bool
-    requires longest { length longest.now ≡ 65535 }
-    requires too_long { length too_long.now ≡ 65536 }
-    requires can { CanCall 32768 1031 client.old }
+    requires longest { length longest.now ≡ MAX_PAYLOAD }
+    requires too_long { length too_long.now ≡ MAX_PAYLOAD + 1 }
+    requires can { CanCall MAX_SIZE 1031 client.old }
 {
     let begun = begin(client);
     let wide = point(client, 0, too_long);
@@ -76,7 +77,7 @@ fn records(client: &mut Client, longest: &[u8], too_long: &[u8]) -> bool
 
 /// Whether the chunk has this page. Each record has two full pages and one of 67 bytes.
 fn is_page(held: &Held<Lease>, page: u32) -> bool {
-    let used = if page % 3 == 2 { 101 } else { 32_768 };
+    let used = if page % 3 == 2 { 101 } else { MAX_SIZE };
     match held.chunk.header() {
         Some(header) => {
             header.trace == TraceId(1)
@@ -91,7 +92,7 @@ fn is_page(held: &Held<Lease>, page: u32) -> bool {
 /// Takes what is in the ring of the link, and gives it back. Answers how many were the pages from this one on.
 fn take_pages(port: &mut AgentPort, first: u32) -> u32
     requires ends { HasClient port.old }
-    requires first { first ≤ 1024 }
+    requires first { first ≤ MAX_BUFFERS }
     ensures same { KeepsPort port.old port.new }
     ensures few { result ≤ 64 }
 {
@@ -121,14 +122,14 @@ fn takes_all(client: &mut Client, port: &mut AgentPort) -> bool
             right += take_pages(port, 64 * round);
         }
     }
-    right == 1024
+    right == MAX_BUFFERS
 }
 
 #[test]
 fn the_greatest_sizes(rt: HostRuntime) -> Result<(), Fail> {
     let (mut client, mut port) = client_and_port(rt.alloc(), GREATEST)?;
-    let longest = payload_of(rt.alloc(), 65_535)?;
-    let too_long = payload_of(rt.alloc(), 65_536)?;
+    let longest = payload_of(rt.alloc(), MAX_PAYLOAD)?;
+    let too_long = payload_of(rt.alloc(), MAX_PAYLOAD + 1)?;
     assert!(rt; records(&mut client, longest.as_slice(), too_long.as_slice()));
     assert_eq!(rt; client.nulls(), 2);
     assert!(rt; takes_all(&mut client, &mut port));

@@ -8,6 +8,7 @@ use fixtures_live::{
     Making, client_and_port, close_all, flush, give_back, meet, next_chunk, next_crumb,
     next_trigger,
 };
+use hs_base::limits::MIN_SIZE;
 use hs_live::{AgentPort, Called, Client};
 use hs_ring::Lease;
 use hs_words::Held;
@@ -18,7 +19,7 @@ use std::thread::{Threads, join};
 /// Eight chunks, and links of eight entries.
 const EIGHT: Making = Making {
     buffers: 8,
-    size: 64,
+    size: MIN_SIZE,
     calls: 1401,
     capacity: 8,
 };
@@ -44,8 +45,8 @@ const ROUNDS: u32 = 100;
 
 /// Makes the calls of all rounds, and flushes. Answers how many were answered otherwise.
 fn work(mut client: Client) -> (Client, u32)
-    requires { CanCall 64 1401 client }
-    ensures left { CanCall 64 1 result.0 }
+    requires { CanCall MIN_SIZE 1401 client }
+    ensures left { CanCall MIN_SIZE 1 result.0 }
     ensures same { KeepsClient client result.0 }
 {
     let mut others = 0u32;
@@ -116,16 +117,16 @@ fn work_and_serve<R: Threads + Sync>(
     client: Client,
     port: AgentPort,
 ) -> (Client, u32, AgentPort, Seen)
-    requires can { CanCall 64 1401 client }
+    requires can { CanCall MIN_SIZE 1401 client }
     requires ends { HasClient port }
-    ensures left { CanCall 64 1 result.0 }
+    ensures left { CanCall MIN_SIZE 1 result.0 }
     ensures same { KeepsClient client result.0 × KeepsPort port result.2 }
 {
     let (worked, served) = join(
         rt,
         move || -> (Client, u32)
-            requires { CanCall 64 1401 client }
-            ensures { CanCall 64 1 result.0 × KeepsClient client result.0 }
+            requires { CanCall MIN_SIZE 1401 client }
+            ensures { CanCall MIN_SIZE 1 result.0 × KeepsClient client result.0 }
         { work(client) },
         move || -> (AgentPort, Seen)
             requires { HasClient port }
@@ -139,9 +140,9 @@ fn work_and_serve<R: Threads + Sync>(
 
 /// Takes what is left, on one thread.
 fn settle(client: &mut Client, port: &mut AgentPort, seen: &mut Seen)
-    requires can { CanCall 64 1 client.old }
+    requires can { CanCall MIN_SIZE 1 client.old }
     requires ends { IsOnly port.old client.old }
-    ensures left { CanCall 64 1 client.new }
+    ensures left { CanCall MIN_SIZE 1 client.new }
     ensures ends { IsOnly port.new client.new }
 {
     for _round in 0..100 {

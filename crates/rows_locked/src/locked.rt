@@ -1,9 +1,10 @@
 //! Locked pools: the calls of one thread, one after another, and four drawers and a giver in threads of their own.
-ghost use Rattle.std.specs.Prelude.{◌≡◌, ◌+◌, ◌≤◌, ◌∷◌, [], length, sum, IfOk};
+ghost use Rattle.std.specs.Prelude.{◌≡◌, ◌+◌, ◌*◌, ◌≤◌, ◌∷◌, [], length, sum, IfOk};
 ghost use Rattle.std.specs.Thread.{IsSync};
 ghost use Rattle.hs_link.specs.Contents.{sent};
 ghost use Rattle.hs_ring.specs.Parts.{AreNewEnds, AreAllEnds};
 
+use hs_base::limits::{MAX_BUFFERS, MAX_OPERATIONS, MIN_SIZE};
 use hs_base::{List, Memory};
 use hs_link::{Fact, Receiver, Sender, link};
 use hs_locked::{LockedDrawer, LockedGiver, LockedLease, LockedPool, close};
@@ -21,11 +22,11 @@ fn pool_of(
     chunks: u32,
     allowances: &[u32],
 ) -> Result<(LockedGiver, List<LockedDrawer>), Memory>
-    requires chunks { (1 ≤ chunks) × (chunks ≤ 1024) }
-    requires allowances { (1 ≤ length allowances.now) × (sum allowances.now ≤ 262144) }
-    ensures { IfOk result (λ ends. AreNewEnds chunks 64 allowances.now ends.0 ends.1.items) }
+    requires chunks { (1 ≤ chunks) × (chunks ≤ MAX_BUFFERS) }
+    requires allowances { (1 ≤ length allowances.now) × (sum allowances.now ≤ MAX_OPERATIONS) }
+    ensures { IfOk result (λ ends. AreNewEnds chunks MIN_SIZE allowances.now ends.0 ends.1.items) }
 {
-    let chunks = Stock::make(alloc, chunks, 64)?;
+    let chunks = Stock::make(alloc, chunks, MIN_SIZE)?;
     LockedPool::make(alloc, chunks, allowances)
 }
 
@@ -362,7 +363,7 @@ fn jobs_of(alloc: Global, giver: &LockedGiver, drawers: Two) -> Result<(Jobs, Li
 
 /// Eight chunks of 64 bytes, and four drawers with so many draws each.
 fn four_drawers(alloc: Global, allowance: u32) -> Result<(LockedGiver, Two, Two), Memory>
-    requires { allowance ≤ 65536 }
+    requires { 4 * allowance ≤ MAX_OPERATIONS }
     ensures ends { IfOk result (λ ends. AreAllEnds ends.0 (ends.1.0 ∷ ends.1.1 ∷ ends.2.0 ∷ ends.2.1 ∷ [])) }
     ensures front { IfOk result (λ ends. (ends.1.0.size ≡ ends.0.size) × (ends.1.1.size ≡ ends.0.size)) }
     ensures back { IfOk result (λ ends. (ends.2.0.size ≡ ends.0.size) × (ends.2.1.size ≡ ends.0.size)) }
@@ -385,7 +386,7 @@ fn four_drawers(alloc: Global, allowance: u32) -> Result<(LockedGiver, Two, Two)
 
 /// The giver's work and two jobs twice, on eight chunks.
 fn four_jobs(alloc: Global, allowance: u32) -> Result<(Work, Jobs, Jobs), Fail>
-    requires { allowance ≤ 65536 }
+    requires { 4 * allowance ≤ MAX_OPERATIONS }
     ensures { IfOk result (λ made. AreAllEnds made.0.giver (made.1.one.drawer ∷ made.1.two.drawer ∷ made.2.one.drawer ∷ made.2.two.drawer ∷ [])) }
 {
     let (giver, ahead, behind) = four_drawers(alloc, allowance)?;
@@ -455,7 +456,7 @@ fn draw_and_give<R: Threads + Wait + Sync>(
     allowance: u32,
     rounds: u32,
 ) -> Result<(Vec<u64>, Tally), Fail>
-    requires { allowance ≤ 65536 }
+    requires { 4 * allowance ≤ MAX_OPERATIONS }
 {
     let (work, front, back) = four_jobs(alloc, allowance)?;
     let (giver, ahead, behind, stamps) = work_all(rt, alloc, rounds, work, front, back)?;

@@ -33,7 +33,7 @@ fn tell(
     crumb: u16,
     why: Why,
 ) -> Result<Asks, Memory>
-    requires nodes { coordinator.old.nodes ≤ 16 }
+    requires nodes { coordinator.old.nodes ≤ MAX_NODES }
     requires node { node < coordinator.old.nodes }
     requires crumb { crumb < coordinator.old.nodes }
     ensures { OnOk result (coordinator.new.nodes ≡ coordinator.old.nodes) }
@@ -81,7 +81,7 @@ fn answers(
     crumb: u16,
     why: Why,
 ) -> Result<(NodeSet, bool, Option<NodeSet>, bool), Memory>
-    requires nodes { coordinator.old.nodes ≤ 16 }
+    requires nodes { coordinator.old.nodes ≤ MAX_NODES }
     requires node { node < coordinator.old.nodes }
     requires crumb { crumb < coordinator.old.nodes }
     ensures { OnOk result (coordinator.new.nodes ≡ coordinator.old.nodes) }
@@ -116,8 +116,8 @@ fn follows_crumbs_round(rt: HostRuntime) -> Result<(), Fail> {
 
 /// Node 0 tells of a group, and then node 15. Answers who is asked for each.
 fn tell_twice(coordinator: &mut Coordinator, number: u32) -> Result<[NodeSet; 2], Memory>
-    requires { coordinator.old.nodes ≡ 16 }
-    ensures { OnOk result (coordinator.new.nodes ≡ 16) }
+    requires { coordinator.old.nodes ≡ MAX_NODES }
+    ensures { OnOk result (coordinator.new.nodes ≡ MAX_NODES) }
 {
     let fired = tell(coordinator, number, 0, 15, Why::Fired)?;
     let answer = tell(coordinator, number, 15, 15, Why::Answer)?;
@@ -126,7 +126,7 @@ fn tell_twice(coordinator: &mut Coordinator, number: u32) -> Result<[NodeSet; 2]
 
 /// Tells so of 50,000 groups, and compares what is asked and what is known in the end.
 fn follows_many<R: Abort>(rt: &R, coordinator: &mut Coordinator) -> Result<(), Memory>
-    requires { coordinator.old.nodes ≡ 16 }
+    requires { coordinator.old.nodes ≡ MAX_NODES }
 {
     for number in 0..50_000u32 {
         let asked = tell_twice(coordinator, number)?;

@@ -2,7 +2,7 @@
 
 ghost use Rattle.std.specs.Prelude.{◌<◌, IsSome};
 
-use hs_base::limits::{MAX_BUFFERS, MAX_THRESHOLD, MAX_TRACES, MIN_SIZE};
+use hs_base::limits::{MAX_NODES, MAX_THRESHOLD, MAX_TRACES, MIN_SIZE};
 use hs_base::{ClientId, Crumb, List, NodeId, NodeSet, TraceId};
 use hs_index::{Gone, TraceIndex};
 use hs_words::{Chunk, Header, Held, Stock};
@@ -94,7 +94,7 @@ fn claims(
 
 /// Whether the crumb of the trace to the node evicts nothing.
 fn drops_crumb(index: &mut TraceIndex<()>, trace: u32, node: u16) -> bool
-    requires { node < 16 }
+    requires { node < MAX_NODES }
 {
     let crumb = Crumb {
         trace: TraceId(u128::from(trace)),
@@ -118,7 +118,7 @@ fn index_of(alloc: Global, threshold: u32, traces: u32) -> Result<TraceIndex<()>
 /// Chunks of the least size, if memory serves.
 fn chunks_of(alloc: Global) -> Result<List<Chunk>, Fail> {
     Ok(
-        Stock::make(alloc, MAX_BUFFERS, MIN_SIZE)
+        Stock::make(alloc, MAX_THRESHOLD, MIN_SIZE)
             .ok()
             .ok_or("memory")?,
     )
@@ -201,7 +201,7 @@ fn a_crumb_alone_goes_first(rt: HostRuntime) -> Result<(), Fail> {
 /// Gives the index 1,024 chunks, each of a trace of its own from 0 on. Answers how many were kept beside those before.
 fn fills(index: &mut TraceIndex<()>, chunks: &mut List<Chunk>) -> u32 {
     let mut kept = 0u32;
-    for trace in 0..1024u32 {
+    for trace in 0..MAX_THRESHOLD {
         if is_none(arrive(index, chunks.pop(), trace)) {
             kept = kept.wrapping_add(1);
         }
@@ -212,7 +212,7 @@ fn fills(index: &mut TraceIndex<()>, chunks: &mut List<Chunk>) -> u32 {
 /// Gives the index crumbs of the traces from 1,025 to 65,536. Answers how many of them let nothing go.
 fn drops_crumbs(index: &mut TraceIndex<()>) -> u32 {
     let mut quiet = 0u32;
-    for trace in 1025..65_537u32 {
+    for trace in MAX_THRESHOLD + 1..MAX_TRACES + 1 {
         if drops_crumb(index, trace, 15) {
             quiet = quiet.wrapping_add(1);
         }
@@ -229,7 +229,7 @@ fn takes_most(
     let kept = fills(index, chunks);
     let gone = are_gone(arrive(index, more.pop(), 1024), 1, 1023, 1025, 1025);
     let quiet = drops_crumbs(index);
-    (kept, gone, quiet, holds(index, 1024, 65_536))
+    (kept, gone, quiet, holds(index, MAX_THRESHOLD, MAX_TRACES))
 }
 
 /// Gives the full index a chunk of a trace more, and one of a trace with a crumb, which is claimed then.
@@ -239,7 +239,7 @@ fn takes_more(index: &mut TraceIndex<()>, more: &mut List<Chunk>) -> [bool; 4] {
     [
         are_gone(trace, 1, 1022, 1025, 65_537),
         are_gone(chunk, 1, 1021, 1025, 65_536),
-        holds(index, 1024, 65_535),
+        holds(index, MAX_THRESHOLD, MAX_TRACES - 1),
         claims(index, 2000, 1, Some(1021), NodeSet(1 << 15)),
     ]
 }
@@ -273,7 +273,10 @@ fn most_traces_stay(rt: HostRuntime) -> Result<(), Fail> {
     let mut more = chunks_of(rt.alloc())?;
     let (mut chunks, mut index) = chunks_and_index(rt.alloc(), MAX_THRESHOLD, MAX_TRACES)?;
     let filled = takes_most(&mut index, &mut chunks, &mut more);
-    assert_eq!(rt; filled, (1024, true, 64_512, true));
+    assert_eq!(rt;
+        filled,
+        (MAX_THRESHOLD, true, MAX_TRACES - MAX_THRESHOLD, true)
+    );
     assert_eq!(rt; takes_more(&mut index, &mut more), [true; 4]);
     assert_eq!(rt; leaves_most(index)?, (1023, [true; 2], 1021, true));
     Ok(())
@@ -282,7 +285,7 @@ fn most_traces_stay(rt: HostRuntime) -> Result<(), Fail> {
 /// Gives the index 1,024 chunks of trace 7. Answers how many were kept beside those before.
 fn fills_one(index: &mut TraceIndex<()>, chunks: &mut List<Chunk>) -> u32 {
     let mut kept = 0u32;
-    for _count in 0..1024u32 {
+    for _count in 0..MAX_THRESHOLD {
         if is_none(arrive(index, chunks.pop(), 7)) {
             kept = kept.wrapping_add(1);
         }
@@ -292,7 +295,7 @@ fn fills_one(index: &mut TraceIndex<()>, chunks: &mut List<Chunk>) -> u32 {
 
 /// Whether a further chunk of trace 7 lets all of them go, and nothing stays.
 fn goes_whole(alloc: Global, index: &mut TraceIndex<()>) -> Result<[bool; 2], Fail> {
-    let last = Stock::make(alloc, 1, 64).ok().ok_or("memory")?.pop();
+    let last = Stock::make(alloc, 1, MIN_SIZE).ok().ok_or("memory")?.pop();
     let gone = are_gone(arrive(index, last, 7), 1025, 1023, 1025, 1);
     Ok([gone, holds(index, 0, 0)])
 }
@@ -303,12 +306,18 @@ fn a_trace_of_all_chunks_goes_whole(rt: HostRuntime) -> Result<(), Fail> {
     let mut more = chunks_of(rt.alloc())?;
     let (mut chunks, mut index) = chunks_and_index(rt.alloc(), MAX_THRESHOLD, MAX_TRACES)?;
     let first = fills_one(&mut index, &mut chunks);
-    let claimed = claims(&mut index, 7, 1024, Some(1023), NodeSet(0));
+    let claimed = claims(
+        &mut index,
+        7,
+        MAX_THRESHOLD as usize,
+        Some(1023),
+        NodeSet(0),
+    );
     let second = fills_one(&mut index, &mut more);
     let whole = goes_whole(rt.alloc(), &mut index)?;
     assert_eq!(rt;
         (first, claimed, second, whole),
-        (1024, true, 1024, [true; 2])
+        (MAX_THRESHOLD, true, MAX_THRESHOLD, [true; 2])
     );
     Ok(())
 }

@@ -5,7 +5,7 @@ ghost use Rattle.hs_base.specs.Rules.{AreRules};
 ghost use Rattle.hs_sched.specs.Turns.{IsSchedule, share_of, shares_of};
 
 use fixtures::{Shelf, greatest_rules, turn_shelf};
-use hs_base::limits::{MAX_SIZE, MAX_TRIGGER};
+use hs_base::limits::{MAX_SIZE, MAX_TRIGGER, MIN_SIZE};
 use hs_base::{List, Memory, TriggerId, TriggerRule};
 use hs_sched::{Queues, Scheduler, visits_are_fair};
 use std::alloc::{AllocError, Global};
@@ -48,8 +48,8 @@ impl Queues for Waiting {
 /// The id 1 with weight 2, and the id 2 with weight 1.
 fn two_rules(alloc: Global) -> Result<List<TriggerRule>, Memory>
     ensures rules { IfOk result (λ rules. AreRules rules.items) }
-    ensures declared { IfOk result (λ rules. IsSome (share_of (record { shares = shares_of rules.items; size = 64 }) 1)
-        × IsSome (share_of (record { shares = shares_of rules.items; size = 64 }) 2)) }
+    ensures declared { IfOk result (λ rules. IsSome (share_of (record { shares = shares_of rules.items; size = MIN_SIZE }) 1)
+        × IsSome (share_of (record { shares = shares_of rules.items; size = MIN_SIZE }) 2)) }
 {
     let mut rules = List::with_room(alloc, 2)?;
     rules.push(TriggerRule {
@@ -70,11 +70,11 @@ fn two_rules(alloc: Global) -> Result<List<TriggerRule>, Memory>
 /// A scheduler of these two ids with pages of 64 bytes.
 fn two_shares(alloc: Global) -> Result<Scheduler, Memory>
     ensures schedule { IfOk result IsSchedule }
-    ensures size { IfOk result (λ scheduler. scheduler.size ≡ 64) }
+    ensures size { IfOk result (λ scheduler. scheduler.size ≡ MIN_SIZE) }
     ensures declared { IfOk result (λ scheduler. IsSome (share_of scheduler 1) × IsSome (share_of scheduler 2)) }
 {
     let rules = two_rules(alloc)?;
-    Scheduler::make(alloc, &rules, 64)
+    Scheduler::make(alloc, &rules, MIN_SIZE)
 }
 
 /// What waits for the ids 1 and 2, and their deficits, after each turn.

@@ -1,16 +1,17 @@
 use Rattle.std.proofs.Common.{ℕ, ap, arith}
+use Rattle.hs_base.specs.declared.limits.TheConstants.{MAX_SIZE}
 use Rattle.hs_records.specs.Records.{piece_count}
 use Rattle.fixtures_live.specs.PairLaws.{can_fewer}
 use Rattle.rows_live.proofs.size.records.Goals as goal
 
 pub point-wide-requires-clause-can : goal.point-wide-requires-clause-can
-point-wide-requires-clause-can c = can_fewer 32768 3 1030 c.begin-begun.new.client (omega arith) (c.begin-begun.ensures 1030 c.requires.can)
+point-wide-requires-clause-can c = can_fewer MAX_SIZE 3 1030 c.begin-begun.new.client (omega arith) (c.begin-begun.ensures 1030 c.requires.can)
 
 pub point-wide-requires-clause-pieces : goal.point-wide-requires-clause-pieces
-point-wide-requires-clause-pieces c = ap (λ (bytes : ℕ). piece_count 32768 bytes) c.requires.too_long
+point-wide-requires-clause-pieces c = ap (λ (bytes : ℕ). piece_count MAX_SIZE bytes) c.requires.too_long
 
 pub record_all-done-requires-clause-pieces : goal.record_all-done-requires-clause-pieces
-record_all-done-requires-clause-pieces c = ap (λ (bytes : ℕ). piece_count 32768 bytes) c.requires.longest
+record_all-done-requires-clause-pieces c = ap (λ (bytes : ℕ). piece_count MAX_SIZE bytes) c.requires.longest
 
 pub record_all-done-requires-clause-can : goal.record_all-done-requires-clause-can
 record_all-done-requires-clause-can c = c.point-wide.ensures 1027 (c.begin-begun.ensures 1030 c.requires.can)
