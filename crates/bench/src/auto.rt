@@ -4,6 +4,7 @@ ghost use Rattle.std.specs.Prelude.{◌≤◌};
 
 use anyhow::{Context, Result};
 use hs_auto::{Auto, Sampled};
+use hs_base::limits::MAX_WINDOW;
 use hs_base::{AutoRule, TraceId, TriggerId};
 use std::rt::Clock;
 use std::time::Instant;
@@ -43,12 +44,12 @@ pub(crate) fn run<R: Print + Clock + AllocGlobal>(rt: &R, samples: u32) -> Resul
     let trigger = TriggerId(1);
     let percentile = AutoRule::Percentile {
         trigger,
-        window: 1024,
+        window: MAX_WINDOW,
         share: 9900,
     };
     let category = AutoRule::Category {
         trigger,
-        window: 1024,
+        window: MAX_WINDOW,
         share: 100,
     };
     let mut auto = Auto::make(rt.alloc(), percentile).ok().context("memory")?;

@@ -11,7 +11,7 @@ use std::time::Instant;
 const RECORDS: u32 = 64;
 
 /// The pages of a round: they have as many records as a workload may have.
-const PAGES: u32 = 4096;
+const PAGES: u32 = MAX_OPERATIONS / RECORDS;
 
 /// Gives a fresh collector the pages of a round, and answers how many traces it has then.
 fn collect_round<R: AllocGlobal>(rt: &R, chunk: &mut Chunk) -> Result<usize> {

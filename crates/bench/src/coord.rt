@@ -1,6 +1,6 @@
 //! Messages of agents to the coordinator.
 
-ghost use Rattle.std.specs.Prelude.{◌≡◌, ◌≤◌, OnOk};
+ghost use Rattle.std.specs.Prelude.{◌≡◌, ◌<◌, ◌≤◌, OnOk};
 
 use anyhow::{Context, Result};
 use hs_base::limits::MAX_NODES;
@@ -11,8 +11,8 @@ use std::time::Instant;
 
 /// A node tells of a group of node 0, with a crumb to the last node.
 fn tell(coordinator: &mut Coordinator, number: u32, node: u16, why: Why) -> Result<Asks, Memory>
-    requires nodes { coordinator.old.nodes ≡ 16 }
-    requires node { node ≤ 15 }
+    requires nodes { coordinator.old.nodes ≡ MAX_NODES }
+    requires node { node < MAX_NODES }
     ensures { OnOk result (coordinator.new.nodes ≡ coordinator.old.nodes) }
 {
     coordinator.step(

@@ -10,6 +10,7 @@ use crate::ring::{DRAWS, Pace, Seen, turn_pool};
 use crate::spent::{Spent, bare, now, rest, since};
 use anyhow::{Context, Result};
 use crossbeam_queue::ArrayQueue;
+use hs_base::limits::MIN_SIZE;
 use hs_link::{Receiver, Sender, link};
 use hs_words::{Chunk, Stock};
 use std::alloc::Global;
@@ -187,7 +188,11 @@ fn jobs_of(alloc: Global) -> Result<(Jobs, Work)> {
 /// A queue with eight chunks of 64 bytes.
 fn queue_of<R: Wait>(rt: &R, alloc: Global) -> Result<ArrayQueue<Chunk>> {
     let queue = ArrayQueue::new(alloc, 8)?;
-    for chunk in Stock::make(alloc, 8, 64).ok().context("memory")?.into_vec() {
+    for chunk in Stock::make(alloc, 8, MIN_SIZE)
+        .ok()
+        .context("memory")?
+        .into_vec()
+    {
         queue.push(rt, chunk).ok().context("room")?;
     }
     Ok(queue)

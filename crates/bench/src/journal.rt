@@ -2,6 +2,7 @@
 
 use crate::rate::rate;
 use anyhow::{Context, Result, bail};
+use hs_base::limits::MAX_BUFFERS;
 use hs_journal::{read_journal, write_journal};
 use std::alloc::{AllocError, Global};
 use std::rt::Clock;
@@ -11,7 +12,7 @@ use std::time::Instant;
 fn journal_text(alloc: Global, draws: u32) -> Result<String, AllocError> {
     let mut text = String::from_str(alloc, "journal 1 1 1\ndraws 0 0\n")?;
     for stamp in 0..draws {
-        let line = format!(in alloc; "got {} {stamp}\n", stamp % 1024)?;
+        let line = format!(in alloc; "got {} {stamp}\n", stamp % MAX_BUFFERS)?;
         text.push_str(line.as_str())?;
     }
     text.push_str("log 0\nchunk 0\nturn\ncoordinator\nend\n")?;
@@ -22,7 +23,7 @@ fn journal_text(alloc: Global, draws: u32) -> Result<String, AllocError> {
 pub(crate) fn run<R: Print + Clock + AllocGlobal>(rt: &R, lines: u32) -> Result<()> {
     let text = journal_text(rt.alloc(), lines)?;
     let bytes = text.as_bytes();
-    if bytes.len() >= 4_294_967_295 {
+    if bytes.len() >= u32::MAX as usize {
         bail!("the journal is too long");
     }
     let start = Instant::now(rt)?;

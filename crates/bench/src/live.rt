@@ -9,7 +9,7 @@ ghost use Rattle.fixtures_live.specs.Pairs.{CanCall, KeepsPort, HasClient};
 use anyhow::{Context, Result, ensure};
 use fixtures_live::{Making, client_and_port, give_back, next_chunk};
 use hs_base::TraceId;
-use hs_base::limits::PIECE_COST;
+use hs_base::limits::{HEADER_COST, MAX_OPERATIONS, MAX_SIZE, PIECE_COST};
 use hs_live::{AgentPort, Client};
 use std::alloc::Global;
 use std::hint;
@@ -20,26 +20,26 @@ use std::thread::{Threads, join};
 use std::time::Instant;
 
 /// How many bytes all pages have together: 64 pages of 32,768.
-const BYTES: usize = 2_097_152;
+const BYTES: usize = 64 * MAX_SIZE as usize;
 
 /// How many bytes a page has for its pieces: all but the 24 of its header.
-const ROOM: u32 = 32_744;
+const ROOM: u32 = MAX_SIZE - HEADER_COST as u32;
 
 /// A client may have so many calls counted.
-const CALLS: u32 = 262_144;
+const CALLS: u32 = MAX_OPERATIONS;
 
 const MAKING: Making = Making {
     buffers: 64,
-    size: 32_768,
+    size: MAX_SIZE,
     calls: CALLS,
     capacity: 64,
 };
 
 /// Records the payload so often, as long as calls are left.
 fn record(client: &mut Client, left: &mut u32, payload: &[u8], count: u32)
-    requires one { piece_count 32768 (length payload.now) ≡ 1 }
-    requires can { CanCall 32768 left.old client.old }
-    ensures can { CanCall 32768 left.new client.new }
+    requires one { piece_count MAX_SIZE (length payload.now) ≡ 1 }
+    requires can { CanCall MAX_SIZE left.old client.old }
+    ensures can { CanCall MAX_SIZE left.new client.new }
 {
     for moment in 0..count {
         if *left == 0 {
@@ -52,8 +52,8 @@ fn record(client: &mut Client, left: &mut u32, payload: &[u8], count: u32)
 
 /// Opens a trace.
 fn begin(client: &mut Client, left: &mut u32)
-    requires { CanCall 32768 left.old client.old }
-    ensures { CanCall 32768 left.new client.new }
+    requires { CanCall MAX_SIZE left.old client.old }
+    ensures { CanCall MAX_SIZE left.new client.new }
 {
     if *left > 0 {
         *left -= 1;
@@ -63,8 +63,8 @@ fn begin(client: &mut Client, left: &mut u32)
 
 /// Closes the trace, and sends its last chunk.
 fn end(client: &mut Client, left: &mut u32)
-    requires { CanCall 32768 left.old client.old }
-    ensures { CanCall 32768 left.new client.new }
+    requires { CanCall MAX_SIZE left.old client.old }
+    ensures { CanCall MAX_SIZE left.new client.new }
 {
     if *left > 0 {
         *left -= 1;
@@ -103,10 +103,10 @@ fn fill_page<R: Clock>(
     timed: &mut Timed,
 ) -> Result<()>
     requires few { length payload.now ≤ 1000 }
-    requires one { piece_count 32768 (length payload.now) ≡ 1 }
-    requires can { CanCall 32768 left.old client.old }
+    requires one { piece_count MAX_SIZE (length payload.now) ≡ 1 }
+    requires can { CanCall MAX_SIZE left.old client.old }
     requires port { HasClient port.old }
-    ensures can { CanCall 32768 left.new client.new }
+    ensures can { CanCall MAX_SIZE left.new client.new }
     ensures port { KeepsPort port.old port.new }
 {
     let more = ROOM / (PIECE_COST as u32 + payload.len() as u32);
@@ -134,8 +134,8 @@ fn fill_pages<R: Clock>(
     timed: &mut Timed,
 ) -> Result<()>
     requires few { length payload.now ≤ 1000 }
-    requires one { piece_count 32768 (length payload.now) ≡ 1 }
-    requires can { CanCall 32768 calls client.old }
+    requires one { piece_count MAX_SIZE (length payload.now) ≡ 1 }
+    requires can { CanCall MAX_SIZE calls client.old }
     requires port { HasClient port.old }
 {
     let mut left = calls;
@@ -157,8 +157,8 @@ fn fill_all<R: Clock>(
     timed: &mut Timed,
 ) -> (Result<()>, u32)
     requires few { length payload.now ≤ 1000 }
-    requires one { piece_count 32768 (length payload.now) ≡ 1 }
-    requires can { CanCall 32768 262144 client }
+    requires one { piece_count MAX_SIZE (length payload.now) ≡ 1 }
+    requires can { CanCall MAX_SIZE MAX_OPERATIONS client }
     requires port { HasClient port }
 {
     let filled = fill_pages(rt, &mut client, &mut port, CALLS, payload, timed);
@@ -168,7 +168,7 @@ fn fill_all<R: Clock>(
 /// Times points into pages that have room, with all calls of a client.
 fn time_pages<R: Clock>(rt: &R, alloc: Global, payload: &[u8], timed: &mut Timed) -> Result<()>
     requires few { length payload.now ≤ 1000 }
-    requires one { piece_count 32768 (length payload.now) ≡ 1 }
+    requires one { piece_count MAX_SIZE (length payload.now) ≡ 1 }
 {
     let (client, port) = client_and_port(alloc, MAKING).ok().context("memory")?;
     let (filled, nulls) = fill_all(rt, client, port, payload, timed);
@@ -180,7 +180,7 @@ fn time_pages<R: Clock>(rt: &R, alloc: Global, payload: &[u8], timed: &mut Timed
 /// The same of so many clients.
 fn time_room<R: Clock>(rt: &R, alloc: Global, payload: &[u8], clients: u32) -> Result<Timed>
     requires few { length payload.now ≤ 1000 }
-    requires one { piece_count 32768 (length payload.now) ≡ 1 }
+    requires one { piece_count MAX_SIZE (length payload.now) ≡ 1 }
 {
     let mut timed = Timed::default();
     for _client in 0..clients {
@@ -191,8 +191,8 @@ fn time_room<R: Clock>(rt: &R, alloc: Global, payload: &[u8], clients: u32) -> R
 
 /// Times the points of so many calls, in one trace.
 fn time_trace<R: Clock>(rt: &R, client: &mut Client, calls: u32, payload: &[u8]) -> Result<Timed>
-    requires one { piece_count 32768 (length payload.now) ≡ 1 }
-    requires can { CanCall 32768 calls client.old }
+    requires one { piece_count MAX_SIZE (length payload.now) ≡ 1 }
+    requires can { CanCall MAX_SIZE calls client.old }
 {
     let mut left = calls;
     begin(client, &mut left);
@@ -213,8 +213,8 @@ fn time_and_tell<R: Clock>(
     payload: &[u8],
     over: &AtomicU64,
 ) -> Result<Timed>
-    requires one { piece_count 32768 (length payload.now) ≡ 1 }
-    requires can { CanCall 32768 calls client }
+    requires one { piece_count MAX_SIZE (length payload.now) ≡ 1 }
+    requires can { CanCall MAX_SIZE calls client }
 {
     let timed = time_trace(rt, &mut client, calls, payload);
     over.fetch_add(1, Ordering::SeqCst);
@@ -246,8 +246,8 @@ fn time_both<R: Clock + Threads + Wait + Sync>(
     calls: u32,
     payload: &[u8],
 ) -> Result<Timed>
-    requires one { piece_count 32768 (length payload.now) ≡ 1 }
-    requires can { CanCall 32768 calls client }
+    requires one { piece_count MAX_SIZE (length payload.now) ≡ 1 }
+    requires can { CanCall MAX_SIZE calls client }
     requires port { HasClient port }
 {
     let over = AtomicU64::new(0);
@@ -255,7 +255,7 @@ fn time_both<R: Clock + Threads + Wait + Sync>(
     let (timed, ()) = join(
         rt,
         move || -> Result<Timed>
-            requires { IsSync R.row × (piece_count 32768 (length payload.now) ≡ 1) × CanCall 32768 calls client }
+            requires { IsSync R.row × (piece_count MAX_SIZE (length payload.now) ≡ 1) × CanCall MAX_SIZE calls client }
         { time_and_tell(rt, client, calls, payload, told) },
         move || -> ()
             requires { IsSync R.row × HasClient port }
@@ -270,7 +270,7 @@ fn time_client<R: Clock + Threads + Wait + Sync>(
     alloc: Global,
     payload: &[u8],
 ) -> Result<Timed>
-    requires { piece_count 32768 (length payload.now) ≡ 1 }
+    requires { piece_count MAX_SIZE (length payload.now) ≡ 1 }
 {
     let (client, port) = client_and_port(alloc, MAKING).ok().context("memory")?;
     time_both(rt, client, port, CALLS, payload)
@@ -283,7 +283,7 @@ fn time_changes<R: Clock + Threads + Wait + Sync>(
     payload: &[u8],
     clients: u32,
 ) -> Result<Timed>
-    requires { piece_count 32768 (length payload.now) ≡ 1 }
+    requires { piece_count MAX_SIZE (length payload.now) ≡ 1 }
 {
     let mut timed = Timed::default();
     for _client in 0..clients {
@@ -343,7 +343,7 @@ fn time_all<R: Clock + Threads + Wait + Sync>(
     clients: u32,
 ) -> Result<Times>
     requires few { bytes ≤ 1000 }
-    requires one { piece_count 32768 bytes ≡ 1 }
+    requires one { piece_count MAX_SIZE bytes ≡ 1 }
 {
     let payload = Vec::from_elem(alloc, 7u8, bytes)?;
     Ok(Times {
@@ -376,7 +376,7 @@ fn time_each<R: Print + Clock + Threads + Wait + Sync>(
     clients: u32,
 ) -> Result<()>
     requires few { bytes ≤ 1000 }
-    requires one { piece_count 32768 bytes ≡ 1 }
+    requires one { piece_count MAX_SIZE bytes ≡ 1 }
 {
     let times = time_all(rt, alloc, bytes, clients)?;
     report(rt, bytes, &times)

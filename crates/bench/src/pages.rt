@@ -4,12 +4,11 @@ ghost use Rattle.std.specs.Prelude.{IsSome};
 
 use crate::rate::rate;
 use anyhow::{Context, Result};
+use hs_base::limits::MAX_SIZE;
 use hs_base::{ClientId, TraceId};
 use hs_words::{Added, Chunk, Header, Stock, read_page};
 use std::rt::Clock;
 use std::time::Instant;
-
-const SIZE: u32 = 32768;
 
 const HEADER: Header = Header {
     trace: TraceId(1),
@@ -23,7 +22,7 @@ fn fill(chunk: &mut Chunk)
     requires { IsSome chunk.old.page }
     ensures { IsSome chunk.new.page }
 {
-    for moment in 0..u64::from(SIZE) {
+    for moment in 0..u64::from(MAX_SIZE) {
         match chunk.add(moment, &[7; 100]) {
             Added::Added => {}
             Added::NoRoom => return,
@@ -53,7 +52,7 @@ fn tell<R: Print>(rt: &R, what: &str, nanos: u128, rounds: u32, size: u32) -> Re
 
 /// Times so many rounds of each.
 pub(crate) fn run<R: Print + Clock + AllocGlobal>(rt: &R, rounds: u32) -> Result<()> {
-    let mut chunks = Stock::make(rt.alloc(), 1, SIZE).ok().context("memory")?;
+    let mut chunks = Stock::make(rt.alloc(), 1, MAX_SIZE).ok().context("memory")?;
     let mut chunk = chunks.pop().context("a chunk was made")?;
     refill(&mut chunk);
     let used = chunk.used();

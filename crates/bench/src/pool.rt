@@ -8,6 +8,7 @@ ghost use Rattle.hs_ring.specs.Parts.{AreNewEnds};
 use crate::ring::pool_of;
 use anyhow::{Context, Result};
 use crossbeam_queue::ArrayQueue;
+use hs_base::limits::{MAX_BUFFERS, MAX_OPERATIONS, MIN_SIZE};
 use hs_base::{List, Memory};
 use hs_locked::{LockedDrawer, LockedGiver, LockedPool};
 use hs_pool::PlainPool;
@@ -26,10 +27,10 @@ const DRAWS: u32 = 200_000;
 
 /// A plain pool of so many chunks of 64 bytes.
 fn plain_of(alloc: Global, chunks: u32) -> Result<PlainPool, Memory>
-    requires { (1 ≤ chunks) × (chunks ≤ 1024) }
+    requires { (1 ≤ chunks) × (chunks ≤ MAX_BUFFERS) }
     ensures { IfOk result (λ pool. IsAfter [] pool) }
 {
-    let chunks = Stock::make(alloc, chunks, 64)?;
+    let chunks = Stock::make(alloc, chunks, MIN_SIZE)?;
     PlainPool::make(alloc, chunks)
 }
 
@@ -39,11 +40,11 @@ pub(crate) fn locked_of(
     chunks: u32,
     allowances: &[u32],
 ) -> Result<(LockedGiver, List<LockedDrawer>), Memory>
-    requires chunks { (1 ≤ chunks) × (chunks ≤ 1024) }
-    requires allowances { (1 ≤ length allowances.now) × (sum allowances.now ≤ 262144) }
-    ensures { IfOk result (λ ends. AreNewEnds chunks 64 allowances.now ends.0 ends.1.items) }
+    requires chunks { (1 ≤ chunks) × (chunks ≤ MAX_BUFFERS) }
+    requires allowances { (1 ≤ length allowances.now) × (sum allowances.now ≤ MAX_OPERATIONS) }
+    ensures { IfOk result (λ ends. AreNewEnds chunks MIN_SIZE allowances.now ends.0 ends.1.items) }
 {
-    let chunks = Stock::make(alloc, chunks, 64)?;
+    let chunks = Stock::make(alloc, chunks, MIN_SIZE)?;
     LockedPool::make(alloc, chunks, allowances)
 }
 
@@ -170,7 +171,7 @@ fn time_locked<R: Print + Clock + Wait>(rt: &R, alloc: Global, pools: u32) -> Re
 
 fn time_queue<R: Print + Clock + Wait>(rt: &R, alloc: Global, pools: u32) -> Result<()> {
     let queue = ArrayQueue::new(alloc, CHUNKS as usize)?;
-    for chunk in Stock::make(alloc, CHUNKS, 64)
+    for chunk in Stock::make(alloc, CHUNKS, MIN_SIZE)
         .ok()
         .context("memory")?
         .into_vec()

@@ -1,13 +1,14 @@
 //! Four drawers and a giver of a ring on eight chunks, each in a thread of its own, for so many seconds. It counts how often a
 //! give missed or was left unread, and looks at the stamps of each pool.
 
-ghost use Rattle.std.specs.Prelude.{◌≡◌, ◌≤◌, ◌∷◌, [], length, sum, IfOk};
+ghost use Rattle.std.specs.Prelude.{◌≡◌, ◌*◌, ◌≤◌, ◌∷◌, [], length, sum, IfOk};
 ghost use Rattle.std.specs.Thread.{IsSync};
 ghost use Rattle.hs_link.specs.Contents.{sent};
 ghost use Rattle.hs_ring.specs.Parts.{AreNewEnds, AreAllEnds};
 
 use crate::spent::{Spent, now, rest, since};
 use anyhow::{Context, Result, ensure};
+use hs_base::limits::{MAX_BUFFERS, MAX_OPERATIONS, MIN_SIZE};
 use hs_base::{List, Memory};
 use hs_link::{Fact, Receiver, Sender, link};
 use hs_ring::{Drawer, Giver, Lease, RingPool, close};
@@ -39,11 +40,11 @@ pub(crate) fn pool_of(
     chunks: u32,
     allowances: &[u32],
 ) -> Result<(Giver, List<Drawer>), Memory>
-    requires chunks { (1 ≤ chunks) × (chunks ≤ 1024) }
-    requires allowances { (1 ≤ length allowances.now) × (sum allowances.now ≤ 262144) }
-    ensures { IfOk result (λ ends. AreNewEnds chunks 64 allowances.now ends.0 ends.1.items) }
+    requires chunks { (1 ≤ chunks) × (chunks ≤ MAX_BUFFERS) }
+    requires allowances { (1 ≤ length allowances.now) × (sum allowances.now ≤ MAX_OPERATIONS) }
+    ensures { IfOk result (λ ends. AreNewEnds chunks MIN_SIZE allowances.now ends.0 ends.1.items) }
 {
-    let chunks = Stock::make(alloc, chunks, 64)?;
+    let chunks = Stock::make(alloc, chunks, MIN_SIZE)?;
     RingPool::make(alloc, chunks, allowances)
 }
 
@@ -319,7 +320,7 @@ fn four_drawers(
     alloc: Global,
     allowance: u32,
 ) -> Result<(Giver, Drawer, Drawer, Drawer, Drawer), Memory>
-    requires { allowance ≤ 65536 }
+    requires { 4 * allowance ≤ MAX_OPERATIONS }
     ensures ends { IfOk result (λ ends. AreAllEnds ends.0 (ends.1 ∷ ends.2 ∷ ends.3 ∷ ends.4 ∷ [])) }
     ensures sizes { IfOk result (λ ends. (ends.1.size ≡ ends.0.size) × (ends.2.size ≡ ends.0.size) × (ends.3.size ≡ ends.0.size) × (ends.4.size ≡ ends.0.size)) }
 {

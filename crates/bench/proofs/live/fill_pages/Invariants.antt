@@ -1,5 +1,6 @@
+use Rattle.hs_base.specs.declared.limits.TheConstants.{MAX_SIZE}
 use Rattle.fixtures_live.specs.Pairs.{CanCall, HasClient}
 use Rattle.bench.proofs.live.fill_pages.Given as goal
 
 abbrev pub invariant-loop-page : goal.invariant-loop-page
-invariant-loop-page g l = CanCall 32768 l.left l.client × HasClient l.port
+invariant-loop-page g l = CanCall MAX_SIZE l.left l.client × HasClient l.port

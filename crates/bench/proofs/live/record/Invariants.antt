@@ -1,5 +1,6 @@
+use Rattle.hs_base.specs.declared.limits.TheConstants.{MAX_SIZE}
 use Rattle.fixtures_live.specs.Pairs.{CanCall}
 use Rattle.bench.proofs.live.record.Given as goal
 
 abbrev pub invariant-loop-moment : goal.invariant-loop-moment
-invariant-loop-moment l = CanCall 32768 l.left l.client
+invariant-loop-moment l = CanCall MAX_SIZE l.left l.client
