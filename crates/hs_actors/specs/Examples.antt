@@ -2,6 +2,7 @@
 use Rattle.std.specs.Prelude.{◌≡◌, ℕ, ◌≤◌, List, [], ◌∷◌, length, map, refl}
 use Rattle.std.specs.List.{AllByRecursion}
 use Rattle.std.proofs.Common.{lit<, lit≤}
+use Rattle.hs_base.specs.declared.limits.TheConstants.{MAX_TAKEN}
 use Rattle.hs_journal.specs.declared.journal.Draw.TheVariants.{Got}
 use Rattle.hs_journal.specs.declared.journal.Step.TheVariants as steps
 use Rattle.hs_model.specs.Stepping.{Chunk, Turn, Event, Took}
@@ -42,7 +43,7 @@ one_chunk (Crumbs client) = 0
 one_chunk (Triggers client) = 0
 one_chunk Asks = 0
 
-few_items : (queue : Queue) → one_chunk queue ≤ 64
+few_items : (queue : Queue) → one_chunk queue ≤ MAX_TAKEN
 few_items (Chunks client) = lit≤ tt
 few_items (Crumbs client) = lit≤ tt
 few_items (Triggers client) = lit≤ tt

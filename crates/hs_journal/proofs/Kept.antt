@@ -64,7 +64,7 @@ record IsHead (version nodes clients : ℕ) : Type 0 where
   pub some_clients : 0 < clients
   pub few_clients : clients ≤ MAX_CLIENTS
 
-head_within : (version nodes clients : ℕ) → (not (nat_eq version 1) || is_out 1 16 nodes || is_out 1 16 clients) ≡ false → IsHead version nodes clients
+head_within : (version nodes clients : ℕ) → (not (nat_eq version 1) || is_out 1 MAX_NODES nodes || is_out 1 MAX_CLIENTS clients) ≡ false → IsHead version nodes clients
 head_within version nodes clients is = record { is_first = grind arith; some_nodes = grind arith; few_nodes = grind arith; some_clients = grind arith; few_clients = grind arith }
 
 both_equal : (a b c d : ℕ) → (not (nat_eq a b) || not (nat_eq c d)) ≡ false → (a ≡ b) × (c ≡ d)

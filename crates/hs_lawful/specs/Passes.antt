@@ -1,7 +1,7 @@
 -- A log is a list of passes. In a pass the agent takes from each queue, in order, at most 64 items: for each client its chunks,
 -- its crumbs and its triggers, and then the asks. Then it makes one turn, and then it offers the buffers of its hand: until the
 -- hand is empty, or until one offer is unread.
-use Rattle.std.specs.Prelude.{◌≡◌, ℕ, ◌-◌, Bool, true, false, not, ◌&&◌, ◌||◌, ◌==◌, nat_le, List, [], ◌∷◌, ◌++◌, length, take, drop, filter, if◌then◌else◌, zip, replicate, refl}
+use Rattle.std.specs.Prelude.{◌≡◌, ℕ, ◌+◌, ◌-◌, Bool, true, false, not, ◌&&◌, ◌||◌, ◌==◌, nat_le, List, [], ◌∷◌, ◌++◌, length, take, drop, filter, if◌then◌else◌, zip, replicate, refl}
 use Rattle.std.specs.List.{flat_map, range_with_len, list_all, list_any}
 use Rattle.hs_base.specs.declared.limits.TheConstants.{MAX_TAKEN}
 use Rattle.hs_journal.specs.declared.journal.Step.{Step}
@@ -133,5 +133,5 @@ not_whole : (is_whole_pass queues (steps.Crumb 0 ∷ steps.Chunk 0 ∷ steps.Tur
 not_whole = (refl, refl, refl, refl, refl, refl)
 
 -- a pass takes 64 chunks, and no more
-at_most_64 : (is_whole_pass queues (replicate 64 (steps.Chunk 0) ++ steps.Turn ∷ []) ≡ true) × (is_whole_pass queues (replicate 65 (steps.Chunk 0) ++ steps.Turn ∷ []) ≡ false)
+at_most_64 : (is_whole_pass queues (replicate MAX_TAKEN (steps.Chunk 0) ++ steps.Turn ∷ []) ≡ true) × (is_whole_pass queues (replicate (MAX_TAKEN + 1) (steps.Chunk 0) ++ steps.Turn ∷ []) ≡ false)
 at_most_64 = (refl, refl)

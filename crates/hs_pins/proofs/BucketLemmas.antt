@@ -2,6 +2,7 @@
 use Rattle.std.proofs.Common.{◌≡◌, ℕ, ◌+◌, ◌-◌, ◌*◌, ◌≤◌, max, min, List, [], ◌∷◌, refl, arith, ap, sym, ◌∙◌, subst, Bool, true, false}
 use Rattle.std.specs.Prelude.{nat_le, if◌then◌else◌}
 use Rattle.std.proofs.lemmas.Bool.{leb-true}
+use Rattle.hs_base.specs.declared.limits.TheConstants.{TOKEN}
 use Rattle.hs_pins.specs.declared.bucket.Attempt.TheVariants.{Admitted, Limited}
 use Rattle.hs_pins.specs.Buckets.{BucketState, HasAttempted, greatest, least_since, level_at, level_found, admitted_of, attempted}
 
@@ -9,7 +10,7 @@ use Rattle.hs_pins.specs.Buckets.{BucketState, HasAttempted, greatest, least_sin
 abbrev pub Covers : ℕ → ℕ → ℕ → ℕ → List ℕ → Type 0
 Covers burst rate now taken [] = Unit {0}
 Covers burst rate now taken (t ∷ ts) =
-    (taken * 1000000 ≤ burst * 1000000 + rate * (now - t)) × (t ≤ now) × Covers burst rate now (taken + 1) ts
+    (taken * TOKEN ≤ burst * TOKEN + rate * (now - t)) × (t ≤ now) × Covers burst rate now (taken + 1) ts
 
 times_later : (rate now more t : ℕ) → t ≤ now → rate * (now + more - t) ≡ rate * (now - t) + rate * more
 times_later rate now more t h =
@@ -19,33 +20,33 @@ term_later : (full before after lost more rest later : ℕ) → after ≡ before
     → min (full + after - lost) later ≡ min full (min (full + before - lost) rest + more)
 term_later full before after lost more rest later e h r = omega arith
 
-term_taken : (low term taken rest later : ℕ) → min low later ≡ rest - 1000000
-    → min low (min (term - (taken + 1) * 1000000) later) ≡ min (term - taken * 1000000) rest - 1000000
+term_taken : (low term taken rest later : ℕ) → min low later ≡ rest - TOKEN
+    → min low (min (term - (taken + 1) * TOKEN) later) ≡ min (term - taken * TOKEN) rest - TOKEN
 term_taken low term taken rest later e = omega arith
 
-term_covered : (term taken rest : ℕ) → 1000000 ≤ min (term - taken * 1000000) rest → (taken + 1) * 1000000 ≤ term
+term_covered : (term taken rest : ℕ) → TOKEN ≤ min (term - taken * TOKEN) rest → (taken + 1) * TOKEN ≤ term
 term_covered term taken rest h = omega arith
 
-rest_covered : (term rest : ℕ) → 1000000 ≤ min term rest → 1000000 ≤ rest
+rest_covered : (term rest : ℕ) → TOKEN ≤ min term rest → TOKEN ≤ rest
 rest_covered term rest h = omega arith
 
 pub least_since-later : (burst rate now more taken : ℕ) (ts : List ℕ) → Covers burst rate now taken ts
-    → least_since burst rate (now + more) taken ts ≡ min (burst * 1000000) (least_since burst rate now taken ts + rate * more)
+    → least_since burst rate (now + more) taken ts ≡ min (burst * TOKEN) (least_since burst rate now taken ts + rate * more)
 least_since-later burst rate now more taken [] h = omega arith
 least_since-later burst rate now more taken (t ∷ ts) h =
-    term_later (burst * 1000000) (rate * (now - t)) (rate * (now + more - t)) (taken * 1000000) (rate * more)
+    term_later (burst * TOKEN) (rate * (now - t)) (rate * (now + more - t)) (taken * TOKEN) (rate * more)
     (least_since burst rate now (taken + 1) ts) (least_since burst rate (now + more) (taken + 1) ts)
     (times_later rate now more t h.1) h.0 (least_since-later burst rate now more (taken + 1) ts h.2)
 
 pub least_since-taken : (burst rate now taken : ℕ) (ts : List ℕ)
-    → min (burst * 1000000 - 1000000) (least_since burst rate now (taken + 1) ts) ≡ least_since burst rate now taken ts - 1000000
+    → min (burst * TOKEN - TOKEN) (least_since burst rate now (taken + 1) ts) ≡ least_since burst rate now taken ts - TOKEN
 least_since-taken burst rate now taken [] = omega arith
 least_since-taken burst rate now taken (t ∷ ts) =
-    term_taken (burst * 1000000 - 1000000) (burst * 1000000 + rate * (now - t)) taken
+    term_taken (burst * TOKEN - TOKEN) (burst * TOKEN + rate * (now - t)) taken
     (least_since burst rate now (taken + 1) ts) (least_since burst rate now (taken + 1 + 1) ts)
     (least_since-taken burst rate now (taken + 1) ts)
 
-pub least_since-full : (burst rate now taken : ℕ) (ts : List ℕ) → least_since burst rate now taken ts ≤ burst * 1000000
+pub least_since-full : (burst rate now taken : ℕ) (ts : List ℕ) → least_since burst rate now taken ts ≤ burst * TOKEN
 least_since-full burst rate now taken [] = omega arith
 least_since-full burst rate now taken (t ∷ ts) = let h = least_since-full burst rate now (taken + 1) ts in omega arith
 
@@ -58,16 +59,16 @@ covers_later burst rate now more taken (t ∷ ts) h = (
 )
 
 covers_taken : (burst rate now taken : ℕ) (ts : List ℕ) → Covers burst rate now taken ts
-    → 1000000 ≤ least_since burst rate now taken ts → Covers burst rate now (taken + 1) ts
+    → TOKEN ≤ least_since burst rate now taken ts → Covers burst rate now (taken + 1) ts
 covers_taken burst rate now taken [] h level = tt
 covers_taken burst rate now taken (t ∷ ts) h level = (
-  term_covered (burst * 1000000 + rate * (now - t)) taken (least_since burst rate now (taken + 1) ts) level,
+  term_covered (burst * TOKEN + rate * (now - t)) taken (least_since burst rate now (taken + 1) ts) level,
   h.1,
   covers_taken burst rate now (taken + 1) ts h.2
-      (rest_covered (burst * 1000000 + rate * (now - t) - taken * 1000000) (least_since burst rate now (taken + 1) ts) level),
+      (rest_covered (burst * TOKEN + rate * (now - t) - taken * TOKEN) (least_since burst rate now (taken + 1) ts) level),
 )
 
-covers_either : (burst rate now : ℕ) (ts : List ℕ) (b : Bool) → (b ≡ true → 1000000 ≤ level_at burst rate ts now)
+covers_either : (burst rate now : ℕ) (ts : List ℕ) (b : Bool) → (b ≡ true → TOKEN ≤ level_at burst rate ts now)
     → Covers burst rate now 1 ts → Covers burst rate now 1 (if b then now ∷ ts else ts)
 covers_either burst rate now ts true level h =
     let full = least_since-full burst rate now 1 ts in
@@ -84,7 +85,7 @@ covers_admitted : (burst rate : ℕ) (moments : List ℕ) → Covers burst rate 
 covers_admitted burst rate [] = tt
 covers_admitted burst rate (moment ∷ earlier) =
     covers_either burst rate (greatest (moment ∷ earlier)) (admitted_of burst rate earlier)
-    (nat_le 1000000 (level_found burst rate earlier moment)) (leb-true 1000000 (level_found burst rate earlier moment))
+    (nat_le TOKEN (level_found burst rate earlier moment)) (leb-true TOKEN (level_found burst rate earlier moment))
     (let P : ℕ → Type 0 = λ n. Covers burst rate n 1 (admitted_of burst rate earlier) in
     subst P (sym (greatest-later moment (greatest earlier)))
     (covers_later burst rate (greatest earlier) (moment - greatest earlier) 1 (admitted_of burst rate earlier) (covers_admitted burst rate earlier)))
@@ -92,57 +93,57 @@ covers_admitted burst rate (moment ∷ earlier) =
 -- an attempt finds the level that the earlier ones left, and what has flowed in since
 pub level_found-flow : (burst rate moment : ℕ) (earlier : List ℕ)
     → level_found burst rate earlier moment
-    ≡ min (burst * 1000000) (level_at burst rate (admitted_of burst rate earlier) (greatest earlier) + rate * (moment - greatest earlier))
+    ≡ min (burst * TOKEN) (level_at burst rate (admitted_of burst rate earlier) (greatest earlier) + rate * (moment - greatest earlier))
 level_found-flow burst rate moment earlier =
     rw (greatest-later moment (greatest earlier))
     (least_since-later burst rate (greatest earlier) (moment - greatest earlier) 1 (admitted_of burst rate earlier) (covers_admitted burst rate earlier))
 
-first_taken : (full flowed rest level : ℕ) → flowed ≡ 0 → min (full - 1000000) rest ≡ level → min (full + flowed - 1 * 1000000) rest ≡ level
+first_taken : (full flowed rest level : ℕ) → flowed ≡ 0 → min (full - TOKEN) rest ≡ level → min (full + flowed - 1 * TOKEN) rest ≡ level
 first_taken full flowed rest level e h = omega arith
 
 nothing_flows : (rate now : ℕ) → rate * (now - now) ≡ 0
 nothing_flows rate now = let e : now - now ≡ 0 = omega arith in rw e (omega arith)
 
-level_either : (burst rate now : ℕ) (ts : List ℕ) (b : Bool) → level_at burst rate (if b then now ∷ ts else ts) now ≡ (if b then level_at burst rate ts now - 1000000 else level_at burst rate ts now)
+level_either : (burst rate now : ℕ) (ts : List ℕ) (b : Bool) → level_at burst rate (if b then now ∷ ts else ts) now ≡ (if b then level_at burst rate ts now - TOKEN else level_at burst rate ts now)
 level_either burst rate now ts true =
-    first_taken (burst * 1000000) (rate * (now - now)) (least_since burst rate now 2 ts) (least_since burst rate now 1 ts - 1000000)
+    first_taken (burst * TOKEN) (rate * (now - now)) (least_since burst rate now 2 ts) (least_since burst rate now 1 ts - TOKEN)
     (nothing_flows rate now) (least_since-taken burst rate now 1 ts)
 level_either burst rate now ts false = refl
 
 -- the level that an attempt leaves
 pub level_left : (burst rate moment : ℕ) (earlier : List ℕ)
     → level_at burst rate (admitted_of burst rate (moment ∷ earlier)) (greatest (moment ∷ earlier))
-    ≡ (if nat_le 1000000 (level_found burst rate earlier moment) then level_found burst rate earlier moment - 1000000 else level_found burst rate earlier moment)
+    ≡ (if nat_le TOKEN (level_found burst rate earlier moment) then level_found burst rate earlier moment - TOKEN else level_found burst rate earlier moment)
 level_left burst rate moment earlier =
-    level_either burst rate (greatest (moment ∷ earlier)) (admitted_of burst rate earlier) (nat_le 1000000 (level_found burst rate earlier moment))
+    level_either burst rate (greatest (moment ∷ earlier)) (admitted_of burst rate earlier) (nat_le TOKEN (level_found burst rate earlier moment))
 
-pub left_if_limited : (burst rate moment level : ℕ) (earlier : List ℕ) → level ≡ level_found burst rate earlier moment → nat_le 1000000 level ≡ false
+pub left_if_limited : (burst rate moment level : ℕ) (earlier : List ℕ) → level ≡ level_found burst rate earlier moment → nat_le TOKEN level ≡ false
     → level ≡ level_at burst rate (admitted_of burst rate (moment ∷ earlier)) (greatest (moment ∷ earlier))
 left_if_limited burst rate moment level earlier e few =
-    let t : nat_le 1000000 (level_found burst rate earlier moment) ≡ false = ap (nat_le 1000000) (sym e) ∙ few in
+    let t : nat_le TOKEN (level_found burst rate earlier moment) ≡ false = ap (nat_le TOKEN) (sym e) ∙ few in
     rw level_left (rw t e)
 
-pub left_if_admitted : (burst rate moment level : ℕ) (earlier : List ℕ) → level ≡ level_found burst rate earlier moment → nat_le 1000000 level ≡ true
-    → level - 1000000 ≡ level_at burst rate (admitted_of burst rate (moment ∷ earlier)) (greatest (moment ∷ earlier))
+pub left_if_admitted : (burst rate moment level : ℕ) (earlier : List ℕ) → level ≡ level_found burst rate earlier moment → nat_le TOKEN level ≡ true
+    → level - TOKEN ≡ level_at burst rate (admitted_of burst rate (moment ∷ earlier)) (greatest (moment ∷ earlier))
 left_if_admitted burst rate moment level earlier e some =
-    let t : nat_le 1000000 (level_found burst rate earlier moment) ≡ true = ap (nat_le 1000000) (sym e) ∙ some in
-    rw level_left (rw t (ap (λ n. n - 1000000) e))
+    let t : nat_le TOKEN (level_found burst rate earlier moment) ≡ true = ap (nat_le TOKEN) (sym e) ∙ some in
+    rw level_left (rw t (ap (λ n. n - TOKEN) e))
 
-pub answer_if_limited : (burst rate moment level : ℕ) (earlier : List ℕ) → level ≡ level_found burst rate earlier moment → nat_le 1000000 level ≡ false
+pub answer_if_limited : (burst rate moment level : ℕ) (earlier : List ℕ) → level ≡ level_found burst rate earlier moment → nat_le TOKEN level ≡ false
     → Limited level ≡ attempted burst rate earlier moment
 answer_if_limited burst rate moment level earlier e few =
-    let t : nat_le 1000000 (level_found burst rate earlier moment) ≡ false = ap (nat_le 1000000) (sym e) ∙ few in
+    let t : nat_le TOKEN (level_found burst rate earlier moment) ≡ false = ap (nat_le TOKEN) (sym e) ∙ few in
     rw t (ap Limited e)
 
-pub answer_if_admitted : (burst rate moment level : ℕ) (earlier : List ℕ) → level ≡ level_found burst rate earlier moment → nat_le 1000000 level ≡ true
+pub answer_if_admitted : (burst rate moment level : ℕ) (earlier : List ℕ) → level ≡ level_found burst rate earlier moment → nat_le TOKEN level ≡ true
     → Admitted ≡ attempted burst rate earlier moment
 answer_if_admitted burst rate moment level earlier e some =
-    let t : nat_le 1000000 (level_found burst rate earlier moment) ≡ true = ap (nat_le 1000000) (sym e) ∙ some in
+    let t : nat_le TOKEN (level_found burst rate earlier moment) ≡ true = ap (nat_le TOKEN) (sym e) ∙ some in
     rw t refl
 
 -- a bucket that let flow in what had come since its moment stands at the level that the attempt finds
 pub refilled : (old : BucketState) (moment level : ℕ) (earlier : List ℕ) → HasAttempted old earlier
-    → level ≡ min (old.burst * 1000000) (old.level + old.rate * (moment - old.moment))
+    → level ≡ min (old.burst * TOKEN) (old.level + old.rate * (moment - old.moment))
     → level ≡ level_found old.burst old.rate earlier moment
 refilled old moment level earlier h e =
     let f = level_found-flow old.burst old.rate moment earlier in

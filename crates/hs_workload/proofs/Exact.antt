@@ -3,7 +3,7 @@
 use Rattle.std.proofs.Common.{◌≡◌, ℕ, suc, ◌+◌, ◌≤◌, Bool, true, false, not, ◌||◌, nat_lt, nat_le, nat_eq, List, [], ◌∷◌, length, cond, Option, Some, None, Result, Ok, Err, refl, ap, arith}
 use Rattle.std.specs.Prelude.{is_none, option_map, option_and_then}
 use borrow.Author.Tests.{ne_eqb, leb-true}
-use Rattle.hs_base.specs.declared.limits.TheConstants.{MAX_PAYLOAD, MAX_OPERATIONS}
+use Rattle.hs_base.specs.declared.limits.TheConstants.{MAX_PAYLOAD, MAX_OPERATIONS, MAX_LATERALS}
 use Rattle.hs_base.specs.declared.ids.TraceId.{TraceId}
 use Rattle.hs_text.specs.Text.{number_of, payload_of}
 use Rattle.hs_text.specs.Steps.{◌>>=◌, unless, value_or, first_that_holds}
@@ -188,8 +188,8 @@ trigger_agrees d [] = refl
 trigger_agrees d (a ∷ []) = refl
 trigger_agrees d (a ∷ b ∷ []) = refl
 trigger_agrees d (a ∷ b ∷ c ∷ words) =
-    agrees_unless (after d) (nat_lt 32 (length words)) reasons.Count _ _ (says (version_of (past_of d)) keywords.Trigger (a ∷ b ∷ c ∷ words)) (λ few.
-    let within : nat_le (length words) 32 ≡ true = grind arith in
+    agrees_unless (after d) (nat_lt MAX_LATERALS (length words)) reasons.Count _ _ (says (version_of (past_of d)) keywords.Trigger (a ∷ b ∷ c ∷ words)) (λ few.
+    let within : nat_le (length words) MAX_LATERALS ≡ true = grind arith in
     rw within (trigger_of d (number_of a) (number_of b) (trace_of (version_of (past_of d)) c) (traces_of (version_of (past_of d)) words)))
 
 watched_of : (d : Draft) (kind : Kind) (o : Option ℕ) (p : Option (List ℕ))

@@ -225,13 +225,13 @@ point_spelled version v w (Some m) (Some bytes) e f =
       spelled = ap (λ (x : List ℕ). keyword_text keywords.Point ∷ x ∷ payload_text bytes ∷ []) (sym d.0) ∙ ap (λ (x : List ℕ). keyword_text keywords.Point ∷ v ∷ x ∷ []) (sym h.0);
     }
 
-few_laterals : (version : ℕ) (words : List (List ℕ)) (ts : List TraceId) → words ≡ map (trace_word version) ts → nat_le (length words) 32 ≡ true → length ts ≤ 32
+few_laterals : (version : ℕ) (words : List (List ℕ)) (ts : List TraceId) → words ≡ map (trace_word version) ts → nat_le (length words) MAX_LATERALS ≡ true → length ts ≤ MAX_LATERALS
 few_laterals version words ts are is =
     let same = ap length are in
     let as_many = length-words (trace_word version) ts in
     grind arith
 
-trigger_spelled : (version : ℕ) (u v w : List ℕ) (ws : List (List ℕ)) (b : Bool) (o p : Option ℕ) (q : Option TraceId) (r : Option (List TraceId)) → nat_le (length ws) 32 ≡ b
+trigger_spelled : (version : ℕ) (u v w : List ℕ) (ws : List (List ℕ)) (b : Bool) (o p : Option ℕ) (q : Option TraceId) (r : Option (List TraceId)) → nat_le (length ws) MAX_LATERALS ≡ b
     → number_of u ≡ o → number_of v ≡ p → trace_of version w ≡ q → traces_of version ws ≡ r
     → IfSome (cond b (option_and_then (λ m. option_and_then (λ i. option_and_then (λ l. option_map (fire m i l) r) q) p) o) None) (IsSpelled version keywords.Trigger (u ∷ v ∷ w ∷ ws))
 trigger_spelled version u v w ws false o p q r z e f g h = tt
@@ -322,7 +322,7 @@ says_spelled version keywords.Trigger [] = tt
 says_spelled version keywords.Trigger (u ∷ []) = tt
 says_spelled version keywords.Trigger (u ∷ v ∷ []) = tt
 says_spelled version keywords.Trigger (u ∷ v ∷ w ∷ ws) =
-    trigger_spelled version u v w ws (nat_le (length ws) 32) (number_of u) (number_of v) (trace_of version w) (traces_of version ws) refl refl refl refl refl
+    trigger_spelled version u v w ws (nat_le (length ws) MAX_LATERALS) (number_of u) (number_of v) (trace_of version w) (traces_of version ws) refl refl refl refl refl
 says_spelled version keywords.Auto [] = tt
 says_spelled version keywords.Auto (u ∷ []) = tt
 says_spelled version keywords.Auto (u ∷ v ∷ ws) = auto_spelled version u v ws (kind_of v) refl
@@ -403,7 +403,7 @@ trigger_said : (version m i : ℕ) (l : TraceId) (ls : List TraceId) → IsSmall
     → says version keywords.Trigger (decimal m ∷ decimal i ∷ trace_word version l ∷ map (trace_word version) ls) ≡ Some (fire m i l ls)
 trigger_said version m i l ls small_m small_i digits few all =
     let many = length-words (trace_word version) ls in
-    let within : nat_le (length (map (trace_word version) ls)) 32 ≡ true = grind arith in
+    let within : nat_le (length (map (trace_word version) ls)) MAX_LATERALS ≡ true = grind arith in
     let words : List (List ℕ) = map (trace_word version) ls in
     ap (λ (b : Bool). cond b (option_and_then (λ x. option_and_then (λ y. option_and_then (λ z. option_map (fire x y z) (traces_of version words)) (trace_of version (trace_word version l))) (number_of (decimal i))) (number_of (decimal m))) None) within
     ∙ ap (option_and_then (λ (x : ℕ). option_and_then (λ y. option_and_then (λ z. option_map (fire x y z) (traces_of version words)) (trace_of version (trace_word version l))) (number_of (decimal i)))) (number_of-decimal m small_m)
