@@ -5,6 +5,7 @@ use lib.ListN.{get_elem?}
 use Rattle.std.specs.Prelude.{Option, slice_get, count_by}
 use Rattle.atomic_table.specs.Table.{State, Me, Act, Valid, carried_after, stepped}
 use Rattle.atomic_table.proofs.Lists.{at_set}
+use Rattle.hs_ring.specs.declared.board.TheConstants.{PUBLISHED}
 use Rattle.hs_base.specs.declared.limits.TheConstants.{MAX_BUFFERS, MAX_OPERATIONS}
 use Rattle.hs_words.specs.Chunks.{Contents}
 use Rattle.hs_words.specs.PoolHistory.{is_missed, is_empty}
@@ -48,18 +49,18 @@ front_got (y ∷ ys) x at = ap (λ (z : ℕ). Some z) (some-injective y x at)
 
 -- ---- the word of the counts
 
-pub drawn_packed : (p d : ℕ) → d < 4294967296 → (p * 4294967296 + d) % 4294967296 ≡ d
+pub drawn_packed : (p d : ℕ) → d < PUBLISHED → (p * PUBLISHED + d) % PUBLISHED ≡ d
 drawn_packed p d less = omega arith
 
-pub published_packed : (p d : ℕ) → d < 4294967296 → (p * 4294967296 + d) / 4294967296 ≡ p
+pub published_packed : (p d : ℕ) → d < PUBLISHED → (p * PUBLISHED + d) / PUBLISHED ≡ p
 published_packed p d less = omega arith
 
-pub one_drawn : (p d word : ℕ) → p < 2147483648 → d < 2147483648 → word ≡ p * 4294967296 + d → (word + 1) % 18446744073709551616 ≡ p * 4294967296 + suc d
-one_drawn p d word small less is = let below : word + 1 < 18446744073709551616 = omega arith in mod-eq_of_lt below ∙ (let e : word + 1 ≡ p * 4294967296 + suc d = omega arith in e)
+pub one_drawn : (p d word : ℕ) → p < 2147483648 → d < 2147483648 → word ≡ p * PUBLISHED + d → (word + 1) % 18446744073709551616 ≡ p * PUBLISHED + suc d
+one_drawn p d word small less is = let below : word + 1 < 18446744073709551616 = omega arith in mod-eq_of_lt below ∙ (let e : word + 1 ≡ p * PUBLISHED + suc d = omega arith in e)
 
-pub one_published : (p d word : ℕ) → p < 2147483648 → d < 2147483648 → word ≡ p * 4294967296 + d → (word + 4294967296) % 18446744073709551616 ≡ suc p * 4294967296 + d
+pub one_published : (p d word : ℕ) → p < 2147483648 → d < 2147483648 → word ≡ p * PUBLISHED + d → (word + PUBLISHED) % 18446744073709551616 ≡ suc p * PUBLISHED + d
 one_published p d word small less is =
-    let below : word + 4294967296 < 18446744073709551616 = omega arith in mod-eq_of_lt below ∙ (let e : word + 4294967296 ≡ suc p * 4294967296 + d = omega arith in e)
+    let below : word + PUBLISHED < 18446744073709551616 = omega arith in mod-eq_of_lt below ∙ (let e : word + PUBLISHED ≡ suc p * PUBLISHED + d = omega arith in e)
 
 -- ---- the counts of a state
 
@@ -98,10 +99,10 @@ module _ (plan : Plan) (s : State (Option Contents) View) (f : Facts) (k : Kept 
   pub found_stamp : (entries : ℕ) → entries ≡ 2 * n → IsStamp entries (get_or s.words 0 0) (length f.log)
   found_stamp entries is = let d = found_drawn in let p = found_published in let both = stamp_is f.log in omega arith
 
-  pub one_more_drawn : (get_or s.words 0 0 + 1) % 18446744073709551616 ≡ published n f.log * 4294967296 + suc (drawn_in f.log)
+  pub one_more_drawn : (get_or s.words 0 0 + 1) % 18446744073709551616 ≡ published n f.log * PUBLISHED + suc (drawn_in f.log)
   one_more_drawn = one_drawn (published n f.log) (drawn_in f.log) (get_or s.words 0 0) (let p = few_published in omega arith) (let d = few_drawn in omega arith) k.counts
 
-  pub one_more_published : (get_or s.words 0 0 + 4294967296) % 18446744073709551616 ≡ suc (published n f.log) * 4294967296 + drawn_in f.log
+  pub one_more_published : (get_or s.words 0 0 + PUBLISHED) % 18446744073709551616 ≡ suc (published n f.log) * PUBLISHED + drawn_in f.log
   one_more_published = one_published (published n f.log) (drawn_in f.log) (get_or s.words 0 0) (let p = few_published in omega arith) (let d = few_drawn in omega arith) k.counts
 
   pub entry_below : (number : ℕ) → number % (2 * n) < 2 * n

@@ -8,6 +8,7 @@ use lib.ListN.{get_elem?}
 use Rattle.std.specs.Prelude.{Option}
 use Rattle.atomic_table.specs.Table.{State, Me, step, Act, keeps, takes, stepped, Allows}
 use Rattle.atomic_table.proofs.Lists.{set_here, set_else}
+use Rattle.hs_ring.specs.declared.board.TheConstants.{PUBLISHED}
 use Rattle.hs_words.specs.Chunks.{Contents, clear_chunk}
 use Rattle.hs_words.specs.PoolHistory.{Got, Empty, is_missed, is_empty}
 use Rattle.hs_words.specs.Ends.{Deed, Answer, got_by, empty_by, events_of, drawn_in, given_in, answer_to}
@@ -46,7 +47,7 @@ module _ (plan : Plan) (s : St) (f : Facts) (k : Kept plan s f) (id : ℕ) (desk
   another j other d' is e = let same : d' ≡ d = omega arith in other (sym is ∙ ap f.seats same ∙ mine.seat)
 
   -- ---- an empty draw
-  module _ (idle : hand ≡ nothing) (some_left : 1 ≤ desk.left) (void : published n f.log ≤ drawn_in f.log) (x : ℕ) (x_is : x ≡ published n f.log * 4294967296 + suc (drawn_in f.log)) (held : Held) where
+  module _ (idle : hand ≡ nothing) (some_left : 1 ≤ desk.left) (void : published n f.log ≤ drawn_in f.log) (x : ℕ) (x_is : x ≡ published n f.log * PUBLISHED + suc (drawn_in f.log)) (held : Held) where
     abbrev deed : Deed
     deed = empty_by (suc d)
 
@@ -99,7 +100,7 @@ module _ (plan : Plan) (s : St) (f : Facts) (k : Kept plan s f) (id : ℕ) (desk
           within = k.within;
           homes = k.homes;
           words = length-set s.words 0 x ∙ k.words;
-          counts = get_or-set_same s.words 0 x 0 (let e = k.words in omega arith) ∙ x_is ∙ (let e : published n f.log * 4294967296 + suc (drawn_in f.log) ≡ (n + (0 + given_in f.log)) * 4294967296 + (1 + drawn_in f.log) = omega arith in e);
+          counts = get_or-set_same s.words 0 x 0 (let e = k.words in omega arith) ∙ x_is ∙ (let e : published n f.log * PUBLISHED + suc (drawn_in f.log) ≡ (n + (0 + given_in f.log)) * PUBLISHED + (1 + drawn_in f.log) = omega arith in e);
           lawful = (k.lawful, nothing_waits);
           spent = (tt, k.spent);
           voids = (let a = counted is_missed Empty (events_of f.log) in let b = counted is_empty Empty (events_of f.log) in let v = k.voids in omega arith);
@@ -126,7 +127,7 @@ module _ (plan : Plan) (s : St) (f : Facts) (k : Kept plan s f) (id : ℕ) (desk
         }
 
   -- ---- a draw that gets a buffer
-  module _ (idle : hand ≡ nothing) (some_left : 1 ≤ desk.left) (ready : drawn_in f.log < published n f.log) (x : ℕ) (x_is : x ≡ published n f.log * 4294967296 + suc (drawn_in f.log)) (held : Held)
+  module _ (idle : hand ≡ nothing) (some_left : 1 ≤ desk.left) (ready : drawn_in f.log < published n f.log) (x : ℕ) (x_is : x ≡ published n f.log * PUBLISHED + suc (drawn_in f.log)) (held : Held)
       (b : ℕ) (front : get_elem? (queue_of n f.log) 0 ≡ some b) where
     abbrev number : ℕ
     number = drawn_in f.log
@@ -265,7 +266,7 @@ module _ (plan : Plan) (s : St) (f : Facts) (k : Kept plan s f) (id : ℕ) (desk
           within = k.within;
           homes = length-set s.homes e₀ maybe.none ∙ k.homes;
           words = length-set s.words 0 x ∙ k.words;
-          counts = get_or-set_same s.words 0 x 0 (let e = k.words in omega arith) ∙ x_is ∙ (let e : published n f.log * 4294967296 + suc (drawn_in f.log) ≡ (n + (0 + given_in f.log)) * 4294967296 + (1 + drawn_in f.log) = omega arith in e);
+          counts = get_or-set_same s.words 0 x 0 (let e = k.words in omega arith) ∙ x_is ∙ (let e : published n f.log * PUBLISHED + suc (drawn_in f.log) ≡ (n + (0 + given_in f.log)) * PUBLISHED + (1 + drawn_in f.log) = omega arith in e);
           lawful = (k.lawful, front_got (queue_of n f.log) b front);
           spent = (tt, k.spent);
           voids = (let a = counted is_missed (Got b) (events_of f.log) in let c = counted is_empty (Got b) (events_of f.log) in let v = k.voids in omega arith);

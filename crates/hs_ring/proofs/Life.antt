@@ -9,6 +9,7 @@ use Rattle.std.specs.Prelude.{Option}
 use Rattle.std.specs.List.{range_with_len}
 use Rattle.atomic_table.specs.Table.{step, keeps, opening, Allows, Splits, Joins}
 use Rattle.atomic_table.proofs.Lists.{at_set, set_else, at_map}
+use Rattle.hs_ring.specs.declared.board.TheConstants.{PUBLISHED}
 use Rattle.hs_words.specs.Chunks.{Contents, clear_chunk}
 use Rattle.hs_words.specs.Ends.{Deed, Answer, AreAnswers}
 use Rattle.hs_words.proofs.Deeds.{all_of, no_answers}
@@ -290,7 +291,7 @@ start_waits n e (no _) low = refl
 pub record IsLaidOut (plan : Plan) (ws : List ℕ) (xs : List (Option Contents)) : Type 0 where
   pub words : length ws ≡ suc (2 * plan.buffers)
   pub slots : length xs ≡ 2 * plan.buffers
-  pub counts : get_or ws 0 0 ≡ plan.buffers * 4294967296
+  pub counts : get_or ws 0 0 ≡ plan.buffers * PUBLISHED
   pub numbers : (e : ℕ) → e < plan.buffers → get_or ws (suc e) 0 ≡ suc e
   pub zeros : (e : ℕ) → plan.buffers ≤ e → e < 2 * plan.buffers → get_or ws (suc e) 0 ≡ 0
   pub chunks : (e : ℕ) → e < plan.buffers → get_elem? xs e ≡ some (Some (clear_chunk plan.size e))
@@ -345,7 +346,7 @@ module _ (plan : Plan) (ws : List ℕ) (xs : List (Option Contents)) (within : W
         within = within;
         homes = length-map xs some ∙ out.slots;
         words = out.words;
-        counts = out.counts ∙ (let e : n * 4294967296 ≡ (n + 0) * 4294967296 + 0 = omega arith in e);
+        counts = out.counts ∙ (let e : n * PUBLISHED ≡ (n + 0) * PUBLISHED + 0 = omega arith in e);
         lawful = tt;
         spent = tt;
         voids = (let one = within.some in let z : 0 + (0 - (n + 0)) ≡ 0 = omega arith in z);

@@ -4,6 +4,7 @@ use mathlib.Core.Option as maybe
 use prog.Atomic.{either}
 use Rattle.std.specs.Prelude.{Option, ◌==◌}
 use Rattle.atomic_table.specs.Table.{Me, step, rest, Allows, Splits, Joins}
+use Rattle.hs_ring.specs.declared.board.TheConstants.{PUBLISHED}
 use Rattle.hs_words.specs.Chunks.{Contents}
 use Rattle.hs_ring.specs.Views.{Desk, Hand, nothing, drew, kept, Post, Palm, bare, holds, lays, retakes, View, nobody, drawing, leasing, giving, drawer_note, giver_note, without_lease, lease_of, with_lease, note_of, having_heard, with_drawer, new_drawer, having_closed}
 use Rattle.hs_ring.specs.Rule.{Plan, Ring}
@@ -53,15 +54,15 @@ module _ (plan : Plan) (slots id : ℕ) where
   can_lay (giver_note floor) number i held can is = absurd can
 
   pub can_publish : (v : View) (number i : ℕ) (chunk : Contents) (held : Held) → CanPublish slots number chunk v → i ≡ number % slots
-      → Allows (Ring plan) slots id (v, (i, Some chunk) ∷ held) 0 (λ word. (word + 4294967296) % 18446744073709551616) (did_publish (step slots 0 4294967296 0 maybe.none) (v, (i, Some chunk) ∷ held))
+      → Allows (Ring plan) slots id (v, (i, Some chunk) ∷ held) 0 (λ word. (word + PUBLISHED) % 18446744073709551616) (did_publish (step slots 0 PUBLISHED 0 maybe.none) (v, (i, Some chunk) ∷ held))
   can_publish nobody number i chunk held can is = absurd can
   can_publish (drawing desk hand) number i chunk held can is = absurd can
   can_publish (leasing buffer draw) number i chunk held can is = absurd can
   can_publish (giving post bare) number i chunk held can is = absurd can
   can_publish (giving post (holds buffer draw)) number i chunk held can is = absurd can
   can_publish (giving post (lays buffer draw)) number i chunk held can is =
-      let F : Contents → Type 0 = λ c. Allows (Ring plan) slots id (giving post (lays buffer draw), (i, Some c) ∷ held) 0 (λ word. (word + 4294967296) % 18446744073709551616)
-      (did_publish (step slots 0 4294967296 0 maybe.none) (giving post (lays buffer draw), (i, Some c) ∷ held)) in
+      let F : Contents → Type 0 = λ c. Allows (Ring plan) slots id (giving post (lays buffer draw), (i, Some c) ∷ held) 0 (λ word. (word + PUBLISHED) % 18446744073709551616)
+      (did_publish (step slots 0 PUBLISHED 0 maybe.none) (giving post (lays buffer draw), (i, Some c) ∷ held)) in
       subst F (sym can.1) (publishes plan slots id post buffer draw number i held can.0 is)
   can_publish (giving post (retakes buffer draw)) number i chunk held can is = absurd can
   can_publish (drawer_note floor stamps) number i chunk held can is = absurd can
@@ -131,9 +132,9 @@ collect_at plan slots id me v i is can =
     subst F (sym is) (can_collect plan slots id v i [] can)
 
 pub publish_at : (plan : Plan) (slots id : ℕ) (me : Mine) (v : View) (number i : ℕ) (chunk : Contents) → me ≡ (v, (i, Some chunk) ∷ []) → CanPublish slots number chunk v → i ≡ number % slots
-    → Allows (Ring plan) slots id me 0 (λ word. (word + 4294967296) % 18446744073709551616) (did_publish (step slots 0 4294967296 0 maybe.none) me)
+    → Allows (Ring plan) slots id me 0 (λ word. (word + PUBLISHED) % 18446744073709551616) (did_publish (step slots 0 PUBLISHED 0 maybe.none) me)
 publish_at plan slots id me v number i chunk is can entry =
-    let F : Mine → Type 0 = λ m. Allows (Ring plan) slots id m 0 (λ word. (word + 4294967296) % 18446744073709551616) (did_publish (step slots 0 4294967296 0 maybe.none) m) in
+    let F : Mine → Type 0 = λ m. Allows (Ring plan) slots id m 0 (λ word. (word + PUBLISHED) % 18446744073709551616) (did_publish (step slots 0 PUBLISHED 0 maybe.none) m) in
     subst F (sym is) (can_publish plan slots id v number i chunk [] can entry)
 
 pub retake_at : (plan : Plan) (slots id : ℕ) (me : Mine) (v : View) (number i : ℕ) → me ≡ (v, (i, None) ∷ []) → CanRetake slots number v → i ≡ number % slots

@@ -10,6 +10,7 @@ use Rattle.std.specs.Prelude.{Option}
 use Rattle.std.specs.List.{AllByRecursion}
 use Rattle.atomic_table.specs.Table.{step, keeps, gives, stepped, Allows}
 use Rattle.atomic_table.proofs.Lists.{set_here, set_else}
+use Rattle.hs_ring.specs.declared.board.TheConstants.{PUBLISHED}
 use Rattle.hs_words.specs.Chunks.{Contents, clear_chunk}
 use Rattle.hs_words.specs.PoolHistory.{Given, Missed, is_missed, is_empty}
 use Rattle.hs_words.specs.Ends.{Deed, Answer, answered, given_of, missed, events_of, drawn_in, given_in, answer_to, answers_in, told_in}
@@ -27,7 +28,7 @@ use Rattle.hs_ring.proofs.Takes.{ours, no_giver}
 use Rattle.hs_ring.proofs.Lays.{next_is}
 
 module _ (plan : Plan) (s : St) (f : Facts) (k : Kept plan s f) (id : ℕ) (post : Post) (b t : ℕ) (at : get_elem? s.views id ≡ some (giving post (lays b t))) (i : ℕ) (i_is : i ≡ published plan.buffers f.log % (2 * plan.buffers)) (held : Held)
-    (x : ℕ) (x_is : x ≡ suc (published plan.buffers f.log) * 4294967296 + drawn_in f.log) where
+    (x : ℕ) (x_is : x ≡ suc (published plan.buffers f.log) * PUBLISHED + drawn_in f.log) where
   abbrev n : ℕ
   n = plan.buffers
 
@@ -179,7 +180,7 @@ module _ (plan : Plan) (s : St) (f : Facts) (k : Kept plan s f) (id : ℕ) (post
           within = k.within;
           homes = length-set s.homes i (some (Some (clear_chunk plan.size b))) ∙ k.homes;
           words = length-set s.words 0 x ∙ k.words;
-          counts = get_or-set_same s.words 0 x 0 (let e = k.words in omega arith) ∙ x_is ∙ (let e : suc P * 4294967296 + drawn_in f.log ≡ (n + (1 + given_in f.log)) * 4294967296 + (0 + drawn_in f.log) = omega arith in e);
+          counts = get_or-set_same s.words 0 x 0 (let e = k.words in omega arith) ∙ x_is ∙ (let e : suc P * PUBLISHED + drawn_in f.log ≡ (n + (1 + given_in f.log)) * PUBLISHED + (0 + drawn_in f.log) = omega arith in e);
           lawful = (k.lawful, may_give n b (events_of f.log) k.lawful in_hand.0.3 waits_not);
           spent = ((in_hand.0.1, in_hand.0.2), k.spent);
           voids = (let a = one_counted is_missed (Given b) (events_of f.log) in let c = one_counted is_empty (Given b) (events_of f.log) in let v = k.voids in omega arith);
@@ -272,7 +273,7 @@ module _ (plan : Plan) (s : St) (f : Facts) (k : Kept plan s f) (id : ℕ) (post
           within = k.within;
           homes = k.homes;
           words = length-set s.words 0 x ∙ k.words;
-          counts = get_or-set_same s.words 0 x 0 (let e = k.words in omega arith) ∙ x_is ∙ (let e : suc P * 4294967296 + drawn_in f.log ≡ (n + (1 + given_in f.log)) * 4294967296 + (0 + drawn_in f.log) = omega arith in e);
+          counts = get_or-set_same s.words 0 x 0 (let e = k.words in omega arith) ∙ x_is ∙ (let e : suc P * PUBLISHED + drawn_in f.log ≡ (n + (1 + given_in f.log)) * PUBLISHED + (0 + drawn_in f.log) = omega arith in e);
           lawful = (k.lawful, (nothing_waits, (let v = k.voids in omega arith)));
           spent = (tt, k.spent);
           voids = (let a = one_counted is_missed Missed (events_of f.log) in let c = one_counted is_empty Missed (events_of f.log) in let v = k.voids in omega arith);
@@ -292,8 +293,8 @@ module _ (plan : Plan) (s : St) (f : Facts) (k : Kept plan s f) (id : ℕ) (post
 
 -- the step, whatever it finds
 pub publishes : (plan : Plan) (slots id : ℕ) (post : Post) (b t number i : ℕ) (held : Held) → 2 * number ≡ slots + 2 * length (answers_in post.turns) → i ≡ number % slots
-    → Allows (Ring plan) slots id (giving post (lays b t), (i, Some (clear_chunk post.size b)) ∷ held) 0 (λ word. (word + 4294967296) % 18446744073709551616)
-    (did_publish (step slots 0 4294967296 0 maybe.none) (giving post (lays b t), (i, Some (clear_chunk post.size b)) ∷ held))
+    → Allows (Ring plan) slots id (giving post (lays b t), (i, Some (clear_chunk post.size b)) ∷ held) 0 (λ word. (word + PUBLISHED) % 18446744073709551616)
+    (did_publish (step slots 0 PUBLISHED 0 maybe.none) (giving post (lays b t), (i, Some (clear_chunk post.size b)) ∷ held))
 publishes plan slots id post b t number i held next is s (f, k) wide at small =
     let n = plan.buffers in
     let ok = ours plan s f k id post (lays b t) at in
@@ -305,7 +306,7 @@ publishes plan slots id post b t number i held next is s (f, k) wide at small =
     let stamp = found_stamp plan s f k slots size in
     let more = one_more_published plan s f k in
     let word = get_or s.words 0 0 in
-    let x = (word + 4294967296) % 18446744073709551616 in
+    let x = (word + PUBLISHED) % 18446744073709551616 in
     let counted : 2 * published_of (get_or s.words 0 0) ≡ slots + 2 * length (answers_in post.turns) = ap (λ (m : ℕ). 2 * m) (P ∙ sym number_is) ∙ next in
     let few : post.misses ≤ published_of (get_or s.words 0 0) = (let g = given_kinds f.log in let m = ok.misses in omega arith) in
     let above = below_stamp plan s f k id post b t at i i_is held x more in

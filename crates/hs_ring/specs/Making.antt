@@ -2,6 +2,7 @@
 use Rattle.std.specs.Prelude.{◌≡◌, ℕ, ◌*◌, List, [], ◌∷◌, ◌++◌, length, map, replicate, Option, Some, None}
 use Rattle.std.specs.List.{range_with_len}
 use Rattle.atomic_table.specs.Seated.{TableId}
+use Rattle.hs_ring.specs.declared.board.TheConstants.{PUBLISHED}
 use Rattle.hs_words.specs.Chunks.{Contents}
 use Rattle.hs_words.specs.Ends.{Answer}
 use Rattle.hs_ring.specs.Views.{Post, post_of}
@@ -9,7 +10,7 @@ use Rattle.hs_ring.specs.Seats.{Place, IsAt, IsFree}
 
 -- the counts, then for each buffer one more than its number, then as many entries that are free
 abbrev pub first_words : ℕ → List ℕ
-first_words n = n * 4294967296 ∷ range_with_len 1 n ++ replicate n 0
+first_words n = n * PUBLISHED ∷ range_with_len 1 n ++ replicate n 0
 
 -- the chunks, then as many slots that are empty
 abbrev pub first_slots : List Contents → List (Option Contents)

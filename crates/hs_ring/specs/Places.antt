@@ -5,6 +5,7 @@ use Rattle.std.specs.Prelude.{◌≡◌, ℕ, suc, ◌%◌, ◌<◌, ◌≤◌, 
 use mathlib.Core.Option.{some, some-injective, some-ne-none}
 use lib.ListN.{get_elem?}
 use Rattle.atomic_table.specs.Table.{State}
+use Rattle.hs_ring.specs.declared.board.TheConstants.{PUBLISHED}
 use Rattle.hs_words.specs.Chunks.{Contents, clear_chunk}
 use Rattle.hs_ring.specs.Views.{nothing, bare, View, drawing, leasing, giving, desk_of, post_of, nobody, Has, IsWith}
 use Rattle.hs_ring.specs.Steps.{drawn_of, published_of}
@@ -44,7 +45,7 @@ pub record IsInOnePlace (size : ℕ) (s : Table) (buffer : ℕ) : Type 0 where
 abbrev one_lent : Table
 one_lent =
     record {
-      words = (2 * 4294967296 + 1) ∷ 0 ∷ 2 ∷ 0 ∷ 0 ∷ [];
+      words = (2 * PUBLISHED + 1) ∷ 0 ∷ 2 ∷ 0 ∷ 0 ∷ [];
       homes = some None ∷ some (Some (clear_chunk 64 1)) ∷ some None ∷ some None ∷ [];
       views = giving (post_of nobody) bare ∷ drawing (desk_of nobody) nothing ∷ leasing 0 0 ∷ [];
     }

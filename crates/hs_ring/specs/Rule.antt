@@ -8,6 +8,7 @@ use mathlib.Core.Option.{some}
 use mathlib.Core.Option as maybe
 use lib.ListN.{get_elem?}
 use Rattle.atomic_table.specs.Table.{State}
+use Rattle.hs_ring.specs.declared.board.TheConstants.{PUBLISHED}
 use Rattle.hs_base.specs.declared.limits.TheConstants.{MAX_BUFFERS, MAX_OPERATIONS}
 use Rattle.hs_words.specs.Chunks.{Contents, clear_chunk}
 use Rattle.hs_words.specs.PoolHistory.{is_missed, is_empty, queue_after, IsHistoryBack}
@@ -157,7 +158,7 @@ pub record Kept (plan : Plan) (s : State (Option Contents) View) (f : Facts) : T
   pub homes : length s.homes ≡ 2 * plan.buffers
   pub words : length s.words ≡ suc (2 * plan.buffers)
   -- the counts, in one word
-  pub counts : slice_index s.words 0 ≡ published plan.buffers f.log * 4294967296 + drawn_in f.log
+  pub counts : slice_index s.words 0 ≡ published plan.buffers f.log * PUBLISHED + drawn_in f.log
   pub lawful : IsHistoryBack plan.buffers (events_of f.log)
   pub spent : EachSpends f.log
   -- the misses, and the void numbers that were not published, are the empty draws

@@ -1,6 +1,7 @@
 -- What each step at the ring's table tells the end that makes it. A step tells what it found and how the seat's view goes on.
 use Rattle.std.specs.Prelude.{◌≡◌, ◌≢◌, ℕ, ◌+◌, ◌-◌, ◌*◌, ◌/◌, ◌%◌, ◌<◌, ◌≤◌, List, ◌∷◌, length, count_by, Option, Some, None}
 use Rattle.atomic_table.specs.Table.{Me, Step, rest}
+use Rattle.hs_ring.specs.declared.board.TheConstants.{PUBLISHED}
 use Rattle.hs_words.specs.Chunks.{Contents, clear_chunk}
 use Rattle.hs_words.specs.PoolHistory.{is_missed, is_empty}
 use Rattle.hs_words.specs.Ends.{Deed, events_of, drawn_in, given_in, answers_in, IsTogether}
@@ -11,10 +12,10 @@ Seated = Me (Option Contents) View
 
 -- the two counts in a word, the stamp that they make, and the entry of the next draw
 abbrev pub drawn_of : ℕ → ℕ
-drawn_of word = word % 4294967296
+drawn_of word = word % PUBLISHED
 
 abbrev pub published_of : ℕ → ℕ
-published_of word = word / 4294967296
+published_of word = word / PUBLISHED
 
 -- A table of `entries` entries has half as many buffers, and so the stamp is drawn + published less that half.
 abbrev pub IsStamp : ℕ → ℕ → ℕ → Type 0

@@ -81,7 +81,7 @@ pub fn publish(entries: &Entries, place: &mut Place, entry: usize, chunk: Chunk)
     requires can { (number : ℕ) × CanPublish entries.now.table_id.slots number chunk place.old.me.0 × (entry ≡ number % entries.now.table_id.slots) }
     requires slot { place.old.me.1 ≡ (entry, None) ∷ [] }
     ensures seat { IsSameSeat place.old place.new }
-    ensures did { did_publish (step entries.now.table_id.slots 0 4294967296 0 none) (place.old.me.0, (entry, Some chunk) ∷ []) result place.new.me }
+    ensures did { did_publish (step entries.now.table_id.slots 0 PUBLISHED 0 none) (place.old.me.0, (entry, Some chunk) ∷ []) result place.new.me }
 {
     match entries.exchange(place, entry, Some(chunk)) {
         None => {}

@@ -2,6 +2,7 @@ use Rattle.std.proofs.Common.{ℕ, ◌*◌, List, ◌∷◌, ◌++◌, length, s
 use lib.ListN.{length-replicate}
 use Rattle.std.specs.List.{range_with_len}
 use Rattle.std.proofs.lemmas.List.FromFn.{length-range_with_len}
+use Rattle.hs_ring.specs.declared.board.TheConstants.{PUBLISHED}
 use Rattle.hs_ring.proofs.Making.{range_and}
 use Rattle.hs_ring.proofs.pool.words_of.Goals as goal
 
@@ -13,7 +14,7 @@ pub loop-number-preserved : goal.loop-number-preserved
 loop-number-preserved c = (
   c.push_reserved-in-loop-number.ensures.items
       ∙ ap₂ (λ (l : List ℕ) (x : ℕ). l ++ x ∷ []) c.loop-number.invariant.0 (omega (arith, c.from-in-loop-number.ensures))
-      ∙ ap (λ (l : List ℕ). c.args.buffers * 4294967296 ∷ l) (sym (range_and 1 c.loop-number.number)),
+      ∙ ap (λ (l : List ℕ). c.args.buffers * PUBLISHED ∷ l) (sym (range_and 1 c.loop-number.number)),
   c.push_reserved-in-loop-number.ensures.capacity ∙ c.loop-number.invariant.1,
 )
 
