@@ -4,6 +4,7 @@ use Rattle.std.specs.Option.{option_map, option_to_list, option_and_then}
 use Rattle.std.specs.List.{flat_map}
 use Rattle.std.proofs.lemmas.List.{append-nil, length-map, map-append, reverse-append}
 use Rattle.std.proofs.lemmas.Grind.{flat_map-append}
+use Rattle.hs_base.specs.declared.limits.TheConstants.{HEADER_COST, PIECE_COST}
 use Rattle.hs_base.specs.declared.ids.TraceId.{TraceId}
 use Rattle.hs_base.specs.declared.ids.ClientId.{ClientId}
 use Rattle.hs_records.specs.Records.{Piece, Segment}
@@ -110,7 +111,7 @@ pub record KeepsLast {L : Type 0} (client : ClientId) (size : ℕ) (core : Core 
   pub trace_is : core.trace ≡ Some trace
   pub segments_are : segments ≡ segment_with trace (joined (front ++ run ∷ [])) ∷ older
   pub are : AreRuns size (front ++ run ∷ [])
-  pub used_is : core.used ≡ 24 + costs run
+  pub used_is : core.used ≡ HEADER_COST + costs run
   pub supplied_are : supplied ≡ before ++ chunk ∷ []
   pub each : length before ≡ length (pages_back size older ++ map (page_with trace) front)
   pub current : core.current
@@ -198,7 +199,7 @@ module _ {L : Type 0} (longest : AreLongest) (client : ClientId) (size : ℕ) (c
         last = is.last;
       }
 
-  pub wrote : (moment : ℕ) (payload : List ℕ) (more : Bool) (number : ℕ) → KeepsLast client size core segments supplied out → core.used + (10 + length payload) ≤ size
+  pub wrote : (moment : ℕ) (payload : List ℕ) (more : Bool) (number : ℕ) → KeepsLast client size core segments supplied out → core.used + (PIECE_COST + length payload) ≤ size
       → KeepsLast client size (after_step core (Wrote moment payload more)) (with_last (numbered number moment payload) segments) supplied out
   wrote moment payload more number is room =
       let p = numbered number moment payload in

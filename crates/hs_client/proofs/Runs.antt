@@ -1,5 +1,6 @@
 -- Runs of pieces as they grow.
 use Rattle.std.proofs.Common.{◌≡◌, ℕ, ◌+◌, ◌<◌, ◌≤◌, List, [], ◌∷◌, ◌++◌, length, refl, sym, ap, ◌∙◌, subst, arith, length-append, append_assoc}
+use Rattle.hs_base.specs.declared.limits.TheConstants.{HEADER_COST}
 use Rattle.hs_records.specs.Records.{Piece}
 use Rattle.hs_records.specs.Pages.{cost_of, page_room, runs_of}
 use Rattle.hs_records.specs.Laws.{costs, joined, front_cost, AreRuns}
@@ -23,23 +24,23 @@ front_same (q ∷ run) p some = refl
 -- the used bytes of the last page, 0 where there is none
 abbrev pub used_of : List (List Piece) → ℕ
 used_of [] = 0
-used_of (run ∷ []) = 24 + costs run
+used_of (run ∷ []) = HEADER_COST + costs run
 used_of (run ∷ next ∷ runs) = used_of (next ∷ runs)
 
-pub used_last : (front : List (List Piece)) (run : List Piece) → used_of (front ++ run ∷ []) ≡ 24 + costs run
+pub used_last : (front : List (List Piece)) (run : List Piece) → used_of (front ++ run ∷ []) ≡ HEADER_COST + costs run
 used_last [] run = refl
 used_last (f ∷ []) run = refl
 used_last (f ∷ g ∷ front) run = used_last (g ∷ front) run
 
 -- a piece that does not fit starts a run
-pub add_run : (size : ℕ) (runs : List (List Piece)) (p : Piece) → 24 + cost_of p ≤ size → AreRuns size runs → (0 < used_of runs → size < used_of runs + cost_of p) → AreRuns size (runs ++ (p ∷ []) ∷ [])
+pub add_run : (size : ℕ) (runs : List (List Piece)) (p : Piece) → HEADER_COST + cost_of p ≤ size → AreRuns size runs → (0 < used_of runs → size < used_of runs + cost_of p) → AreRuns size (runs ++ (p ∷ []) ∷ [])
 add_run size [] p narrow are full = (record { some = omega arith; fits = omega arith }, tt, tt)
 add_run size (run ∷ []) p narrow are full =
     let more = full (omega arith) in (are.0, omega (arith, more), (record { some = omega arith; fits = omega arith }, tt, tt))
 add_run size (run ∷ next ∷ runs) p narrow are full = (are.0, are.1, add_run size (next ∷ runs) p narrow are.2 full)
 
 -- a piece that fits joins the last run
-pub grow_run : (size : ℕ) (front : List (List Piece)) (run : List Piece) (p : Piece) → 24 + costs run + cost_of p ≤ size → AreRuns size (front ++ run ∷ []) → AreRuns size (front ++ (run ++ p ∷ []) ∷ [])
+pub grow_run : (size : ℕ) (front : List (List Piece)) (run : List Piece) (p : Piece) → HEADER_COST + costs run + cost_of p ≤ size → AreRuns size (front ++ run ∷ []) → AreRuns size (front ++ (run ++ p ∷ []) ∷ [])
 grow_run size [] run p room are =
     (record { some = omega (arith, length-append run (p ∷ []), are.0.some); fits = omega (arith, costs-append run (p ∷ [])) }, tt, tt)
 grow_run size (f ∷ []) run p room are =

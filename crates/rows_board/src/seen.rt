@@ -5,7 +5,7 @@ ghost use Rattle.rows_board.specs.Shown.{EndsBelow};
 
 use hs_base::limits::MAX_OPERATIONS;
 use hs_base::{List, Memory};
-use hs_board::{BoardReader, BoardWriter, Progress, board};
+use hs_board::{BoardReader, BoardWriter, MAX_READERS, Progress, board};
 use std::alloc::Global;
 use std::sync::Wait;
 use std::test::Fail;
@@ -102,7 +102,7 @@ fn watch<R: Wait>(
 
 /// Makes a board, shows these rounds on it, and closes it; answers what was seen, and whether the close was Ok.
 fn play<R: Wait>(rt: &R, alloc: Global, count: u32, rounds: u32) -> Result<(Seen, bool), Memory>
-    requires many { (1 ≤ count) × (count ≤ 16) }
+    requires many { (1 ≤ count) × (count ≤ MAX_READERS) }
     requires few { rounds ≤ MAX_OPERATIONS }
 {
     let (mut writer, mut readers) = board(alloc, count)?;
@@ -113,7 +113,7 @@ fn play<R: Wait>(rt: &R, alloc: Global, count: u32, rounds: u32) -> Result<(Seen
 
 /// Whether all readers saw nothing before, all rounds behind the last publish, and the close was Ok.
 fn all_seen<R: Wait>(rt: &R, alloc: Global, count: u32, rounds: u32) -> bool
-    requires many { (1 ≤ count) × (count ≤ 16) }
+    requires many { (1 ≤ count) × (count ≤ MAX_READERS) }
     requires few { rounds ≤ MAX_OPERATIONS }
 {
     match play(rt, alloc, count, rounds) {

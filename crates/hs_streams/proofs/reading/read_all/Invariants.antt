@@ -1,4 +1,5 @@
 use Rattle.std.proofs.Common.{◌≡◌, ◌+◌, ◌-◌, ◌≤◌, vec_len}
+use Rattle.hs_streams.specs.declared.reading.TheConstants.{PIECE}
 use Rattle.hs_base.specs.declared.limits.TheConstants.{MAX_INPUT}
 use Rattle.hs_base.specs.Outside.{Loses}
 use Rattle.hs_streams.proofs.reading.read_all.Given as goal
@@ -10,7 +11,7 @@ invariant-loop-text g l =
     record {
       lost : Loses (left l.fn.source) (left l.source) l.text.items;
       within : vec_len l.text ≤ MAX_INPUT + 1;
-      piece : vec_len l.piece ≡ 65536;
+      piece : vec_len l.piece ≡ PIECE;
       still : faults l.source ≡ faults l.fn.source;
     }
 
