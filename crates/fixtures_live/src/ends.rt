@@ -1,6 +1,6 @@
 //! A client and the port of its node, made and closed.
 
-ghost use Rattle.std.specs.Prelude.{◌≡◌, ◌+◌, ◌<◌, ◌≤◌, [], ◌∷◌, None, IfOk};
+ghost use Rattle.std.specs.Prelude.{◌≡◌, ◌+◌, ◌^◌, ◌<◌, ◌≤◌, [], ◌∷◌, None, IfOk};
 ghost use Rattle.hs_base.specs.declared.limits.TheConstants.{MAX_BUFFERS, MIN_SIZE, MAX_SIZE, MAX_OPERATIONS};
 ghost use Rattle.hs_client.specs.Core.{new_core};
 ghost use Rattle.hs_link.specs.Contents.{sent};
@@ -89,7 +89,7 @@ fn client_of(
     requires chunks { (sent (outgoing chunks) ≡ []) × IsKeyOf core drawer chunks.key }
     requires crumbs { (sent crumbs ≡ []) × IsKeyOf core drawer crumbs.key }
     requires triggers { (sent triggers ≡ []) × IsKeyOf core drawer triggers.key }
-    requires rooms { chunks.room + crumbs.room + triggers.room < 4294967296 }
+    requires rooms { chunks.room + crumbs.room + triggers.room < 2 ^ 32 }
     ensures { IfOk result (λ client. HasParts client core drawer (outgoing chunks) crumbs triggers) }
 {
     let autos = only(alloc, Auto::make(alloc, AUTO)?)?;

@@ -1,6 +1,6 @@
 //! Reading a journal, a line at a time.
 
-ghost use Rattle.std.specs.Prelude.{◌≡◌, ◌<◌, None, IfOk, IfErr, OnOk, MatchResult, length};
+ghost use Rattle.std.specs.Prelude.{◌≡◌, ◌-◌, ◌^◌, ◌<◌, None, IfOk, IfErr, OnOk, MatchResult, length};
 ghost use Rattle.hs_journal.specs.Views.{PlainJournal, journal_of};
 ghost use Rattle.hs_journal.specs.Grammar.{Reads};
 ghost use Rattle.hs_journal.specs.Faults.{first_fault, refusal_at, Refuses};
@@ -22,7 +22,7 @@ fn refused(line: u32, reason: JournalReason) -> JournalError
 /// The journal that a text is, or the text's first bad line with the line's first reason
 /// (`docs/FORMATS.md`, "The journal"). `Memory` may come with any text.
 pub fn read_journal(alloc: Global, text: &[u8]) -> Result<Journal, JournalError>
-    requires { length text.now < 4294967295 }
+    requires { length text.now < 2 ^ 32 - 1 }
     // What is read is the one text of the journal.
     ensures found { IfOk result (λ journal. Reads text.now (journal_of journal)) }
     ensures clean { OnOk result (first_fault text.now ≡ None) }

@@ -1,5 +1,5 @@
 -- What the calls of a client ask and answer. Each answers by what is seen of the client, and by nothing that an agent does.
-use Rattle.std.specs.Prelude.{◌≡◌, ℕ, ◌+◌, ◌<◌, ◌≤◌, true, List, [], length, map, slice_get, Some, None, IsSome}
+use Rattle.std.specs.Prelude.{◌≡◌, ℕ, ◌+◌, ◌^◌, ◌<◌, ◌≤◌, true, List, [], length, map, slice_get, Some, None, IsSome}
 use Rattle.std.specs.List.{AllByRecursion}
 use Rattle.hs_base.specs.declared.ids.TraceId.{TraceId}
 use Rattle.hs_base.specs.declared.ids.TriggerId.{TriggerId}
@@ -35,7 +35,7 @@ pub record IsNew (client : Live) : Type 0 where
   pub crumbs : IsUnused client client.crumbs
   pub triggers : IsUnused client client.triggers
   pub nodes : (client.crumbs.key.nodes ≡ client.chunks.key.nodes) × (client.triggers.key.nodes ≡ client.chunks.key.nodes)
-  pub rooms : client.chunks.room + client.crumbs.room + client.triggers.room < 4294967296
+  pub rooms : client.chunks.room + client.crumbs.room + client.triggers.room < 2 ^ 32
 
 -- what it was made with
 abbrev pub made_of : Live → Made

@@ -1,4 +1,4 @@
-use Rattle.std.proofs.Common.{◌≡◌, ℕ, true, ◌+◌, ◌<◌, ◌≤◌, length, refl, sym, ap, subst, arith}
+use Rattle.std.proofs.Common.{◌≡◌, ℕ, true, ◌+◌, ◌^◌, ◌<◌, ◌≤◌, length, refl, sym, ap, subst, arith}
 use Rattle.std.proofs.lemmas.List.{length-map}
 use Rattle.hs_words.specs.Buffers.{buffer_of}
 use Rattle.std.specs.List.{AllByRecursion}
@@ -15,8 +15,8 @@ use Rattle.hs_live.proofs.Doing.{nothing_done}
 use Rattle.hs_live.proofs.client.Client.flush.Goals as goal
 
 record Few (chunks crumbs triggers : ℕ) : Type 0 where
-  two : chunks + crumbs < 4294967296
-  three : chunks + crumbs + triggers < 4294967296
+  two : chunks + crumbs < 2 ^ 32
+  three : chunks + crumbs + triggers < 2 ^ 32
 
 few : (c : goal.After-flush-triggers) → Few c.flush-chunks.result c.flush-crumbs.result c.flush-triggers.result
 few c =
