@@ -1,9 +1,13 @@
 -- Worked examples of the faults of texts and of lines after the lines before them.
 use Rattle.std.specs.Prelude.{◌≡◌, ℕ, List, [], ◌∷◌, ◌++◌, take, codes, Some, None, refl}
+use Rattle.std.specs.Fmt.{digits}
+use Rattle.hs_base.specs.declared.limits.TheConstants.{MAX_BUFFERS}
 use Rattle.hs_text.specs.Text.{text_of}
 use Rattle.hs_text.specs.Spelling.{spelled}
 use Rattle.hs_text.specs.Judging.{first_fault_in}
+use Rattle.hs_journal.specs.declared.journal.Draw.TheVariants as draws
 use Rattle.hs_journal.specs.declared.refusal.JournalReason.TheVariants as reasons
+use Rattle.hs_journal.specs.Statements.{statement_line, draw_statement}
 use Rattle.hs_journal.specs.Grammar.{second_draw_empty_lines}
 use Rattle.hs_journal.specs.Faults.{fault_at, fault_of, first_fault, refusal_at}
 
@@ -37,10 +41,10 @@ in_draws = codes "got 0 4" ∷ codes "draws 0 0" ∷ codes "journal 1 1 2" ∷ [
 
 lines_in_draws : (fault_of in_draws (codes "draws 0 1") ≡ None) × (fault_of in_draws (codes "draws 1 0") ≡ Some reasons.Order)
     × (fault_of in_draws (codes "draws 0 99999999999999999999") ≡ Some reasons.Number) × (fault_of in_draws (codes "log 0") ≡ Some reasons.Word)
-    × (fault_of in_draws (codes "got 1024 0") ≡ Some reasons.Range) × (fault_of in_draws (codes "got 1023 18446744073709551615") ≡ None)
+    × (fault_of in_draws (statement_line (draw_statement (draws.Got MAX_BUFFERS 0))) ≡ Some reasons.Range) × (fault_of in_draws (codes "got 1023 18446744073709551615") ≡ None)
     × (fault_of (codes "draws 0 1" ∷ in_draws) (codes "draws 0 2") ≡ Some reasons.Word) × (fault_of (codes "draws 0 1" ∷ in_draws) (codes "log 1") ≡ Some reasons.Order)
     × (fault_of (codes "draws 0 1" ∷ in_draws) (codes "log 0") ≡ None)
-unfolding fault_at spelled
+unfolding fault_at spelled digits
 lines_in_draws = (refl, refl, refl, refl, refl, refl, refl, refl, refl)
 
 abbrev in_logs : List (List ℕ)
