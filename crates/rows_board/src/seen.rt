@@ -142,7 +142,7 @@ fn two_readers_see_what_was_published(rt: HostRuntime) -> Result<(), Fail> {
 
 #[test]
 fn sixteen_readers_see_the_last_of_all_rounds(rt: HostRuntime) -> Result<(), Fail> {
-    assert!(rt; all_seen(&rt, rt.alloc(), 16, 20000));
+    assert!(rt; all_seen(&rt, rt.alloc(), MAX_READERS, 20000));
     Ok(())
 }
 

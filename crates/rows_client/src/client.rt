@@ -91,15 +91,15 @@ fn record_pages(core: &mut ClientCore<()>, first: Option<Chunk>, second: Option<
     let first = turn_page(core, draw_of(first, 0), &BYTES, true);
     let second = turn_page(core, draw_of(second, 1), &BYTES, true);
     let third = turn_page(core, draw_of(None, 2), &BYTES[..10], false);
-    first == Some(0) && second == Some(64) && third == Some(64)
+    first == Some(0) && second == Some(MIN_SIZE) && third == Some(MIN_SIZE)
 }
 
 /// Two clear chunks of this size, if memory serves.
 fn two_chunks(alloc: Global) -> (Option<Chunk>, Option<Chunk>)
-    ensures first { HasSize 64 result.0 }
-    ensures second { HasSize 64 result.1 }
+    ensures first { HasSize MIN_SIZE result.0 }
+    ensures second { HasSize MIN_SIZE result.1 }
 {
-    let Ok(mut chunks) = Stock::make(alloc, 2, 64) else {
+    let Ok(mut chunks) = Stock::make(alloc, 2, MIN_SIZE) else {
         return (None, None);
     };
     let second = chunks.pop();
@@ -132,7 +132,7 @@ fn has_book(mut core: ClientCore<()>) -> bool {
 #[test]
 fn long_record_crosses_pages(rt: HostRuntime) -> Result<(), Fail> {
     let (first, second) = two_chunks(rt.alloc());
-    let mut core = ClientCore::make(rt.alloc(), OWNER, 64, 6)
+    let mut core = ClientCore::make(rt.alloc(), OWNER, MIN_SIZE, 6)
         .ok()
         .ok_or("memory")?;
     assert!(rt; begins(&mut core, 1));
@@ -170,7 +170,7 @@ const ONE: [PageNote; 1] = [PageNote {
 /// A null page of 64 bytes with a piece of 10 has room for one of 10 more, and then for none.
 #[test]
 fn a_piece_is_written_where_there_is_room(rt: HostRuntime) -> Result<(), Fail> {
-    let mut core = ClientCore::<()>::make(rt.alloc(), OWNER, 64, 6)
+    let mut core = ClientCore::<()>::make(rt.alloc(), OWNER, MIN_SIZE, 6)
         .ok()
         .ok_or("memory")?;
     assert!(rt; core.begin(TraceId(1)) == Begun::Began);

@@ -1,7 +1,7 @@
 ghost use Rattle.std.specs.Prelude.{◌≡◌, ◌+◌, ◌-◌, ◌<◌, ◌^◌};
 ghost use Rattle.hs_words.specs.PoolAnswers.{event_drawn, stamp_drawn};
 
-use hs_base::limits::{MAX_BUFFERS, MAX_SIZE};
+use hs_base::limits::{MAX_BUFFERS, MAX_SIZE, MIN_SIZE};
 use hs_pool::PlainPool;
 use hs_words::{Drawn, Given, Held, Stock};
 use std::test::Fail;
@@ -31,7 +31,7 @@ fn all_buffers_are_got(rt: HostRuntime) -> Result<(), Fail> {
 
 #[test]
 fn one_buffer_is_got_and_given(rt: HostRuntime) -> Result<(), Fail> {
-    let chunks = Stock::make(rt.alloc(), 1, 64).ok().ok_or("memory")?;
+    let chunks = Stock::make(rt.alloc(), 1, MIN_SIZE).ok().ok_or("memory")?;
     let mut pool = PlainPool::make(rt.alloc(), chunks).ok().ok_or("memory")?;
     let first = pool.draw();
     assert_eq!(rt; answer_of(&first), (Some(0), 0));

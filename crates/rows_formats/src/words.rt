@@ -1,6 +1,6 @@
 ghost use Rattle.std.specs.Prelude.{◌≡◌, IsSome};
 
-use hs_base::limits::{MAX_BUFFERS, MAX_SIZE};
+use hs_base::limits::{MAX_BUFFERS, MAX_SIZE, MIN_SIZE};
 use hs_base::{ClientId, TraceId};
 use hs_words::{Added, Chunk, Drawn, Header, Held, PageFault, Stock, Token, read_page};
 use std::alloc::Global;
@@ -27,7 +27,7 @@ fn example_header() -> Header {
 }
 
 fn one_chunk(alloc: Global) -> Result<Chunk, Fail> {
-    let mut chunks = Stock::make(alloc, 1, 64).ok().ok_or("memory")?;
+    let mut chunks = Stock::make(alloc, 1, MIN_SIZE).ok().ok_or("memory")?;
     Ok(chunks.pop().ok_or("a chunk was made")?)
 }
 
@@ -53,7 +53,7 @@ fn has_bytes(chunk: &Chunk, want: &[u8]) -> bool {
 
 #[test]
 fn stock_numbers_its_chunks(rt: HostRuntime) -> Result<(), Fail> {
-    let chunks = Stock::make(rt.alloc(), 3, 64).ok().ok_or("memory")?;
+    let chunks = Stock::make(rt.alloc(), 3, MIN_SIZE).ok().ok_or("memory")?;
     assert_eq!(rt; chunks.len(), 3);
     for (number, chunk) in chunks.as_slice().iter().enumerate() {
         assert_eq!(rt; chunk.number() as usize, number);

@@ -2,7 +2,7 @@
 //! `cases/refused`.
 
 use hs_base::TraceId;
-use hs_base::limits::MAX_PAYLOAD;
+use hs_base::limits::{MAX_LATERALS, MAX_PAYLOAD};
 use hs_workload::{Op, ReadError, Reason, Refusal, Workload, read_workload};
 use std::alloc::{AllocError, Global};
 use std::process::Abort;
@@ -163,13 +163,13 @@ fn trigger(alloc: Global, laterals: u32) -> Result<Vec<u8>, AllocError> {
 /// The greatest number of laterals.
 #[test]
 fn a_trigger_with_32_laterals_is_read(rt: HostRuntime) -> Result<(), Fail> {
-    let workload = read_workload(rt.alloc(), &trigger(rt.alloc(), 32)?)?;
+    let workload = read_workload(rt.alloc(), &trigger(rt.alloc(), MAX_LATERALS as u32)?)?;
     let Some(Op::Trigger { trigger }) = first_client(&workload, 0) else {
         return Err("not a trigger".into());
     };
     assert_eq!(rt; trigger.moment, 7);
     assert_eq!(rt; trigger.lead, TraceId(1));
-    assert_eq!(rt; trigger.laterals.len(), 32);
+    assert_eq!(rt; trigger.laterals.len(), MAX_LATERALS as u32);
     assert_eq!(rt; trigger.laterals.get(31), Some(TraceId(11)));
     Ok(())
 }
