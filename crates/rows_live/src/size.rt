@@ -13,15 +13,18 @@ use hs_words::Held;
 use std::alloc::{AllocError, Global};
 use std::test::Fail;
 
+/// How many entries each link has.
+const CAPACITY: u32 = 64;
+
+/// So many records need two pages more than there are chunks.
+const RECORDS: u32 = (MAX_BUFFERS + 2) / 3;
+
 const GREATEST: Making = Making {
     buffers: MAX_BUFFERS,
     size: MAX_SIZE,
-    calls: 1040,
-    capacity: 64,
+    calls: 3 * RECORDS + 5,
+    capacity: CAPACITY,
 };
-
-/// So many records need 1,026 pages.
-const RECORDS: u32 = 342;
 
 /// A payload of so many bytes.
 fn payload_of(alloc: Global, count: usize) -> Result<Vec<u8>, AllocError>
@@ -49,9 +52,9 @@ fn point(client: &mut Client, moment: u64, payload: &[u8]) -> Called
 /// Records the longest payload again and again. Answers how often that was done.
 fn record_all(client: &mut Client, payload: &[u8]) -> u32
     requires pieces { piece_count MAX_SIZE (length payload.now) ≡ 3 }
-    requires can { CanCall MAX_SIZE 1027 client.old }
+    requires can { CanCall MAX_SIZE (3 * RECORDS + 1) client.old }
     ensures left { CanCall MAX_SIZE 1 client.new }
-    ensures few { result ≤ 342 }
+    ensures few { result ≤ RECORDS }
 {
     let mut done = 0;
     for moment in 0..RECORDS {
@@ -66,7 +69,7 @@ fn record_all(client: &mut Client, payload: &[u8]) -> u32
 fn records(client: &mut Client, longest: &[u8], too_long: &[u8]) -> bool
     requires longest { length longest.now ≡ MAX_PAYLOAD }
     requires too_long { length too_long.now ≡ MAX_PAYLOAD + 1 }
-    requires can { CanCall MAX_SIZE 1031 client.old }
+    requires can { CanCall MAX_SIZE (3 * RECORDS + 5) client.old }
 {
     let begun = begin(client);
     let wide = point(client, 0, too_long);
@@ -94,10 +97,10 @@ fn take_pages(port: &mut AgentPort, first: u32) -> u32
     requires ends { HasClient port.old }
     requires first { first ≤ MAX_BUFFERS }
     ensures same { KeepsPort port.old port.new }
-    ensures few { result ≤ 64 }
+    ensures few { result ≤ CAPACITY }
 {
     let mut right = 0;
-    for place in 0..64 {
+    for place in 0..CAPACITY {
         let Some(held) = next_chunk(port) else {
             break;
         };
@@ -116,10 +119,10 @@ fn takes_all(client: &mut Client, port: &mut AgentPort) -> bool
     ensures { KeepsPort port.old port.new }
 {
     let mut right = 0;
-    for round in 0..16 {
+    for round in 0..MAX_BUFFERS / CAPACITY {
         let waits = flush(client);
-        if waits == 960 - 64 * round {
-            right += take_pages(port, 64 * round);
+        if waits == MAX_BUFFERS - CAPACITY * (round + 1) {
+            right += take_pages(port, CAPACITY * round);
         }
     }
     right == MAX_BUFFERS
