@@ -1,8 +1,9 @@
 //! Four threads that draw and one that gives, on eight chunks: through a ring and through the kit's `ArrayQueue`, in turn. Each call is
 //! timed by itself, and a thread rests behind a draw that got a chunk, as one that fills a page before it needs the next.
 
-ghost use Rattle.std.specs.Prelude.{◌≡◌, []};
+ghost use Rattle.std.specs.Prelude.{◌≡◌, ◌/◌, []};
 ghost use Rattle.std.specs.Thread.{IsSync};
+ghost use Rattle.hs_base.specs.declared.limits.TheConstants.{MAX_OPERATIONS};
 ghost use Rattle.hs_link.specs.Contents.{sent};
 
 use crate::link::Anything;
@@ -26,7 +27,7 @@ type Chunks = Receiver<Chunk, Anything>;
 #[derive(Drop)]
 struct Job {
     chunks: Sender<Chunk, Anything>,
-    ghost room: { (sent chunks ≡ []) × (chunks.room ≡ 65536) },
+    ghost room: { (sent chunks ≡ []) × (chunks.room ≡ MAX_OPERATIONS / 4) },
 }
 
 /// The jobs of the four threads that pop.

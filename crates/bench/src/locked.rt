@@ -8,6 +8,7 @@ ghost use Rattle.hs_link.specs.Contents.{sent};
 use crate::pool::locked_of;
 use anyhow::{Context, Result};
 use hs_base::Memory;
+use hs_base::limits::MAX_OPERATIONS;
 use hs_link::{Fact, Receiver, Sender, link};
 use hs_locked::{LockedDrawer, LockedGiver, LockedLease};
 use hs_words::{Drawn, Held};
@@ -24,7 +25,7 @@ use std::time::Instant;
 const CHUNKS: u32 = 8;
 
 /// How often each of the four drawers draws.
-const DRAWS: u32 = 65_536;
+const DRAWS: u32 = MAX_OPERATIONS / 4;
 
 /// What the chunks of a link have in common: their pool, and its size.
 #[derive(Drop)]

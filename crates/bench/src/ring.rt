@@ -23,7 +23,7 @@ use std::thread::{Threads, join};
 use std::time::Instant;
 
 /// The allowance of each of the four drawers of a pool.
-pub(crate) const DRAWS: u32 = 65_536;
+pub(crate) const DRAWS: u32 = MAX_OPERATIONS / 4;
 
 /// How the threads of a pool work together.
 #[derive(Drop)]

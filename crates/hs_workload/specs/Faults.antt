@@ -1,6 +1,6 @@
 -- What is wrong with a line after the lines before it: the first reason of the list that holds. The first line that has
 -- a reason is the text's fault. A text that ends before its line `done` has ended is cut off in the line that is missing.
-use Rattle.std.specs.Prelude.{◌≡◌, ℕ, ◌+◌, ◌*◌, ◌/◌, ◌%◌, ◌==◌, nat_lt, nat_le, Bool, true, false, not, ◌&&◌, ◌||◌, List, [], ◌∷◌, ◌++◌, length, take, drop, codes, Option, Some, None, is_none, reverse, replicate, refl}
+use Rattle.std.specs.Prelude.{◌≡◌, ℕ, ◌+◌, ◌*◌, ◌-◌, ◌/◌, ◌%◌, ◌==◌, nat_lt, nat_le, Bool, true, false, not, ◌&&◌, ◌||◌, List, [], ◌∷◌, ◌++◌, length, take, drop, codes, Option, Some, None, is_none, reverse, replicate, refl}
 use Rattle.std.specs.List.{list_any}
 use Rattle.hs_base.specs.declared.settings.TriggerRule.{TriggerRule}
 use Rattle.hs_base.specs.declared.settings.AutoRule.{AutoRule}
@@ -263,8 +263,8 @@ unfolding fault_at spelled
 by_operations = (refl, refl, refl, refl, refl, refl)
 
 -- a point of three pieces is one too many behind 262,142 operations, and one of two pieces is not
-one_too_many : (is_one_too_many (record (past_said []) { head = 1 ∷ 1 ∷ 1 ∷ 1 ∷ 64 ∷ []; pieces = 262142 }) (Operate (Point 1 (replicate 70 0))) ≡ true)
-    × (is_one_too_many (record (past_said []) { head = 1 ∷ 1 ∷ 1 ∷ 1 ∷ 64 ∷ []; pieces = 262142 }) (Operate (Point 1 (replicate 60 0))) ≡ false)
+one_too_many : (is_one_too_many (record (past_said []) { head = 1 ∷ 1 ∷ 1 ∷ 1 ∷ 64 ∷ []; pieces = MAX_OPERATIONS - 2 }) (Operate (Point 1 (replicate 70 0))) ≡ true)
+    × (is_one_too_many (record (past_said []) { head = 1 ∷ 1 ∷ 1 ∷ 1 ∷ 64 ∷ []; pieces = MAX_OPERATIONS - 2 }) (Operate (Point 1 (replicate 60 0))) ≡ false)
 one_too_many = (refl, refl)
 
 -- of two reasons the earlier of the list
