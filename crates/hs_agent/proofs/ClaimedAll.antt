@@ -5,6 +5,7 @@ use Rattle.std.specs.List.{AllByRecursion, list_any}
 use Rattle.std.specs.Option.{option_map_or}
 use Rattle.hs_base.specs.declared.ids.TraceId.{TraceId}
 use Rattle.hs_base.specs.declared.told.Ask.{Ask}
+use Rattle.hs_base.specs.Ids.{same_trace}
 use Rattle.hs_records.specs.Plain.{PlainSettings}
 use Rattle.hs_pins.specs.Remembered.{Claim, Remembered, claim_of}
 use Rattle.hs_pins.specs.PinsLayout.{Remembers}
@@ -13,7 +14,6 @@ use Rattle.hs_agent.specs.declared.placed.Place.{Place}
 use Rattle.hs_agent.specs.LettingGo.{let_go_all, abandoned_going}
 use Rattle.hs_agent.specs.Points.{claimed_for}
 use Rattle.hs_model.specs.State.{AgentState, ClaimedTrace, is_claimed}
-use Rattle.hs_model.specs.Standings.{same_trace}
 use Rattle.hs_model.specs.Claiming.{claim_trace, claim_unclaimed, claim_each, traces_of}
 use Rattle.hs_model.specs.Stepping.{claim_for}
 use Rattle.hs_agent.specs.Keeping.{Kept, Holds, Point, with_state, plain_claim}

@@ -10,10 +10,10 @@ use Rattle.hs_base.specs.declared.node_set.NodeSet.{NodeSet}
 use Rattle.hs_base.specs.declared.told.Crumb.{Crumb}
 use Rattle.hs_base.specs.NodeSets.{has_node, no_nodes, with_node}
 use Rattle.hs_base.specs.NodeSetLaws.{has-no_nodes, has-with_node}
+use Rattle.hs_base.specs.Ids.{same_trace}
 use Rattle.hs_pins.specs.Remembered.{Claim, claim_of}
 use Rattle.hs_pins.specs.Remembered as pins
 use Rattle.hs_index.specs.Index.{Indexed, noted_of}
-use Rattle.hs_model.specs.Standings.{same_trace}
 use Rattle.hs_model.specs.Messages.{same_crumb, has_crumb, crumb_nodes}
 use Rattle.hs_agent.specs.declared.placed.Place.{Place}
 use Rattle.hs_agent.specs.Keeping.{crumbs_known}

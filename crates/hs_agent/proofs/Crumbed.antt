@@ -11,6 +11,7 @@ use Rattle.hs_base.specs.declared.told.Crumb.{Crumb}
 use Rattle.hs_base.specs.declared.told.Told.{Told}
 use Rattle.hs_base.specs.NodeSets.{has_node, with_node}
 use Rattle.hs_base.specs.NodeSetLaws.{has-with_node}
+use Rattle.hs_base.specs.Ids.{same_trace}
 use Rattle.hs_pins.specs.Remembered.{Claim, Pin, Remembered, claim_of, is_claim_of, crumbed}
 use Rattle.hs_pins.specs.Remembered as pins
 use Rattle.hs_pins.specs.PinsLayout.{Pinning, Remembers}
@@ -18,7 +19,7 @@ use Rattle.hs_index.specs.Index.{Index, Indexed, Noted, noted_of, touch, chunks_
 use Rattle.hs_index.specs.Index as index
 use Rattle.hs_model.specs.State.{AgentState, ClaimedTrace}
 use Rattle.hs_model.specs.State as model
-use Rattle.hs_model.specs.Standings.{same_trace, indexed_places, indexed_count}
+use Rattle.hs_model.specs.Standings.{indexed_places, indexed_count}
 use Rattle.hs_model.specs.Messages.{has_crumb, same_crumb, with_crumb, late_of, say}
 use Rattle.hs_model.specs.Stepping.{with_touched, late_crumb, tell_late, remember, take_crumb}
 use Rattle.hs_model.specs.Evicting.{evict}

@@ -17,13 +17,14 @@ use Rattle.hs_base.specs.declared.told.Crumb.{Crumb}
 use Rattle.hs_base.specs.declared.told.Group.{Group}
 use Rattle.hs_base.specs.NodeSets.{has_node, no_nodes, with_node}
 use Rattle.hs_base.specs.NodeSetLaws.{has-no_nodes, has-with_node}
+use Rattle.hs_base.specs.Ids.{same_trace}
 use Rattle.hs_words.specs.Buffers.{Buffer}
 use Rattle.hs_words.specs.Pages.{Sheet}
 use Rattle.hs_index.specs.Index.{Noted, Indexed, is_of, is_other, nothing, noted_of, others, touch, with_chunk, chunk_count, count_chunks}
 use Rattle.hs_index.specs.Index as index
 use Rattle.hs_pins.specs.Remembered.{Claim, claim_of, is_claim_of}
 use Rattle.hs_pins.specs.Remembered as pins
-use Rattle.hs_model.specs.Standings.{moved, places_from, indexed_places, indexed_count, is_indexed, is_indexed_of, same_trace, trace_of, Taken, ChunkStanding, Indexed as IsIn, Pinned, Reported, Evicted, Abandoned}
+use Rattle.hs_model.specs.Standings.{moved, places_from, indexed_places, indexed_count, is_indexed, is_indexed_of, trace_of, Taken, ChunkStanding, Indexed as IsIn, Pinned, Reported, Evicted, Abandoned}
 use Rattle.hs_records.specs.Plain.{PlainSettings}
 use Rattle.hs_model.specs.State.{AgentState, start, without_trace, without_crumbs}
 use Rattle.hs_model.specs.Evicting.{evict_trace}

@@ -5,9 +5,10 @@ use Rattle.std.specs.Option.{option_map, option_map_or, option_and_then}
 use Rattle.std.proofs.lemmas.Bool.{eqb-true, true≢false}
 use borrow.Author.Tests.{ne_eqb}
 use Rattle.hs_base.specs.declared.ids.TraceId.{TraceId}
-use Rattle.hs_model.specs.Standings.{moved_from, moved, is_among, places_from, indexed_places, indexed_count, is_indexed, is_indexed_of, same_trace, trace_of, pinned_for, pinning_group, Taken, ChunkStanding, Indexed, Pinned, Reported, Evicted, Abandoned}
+use Rattle.hs_model.specs.Standings.{moved_from, moved, is_among, places_from, indexed_places, indexed_count, is_indexed, is_indexed_of, trace_of, pinned_for, pinning_group, Taken, ChunkStanding, Indexed, Pinned, Reported, Evicted, Abandoned}
 use Rattle.hs_base.specs.declared.told.Fate.TheVariants as fates
 use Rattle.hs_base.specs.declared.told.Group.{Group}
+use Rattle.hs_base.specs.Ids.{same_trace}
 use Rattle.hs_model.specs.Books.{page_standing, fate_of}
 use Rattle.hs_agent.proofs.Alls.{by_answer, all-weaker}
 

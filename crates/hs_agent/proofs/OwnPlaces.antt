@@ -6,9 +6,10 @@ use borrow.Author.Tests.{ne_eqb}
 use Rattle.std.proofs.lemmas.List.{map-append}
 use Rattle.std.proofs.lemmas.Simd.{map-map}
 use Rattle.hs_base.specs.declared.ids.TraceId.{TraceId}
+use Rattle.hs_base.specs.Ids.{same_trace}
 use Rattle.hs_index.specs.Index.{Indexed, Noted, noted_of, is_of, nothing, chunks_left}
 use Rattle.hs_pins.specs.Remembered.{Pin}
-use Rattle.hs_model.specs.Standings.{Taken, same_trace, trace_of, is_indexed, is_indexed_of, is_pinned, indexed_places, places_from, passes, stands}
+use Rattle.hs_model.specs.Standings.{Taken, trace_of, is_indexed, is_indexed_of, is_pinned, indexed_places, places_from, passes, stands}
 use Rattle.hs_model.specs.State.{AgentState}
 use Rattle.hs_model.specs.Laws.{count_of, given_places, IsInOnePlace}
 use Rattle.hs_agent.specs.declared.placed.Place.{Place}

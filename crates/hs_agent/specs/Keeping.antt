@@ -7,6 +7,7 @@ use Rattle.std.specs.Option.{option_map_or, option_to_list}
 use Rattle.hs_base.specs.declared.ids.TraceId.{TraceId}
 use Rattle.hs_base.specs.declared.node_set.NodeSet.{NodeSet}
 use Rattle.hs_base.specs.NodeSets.{has_node}
+use Rattle.hs_base.specs.Ids.{same_trace}
 use Rattle.hs_journal.specs.declared.books.Standing.{Standing}
 use Rattle.hs_journal.specs.declared.books.Claim as noted
 use Rattle.hs_journal.specs.declared.journal.Step.{Step}
@@ -17,7 +18,7 @@ use Rattle.hs_index.specs.Index.{Index, Indexed, noted_of, count_chunks, chunks_
 use Rattle.hs_pins.specs.Remembered.{Claim, Pin, Tried, Remembered, claim_of}
 use Rattle.hs_pins.specs.PinsLayout.{Pinning, Remembers}
 use Rattle.hs_sched.specs.Turns.{Schedule}
-use Rattle.hs_model.specs.Standings.{Taken, same_trace, indexed_places, indexed_count, pinned_for}
+use Rattle.hs_model.specs.Standings.{Taken, indexed_places, indexed_count, pinned_for}
 use Rattle.hs_model.specs.State.{AgentState, ClaimedTrace, TriedTrigger}
 use Rattle.hs_model.specs.Messages.{has_crumb}
 use Rattle.hs_model.specs.Books.{page_standing, claim_note, bytes_at}

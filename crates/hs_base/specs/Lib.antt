@@ -1,3 +1,4 @@
+pub mod Ids
 pub mod Listing
 pub mod Lending
 pub mod Laterals

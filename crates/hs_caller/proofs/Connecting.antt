@@ -5,6 +5,7 @@ use Rattle.std.specs.Prelude.{slice_get}
 use Rattle.hs_base.specs.declared.limits.TheConstants.{MAX_TAKEN, MAX_CLIENTS}
 use Rattle.hs_base.specs.declared.told.Crumb.{Crumb}
 use Rattle.hs_base.specs.declared.told.Trigger.{Trigger}
+use Rattle.hs_base.specs.Ids.{client_of}
 use Rattle.hs_link.specs.Contents.{Outgoing, Incoming, AreNewEnds}
 use Rattle.hs_live.specs.Calls.{IsOf, IsPort}
 use Rattle.hs_live.specs.Keys.{Key}
@@ -15,7 +16,7 @@ use Rattle.hs_words.specs.Buffers.{Buffer}
 use Rattle.hs_caller.specs.Calling.{Calling}
 use Rattle.hs_caller.specs.declared.making.Connected.{Connected}
 use Rattle.hs_caller.specs.Making.{IsConnected}
-use Rattle.hs_caller.specs.Nodes.{LinkBegins, CallerBegins, AreBegun, NodeBegins, Receiving, client_of, ops_of, drawer_for}
+use Rattle.hs_caller.specs.Nodes.{LinkBegins, CallerBegins, AreBegun, NodeBegins, Receiving, ops_of, drawer_for}
 
 -- ---- lists with an item more
 

@@ -2,10 +2,10 @@
 -- was done.
 use Rattle.std.specs.Prelude.{◌≡◌, ℕ, ◌*◌, ◌<◌, List, [], ◌∷◌, length, map, take, drop, slice_get, Some}
 use Rattle.hs_base.specs.Listing.{Listing}
-use Rattle.hs_base.specs.declared.ids.ClientId.{ClientId}
 use Rattle.hs_base.specs.declared.limits.TheConstants.{MAX_TAKEN}
 use Rattle.hs_base.specs.declared.told.Crumb.{Crumb}
 use Rattle.hs_base.specs.declared.told.Trigger.{Trigger}
+use Rattle.hs_base.specs.Ids.{client_of}
 use Rattle.hs_journal.specs.Books.{PlainClientBook}
 use Rattle.hs_link.specs.Contents.{Outgoing, Incoming, AreNewEnds}
 use Rattle.hs_live.specs.Keys.{Key}
@@ -33,9 +33,6 @@ pub record AreClientsOf (w : Workload) (node : ℕ) (clients : List (Listing Op)
 -- how many pages each of these clients may draw for
 abbrev pub lefts_of : ℕ → List (Listing Op) → List ℕ
 lefts_of size clients = map (λ ops. client_pieces size (operations_of ops)) clients
-
-abbrev pub client_of : (node number : ℕ) → ClientId
-client_of node number = record { node = node; number = number }
 
 -- the operations of the client of a node with this number
 abbrev pub ops_of : PlainWorkload → (node number : ℕ) → List Operation

@@ -11,6 +11,7 @@ use Rattle.hs_base.specs.declared.told.Group.{Group}
 use Rattle.hs_base.specs.declared.told.Told.{Told}
 use Rattle.hs_base.specs.declared.told.Trigger.{Trigger}
 use Rattle.hs_base.specs.declared.told.Why.TheVariants.{Fired, Answer}
+use Rattle.hs_base.specs.Ids.{same_trace}
 use Rattle.hs_records.specs.Plain.{PlainSettings}
 use Rattle.hs_sched.specs.declared.share.Share.{Share}
 use Rattle.hs_words.specs.Pages.{Sheet}
@@ -19,7 +20,6 @@ use Rattle.hs_model.specs.Claiming.{claim_trace, claim_unclaimed, traces_of, cla
 use Rattle.hs_model.specs.Evicting.{is_over, evict_trace, evict_from, evict}
 use Rattle.hs_model.specs.Laws.{StepsSayWhatTheyTell}
 use Rattle.hs_model.specs.Messages.{has_crumb, told_of, late_of}
-use Rattle.hs_model.specs.Standings.{same_trace}
 use Rattle.hs_model.specs.State.{AgentState, ClaimedTrace, claim_of, is_claimed, is_abandoned}
 use Rattle.hs_model.specs.Stepping.{Input, Chunk, Crumbed, Triggered, Asked, Turn, Answered, Given, Missed, Unread, Took, Gave, with_indexed, with_abandoned, with_pinned, pin_chunk, with_touched, tell_late, late_crumb, admits, group_of, claim_for, note_trigger, count_admitted, admit, told_by, take_input, take_answer, give_back}
 use Rattle.hs_model.specs.Turning.{visit}

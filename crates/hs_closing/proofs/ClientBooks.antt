@@ -6,6 +6,7 @@ use Rattle.std.proofs.lemmas.Nat.{div-mul-add}
 use Rattle.std.specs.Prelude.{slice_get}
 use Rattle.std.specs.List.{range_with_len}
 use Rattle.hs_base.specs.declared.ids.ClientId.{ClientId}
+use Rattle.hs_base.specs.Ids.{client_of}
 use Rattle.hs_client.specs.Calls.{note_of}
 use Rattle.hs_journal.specs.Books.{PlainClientBook}
 use Rattle.hs_journal.specs.Views.{PlainJournal}
@@ -14,7 +15,7 @@ use Rattle.hs_records.specs.Pages.{pages_of}
 use Rattle.hs_records.specs.Plain.{PlainWorkload}
 use Rattle.hs_sent.specs.Sending.{operations_at}
 use Rattle.hs_caller.specs.Calling.{Calling}
-use Rattle.hs_caller.specs.Nodes.{AreNotes, client_of, ops_of}
+use Rattle.hs_caller.specs.Nodes.{AreNotes, ops_of}
 use Rattle.hs_closing.specs.Noted.{IsNoted, books_of, first_books}
 
 -- the client at the place of a node's client

@@ -5,6 +5,7 @@ use Rattle.std.proofs.lemmas.Option.{same_Some}
 use Rattle.std.specs.List.{AllByRecursion}
 use Rattle.hs_base.specs.declared.told.Crumb.{Crumb}
 use Rattle.hs_base.specs.declared.told.Trigger.{Trigger}
+use Rattle.hs_base.specs.Ids.{client_of}
 use Rattle.hs_journal.specs.Books.{PlainClientBook}
 use Rattle.hs_link.specs.Contents.{Outgoing, Incoming}
 use Rattle.hs_live.specs.Keys.{Key}
@@ -15,7 +16,7 @@ use Rattle.hs_caller.specs.Calling.{Calling}
 use Rattle.hs_caller.specs.Standing.{IsDone}
 use Rattle.hs_desk.specs.Lines.{linked}
 use Rattle.hs_desk.specs.Shut.{Shut, AreMatesOf}
-use Rattle.hs_rounds.specs.Standing.{Site, client_at}
+use Rattle.hs_rounds.specs.Standing.{Site}
 use Rattle.hs_sent.specs.Sending.{operations_at, place_of}
 use Rattle.hs_closing.specs.Ended.{IsEnded, HasShut, AreShut}
 
@@ -47,7 +48,7 @@ all_done site is =
     (λ number caller found.
     record {
       settings = is.workload.settings;
-      client = client_at is.node number;
+      client = client_of is.node number;
       ops = operations_at is.workload (place_of is.workload.settings.clients is.node number);
       at = is.stands.callers number caller found;
       all = is.all number caller found;

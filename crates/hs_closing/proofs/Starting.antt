@@ -3,6 +3,7 @@ use Rattle.std.proofs.Common.{◌≡◌, ℕ, zero, suc, ◌<◌, ◌≤◌, Lis
 use Rattle.std.specs.Option.{option_map_or}
 use Rattle.std.proofs.lemmas.Option.{slice_get-map}
 use Rattle.hs_base.specs.declared.ids.ClientId.{ClientId}
+use Rattle.hs_base.specs.Ids.{client_of}
 use Rattle.hs_link.specs.Contents.{Outgoing, sent}
 use Rattle.hs_live.specs.Keys.{Key}
 use Rattle.hs_model.specs.Stepping.{after}
@@ -14,7 +15,7 @@ use Rattle.hs_caller.specs.Calling.{Calling}
 use Rattle.hs_caller.specs.Standing.{IsAt, HasSentSoFar}
 use Rattle.hs_desk.specs.Shut.{Shut, AllSent, IsShut, sent_at}
 use Rattle.hs_desk.specs.Work.{Work}
-use Rattle.hs_rounds.specs.Standing.{Site, Moment, Stands, client_at}
+use Rattle.hs_rounds.specs.Standing.{Site, Moment, Stands}
 use Rattle.hs_rounds.specs.Coming.{Came}
 use Rattle.hs_retell.specs.Spans.{Post}
 use Rattle.hs_retell.specs.Closing.{left_at}
@@ -82,7 +83,7 @@ module _ (begins : ClosingBegins) (sends : HaveSent) (W : PlainWorkload) (rounds
       let many = s.count in
       let caller = got site.0.callers client (omega (arith, own, many)) in
       let all = ap length ((are_sents m).triggers node client site.0 caller.0 site.1 caller.1) in
-      let most = (sends W.settings (client_at node client) (operations_at W (place_of W.settings.clients node client)) caller.0 (s.callers client caller.0 caller.1)).few in
+      let most = (sends W.settings (client_of node client) (operations_at W (place_of W.settings.clients node client)) caller.0 (s.callers client caller.0 caller.1)).few in
       omega (arith, all, most)
 
   no_giver : Giving

@@ -4,6 +4,7 @@ use Rattle.std.proofs.lemmas.List.{length-map}
 use Rattle.std.proofs.lemmas.Option.{same_Some}
 use Rattle.std.specs.List.{AllByRecursion}
 use Rattle.hs_base.specs.Listing.{Listing}
+use Rattle.hs_base.specs.Ids.{client_of}
 use Rattle.hs_journal.specs.Books.{PlainAgentBook, PlainClientBook}
 use Rattle.hs_link.specs.Contents.{Incoming, Outgoing}
 use Rattle.hs_live.specs.Keys.{Key}
@@ -13,7 +14,7 @@ use Rattle.hs_sent.specs.Sending.{operations_at, place_of}
 use Rattle.hs_caller.specs.Calling.{Calling}
 use Rattle.hs_caller.specs.Standing.{IsDone}
 use Rattle.hs_desk.specs.Shut.{Shut, AreMatesOf}
-use Rattle.hs_rounds.specs.Standing.{Site, client_at}
+use Rattle.hs_rounds.specs.Standing.{Site}
 use Rattle.hs_closing.specs.Ended.{IsEnded, HasShut, AreShut, CanFinish, MayFinish, HasFinished, HaveFinished, items_of}
 
 pub all_of : {A : Type 0} (P : A → Type 0) (xs : List A) → ((n : ℕ) (x : A) → slice_get xs n ≡ Some x → P x) → AllByRecursion P xs
@@ -36,7 +37,7 @@ all_done site e =
     all_of IsDone site.callers
     (λ number caller at. record {
       settings = e.workload.settings;
-      client = client_at e.node number;
+      client = client_of e.node number;
       ops = operations_at e.workload (place_of e.workload.settings.clients e.node number);
       at = e.stands.callers number caller at;
       all = e.all number caller at;

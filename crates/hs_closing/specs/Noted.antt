@@ -1,13 +1,14 @@
 -- What the clients of a run that is over noted, node by node.
 use Rattle.std.specs.Prelude.{◌≡◌, ℕ, suc, ◌*◌, List, ◌++◌, length, map, slice_get, Some}
 use Rattle.std.specs.List.{range_with_len}
+use Rattle.hs_base.specs.Ids.{client_of}
 use Rattle.hs_journal.specs.Books.{PlainClientBook}
 use Rattle.hs_journal.specs.Views.{PlainJournal}
 use Rattle.hs_outcome.specs.Outcomes.{client_book}
 use Rattle.hs_records.specs.Plain.{PlainWorkload}
 use Rattle.hs_sent.specs.Sending.{draws_at, place_of}
 use Rattle.hs_caller.specs.Calling.{Calling}
-use Rattle.hs_caller.specs.Nodes.{AreNotes, client_of, ops_of}
+use Rattle.hs_caller.specs.Nodes.{AreNotes, ops_of}
 use Rattle.hs_caller.specs.Standing.{IsAt}
 
 -- The client has done all, and the journal notes its draws.

@@ -3,11 +3,9 @@ use Rattle.std.proofs.Common.{◌≡◌, ℕ, ◌+◌, ◌<◌, ◌≤◌, true,
 use Rattle.std.proofs.lemmas.Bool.Decides.{nat_tests}
 use Rattle.hs_base.specs.declared.ids.ClientId.{ClientId}
 use Rattle.hs_base.specs.declared.ids.RecordId.{RecordId}
+use Rattle.hs_base.specs.Ids.{client_of}
 use Rattle.hs_collect.specs.Clients.{is_behind}
 use Rattle.hs_collect.specs.Collected.{is_same, Precedes}
-
-abbrev client_of : ℕ → ℕ → ClientId
-client_of node number = record { node = node; number = number }
 
 abbrev record_of : ClientId → ℕ → RecordId
 record_of client number = record { client = client; number = number }

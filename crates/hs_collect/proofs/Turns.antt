@@ -7,6 +7,7 @@ use Rattle.std.proofs.lemmas.List.Quantifiers.{all_pairs_push}
 use Rattle.std.proofs.lemmas.Bool.Decides.{nat_tests}
 use Rattle.hs_base.specs.declared.ids.TraceId.{TraceId}
 use Rattle.hs_base.specs.declared.ids.ClientId.{ClientId}
+use Rattle.hs_base.specs.Ids.{client_of}
 use Rattle.hs_words.specs.declared.page.Header.{Header}
 use Rattle.hs_words.specs.Pages.{Piece, Sheet}
 use Rattle.hs_collect.specs.Collected.{end_of, GoesOn, CanPrecede, CanBeAdded, is_of_run, ComeInTurn}
@@ -26,9 +27,6 @@ goes_on_through before header (piece ∷ next ∷ pieces) sheet some (inl apart)
 goes_on_through before header (piece ∷ next ∷ pieces) sheet some (inr (joins, moment)) (inl later) = inl (omega (arith, joins))
 goes_on_through before header (piece ∷ next ∷ pieces) sheet some (inr (joins, moment)) (inr (also, same)) = inl (omega (arith, joins, also))
 
-abbrev client_at : ℕ → ℕ → ClientId
-client_at node number = record { node = node; number = number }
-
 abbrev trace_at : ℕ → TraceId
 trace_at number = record { 0 = number }
 
@@ -36,7 +34,7 @@ run_client : (sheet other : Sheet) → is_of_run sheet other ≡ true → other.
 run_client sheet other its =
     let node : other.header.client.node ≡ sheet.header.client.node = grind (arith, nat_tests) in
     let number : other.header.client.number ≡ sheet.header.client.number = grind (arith, nat_tests) in
-    ap₂ (λ x y. client_at x y) node number
+    ap₂ (λ x y. client_of x y) node number
 
 run_trace : (sheet other : Sheet) → is_of_run sheet other ≡ true → other.header.trace ≡ sheet.header.trace
 run_trace sheet other its =

@@ -10,10 +10,10 @@ use Rattle.hs_base.specs.declared.told.Ask.{Ask}
 use Rattle.hs_base.specs.declared.told.Crumb.{Crumb}
 use Rattle.hs_base.specs.declared.told.Group.{Group}
 use Rattle.hs_base.specs.declared.told.Told.{Told}
+use Rattle.hs_base.specs.Ids.{same_trace}
 use Rattle.hs_model.specs.Laws.{EventsAddFew, StepsSayWhatTheyTell, AllPass, IsPassed, claimed_by}
 use Rattle.hs_model.specs.Leading.{CrumbsLeadBelow, LeadsBelow, BringsBelow, IsToldBelow}
 use Rattle.hs_model.specs.Messages.{has_crumb, late_of}
-use Rattle.hs_model.specs.Standings.{same_trace}
 use Rattle.hs_model.specs.State.{AgentState, ClaimedTrace, start, claim_of}
 use Rattle.hs_model.specs.Stepping.{Input, Chunk, Crumbed, Triggered, Asked, Turn, Event, Took, Gave, after, after_from, after_event, admits, group_of, told_by}
 use Rattle.hs_records.specs.Plain.{PlainWorkload}

@@ -5,10 +5,10 @@ use Rattle.std.specs.List.{AllByRecursion, list_any, flat_map}
 use Rattle.std.proofs.lemmas.Bool.{ltb-true, ltb-false, eqb-true}
 use Rattle.std.proofs.lemmas.List.Folds.{list_any-append}
 use Rattle.hs_base.specs.declared.ids.TraceId.{TraceId}
+use Rattle.hs_base.specs.Ids.{same_trace}
 use Rattle.hs_journal.specs.Views.{PlainJournal}
 use Rattle.hs_ledger.specs.declared.ledger.Entry.{Entry}
 use Rattle.hs_model.specs.Laws.{AreRising}
-use Rattle.hs_model.specs.Standings.{same_trace}
 use Rattle.hs_model.specs.State.{ClaimedTrace, is_claimed}
 use Rattle.hs_records.specs.Plain.{PlainWorkload}
 use Rattle.hs_lawful.specs.Following.{NodeRun, followed}

@@ -5,6 +5,7 @@ use Rattle.std.specs.Prelude.{◌≡◌, ℕ, Bool, true, false, ◌==◌, ◌&&
 use Rattle.std.specs.List.{AllByRecursion, list_any, range_with_len}
 use Rattle.hs_base.specs.declared.ids.GroupId.{GroupId}
 use Rattle.hs_base.specs.declared.ids.TraceId.{TraceId}
+use Rattle.hs_base.specs.Ids.{same_trace}
 use Rattle.hs_collect.specs.Collected.{Placed, pieces_of, AreWholes, KeepsRuns}
 use Rattle.hs_coord.specs.Following.{Messages, is_of, is_asked, is_answer_from, is_answered, has_ask}
 use Rattle.hs_journal.specs.Books.{PlainAgentBook}
@@ -13,7 +14,6 @@ use Rattle.hs_ledger.specs.Books.{HaveStandings, IsOfGotPage}
 use Rattle.hs_ledger.specs.declared.ledger.Entry.{Entry}
 use Rattle.hs_ledger.specs.Totals.{is_reported, totals_of, parts_of}
 use Rattle.hs_model.specs.Laws.{AllWereOver, AreRising}
-use Rattle.hs_model.specs.Standings.{same_trace}
 use Rattle.hs_model.specs.State.{is_claimed}
 use Rattle.hs_orderly.specs.Speaking.{IsLeastClosed}
 use Rattle.hs_records.specs.Plain.{PlainWorkload}

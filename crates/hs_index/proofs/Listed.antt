@@ -16,7 +16,8 @@ use Rattle.std.proofs.lemmas.Map.Keys.{IsDistinct-tail}
 use borrow.Author.Tests.{eqb-true}
 use Rattle.lru.specs.LruCache.{promoted}
 use Rattle.hs_base.specs.declared.ids.TraceId.{TraceId}
-use Rattle.hs_index.specs.Index.{Noted, Indexed, same_trace, is_of, is_other, nothing, noted_of, others, chunk_count, count_chunks}
+use Rattle.hs_base.specs.Ids.{same_trace}
+use Rattle.hs_index.specs.Index.{Noted, Indexed, is_of, is_other, nothing, noted_of, others, chunk_count, count_chunks}
 use Rattle.hs_index.specs.Touched.{indexed, listed}
 
 pub by_answer : {P : Type 0} (b : Bool) → (b ≡ true → P) → (b ≡ false → P) → P

@@ -6,11 +6,12 @@ use Rattle.std.proofs.lemmas.List.Folds.{find-append}
 use Rattle.hs_base.specs.declared.ids.TraceId.{TraceId}
 use Rattle.hs_base.specs.declared.ids.NodeId.{NodeId}
 use Rattle.hs_base.specs.NodeSets.{has_node}
-use Rattle.hs_index.specs.Index.{Noted, Indexed, same_trace, trace_of, is_of, nothing, noted_of, others, touch, with_chunk, with_crumb, is_over, kept}
+use Rattle.hs_index.specs.Index.{Noted, Indexed, trace_of, is_of, nothing, noted_of, others, touch, with_chunk, with_crumb, is_over, kept}
 use Rattle.hs_words.specs.Buffers.{Buffer}
 use Rattle.hs_index.specs.Calls.{Call, Arrived, Crumbed, Claimed, after, touches, last_touch, chunk_in, is_crumb, is_in, is_indexed, chunks_since, has_crumb_since, AreLater, AreInTurn, LooksBack}
 use Rattle.hs_index.proofs.Listed.{by_answer, same_trace_equiv, same_from_test}
 use Rattle.hs_base.specs.NodeSetLaws.{has-with_node, has-no_nodes}
+use Rattle.hs_base.specs.Ids.{same_trace}
 use Rattle.hs_index.proofs.Evicting.{within-not-over, all-stay, first-leaves, count-others, length-others}
 use Rattle.hs_index.proofs.LongestEnd.{within}
 use Rattle.std.proofs.lemmas.Bool.{ltb-false, or_parts}

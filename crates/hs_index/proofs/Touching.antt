@@ -12,8 +12,9 @@ use Rattle.std.proofs.lemmas.Map.Entries.{sum_by-remove_entry}
 use Rattle.lru.specs.LruCache.{lru_cache, promoted, put_entries}
 use Rattle.hs_base.specs.declared.ids.TraceId.{TraceId}
 use Rattle.hs_base.specs.declared.ids.NodeId.{NodeId}
+use Rattle.hs_base.specs.Ids.{same_trace}
 use Rattle.hs_words.specs.Buffers.{Buffer}
-use Rattle.hs_index.specs.Index.{Noted, Indexed, same_trace, is_of, nothing, noted_of, others, touch, with_chunk, with_crumb, chunk_count, count_chunks}
+use Rattle.hs_index.specs.Index.{Noted, Indexed, is_of, nothing, noted_of, others, touch, with_chunk, with_crumb, chunk_count, count_chunks}
 use Rattle.hs_index.specs.Touched.{indexed, listed}
 use Rattle.hs_index.proofs.Listed.{by_answer, listed-cons, count-listed, find-cons, found-here, find-missing, others-missing, others-listed, noted-listed, promoted-set}
 

@@ -5,8 +5,9 @@ use Rattle.std.specs.Prelude.{◌≡◌, ℕ, suc, ◌<◌, ◌≤◌, Bool, tru
 use Rattle.hs_base.specs.declared.ids.TraceId.{TraceId}
 use Rattle.hs_base.specs.declared.ids.NodeId.{NodeId}
 use Rattle.hs_base.specs.NodeSets.{has_node}
+use Rattle.hs_base.specs.Ids.{same_trace}
 use Rattle.hs_words.specs.Chunks.{clear_chunk, with_page}
-use Rattle.hs_index.specs.Index.{Indexed, Index, new_index, same_trace, is_of, noted_of, is_over, trace_of, arrived, crumbed, claimed, settled, going, leaving}
+use Rattle.hs_index.specs.Index.{Indexed, Index, new_index, is_of, noted_of, is_over, trace_of, arrived, crumbed, claimed, settled, going, leaving}
 use Rattle.hs_words.specs.Buffers.{Buffer}
 
 -- A chunk arrived, a crumb of a trace to a node came, or a trace was claimed.

@@ -1,12 +1,13 @@
 -- What contracts see of an index: its two limits, and the indexed traces from the one that was touched longest ago to the
 -- one touched last, each with its chunks in the order of arrival and the nodes to which its crumbs lead. A touch moves a
 -- trace to the end. While there are more chunks or more traces than the limits allow, the trace touched longest ago goes.
-use Rattle.std.specs.Prelude.{◌≤◌, ℕ, Bool, if◌then◌else◌, not, ◌||◌, ◌==◌, nat_lt, List, [], ◌∷◌, ◌++◌, length, map, filter, find, flat_map, sum_by}
+use Rattle.std.specs.Prelude.{◌≤◌, ℕ, Bool, if◌then◌else◌, not, ◌||◌, nat_lt, List, [], ◌∷◌, ◌++◌, length, map, filter, find, flat_map, sum_by}
 use Rattle.std.specs.Option.{option_map_or}
 use Rattle.hs_base.specs.declared.ids.TraceId.{TraceId}
 use Rattle.hs_base.specs.declared.ids.NodeId.{NodeId}
 use Rattle.hs_base.specs.declared.node_set.NodeSet.{NodeSet}
 use Rattle.hs_base.specs.NodeSets.{no_nodes, with_node}
+use Rattle.hs_base.specs.Ids.{same_trace}
 use Rattle.hs_words.specs.declared.page.Header.{Header}
 use Rattle.hs_words.specs.Chunks.{header_in}
 use Rattle.hs_words.specs.Buffers.{Buffer, buffer_of}
@@ -35,9 +36,6 @@ abbrev pub with_touched : {L : Type 0} → Index L → List (Indexed L) → Inde
 with_touched index touched = record { threshold = index.threshold; most = index.most; touched = touched }
 
 -- ---- what is indexed of a trace
-
-abbrev pub same_trace : TraceId → TraceId → Bool
-same_trace a b = a.0 == b.0
 
 abbrev pub is_of : {L : Type 0} → TraceId → Indexed L → Bool
 is_of trace indexed = same_trace trace indexed.trace

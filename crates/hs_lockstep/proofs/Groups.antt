@@ -21,9 +21,9 @@ use Rattle.hs_journal.specs.Views.{PlainJournal}
 use Rattle.hs_model.specs.Laws.{claimed_by, admitted_by, shares_by, AllPass, IsPassed, AddsFew, EventsAddFew, noted_as, EventsAddThis, SaysWhatItTells, StepsSayWhatTheyTell}
 use Rattle.hs_model.specs.Messages.{has_crumb, told_of, late_of}
 use Rattle.hs_base.specs.declared.limits.TheConstants.{TOKEN}
+use Rattle.hs_base.specs.Ids.{same_trace}
 use Rattle.hs_pins.specs.Buckets.{level_found}
 use Rattle.hs_model.specs.State.{AgentState, ClaimedTrace, TriedTrigger, claim_of}
-use Rattle.hs_model.specs.Standings.{same_trace}
 use Rattle.hs_model.specs.Stepping.{Input, Chunk, Crumbed, Triggered, Asked, Turn, Given, Missed, Unread, Event, Took, Gave, moments_of, rule_of, admits, group_of, told_by, after_event}
 use Rattle.hs_model.specs.Turning.{costs_of, shares_after}
 use Rattle.hs_records.specs.Plain.{PlainSettings, PlainWorkload}

@@ -11,9 +11,10 @@ use Rattle.hs_base.specs.declared.ids.TriggerId.{TriggerId}
 use Rattle.hs_base.specs.declared.limits.TheConstants.{MIN_SIZE}
 use Rattle.hs_base.specs.declared.settings.TriggerRule.{TriggerRule}
 use Rattle.hs_base.specs.declared.told.Group.{Group}
+use Rattle.hs_base.specs.Ids.{same_trace}
 use Rattle.hs_journal.specs.Views.{PlainJournal}
 use Rattle.hs_model.specs.Laws.{count_of, PlacesMatch, ListsHaveTheirChunks, claiming_group, StandsByClaim, AllStandByClaim, ChunksStandByTheirClaim, sheets_of, CanReport}
-use Rattle.hs_model.specs.Standings.{ChunkStanding, Indexed, Pinned, Reported, Evicted, Abandoned, Taken, same_trace, trace_of, is_pinned, stands}
+use Rattle.hs_model.specs.Standings.{ChunkStanding, Indexed, Pinned, Reported, Evicted, Abandoned, Taken, trace_of, is_pinned, stands}
 use Rattle.hs_model.specs.State.{ClaimedTrace}
 use Rattle.hs_model.specs.Turning.{is_pinned_under, used_at}
 use Rattle.hs_records.specs.Plain.{PlainWorkload}

@@ -6,9 +6,10 @@ use Rattle.hs_base.specs.declared.ids.TraceId.{TraceId}
 use Rattle.hs_base.specs.declared.told.Ask.{Ask}
 use Rattle.hs_base.specs.declared.told.Crumb.{Crumb}
 use Rattle.hs_base.specs.declared.told.Group.{Group}
+use Rattle.hs_base.specs.Ids.{same_trace}
 use Rattle.hs_records.specs.Plain.{PlainSettings}
 use Rattle.hs_words.specs.Pages.{Sheet}
-use Rattle.hs_model.specs.Standings.{Indexed, Pinned, Evicted, Abandoned, Taken, is_indexed, is_indexed_of, is_pinned_for, is_among, indexed_count, indexed_places, places_from, moved_from, same_trace, trace_of}
+use Rattle.hs_model.specs.Standings.{Indexed, Pinned, Evicted, Abandoned, Taken, is_indexed, is_indexed_of, is_pinned_for, is_among, indexed_count, indexed_places, places_from, moved_from, trace_of}
 use Rattle.hs_model.specs.State.{AgentState, ClaimedTrace, claim_of, is_claimed, is_abandoned}
 use Rattle.hs_model.specs.Evicting.{evict}
 use Rattle.hs_model.specs.Claiming.{claim_trace, claim_unclaimed, traces_of, claim_each}

@@ -7,9 +7,10 @@ use Rattle.std.proofs.lemmas.List.{map-append}
 use Rattle.hs_base.specs.declared.ids.TraceId.{TraceId}
 use Rattle.hs_base.specs.declared.told.Ask.{Ask}
 use Rattle.hs_base.specs.declared.told.Group.{Group}
+use Rattle.hs_base.specs.Ids.{same_trace}
 use Rattle.hs_records.specs.Plain.{PlainSettings}
 use Rattle.hs_sched.specs.Visits.{count_sent}
-use Rattle.hs_model.specs.Standings.{ChunkStanding, Indexed, Pinned, Reported, Evicted, Abandoned, Taken, same_trace, trace_of, is_indexed, is_pinned_to, is_indexed_of, is_pinned_for, indexed_places, indexed_count, places_from, passes, is_among, moved_from}
+use Rattle.hs_model.specs.Standings.{ChunkStanding, Indexed, Pinned, Reported, Evicted, Abandoned, Taken, trace_of, is_indexed, is_pinned_to, is_indexed_of, is_pinned_for, indexed_places, indexed_count, places_from, passes, is_among, moved_from}
 use Rattle.hs_model.specs.State.{AgentState, ClaimedTrace, start, claim_of, is_claimed}
 use Rattle.hs_model.specs.Evicting.{evict_trace}
 use Rattle.hs_model.specs.Claiming.{claim_trace}

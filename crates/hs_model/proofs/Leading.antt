@@ -11,6 +11,7 @@ use Rattle.hs_base.specs.declared.told.Told.{Told}
 use Rattle.hs_base.specs.declared.told.Trigger.{Trigger}
 use Rattle.hs_base.specs.declared.told.Why.{Why}
 use Rattle.hs_base.specs.declared.told.Why.TheVariants.{Fired, Answer}
+use Rattle.hs_base.specs.Ids.{same_trace}
 use Rattle.hs_records.specs.Plain.{PlainSettings}
 use Rattle.hs_words.specs.Pages.{Sheet}
 use Rattle.hs_model.specs.Abandoning.{abandon}
@@ -18,7 +19,6 @@ use Rattle.hs_model.specs.Claiming.{traces_of, claim_each}
 use Rattle.hs_model.specs.Evicting.{evict}
 use Rattle.hs_model.specs.Leading.{IsToldBelow, BringsBelow, CrumbsLeadBelow}
 use Rattle.hs_model.specs.Messages.{has_crumb, told_of, late_of}
-use Rattle.hs_model.specs.Standings.{same_trace}
 use Rattle.hs_model.specs.State.{AgentState, ClaimedTrace, claim_of, is_abandoned}
 use Rattle.hs_model.specs.Stepping.{Input, Chunk, Crumbed, Triggered, Asked, Turn, Answered, Given, Missed, Unread, Took, Gave, with_indexed, with_abandoned, with_pinned, pin_chunk, with_touched, tell_late, late_crumb, admits, group_of, claim_for, note_trigger, count_admitted, admit, told_by, take_input, take_answer, give_back}
 use Rattle.hs_model.proofs.Saying.{steps_say_what_they_tell}

@@ -9,11 +9,12 @@ use Rattle.hs_base.specs.declared.told.Ask.{Ask}
 use Rattle.hs_base.specs.declared.told.Crumb.{Crumb}
 use Rattle.hs_base.specs.declared.told.Group.{Group}
 use Rattle.hs_base.specs.declared.told.Trigger.{Trigger}
+use Rattle.hs_base.specs.Ids.{same_trace}
 use Rattle.hs_records.specs.Plain.{PlainSettings}
 use Rattle.hs_sched.specs.declared.share.Share.{Share}
 use Rattle.hs_sched.specs.Visits.{count_sent}
 use Rattle.hs_words.specs.Pages.{Sheet}
-use Rattle.hs_model.specs.Standings.{ChunkStanding, Indexed, Pinned, Reported, Evicted, Abandoned, Taken, same_trace, same_group, trace_of, is_indexed, is_pinned, is_pinned_to, is_indexed_of, is_pinned_for, indexed_places, indexed_count, pinned_for, pinning_group, stands, is_among, moved_from, moved}
+use Rattle.hs_model.specs.Standings.{ChunkStanding, Indexed, Pinned, Reported, Evicted, Abandoned, Taken, same_group, trace_of, is_indexed, is_pinned, is_pinned_to, is_indexed_of, is_pinned_for, indexed_places, indexed_count, pinned_for, pinning_group, stands, is_among, moved_from, moved}
 use Rattle.hs_model.specs.State.{AgentState, ClaimedTrace, start, claim_of, is_abandoned, without_trace}
 use Rattle.hs_model.specs.Evicting.{touch, is_over, evict_trace, evict_from, evict}
 use Rattle.hs_model.specs.Claiming.{claim_trace, traces_of, claim_each}

@@ -9,10 +9,11 @@ use Rattle.std.specs.Ordering.{is_le}
 use Rattle.hs_base.specs.declared.ids.TraceId.{TraceId}
 use Rattle.hs_base.specs.declared.told.Ask.{Ask}
 use Rattle.hs_base.specs.declared.told.Group.{Group}
+use Rattle.hs_base.specs.Ids.{same_trace}
 use Rattle.hs_records.specs.Plain.{PlainSettings}
 use Rattle.hs_sched.specs.Visits.{count_sent}
 use Rattle.hs_words.specs.Pages.{Sheet}
-use Rattle.hs_model.specs.Standings.{ChunkStanding, Indexed, Pinned, Reported, Evicted, Abandoned, Taken, same_trace, trace_of, is_indexed, is_pinned, is_reported, is_indexed_of, is_of_trace, is_pinned_for, indexed_places, passes, stands, pinned_for, pinning_group, is_among, moved}
+use Rattle.hs_model.specs.Standings.{ChunkStanding, Indexed, Pinned, Reported, Evicted, Abandoned, Taken, trace_of, is_indexed, is_pinned, is_reported, is_indexed_of, is_of_trace, is_pinned_for, indexed_places, passes, stands, pinned_for, pinning_group, is_among, moved}
 use Rattle.hs_model.specs.State.{AgentState, ClaimedTrace, claim_of, is_claimed}
 use Rattle.hs_model.specs.Claiming.{claim_trace}
 use Rattle.hs_model.specs.Abandoning.{abandon_group}

@@ -5,7 +5,8 @@ use Rattle.std.specs.Option.{option_map}
 use Rattle.std.proofs.lemmas.Bool.{eqb-true, eq-eqb, or_parts, and_parts}
 use Rattle.hs_base.specs.declared.ids.TraceId.{TraceId}
 use Rattle.hs_base.specs.declared.told.Group.{Group}
-use Rattle.hs_model.specs.Standings.{same_trace, same_group}
+use Rattle.hs_base.specs.Ids.{same_trace}
+use Rattle.hs_model.specs.Standings.{same_group}
 use Rattle.hs_model.specs.State.{ClaimedTrace, claim_of, is_claimed, without_trace}
 use Rattle.hs_model.specs.Evicting.{touch}
 use Rattle.hs_model.specs.Laws.{count_traces, claiming_group}

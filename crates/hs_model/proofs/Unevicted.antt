@@ -2,9 +2,10 @@
 use Rattle.std.proofs.Common.{◌≡◌, ℕ, ◌+◌, ◌<◌, ◌≤◌, Bool, true, false, cond, List, [], ◌∷◌, ◌++◌, length, take, filter, refl, sym, ap, ◌∙◌, arith, inl, inr, subst, true≢false}
 use Rattle.std.proofs.lemmas.Bool.{cases_lt, and_right}
 use Rattle.hs_base.specs.declared.ids.TraceId.{TraceId}
+use Rattle.hs_base.specs.Ids.{same_trace}
 use Rattle.hs_records.specs.Plain.{PlainSettings}
 use Rattle.hs_sched.specs.Visits.{count_sent}
-use Rattle.hs_model.specs.Standings.{ChunkStanding, Pinned, Evicted, Abandoned, Taken, same_trace, trace_of, is_indexed, is_pinned, is_evicted, is_indexed_of, is_of_trace, is_pinned_for, indexed_places, passes, stands, is_among, moved}
+use Rattle.hs_model.specs.Standings.{ChunkStanding, Pinned, Evicted, Abandoned, Taken, trace_of, is_indexed, is_pinned, is_evicted, is_indexed_of, is_of_trace, is_pinned_for, indexed_places, passes, stands, is_among, moved}
 use Rattle.hs_model.specs.State.{AgentState, is_claimed}
 use Rattle.hs_model.specs.Evicting.{evict_trace}
 use Rattle.hs_model.specs.Turning.{order_of, costs_of, reported_standing}

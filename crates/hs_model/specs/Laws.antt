@@ -6,12 +6,13 @@ use Rattle.std.specs.List.{AllByRecursion, list_any}
 use Rattle.std.specs.Option.{option_map, option_to_list}
 use Rattle.hs_base.specs.declared.ids.TraceId.{TraceId}
 use Rattle.hs_base.specs.declared.told.Group.{Group}
+use Rattle.hs_base.specs.Ids.{same_trace}
 use Rattle.hs_journal.specs.declared.journal.Step.{Step}
 use Rattle.hs_records.specs.Plain.{PlainSettings}
 use Rattle.hs_sched.specs.declared.share.Share.{Share}
 use Rattle.hs_sched.specs.Visits.{budget_of}
 use Rattle.hs_words.specs.Pages.{Sheet}
-use Rattle.hs_model.specs.Standings.{ChunkStanding, Indexed, Pinned, Reported, Evicted, Abandoned, Taken, same_trace, same_group, trace_of, indexed_count, is_indexed, is_pinned, is_reported, is_evicted, is_let_go, stands, is_of_trace}
+use Rattle.hs_model.specs.Standings.{ChunkStanding, Indexed, Pinned, Reported, Evicted, Abandoned, Taken, same_group, trace_of, indexed_count, is_indexed, is_pinned, is_reported, is_evicted, is_let_go, stands, is_of_trace}
 use Rattle.hs_model.specs.State.{AgentState, ClaimedTrace, GivenPlace, claim_of, is_claimed}
 use Rattle.hs_model.specs.Evicting.{is_over, evict_trace, evict}
 use Rattle.hs_model.specs.Abandoning.{pinned_groups, count_of_id, is_no_greater, next_to_go, abandon_group, abandon}

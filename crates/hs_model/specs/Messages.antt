@@ -11,7 +11,7 @@ use Rattle.hs_base.specs.declared.told.Told.{Told}
 use Rattle.hs_base.specs.declared.told.Why.{Why}
 use Rattle.hs_base.specs.declared.told.Why.TheVariants.{Late}
 use Rattle.hs_base.specs.NodeSets.{no_nodes, one_node, with_node}
-use Rattle.hs_model.specs.Standings.{same_trace}
+use Rattle.hs_base.specs.Ids.{same_trace}
 use Rattle.hs_model.specs.State.{AgentState, ClaimedTrace}
 use Rattle.hs_model.specs.Claiming.{traces_of}
 

@@ -6,6 +6,7 @@ use Rattle.std.specs.List.{list_any}
 use Rattle.std.specs.Option.{option_map_or, option_and_then}
 use Rattle.hs_base.specs.declared.ids.TraceId.{TraceId}
 use Rattle.hs_base.specs.declared.told.Group.{Group}
+use Rattle.hs_base.specs.Ids.{same_trace}
 use Rattle.hs_words.specs.Pages.{Sheet}
 pub use Rattle.hs_pins.specs.Priorities.{same_group}
 
@@ -22,9 +23,6 @@ pub record Taken : Type 0 where
   pub standing : ChunkStanding
 
 -- ---- one chunk
-
-abbrev pub same_trace : TraceId → TraceId → Bool
-same_trace a b = a.0 == b.0
 
 abbrev pub trace_of : Taken → TraceId
 trace_of chunk = chunk.sheet.header.trace

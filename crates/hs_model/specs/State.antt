@@ -7,11 +7,12 @@ use Rattle.hs_base.specs.declared.ids.TriggerId.{TriggerId}
 use Rattle.hs_base.specs.declared.told.Group.{Group}
 use Rattle.hs_base.specs.declared.told.Crumb.{Crumb}
 use Rattle.hs_base.specs.declared.told.Told.{Told}
+use Rattle.hs_base.specs.Ids.{same_trace}
 use Rattle.hs_journal.specs.declared.journal.Step.{Step}
 use Rattle.hs_records.specs.Plain.{PlainSettings}
 use Rattle.hs_sched.specs.declared.share.Share.{Share}
 use Rattle.hs_sched.specs.Turns.{shares_of}
-use Rattle.hs_model.specs.Standings.{Taken, same_trace, same_group}
+use Rattle.hs_model.specs.Standings.{Taken, same_group}
 
 -- a trace that is claimed, for a group with these laterals
 pub record ClaimedTrace : Type 0 where

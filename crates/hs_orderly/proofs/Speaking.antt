@@ -11,12 +11,12 @@ use Rattle.hs_base.specs.declared.told.Group.{Group}
 use Rattle.hs_base.specs.declared.told.Told.{Told}
 use Rattle.hs_base.specs.declared.told.Trigger.{Trigger}
 use Rattle.hs_base.specs.declared.told.Why.TheVariants.{Fired}
+use Rattle.hs_base.specs.Ids.{same_trace}
 use Rattle.hs_coord.specs.Following.{Message, Messages, same_group, is_asked, has_ask, is_answer}
 use Rattle.hs_journal.specs.declared.journal.Step.{Step}
 use Rattle.hs_journal.specs.declared.journal.Step.TheVariants as steps
 use Rattle.hs_model.specs.Laws.{AllPass, IsPassed, claimed_by, EventsAddFew, StepsSayWhatTheyTell}
 use Rattle.hs_model.specs.Messages.{has_crumb, told_of, late_of}
-use Rattle.hs_model.specs.Standings.{same_trace}
 use Rattle.hs_model.specs.State.{ClaimedTrace, claim_of}
 use Rattle.hs_model.specs.Stepping.{Input, Chunk, Crumbed, Triggered, Asked, Turn, Event, Took, Gave, admits, group_of, told_by}
 use Rattle.hs_records.specs.Plain.{PlainSettings}

@@ -5,8 +5,9 @@ use Rattle.std.specs.Option.{option_map_or}
 use Rattle.std.proofs.lemmas.List.{take-append-drop}
 use Rattle.std.proofs.lemmas.Option.{slice_get-map}
 use Rattle.hs_base.specs.declared.ids.TraceId.{TraceId}
+use Rattle.hs_base.specs.Ids.{same_trace}
 use Rattle.hs_model.specs.Laws.{EventsAddThis, EventsGoOn, ClaimsHoldForGood, NothingClaimedIsEvicted, brought_by, sheets_of}
-use Rattle.hs_model.specs.Standings.{Taken, same_trace, trace_of, is_evicted, stands, is_of_trace}
+use Rattle.hs_model.specs.Standings.{Taken, trace_of, is_evicted, stands, is_of_trace}
 use Rattle.hs_model.specs.State.{AgentState, ClaimedTrace, is_claimed}
 use Rattle.hs_model.specs.Stepping.{Event, after_event, after_from, after}
 use Rattle.hs_records.specs.Plain.{PlainSettings}

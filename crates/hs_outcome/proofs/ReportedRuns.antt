@@ -5,11 +5,12 @@ use Rattle.std.specs.Option.{option_map_or}
 use Rattle.std.proofs.lemmas.Option.{slice_get-map}
 use Rattle.hs_base.specs.declared.ids.ClientId.{ClientId}
 use Rattle.hs_base.specs.declared.ids.TraceId.{TraceId}
+use Rattle.hs_base.specs.Ids.{same_trace}
 use Rattle.hs_client.specs.Calls.{sheet_for}
 use Rattle.hs_journal.specs.declared.journal.Draw.{Draw}
 use Rattle.hs_journal.specs.Views.{PlainJournal}
 use Rattle.hs_model.specs.Laws.{PagesRise, sheets_at, sheets_of, reported_of, ClientsPagesRise}
-use Rattle.hs_model.specs.Standings.{Taken, same_trace, trace_of, is_of_trace}
+use Rattle.hs_model.specs.Standings.{Taken, trace_of, is_of_trace}
 use Rattle.hs_model.specs.State.{AgentState}
 use Rattle.hs_records.specs.Pages.{PlainPage, pages_of}
 use Rattle.hs_records.specs.Plain.{PlainWorkload}

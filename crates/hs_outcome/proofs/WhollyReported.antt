@@ -9,6 +9,7 @@ use Rattle.hs_base.specs.declared.ids.TraceId.{TraceId}
 use Rattle.hs_base.specs.declared.told.Fate.{Fate}
 use Rattle.hs_base.specs.declared.told.Fate.TheVariants as fate
 use Rattle.hs_base.specs.declared.told.Group.{Group}
+use Rattle.hs_base.specs.Ids.{same_trace}
 use Rattle.hs_client.specs.Calls.{note_of, sheet_for}
 use Rattle.hs_journal.specs.declared.journal.Draw.{Draw}
 use Rattle.hs_journal.specs.declared.journal.Draw.TheVariants.{Got, Empty}
@@ -21,7 +22,7 @@ use Rattle.hs_ledger.specs.Fates.{FatedPage, page_fate, fated_by, fated_pages, h
 use Rattle.hs_ledger.specs.Totals.{is_reported}
 use Rattle.hs_model.specs.Books.{fate_of}
 use Rattle.hs_model.specs.Laws.{count_of, sheets_at, claiming_group, StandsByClaim, PlacesMatch}
-use Rattle.hs_model.specs.Standings.{ChunkStanding, Indexed, Pinned, Reported, Evicted, Abandoned, Taken, is_pinned, same_trace, trace_of, stands}
+use Rattle.hs_model.specs.Standings.{ChunkStanding, Indexed, Pinned, Reported, Evicted, Abandoned, Taken, is_pinned, trace_of, stands}
 use Rattle.hs_model.specs.Standings as model
 use Rattle.hs_model.specs.State.{AgentState, ClaimedTrace, claim_of, is_claimed}
 use Rattle.hs_records.specs.Laws.{end_of}

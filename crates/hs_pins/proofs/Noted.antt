@@ -13,9 +13,10 @@ use Rattle.hs_base.specs.declared.told.Group.{Group}
 use Rattle.hs_base.specs.declared.limits.TheConstants.{MAX_LATERALS}
 use Rattle.hs_base.specs.Laterals.{no_trace}
 use Rattle.hs_base.specs.NodeSets.{has_node, with_node}
+use Rattle.hs_base.specs.Ids.{same_trace}
 use Rattle.hs_pins.specs.declared.claims.Party.{Party}
 use Rattle.hs_pins.specs.declared.claims.Note.{Note}
-use Rattle.hs_pins.specs.Remembered.{Claim, same_trace, claim_of, has_crumb, with_crumb}
+use Rattle.hs_pins.specs.Remembered.{Claim, claim_of, has_crumb, with_crumb}
 use Rattle.hs_pins.specs.ClaimsLayout.{party_at, claim_by, claim_from, AreNoted}
 
 abbrev pub Notes : Type 0

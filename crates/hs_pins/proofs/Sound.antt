@@ -13,8 +13,9 @@ use Rattle.hs_base.specs.declared.settings.TriggerRule.{TriggerRule}
 use Rattle.hs_base.specs.declared.told.Group.{Group}
 use Rattle.hs_base.specs.NodeSets.{with_node}
 use Rattle.hs_base.specs.Rules.{is_declared}
+use Rattle.hs_base.specs.Ids.{same_trace}
 use Rattle.hs_words.specs.Buffers.{Buffer}
-use Rattle.hs_pins.specs.Remembered.{Claim, Pin, Remembered, IsSound, AreApart, same_trace, is_claim_of, claim_of, with_crumb, pin_for, is_for, without_group, without_first, tried_at, claimed, with_pin, crumbed}
+use Rattle.hs_pins.specs.Remembered.{Claim, Pin, Remembered, IsSound, AreApart, is_claim_of, claim_of, with_crumb, pin_for, is_for, without_group, without_first, tried_at, claimed, with_pin, crumbed}
 use Rattle.hs_pins.specs.Abandoning.{leaving, staying, relieved}
 use Rattle.hs_pins.specs.Waiting.{next_of, taken}
 

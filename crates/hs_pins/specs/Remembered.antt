@@ -12,6 +12,7 @@ use Rattle.hs_base.specs.declared.settings.TriggerRule.{TriggerRule}
 use Rattle.hs_base.specs.declared.told.Group.{Group}
 use Rattle.hs_base.specs.NodeSets.{has_node, with_node}
 use Rattle.hs_base.specs.Rules.{is_declared}
+use Rattle.hs_base.specs.Ids.{same_trace}
 use Rattle.hs_words.specs.Buffers.{Buffer, buffer_of}
 use Rattle.hs_words.specs.Chunks.{header_in}
 use Rattle.hs_words.specs.declared.page.Header.{Header}
@@ -61,10 +62,6 @@ fresh node most rules =
     record { node = node; rules = rules; most = most; claims = []; pinned = []; abandoned = []; tried = []; admitted = 0 }
 
 -- ---- claims
-
--- whether two traces are one
-abbrev pub same_trace : TraceId → TraceId → Bool
-same_trace a b = a.0 == b.0
 
 abbrev pub is_claim_of : TraceId → Claim → Bool
 is_claim_of trace claim = same_trace trace claim.trace

@@ -1,16 +1,13 @@
 -- The entries of a ledger that its reports are written from: those of the claimed traces. An entry that says reported stays whatever
 -- its trace, so that what stays says of each record whether it was reported.
-use Rattle.std.specs.Prelude.{◌≡◌, ◌||◌, ◌==◌, Bool, List, [], ◌∷◌, map, filter, refl}
+use Rattle.std.specs.Prelude.{◌≡◌, ◌||◌, Bool, List, [], ◌∷◌, map, filter, refl}
 use Rattle.std.specs.List.{list_any}
 use Rattle.hs_base.specs.declared.ids.TraceId.{TraceId}
+use Rattle.hs_base.specs.Ids.{same_trace}
 use Rattle.hs_ledger.specs.declared.ledger.Entry.{Entry}
 use Rattle.hs_ledger.specs.Totals.{is_reported}
 use Rattle.hs_report.specs.declared.outcome.Outcome.{Outcome}
 use Rattle.hs_report.specs.Fates.{two_traces}
-
--- whether these are one trace
-abbrev pub same_trace : TraceId → TraceId → Bool
-same_trace a b = a.0 == b.0
 
 -- whether a trace is among these
 abbrev pub is_among : List TraceId → TraceId → Bool

@@ -1,9 +1,9 @@
 -- Where all of a run stands at a moment: of each node its clients and its agent, and the coordinator; and beside these what was done
 -- so far, which nothing but these definitions keeps: each node's work, and the messages that the coordinator has heard.
 use Rattle.std.specs.Prelude.{◌≡◌, ℕ, List, [], length, slice_get, Some}
-use Rattle.hs_base.specs.declared.ids.ClientId.{ClientId}
 use Rattle.hs_base.specs.declared.told.Ask.{Ask}
 use Rattle.hs_base.specs.declared.told.Told.{Told}
+use Rattle.hs_base.specs.Ids.{client_of}
 use Rattle.hs_coord.specs.Messages.{Messages}
 use Rattle.hs_live.specs.Calls.{AreMates}
 use Rattle.hs_records.specs.Plain.{PlainWorkload}
@@ -36,16 +36,12 @@ moved_by works node = (works node).moved
 abbrev pub asked_by : (ℕ → Work) → ℕ → List Ask
 asked_by works node = (works node).asked
 
--- the client of a node with this number
-abbrev pub client_at : (node number : ℕ) → ClientId
-client_at node number = record { node = node; number = number }
-
 -- A node has its clients, each somewhere in its operations and with the other ends at the agent's port, and its agent has done its work.
 pub record SiteStands (W : PlainWorkload) (node : ℕ) (work : Work) (site : Site) : Type 0 where
   pub node_is : work.node ≡ node
   pub count : length site.callers ≡ W.settings.clients
   pub callers : (number : ℕ) (caller : Calling) → slice_get site.callers number ≡ Some caller
-      → IsAt W.settings (client_at node number) (operations_at W (place_of W.settings.clients node number)) caller
+      → IsAt W.settings (client_of node number) (operations_at W (place_of W.settings.clients node number)) caller
   pub mates : (number : ℕ) (caller : Calling) → slice_get site.callers number ≡ Some caller → AreMates number site.agent.port caller.client
   pub agent : IsManned W work site.agent
 

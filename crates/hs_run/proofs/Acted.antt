@@ -3,6 +3,7 @@ use Rattle.std.proofs.Common.{◌≡◌, ℕ, List, Some, refl, sym, subst, ◌�
 use Rattle.std.specs.Prelude.{slice_get}
 use Rattle.hs_base.specs.Listing.{Listing}
 use Rattle.hs_base.specs.declared.settings.Settings.{Settings}
+use Rattle.hs_base.specs.Ids.{client_of}
 use Rattle.hs_link.specs.Contents.{Incoming, Outgoing}
 use Rattle.hs_live.specs.Keys.{Key}
 use Rattle.hs_live.specs.Live.{IsMate}
@@ -14,7 +15,7 @@ use Rattle.hs_caller.specs.Calling.{Calling}
 use Rattle.hs_caller.specs.Standing.{IsAt, Goes, IsFlushed}
 use Rattle.hs_desk.specs.Manned.{EachReceives}
 use Rattle.hs_desk.specs.Work.{Work, IsFew, with_events}
-use Rattle.hs_rounds.specs.Standing.{Site, SiteStands, client_at}
+use Rattle.hs_rounds.specs.Standing.{Site, SiteStands}
 use Rattle.hs_rounds.specs.Acting.{SiteActs}
 use Rattle.hs_run.specs.Going.{AllMayGo, AllHaveGone}
 use Rattle.hs_run.specs.Sites.{AreClients, HasPassed, HasActed}
@@ -26,9 +27,9 @@ may_go W node work settings lists site stands are =
     record {
       count = stands.count ∙ sym are.count;
       each = λ number caller at ops found. (
-        client_at node number,
-        subst (λ (s : PlainSettings). IsAt s (client_at node number) (operations_of ops) caller) (sym are.settings_are)
-            (subst (λ (l : List Operation). IsAt W.settings (client_at node number) l caller) (sym (are.each number ops found)) (stands.callers number caller at)),
+        client_of node number,
+        subst (λ (s : PlainSettings). IsAt s (client_of node number) (operations_of ops) caller) (sym are.settings_are)
+            (subst (λ (l : List Operation). IsAt W.settings (client_of node number) l caller) (sym (are.each number ops found)) (stands.callers number caller at)),
       );
     }
 
@@ -64,7 +65,7 @@ module _ (settings : Settings) (lists : List (Listing Op)) (old new : Site) (pas
                 record {
                   node_is = stands.node_is;
                   count = gone.count ∙ stands.count;
-                  callers = λ number caller' at'. let (caller, at) = before number caller' at' in (went number caller caller' at at').at (client_at node number) (stands.callers number caller at);
+                  callers = λ number caller' at'. let (caller, at) = before number caller' at' in (went number caller caller' at at').at (client_of node number) (stands.callers number caller at);
                   mates = λ number caller' at'.
                       let (caller, at) = before number caller' at' in
                       let goes = went number caller caller' at at' in

@@ -2,6 +2,7 @@
 use Rattle.std.proofs.Common.{◌≡◌, ◌⊎◌, inl, inr, ℕ, zero, suc, ◌+◌, ◌<◌, List, [], ◌∷◌, ◌++◌, length, map, Some, None, refl, sym, ap, ◌∙◌, subst, arith, length-append, slice_get}
 use Rattle.std.proofs.lemmas.List.{length-map}
 use Rattle.std.proofs.lemmas.Option.{same_Some}
+use Rattle.hs_base.specs.Ids.{client_of}
 use Rattle.hs_link.specs.Contents.{Outgoing, Incoming}
 use Rattle.hs_live.specs.Calls.{AreMates}
 use Rattle.hs_live.specs.Keys.{Key}
@@ -12,7 +13,7 @@ use Rattle.hs_words.specs.Pools.{PoolName}
 use Rattle.hs_workload.specs.Validity.{IsValid}
 use Rattle.hs_caller.specs.Calling.{Calling}
 use Rattle.hs_caller.specs.Nodes as begun
-use Rattle.hs_caller.specs.Nodes.{NodeBegins, CallerBegins, client_of, receiving_of}
+use Rattle.hs_caller.specs.Nodes.{NodeBegins, CallerBegins, receiving_of}
 use Rattle.hs_caller.specs.Standing as standing
 use Rattle.hs_desk.specs.Coordinators.{Coordinating, IsCoordinating}
 use Rattle.hs_desk.specs.Lines.{Line, linked, key_of, key_for, AreLinesFor}

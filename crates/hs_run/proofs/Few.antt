@@ -2,6 +2,7 @@
 use Rattle.std.proofs.Common.{ℕ, ◌+◌, ◌<◌, ◌≤◌, List, ◌++◌, length, ap, arith, length-append}
 use Rattle.hs_actors.specs.Doings.{triggers_in}
 use Rattle.hs_base.specs.declared.ids.ClientId.{ClientId}
+use Rattle.hs_base.specs.Ids.{client_of}
 use Rattle.hs_caller.specs.Calling.{Calling}
 use Rattle.hs_caller.specs.Standing.{IsAt, HasSentSoFar}
 use Rattle.hs_records.specs.Plain.{Operation, PlainSettings, PlainWorkload}
@@ -10,7 +11,7 @@ use Rattle.hs_workload.specs.Validity.{IsValid, client_pieces}
 use Rattle.hs_desk.specs.Work.{Work, IsFew}
 use Rattle.hs_desk.proofs.Few.{few_of_sent}
 use Rattle.hs_desk.proofs.Lists.{got}
-use Rattle.hs_rounds.specs.Standing.{Site, SiteStands, client_at}
+use Rattle.hs_rounds.specs.Standing.{Site, SiteStands}
 use Rattle.hs_rounds.specs.Meeting.{SiteMeets}
 
 module _ (W : PlainWorkload) (valid : IsValid W) (n : ℕ) (low : n < W.settings.nodes) (work : Work) (old new : Site) (stands : SiteStands W n work old) (meets : SiteMeets W n work old new)
@@ -29,7 +30,7 @@ module _ (W : PlainWorkload) (valid : IsValid W) (n : ℕ) (low : n < W.settings
       let parts = ap length all in
       let long = length-append r.received (ring ++ caller.client.triggers.outbox) in
       let is = ap length (stands.agent.received.triggers number r end) in
-      let few = (sent_so W.settings (client_at n number) (operations_at W (place_of W.settings.clients n number)) caller (stands.callers number caller at)).few in
+      let few = (sent_so W.settings (client_of n number) (operations_at W (place_of W.settings.clients n number)) caller (stands.callers number caller at)).few in
       omega (arith, parts, long, is, few)
 
   pub few_met : IsFew W work

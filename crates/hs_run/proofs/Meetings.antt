@@ -4,6 +4,7 @@ use Rattle.std.proofs.Math.Nat.{le-max_left, le-max_right}
 use Rattle.std.proofs.lemmas.List.{reverse-append, map-append}
 use Rattle.std.proofs.lemmas.Option.{same_Some}
 use Rattle.std.specs.Prelude.{slice_get}
+use Rattle.hs_base.specs.Ids.{client_of}
 use Rattle.hs_link.specs.Contents.{Incoming, Outgoing, Contains}
 use Rattle.hs_live.specs.Calls.{AreMates}
 use Rattle.hs_live.specs.Keys.{Key}
@@ -16,7 +17,7 @@ use Rattle.hs_caller.specs.Calling.{Calling}
 use Rattle.hs_caller.specs.Standing.{IsAt}
 use Rattle.hs_desk.specs.Manned.{Manned}
 use Rattle.hs_desk.specs.Work.{Work}
-use Rattle.hs_rounds.specs.Standing.{Site, SiteStands, client_at}
+use Rattle.hs_rounds.specs.Standing.{Site, SiteStands}
 use Rattle.hs_rounds.specs.Meeting.{EndsMet, CallerMet, GiverMet, SiteMeets, told_of}
 use Rattle.hs_run.specs.Sites.{MeetsOne, HaveMet}
 use Rattle.hs_desk.proofs.Lists.{same_or_less, found_in, get_set, get_other, within, take_more, take_get, get_take}
@@ -115,8 +116,8 @@ module _ (W : PlainWorkload) (node : ℕ) (work : Work) (number : ℕ) (old mid 
         count = ap length one.callers ∙ length-set mid.callers number one.after ∙ h.stands.count;
         callers = λ k x at. elim (found k x at) [
           | inl e ↦
-              subst (λ (n : ℕ). IsAt W.settings (client_at node n) (operations_at W (place_of W.settings.clients node n)) x) e.0
-              (subst (λ (y : Calling). IsAt W.settings (client_at node number) (operations_at W (place_of W.settings.clients node number)) y) e.1 one.at)
+              subst (λ (n : ℕ). IsAt W.settings (client_of node n) (operations_at W (place_of W.settings.clients node n)) x) e.0
+              (subst (λ (y : Calling). IsAt W.settings (client_of node number) (operations_at W (place_of W.settings.clients node number)) y) e.1 one.at)
           | inr e ↦ h.stands.callers k x e.1
         ];
         mates = λ k x at. elim (found k x at) [

@@ -8,6 +8,7 @@ use Rattle.std.specs.List.{flat_map}
 use Rattle.hs_actors.specs.Doings.{steps_of}
 use Rattle.hs_base.specs.declared.ids.ClientId.{ClientId}
 use Rattle.hs_base.specs.declared.limits.TheConstants.{MAX_OPERATIONS, MAX_NODES, MAX_CLIENTS}
+use Rattle.hs_base.specs.Ids.{client_of}
 use Rattle.hs_caller.specs.Calling.{Calling}
 use Rattle.hs_counts.specs.declared.client.ClientCount.{ClientCount}
 use Rattle.hs_counts.specs.declared.log.LogCount.{LogCount}
@@ -27,7 +28,7 @@ use Rattle.hs_retell.proofs.Meetings.{caller_at, done_at, here_at}
 use Rattle.hs_retell.proofs.Moments.{doing_same, round_steps, site_acts, site_meets, site_of, site_there, stands_at}
 use Rattle.hs_ring.specs.Parts.{Leased}
 use Rattle.hs_rounds.specs.Meeting.{SiteMeets}
-use Rattle.hs_rounds.specs.Standing.{Site, Moment, SiteStands, Stands, IsBegun, client_at}
+use Rattle.hs_rounds.specs.Standing.{Site, Moment, SiteStands, Stands, IsBegun}
 use Rattle.hs_sent.specs.Sending.{operations_at, place_of}
 use Rattle.hs_words.specs.Buffers.{Buffer}
 use Rattle.hs_words.specs.Pages.{Sheet}
@@ -75,7 +76,7 @@ module _ (so : SendSo) (W : PlainWorkload) (node : ℕ) (work : Work) (old new :
       let parts = ap length all in
       let long = length-append r.received (ring ++ caller.client.chunks.outbox) in
       let is = ap length (stands.agent.received.chunks number r end) in
-      let few = few_chunks so W.settings (client_at node number) (operations_at W (place_of W.settings.clients node number)) caller (stands.callers number caller at) in
+      let few = few_chunks so W.settings (client_of node number) (operations_at W (place_of W.settings.clients node number)) caller (stands.callers number caller at) in
       omega (arith, parts, long, is, few)
 
   owned : (buffer : Buffer Leased) → IsPageThere W work.node work.pool buffer → (k : ℕ) × (k < W.settings.clients) × (is_of k buffer ≡ true)
@@ -273,7 +274,7 @@ module _ (W : PlainWorkload) (rounds : ℕ) (nodes : List Node) (c : Coordinatin
           let counted_there = gone_on.first node number x caller (omega (arith, low, nodes_are)) there found in
           let same : count ≡ client_count ops caller = same_Some count (client_count ops caller) (sym at ∙ ap (slice_get clients') (sym is) ∙ counted_there) in
           let a = stands.callers number caller found in
-          let client = client_at node number in
+          let client = client_of node number in
           let done_is = ap (λ (x : ClientCount). x.done) same in
           let points_are = ap (λ (x : ClientCount). x.points) same in
           let nulls_are = ap (λ (x : ClientCount). x.nulls) same in
@@ -346,7 +347,7 @@ none_counted W clients logs valid clients_none logs_none m begun =
           let ops = operations_at W (place_of W.settings.clients node number) in
           ap (λ (l : List ClientCount). slice_get l (place_of W.settings.clients node number)) clients_none
           ∙ replicated no_operations (length W.clients) (place_of W.settings.clients node number) (omega (arith, last, below, many))
-          ∙ ap (λ (x : ClientCount). Some x) (sym (nothing_counted W.settings (client_at node number) ops caller (stands.callers number caller found) (begun.done node number site caller at found)));
+          ∙ ap (λ (x : ClientCount). Some x) (sym (nothing_counted W.settings (client_of node number) ops caller (stands.callers number caller found) (begun.done node number site caller at found)));
       logs = λ node low.
           ap (λ (l : List LogCount). slice_get l node) logs_none
           ∙ replicated no_steps W.settings.nodes node low

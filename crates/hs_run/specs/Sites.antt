@@ -2,6 +2,7 @@
 use Rattle.std.specs.Prelude.{◌≡◌, ℕ, ◌<◌, ◌≤◌, Bool, true, false, List, length, slice_get, slice_set, take, Some}
 use Rattle.hs_base.specs.Listing.{Listing}
 use Rattle.hs_base.specs.declared.settings.Settings.{Settings}
+use Rattle.hs_base.specs.Ids.{client_of}
 use Rattle.hs_model.specs.Stepping.{Event}
 use Rattle.hs_records.specs.Plain.{PlainWorkload, settings_of}
 use Rattle.hs_ring.specs.Parts.{Leased}
@@ -13,7 +14,7 @@ use Rattle.hs_workload.specs.Views.{operations_of}
 use Rattle.hs_caller.specs.Calling.{Calling}
 use Rattle.hs_desk.specs.Manned.{Manned, IsManned, Passes}
 use Rattle.hs_desk.specs.Work.{Work, IsFew}
-use Rattle.hs_rounds.specs.Standing.{Site, SiteStands, client_at}
+use Rattle.hs_rounds.specs.Standing.{Site, SiteStands}
 use Rattle.hs_live.specs.Calls.{MeetsAt}
 use Rattle.hs_caller.specs.Standing.{IsAt}
 use Rattle.hs_rounds.specs.Acting.{SiteActs}
@@ -75,7 +76,7 @@ pub record MeetsOne (W : PlainWorkload) (node : ℕ) (work : Work) (number : ℕ
   pub callers : new.callers ≡ slice_set old.callers number after
   pub met : MeetsAt number old.agent.port before.client new.agent.port after.client
   pub done : after.done ≡ before.done
-  pub at : IsAt W.settings (client_at node number) (operations_at W (place_of W.settings.clients node number)) after
+  pub at : IsAt W.settings (client_of node number) (operations_at W (place_of W.settings.clients node number)) after
   pub manned : IsManned W work new.agent
   pub desk : new.agent ≡ record old.agent { port = new.agent.port }
 

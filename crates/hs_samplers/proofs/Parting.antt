@@ -7,6 +7,7 @@ use Rattle.hs_base.specs.declared.ids.ClientId.{ClientId}
 use Rattle.hs_base.specs.declared.ids.TraceId.{TraceId}
 use Rattle.hs_base.specs.declared.limits.TheConstants.{MIN_SIZE}
 use Rattle.hs_base.specs.declared.told.Group.{Group}
+use Rattle.hs_base.specs.Ids.{same_trace}
 use Rattle.hs_journal.specs.declared.journal.Draw.{Draw}
 use Rattle.hs_journal.specs.declared.journal.Draw.TheVariants.{Got, Empty}
 use Rattle.hs_journal.specs.Views.{PlainJournal}
@@ -14,7 +15,7 @@ use Rattle.hs_ledger.specs.declared.ledger.Entry.{Entry}
 use Rattle.hs_ledger.specs.Totals.{is_reported}
 use Rattle.hs_model.specs.Books.{fate_of}
 use Rattle.hs_model.specs.Laws.{claiming_group, StandsByClaim}
-use Rattle.hs_model.specs.Standings.{ChunkStanding, Indexed, Pinned, Reported, Evicted, Abandoned, Taken, same_trace, trace_of}
+use Rattle.hs_model.specs.Standings.{ChunkStanding, Indexed, Pinned, Reported, Evicted, Abandoned, Taken, trace_of}
 use Rattle.hs_model.specs.State.{ClaimedTrace, claim_of}
 use Rattle.hs_records.specs.Laws.{Traces, RiseFrom, CarriesRecords, CarryRecords, traces_of}
 use Rattle.hs_records.specs.Pages.{PlainPage, first_record, pages_of}

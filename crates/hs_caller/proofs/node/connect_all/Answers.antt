@@ -2,6 +2,7 @@ use Rattle.std.proofs.Common.{◌≡◌, ◌+◌, [], ◌∷◌, ◌++◌, List,
 use Rattle.std.proofs.lemmas.Iterator.Adapters.{YieldsList-from_vec}
 use Rattle.std.proofs.lemmas.Iterator.Consumers.{YieldsList-turn, YieldsList-end}
 use Rattle.std.proofs.lemmas.List.{length-map, map-append}
+use Rattle.hs_base.specs.Ids.{client_of}
 use Rattle.hs_live.specs.Live.{incoming}
 use Rattle.hs_player.specs.Places.{IsPlayable}
 use Rattle.hs_records.specs.Plain.{Operation}
@@ -9,7 +10,7 @@ use Rattle.hs_sent.specs.Sending.{place_of}
 use Rattle.hs_workload.specs.Views.{operation_of, workload_of}
 use Rattle.hs_caller.specs.Calling.{Calling}
 use Rattle.hs_caller.specs.Making.{IsConnected}
-use Rattle.hs_caller.specs.Nodes.{AreBegun, Receiving, client_of, ops_of, lefts_of}
+use Rattle.hs_caller.specs.Nodes.{AreBegun, Receiving, ops_of, lefts_of}
 use Rattle.hs_caller.specs.Standing.{IsDrawerFor}
 use Rattle.hs_caller.proofs.Clients.{next_is, can_draw, are_few, place_low, count_of, count_drawers}
 use Rattle.hs_caller.proofs.Connecting.{begun_more}

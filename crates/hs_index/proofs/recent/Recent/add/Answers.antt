@@ -4,7 +4,8 @@ use Rattle.std.specs.Map.{values_of, lookup, set_value}
 use Rattle.std.proofs.lemmas.Map.Steps.{set_value_same}
 use Rattle.lru.specs.LruCache.{LruCache, promoted}
 use Rattle.hs_base.specs.declared.ids.TraceId.{TraceId}
-use Rattle.hs_index.specs.Index.{Noted, same_trace, noted_of, touch, with_chunk, chunk_count, count_chunks}
+use Rattle.hs_base.specs.Ids.{same_trace}
+use Rattle.hs_index.specs.Index.{Noted, noted_of, touch, with_chunk, chunk_count, count_chunks}
 use Rattle.hs_words.specs.Buffers.{buffer_of}
 use Rattle.hs_index.specs.Touched.{Touched, listed}
 use Rattle.hs_index.proofs.Listed.{count-listed, find-missing}

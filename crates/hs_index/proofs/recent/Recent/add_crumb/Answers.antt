@@ -4,7 +4,8 @@ use Rattle.std.proofs.lemmas.Result.{on_ok_weaker}
 use Rattle.std.specs.Map.{values_of, lookup, set_value}
 use Rattle.lru.specs.LruCache.{LruCache, promoted}
 use Rattle.hs_base.specs.declared.ids.TraceId.{TraceId}
-use Rattle.hs_index.specs.Index.{Noted, Indexed, same_trace, is_of, noted_of, touch, with_crumb, chunk_count, count_chunks}
+use Rattle.hs_base.specs.Ids.{same_trace}
+use Rattle.hs_index.specs.Index.{Noted, Indexed, is_of, noted_of, touch, with_crumb, chunk_count, count_chunks}
 use Rattle.hs_index.specs.Touched.{Touched, listed}
 use Rattle.hs_index.proofs.Outcomes.{on_ok, on_err}
 use Rattle.hs_index.proofs.Listed.{count-listed, find-missing}

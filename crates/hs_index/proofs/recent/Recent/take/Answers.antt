@@ -3,7 +3,8 @@ use Rattle.std.specs.Prelude.{sum_by}
 use Rattle.std.specs.Map.{values_of, remove_entry}
 use Rattle.lru.specs.LruCache.{LruCache}
 use Rattle.hs_base.specs.declared.ids.TraceId.{TraceId}
-use Rattle.hs_index.specs.Index.{Noted, Indexed, same_trace, noted_of, others, chunk_count, count_chunks}
+use Rattle.hs_base.specs.Ids.{same_trace}
+use Rattle.hs_index.specs.Index.{Noted, Indexed, noted_of, others, chunk_count, count_chunks}
 use Rattle.hs_index.specs.Touched.{Touched, listed}
 use Rattle.hs_index.proofs.Listed.{others-listed}
 use Rattle.hs_index.proofs.Touching.{noted-found, noted-missing, found-entry, missing-entry, remove-missing, count-remove, length-remove, count-whole}

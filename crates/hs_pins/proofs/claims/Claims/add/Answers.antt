@@ -1,7 +1,7 @@
 use Rattle.std.proofs.Common.{◌≡◌, [], ◌∷◌, ◌++◌, map, sym, ap, subst, ◌∙◌}
 use Rattle.indexmap.proofs.CallerLemmas.{insert_entry-new}
+use Rattle.hs_base.specs.Ids.{same_trace}
 use Rattle.hs_pins.specs.declared.claims.Note.{Note}
-use Rattle.hs_pins.specs.Remembered.{same_trace}
 use Rattle.hs_pins.specs.ClaimsLayout.{ClaimList, claim_from, AreNoted}
 use Rattle.hs_pins.proofs.Noted.{Notes, unclaimed_note, are_noted-more, place_within, note_added}
 use Rattle.hs_pins.proofs.claims.Claims.add.Goals as goal

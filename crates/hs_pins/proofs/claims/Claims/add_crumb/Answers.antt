@@ -1,8 +1,8 @@
 use Rattle.std.proofs.Common.{map, refl, sym, ap, subst, ◌∙◌}
 use Rattle.std.specs.Prelude.{not}
 use Rattle.std.specs.Map.{set_value}
+use Rattle.hs_base.specs.Ids.{same_trace}
 use Rattle.hs_pins.specs.declared.claims.Note.{Note}
-use Rattle.hs_pins.specs.Remembered.{same_trace}
 use Rattle.hs_pins.specs.ClaimsLayout.{ClaimList, claim_from, AreNoted}
 use Rattle.hs_pins.proofs.Noted.{Notes, claimed_note, are_noted-set, crumb_there, crumb_noted}
 use Rattle.hs_pins.proofs.claims.Claims.add_crumb.Goals as goal

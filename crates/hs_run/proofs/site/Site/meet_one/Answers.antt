@@ -1,5 +1,6 @@
 use Rattle.std.proofs.Common.{get_or, ap, length, sym, subst, arith}
-use Rattle.hs_rounds.specs.Standing.{Site, SiteStands, client_at}
+use Rattle.hs_base.specs.Ids.{client_of}
+use Rattle.hs_rounds.specs.Standing.{Site, SiteStands}
 use Rattle.hs_sent.specs.Sending.{operations_at, place_of}
 use Rattle.hs_run.specs.Layout.{site_of}
 use Rattle.hs_run.specs.Sites.{MeetsOne}
@@ -44,7 +45,7 @@ returns c = λ W node work stands.
       callers = lent_is items now c.args.number c.meet.new.caller c.as_mut_slice.ensures.value;
       met = c.meet.ensures.met;
       done = c.meet.ensures.done;
-      at = c.meet.ensures.at W.settings (client_at node c.args.number) (operations_at W (place_of W.settings.clients node c.args.number)) (here.callers c.args.number before there);
+      at = c.meet.ensures.at W.settings (client_of node c.args.number) (operations_at W (place_of W.settings.clients node c.args.number)) (here.callers c.args.number before there);
       manned = c.meet.ensures.manned W work here.agent;
       desk = c.meet.ensures.only;
     })

@@ -1,0 +1,12 @@
+-- When two ids are one, and the id of a client by its node and its number there.
+use Rattle.std.specs.Prelude.{ℕ, Bool, ◌==◌}
+use Rattle.hs_base.specs.declared.ids.ClientId.{ClientId}
+use Rattle.hs_base.specs.declared.ids.TraceId.{TraceId}
+
+-- whether two traces are one
+abbrev pub same_trace : TraceId → TraceId → Bool
+same_trace a b = a.0 == b.0
+
+-- the client of a node with this number
+abbrev pub client_of : (node number : ℕ) → ClientId
+client_of node number = record { node = node; number = number }
