@@ -12,12 +12,13 @@ use Rattle.hs_model.specs.State.{start}
 use Rattle.hs_records.specs.Pages.{pages_of}
 use Rattle.hs_records.specs.Plain.{PlainWorkload}
 use Rattle.hs_sent.specs.Sending.{Sent, ClientSends, client_sends, node_sends}
+use Rattle.hs_sent.specs.OneMore.{items_of}
 use Rattle.hs_lawful.specs.Ends.{rounds_of, took_all, is_left_bare}
 use Rattle.hs_lawful.specs.Following.{Chunks, Crumbs, Triggers, Asks, taken, asks_to, is_from, log_at, NodeRun, Run, is_done}
 use Rattle.hs_lawful.specs.Passes.{passes_of, queues_of, is_whole_pass}
 use Rattle.hs_lawful.specs.Shape.{same_counts}
 use Rattle.hs_actors.specs.Doings.{NodeDoings, Doings, all_events, steps_of, last_state, all_heard, journal_of, node_at_end, run_of}
-use Rattle.hs_actors.specs.Facts.{items_of, IsPass, IsPlayable, ArePlayable, HavePasses, HaveRounds, HaveNothingPinned}
+use Rattle.hs_actors.specs.Facts.{IsPass, IsPlayable, ArePlayable, HavePasses, HaveRounds, HaveNothingPinned}
 use Rattle.hs_actors.specs.Playing.{DoingsAreFollowed, CanBeFollowed, HaveShape, AreWholePasses, AreEnough, AreBare}
 use Rattle.hs_actors.proofs.Following.{all_get, taken_chunks, taken_crumbs, taken_triggers, taken_asks}
 use Rattle.hs_actors.proofs.Nodes.{node_there, log_there, own_log}

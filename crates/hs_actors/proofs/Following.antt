@@ -18,10 +18,11 @@ use Rattle.hs_model.specs.State as model
 use Rattle.hs_model.specs.Stepping.{Chunk, Crumbed, Triggered, Asked, Turn, Answered, Given, Missed, Unread, Event, Took, Gave, after_event, after_from, after, step_of_answer, told_by}
 use Rattle.hs_records.specs.Plain.{PlainSettings, PlainWorkload}
 use Rattle.hs_sent.specs.Sending.{Sent, ClientSends, client_sends, node_sends}
+use Rattle.hs_sent.specs.OneMore.{items_of}
 use Rattle.hs_lawful.specs.Following.{Queue, Chunks, Crumbs, Triggers, Asks, takes, taken, ask_by, asks_behind, asks_to, NodeRun, Run, log_at, node_start, run_start, next_of, event_of, perform, step_node, is_from, message_of, is_done}
 use Rattle.hs_lawful.specs.Orders.{Leads, Stays, Goes, OrdersAgree, DoneIsAtRest}
 use Rattle.hs_actors.specs.Doings.{joined, NodeDoings, Doings, all_events, events_in, steps_of, state_after, last_state, chunk_in, crumb_in, trigger_in, ask_in, chunks_in, crumbs_in, triggers_in, asks_in, heard_in, all_heard, journal_of, node_at_end, run_of}
-use Rattle.hs_actors.specs.Facts.{items_of, IsOwn, HandsReady, IsPlayable, ArePlayable}
+use Rattle.hs_actors.specs.Facts.{IsOwn, HandsReady, IsPlayable, ArePlayable}
 use Rattle.hs_actors.specs.Playing.{DoingsAreFollowed}
 use Rattle.hs_actors.proofs.Nodes.{some_same, range_at, node_there, own_log}
 

@@ -13,16 +13,14 @@ use Rattle.hs_model.specs.Stepping.{Chunk, Crumbed, Triggered, Asked, Turn, Answ
 use Rattle.hs_records.specs.Pages.{pages_of}
 use Rattle.hs_records.specs.Plain.{PlainSettings, PlainWorkload}
 use Rattle.hs_sent.specs.Drawn.{DrawnPage, stamp_of}
-use Rattle.hs_sent.specs.Sending.{Sent, ClientSends, client_sends, node_sends, sent_within}
+use Rattle.hs_sent.specs.Sending.{ClientSends, client_sends, node_sends, sent_within}
+use Rattle.hs_sent.specs.OneMore.{items_of}
 use Rattle.hs_lawful.specs.Ends.{rounds_of}
 use Rattle.hs_lawful.specs.Following.{Queue, Chunks, Crumbs, Triggers, Asks, asks_to, is_from}
 use Rattle.hs_lawful.specs.Passes.{queues_of}
 use Rattle.hs_lawful.specs.Shape.{log_stamps}
 use Rattle.hs_lawful.specs.Unreads.{round_of}
 use Rattle.hs_actors.specs.Doings.{NodeDoings, Doings, all_events, events_in, steps_of, state_after, last_state, chunks_in, crumbs_in, triggers_in, asks_in, heard_in, all_heard, journal_of}
-
-abbrev pub items_of : {A : Type 0} → List (Sent A) → List A
-items_of items = map (λ item. item.item) items
 
 -- ---- a pass
 

@@ -11,7 +11,7 @@ use Rattle.hs_base.specs.Listing.{Listing}
 use Rattle.hs_base.specs.declared.limits.TheConstants.{MAX_OPERATIONS, MAX_NODES, MAX_CLIENTS, MIN_SIZE, MAX_SIZE, MAX_BUFFERS}
 use Rattle.hs_records.specs.Plain.{Operation, PlainSettings, PlainWorkload, settings_of}
 use Rattle.hs_ring.specs.Parts.{Drawing, Giving, new_drawers}
-use Rattle.hs_sent.specs.Sending.{place_of}
+use Rattle.hs_sent.specs.Sending.{place_of, ops_of}
 use Rattle.hs_words.specs.Chunks.{clear_chunk, clear_chunks}
 use Rattle.hs_words.specs.Pools.{PoolName}
 use Rattle.hs_workload.specs.Validity.{IsValid, client_pieces, workload_pieces}
@@ -19,7 +19,7 @@ use Rattle.hs_workload.specs.Views.{operations_of, workload_of}
 use Rattle.hs_workload.specs.declared.operation.Op.{Op}
 use Rattle.hs_workload.specs.declared.operation.Workload.{Workload}
 use Rattle.hs_workload.specs.declared.word.Setting.TheVariants as words
-use Rattle.hs_caller.specs.Nodes.{AreClientsOf, lefts_of, ops_of, drawer_for}
+use Rattle.hs_caller.specs.Nodes.{AreClientsOf, lefts_of, drawer_for}
 use Rattle.hs_caller.specs.Standing.{IsDrawerFor}
 
 -- ---- how many there are

@@ -12,10 +12,11 @@ use Rattle.hs_live.specs.Live.{Live, GoesOn, Flushes}
 use Rattle.hs_live.specs.Writing.{DrawsOn}
 use Rattle.hs_records.specs.Plain.{Operation, PlainSettings}
 use Rattle.hs_ring.specs.Parts.{Drawing, Leased}
+use Rattle.hs_sent.specs.SoFar.{done_behind}
 use Rattle.hs_words.specs.Buffers.{Buffer}
 use Rattle.hs_caller.specs.Calling.{Calling}
 use Rattle.hs_caller.specs.Counting.{Uses}
-use Rattle.hs_caller.specs.Standing.{IsAt, Goes, done_behind}
+use Rattle.hs_caller.specs.Standing.{IsAt, Goes}
 use Rattle.hs_caller.proofs.Operations.{Stands}
 use Rattle.hs_caller.proofs.Going.{Stays, StaysSo, at_next, at_same}
 

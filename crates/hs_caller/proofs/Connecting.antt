@@ -12,11 +12,12 @@ use Rattle.hs_live.specs.Keys.{Key}
 use Rattle.hs_live.specs.Live.{IsEnd, incoming}
 use Rattle.hs_records.specs.Plain.{PlainWorkload}
 use Rattle.hs_ring.specs.Parts.{Drawing, Giving, Leased}
+use Rattle.hs_sent.specs.Sending.{ops_of}
 use Rattle.hs_words.specs.Buffers.{Buffer}
 use Rattle.hs_caller.specs.Calling.{Calling}
 use Rattle.hs_caller.specs.declared.making.Connected.{Connected}
 use Rattle.hs_caller.specs.Making.{IsConnected}
-use Rattle.hs_caller.specs.Nodes.{LinkBegins, CallerBegins, AreBegun, NodeBegins, Receiving, ops_of, drawer_for}
+use Rattle.hs_caller.specs.Nodes.{LinkBegins, CallerBegins, AreBegun, NodeBegins, Receiving, drawer_for}
 
 -- ---- lists with an item more
 

@@ -7,7 +7,8 @@ use Rattle.hs_records.specs.Plain.{Operation, Point, End, PlainSettings}
 use Rattle.hs_sent.specs.Draws.{count_started}
 use Rattle.hs_sent.specs.Samples.{settings, begin, crumb}
 use Rattle.hs_sent.specs.Sending.{sends_of, sent_within}
-use Rattle.hs_caller.specs.Standing.{done_behind, sheets_in}
+use Rattle.hs_sent.specs.SoFar.{done_behind}
+use Rattle.hs_caller.specs.Standing.{sheets_in}
 
 abbrev owner : ClientId
 owner = record { node = 0; number = 0 }

@@ -12,7 +12,7 @@ use Rattle.hs_live.specs.Keys.{Key}
 use Rattle.hs_live.specs.Live.{Port, IsEnd}
 use Rattle.hs_records.specs.Plain.{Operation, PlainSettings, PlainWorkload}
 use Rattle.hs_ring.specs.Parts.{Leased, Drawing, Giving}
-use Rattle.hs_sent.specs.Sending.{operations_at, place_of}
+use Rattle.hs_sent.specs.Sending.{ops_of}
 use Rattle.hs_words.specs.Buffers.{Buffer}
 use Rattle.hs_workload.specs.Validity.{IsValid, client_pieces}
 use Rattle.hs_workload.specs.Views.{operations_of, workload_of}
@@ -33,10 +33,6 @@ pub record AreClientsOf (w : Workload) (node : ℕ) (clients : List (Listing Op)
 -- how many pages each of these clients may draw for
 abbrev pub lefts_of : ℕ → List (Listing Op) → List ℕ
 lefts_of size clients = map (λ ops. client_pieces size (operations_of ops)) clients
-
--- the operations of the client of a node with this number
-abbrev pub ops_of : PlainWorkload → (node number : ℕ) → List Operation
-ops_of W node number = operations_at W (place_of W.settings.clients node number)
 
 -- ---- the beginning
 

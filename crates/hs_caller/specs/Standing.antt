@@ -1,5 +1,5 @@
 -- Where a caller stands between rounds, what a round does to it, and what it has sent by then.
-use Rattle.std.specs.Prelude.{◌≡◌, ◌↔◌, ℕ, ◌+◌, ◌<◌, ◌≤◌, min, Bool, IsTrue, List, [], ◌++◌, length, map, take, drop, slice_get, Option, Some}
+use Rattle.std.specs.Prelude.{◌≡◌, ◌↔◌, ℕ, ◌+◌, ◌<◌, ◌≤◌, Bool, IsTrue, List, [], ◌++◌, length, map, take, drop, slice_get, Option, Some}
 use Rattle.std.specs.List.{AllByRecursion}
 use Rattle.hs_base.specs.declared.ids.ClientId.{ClientId}
 use Rattle.hs_client.specs.Calls.{note_of}
@@ -18,6 +18,7 @@ use Rattle.hs_ring.specs.Parts.{Leased, Drawing, Giving}
 use Rattle.hs_sent.specs.Draws.{count_started}
 use Rattle.hs_sent.specs.OneMore.{items_of}
 use Rattle.hs_sent.specs.Sending.{Sent, sends_of, sent_within}
+use Rattle.hs_sent.specs.SoFar.{done_behind}
 use Rattle.hs_words.specs.Buffers.{Buffer}
 use Rattle.hs_words.specs.Pages.{Sheet}
 use Rattle.hs_workload.specs.Validity.{client_pieces}
@@ -61,10 +62,6 @@ pub record IsAt (settings : PlainSettings) (client : ClientId) (ops : List Opera
   pub few : caller.client.triggers.room ≤ client_pieces settings.size ops
 
 -- ---- a round
-
--- how many operations are done behind a round, of those that there are
-abbrev pub done_behind : (stride done : ℕ) → List Operation → ℕ
-done_behind stride done ops = min (done + stride) (length ops)
 
 -- The sender is the same end and went on. If anything waits in its outbox, as far as it heard each entry of the ring was in use.
 pub record IsFlushed {T F : Type 0} (s t : Outgoing T F) : Type 0 where

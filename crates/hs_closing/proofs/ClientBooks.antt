@@ -13,9 +13,9 @@ use Rattle.hs_journal.specs.Views.{PlainJournal}
 use Rattle.hs_outcome.specs.Outcomes.{client_at, client_book}
 use Rattle.hs_records.specs.Pages.{pages_of}
 use Rattle.hs_records.specs.Plain.{PlainWorkload}
-use Rattle.hs_sent.specs.Sending.{operations_at}
+use Rattle.hs_sent.specs.Sending.{operations_at, ops_of}
 use Rattle.hs_caller.specs.Calling.{Calling}
-use Rattle.hs_caller.specs.Nodes.{AreNotes, ops_of}
+use Rattle.hs_caller.specs.Nodes.{AreNotes}
 use Rattle.hs_closing.specs.Noted.{IsNoted, books_of, first_books}
 
 -- the client at the place of a node's client

@@ -6,9 +6,9 @@ use Rattle.hs_journal.specs.Books.{PlainClientBook}
 use Rattle.hs_journal.specs.Views.{PlainJournal}
 use Rattle.hs_outcome.specs.Outcomes.{client_book}
 use Rattle.hs_records.specs.Plain.{PlainWorkload}
-use Rattle.hs_sent.specs.Sending.{draws_at, place_of}
+use Rattle.hs_sent.specs.Sending.{draws_at, place_of, ops_of}
 use Rattle.hs_caller.specs.Calling.{Calling}
-use Rattle.hs_caller.specs.Nodes.{AreNotes, ops_of}
+use Rattle.hs_caller.specs.Nodes.{AreNotes}
 use Rattle.hs_caller.specs.Standing.{IsAt}
 
 -- The client has done all, and the journal notes its draws.

@@ -8,15 +8,16 @@ use Rattle.hs_model.specs.Laws.{sheets_of}
 use Rattle.hs_model.specs.State.{AgentState, start}
 use Rattle.hs_model.specs.Stepping.{Unread, Event, after}
 use Rattle.hs_records.specs.Plain.{PlainWorkload}
-use Rattle.hs_sent.specs.Sending.{ClientSends, client_sends, sends_of, draws_at, place_of}
+use Rattle.hs_sent.specs.Sending.{ClientSends, client_sends, sends_of, draws_at, place_of, ops_of}
+use Rattle.hs_sent.specs.OneMore.{items_of}
 use Rattle.hs_words.specs.Ends.{IsTogether}
 use Rattle.hs_lawful.specs.Following.{asks_to, is_from}
 use Rattle.hs_actors.specs.Pools.{draw_answer}
 use Rattle.hs_workload.specs.Validity.{IsValid}
 use Rattle.hs_actors.specs.Doings.{NodeDoings, all_events, events_in, state_after, last_state, chunks_in, crumbs_in, triggers_in, asks_in, heard_in, all_heard, journal_of}
-use Rattle.hs_actors.specs.Facts.{items_of, IsPass, IsOwn, TookAllOf, HandsReady, IsPlayable, EndsItsOffers, EndOffersFrom}
+use Rattle.hs_actors.specs.Facts.{IsPass, IsOwn, TookAllOf, HandsReady, IsPlayable, EndsItsOffers, EndOffersFrom}
 use Rattle.hs_gathered.specs.Turns.{AreTurns}
-use Rattle.hs_gathered.specs.Ends.{operations_of, GoesOn}
+use Rattle.hs_gathered.specs.Ends.{GoesOn}
 use Rattle.hs_gathered.specs.Stories.{NodeStory, Story, added, node_doings, doings_of, draws_of, sends_at, state_by, EndsPass, IsQueueStory, sent_by, TakesFrom, TalksWith, PoolsWith, IsNodeStory, IsStory}
 use Rattle.hs_gathered.specs.Stories as stories
 use Rattle.hs_gathered.proofs.Lists.{all_each, each_at}
@@ -46,7 +47,7 @@ module _ (W : PlainWorkload) (s : Story) (story : IsStory W s) where
   own_draws valid node client low few = draws_are (place_of W.settings.clients node client) (place_low W valid node client low few)
 
   pub own_sends : IsValid W → (node client : ℕ) → node < W.settings.nodes → client < W.settings.clients → client_sends W (journal_of W (doings_of W s)) node client ≡ sends_at W s node client
-  own_sends valid node client low few = ap (sends_of W.settings (record { node = node; number = client }) (operations_of W node client)) (own_draws valid node client low few)
+  own_sends valid node client low few = ap (sends_of W.settings (record { node = node; number = client }) (ops_of W node client)) (own_draws valid node client low few)
 
   module _ (node : ℕ) (low : node < W.settings.nodes) where
     abbrev pub doings : NodeDoings

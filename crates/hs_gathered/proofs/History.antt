@@ -9,13 +9,13 @@ use Rattle.hs_records.specs.Plain.{Operation, PlainWorkload}
 use Rattle.hs_records.specs.Records.{AreBracketed}
 use Rattle.hs_sent.specs.Drawn.{DrawnPage}
 use Rattle.hs_sent.specs.Laws.{TimedPagesAreTimely}
-use Rattle.hs_sent.specs.Sending.{client_sends, draws_at, place_of}
+use Rattle.hs_sent.specs.Sending.{client_sends, draws_at, place_of, ops_of}
 use Rattle.hs_sent.specs.Timing.{TimedPage, timed_pages}
 use Rattle.hs_words.specs.Ends.{Answer}
 use Rattle.hs_lawful.specs.Unreads.{round_of}
 use Rattle.hs_actors.specs.Doings.{NodeDoings}
 use Rattle.hs_actors.specs.Pools.{draw_answer}
-use Rattle.hs_gathered.specs.Ends.{operations_of, done_by}
+use Rattle.hs_gathered.specs.Ends.{done_by}
 use Rattle.hs_gathered.proofs.PoolOf.{IsPoolOf}
 use Rattle.hs_gathered.proofs.Lists.{all_both, all_each, all_get, all_back_to_front, each_at, get_low, get_high}
 use Rattle.hs_gathered.proofs.Rounds.{IsFit, split_at, all_start, page_at, round_within, round_behind}
@@ -85,7 +85,7 @@ module _ (timely : TimedPagesAreTimely) (W : PlainWorkload) (fit : IsFit W) (J :
       }
     where
       ops : List Operation
-      ops = operations_of W n.node client
+      ops = ops_of W n.node client
 
       done : ℕ
       done = done_by W n.node client k

@@ -11,7 +11,7 @@ use Rattle.hs_records.specs.Pages.{pages_of}
 use Rattle.hs_records.specs.Plain.{Operation, PlainWorkload}
 use Rattle.hs_sent.specs.Draws.{count_started}
 use Rattle.hs_sent.specs.Laws.{TimedPagesAreTimely, TimedPagesAreThePages}
-use Rattle.hs_sent.specs.Sending.{Sent, ClientSends, client_sends, sent_within, place_of}
+use Rattle.hs_sent.specs.Sending.{Sent, ClientSends, client_sends, sent_within, place_of, ops_of}
 use Rattle.hs_sent.specs.SoFar.{AllChunksAreSent, AllCrumbsAreSent, AllTriggersAreSent}
 use Rattle.hs_sent.specs.Timing.{TimedPage, timed_pages}
 use Rattle.hs_lawful.specs.Following.{asks_to, is_from}
@@ -21,7 +21,7 @@ use Rattle.hs_actors.specs.Facts.{IsPass, IsPlayable, ArePlayable, HaveDrawn, Ha
 use Rattle.hs_actors.specs.Playing.{AreLawfulDoings}
 use Rattle.hs_actors.specs.Pools.{draw_answer, IsPooled}
 use Rattle.hs_actors.specs.Unread.{IsPooledUnread, ArePooledUnread}
-use Rattle.hs_gathered.specs.Ends.{operations_of, done_by}
+use Rattle.hs_gathered.specs.Ends.{done_by}
 use Rattle.hs_gathered.specs.Laws.{agent_of, agent_behind}
 use Rattle.hs_gathered.specs.Stories.{Story, added, node_doings, doings_of, draws_of, sends_at, IsQueueStory, sent_by, IsStory}
 use Rattle.hs_gathered.proofs.Lists.{all_each, each_at, few_kept}
@@ -49,10 +49,10 @@ module _ (known : Known) (W : PlainWorkload) (valid : IsValid W) (s : Story) (st
   -- ---- the pace
 
   module _ (node : ℕ) (low : node < W.settings.nodes) (client : ℕ) (few : client < W.settings.clients) where
-    within_round : {A : Type 0} (items : List (Sent A)) → sent_within (length (operations_of W node client)) items ≡ items → (k : ℕ) → length (sent_within (k * W.settings.stride) items) ≡ sent_by W node client items k
-    within_round items whole k = ap length (within_all (k * W.settings.stride) (length (operations_of W node client)) items whole)
+    within_round : {A : Type 0} (items : List (Sent A)) → sent_within (length (ops_of W node client)) items ≡ items → (k : ℕ) → length (sent_within (k * W.settings.stride) items) ≡ sent_by W node client items k
+    within_round items whole k = ap length (within_all (k * W.settings.stride) (length (ops_of W node client)) items whole)
 
-    in_rounds : {A B : Type 0} (part : ClientSends → List (Sent A)) (taken : List Event → List B) → sent_within (length (operations_of W node client)) (part (sends_at W s node client)) ≡ part (sends_at W s node client)
+    in_rounds : {A B : Type 0} (part : ClientSends → List (Sent A)) (taken : List Event → List B) → sent_within (length (ops_of W node client)) (part (sends_at W s node client)) ≡ part (sends_at W s node client)
         → IsQueueStory s.rounds s.passes (λ k. length (taken ((s.nodes node).events k))) (sent_by W node client (part (sends_at W s node client))) (length (part (sends_at W s node client)))
         → IsToldInRounds W.settings (length (node_doings s node).passes) (λ k. length (taken (events_in (node_doings s node) k)))
         (λ k. length (sent_within (k * W.settings.stride) (part (client_sends W (journal_of W (doings_of W s)) node client))))
@@ -71,9 +71,9 @@ module _ (known : Known) (W : PlainWorkload) (valid : IsValid W) (s : Story) (st
         let f = fit_of W valid in
         let bracketed = f.bracketed (place_of W.settings.clients node client) in
         record {
-          chunks = in_rounds (λ (sends : ClientSends). sends.chunks) (chunks_in client) (known.chunks W.settings.size (record { node = node; number = client }) (operations_of W node client) (draws_of W s node client) f.least bracketed) t.chunks;
-          crumbs = in_rounds (λ (sends : ClientSends). sends.crumbs) (crumbs_in client) (known.crumbs (operations_of W node client)) t.crumbs;
-          triggers = in_rounds (λ (sends : ClientSends). sends.triggers) (triggers_in client) (known.triggers W.settings.autos (operations_of W node client)) t.triggers;
+          chunks = in_rounds (λ (sends : ClientSends). sends.chunks) (chunks_in client) (known.chunks W.settings.size (record { node = node; number = client }) (ops_of W node client) (draws_of W s node client) f.least bracketed) t.chunks;
+          crumbs = in_rounds (λ (sends : ClientSends). sends.crumbs) (crumbs_in client) (known.crumbs (ops_of W node client)) t.crumbs;
+          triggers = in_rounds (λ (sends : ClientSends). sends.triggers) (triggers_in client) (known.triggers W.settings.autos (ops_of W node client)) t.triggers;
         }
 
   asks_in_pace : (node : ℕ) (low : node < W.settings.nodes) → AsksInPace W (doings_of W s) (node_doings s node)
@@ -123,11 +123,11 @@ module _ (known : Known) (W : PlainWorkload) (valid : IsValid W) (s : Story) (st
 
   -- ---- draws
 
-  count_all : (node : ℕ) → node < W.settings.nodes → (client : ℕ) → client < W.settings.clients → length (draws_of W s node client) ≡ length (pages_of W.settings.size (operations_of W node client))
+  count_all : (node : ℕ) → node < W.settings.nodes → (client : ℕ) → client < W.settings.clients → length (draws_of W s node client) ≡ length (pages_of W.settings.size (ops_of W node client))
   count_all node low client few =
       let p = (story.each node low).pools in
       let f = fit_of W valid in
-      let ops = operations_of W node client in
+      let ops = ops_of W node client in
       let done = (story.each node low).done client few in
       let all : done_by W node client s.rounds ≡ length ops = omega (arith, done) in
       sym (length-map (draws_of W s node client) draw_answer) ∙ ap length (p.drawn client few) ∙ length-reverse (((s.nodes node).ends s.rounds).answers client) ∙ p.started s.rounds client (omega arith) few

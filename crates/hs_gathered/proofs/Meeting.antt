@@ -11,7 +11,7 @@ use Rattle.hs_model.specs.Stepping.{Event}
 use Rattle.hs_records.specs.Plain.{PlainWorkload}
 use Rattle.hs_sent.specs.Drawn.{DrawnPage, stamp_of}
 use Rattle.hs_sent.specs.Laws.{TimedPagesAreTimely}
-use Rattle.hs_sent.specs.Sending.{client_sends, draws_at, place_of}
+use Rattle.hs_sent.specs.Sending.{client_sends, draws_at, place_of, ops_of}
 use Rattle.hs_sent.specs.Timing.{timed_pages}
 use Rattle.hs_words.specs.Ends.{Answer, answers_in}
 use Rattle.hs_lawful.specs.Shape.{step_stamp, log_stamps}
@@ -19,7 +19,6 @@ use Rattle.hs_lawful.specs.Unreads.{round_of}
 use Rattle.hs_actors.specs.Doings.{joined, NodeDoings, all_events, events_in, steps_of}
 use Rattle.hs_actors.specs.Facts.{MeetsInRounds}
 use Rattle.hs_actors.specs.Pools.{draw_answer}
-use Rattle.hs_gathered.specs.Ends.{operations_of}
 use Rattle.hs_gathered.proofs.PoolOf.{IsPoolOf}
 use Rattle.hs_gathered.proofs.Lists.{all_each, all_get, all_front, all_back, all_mapped, all_back_to_front, each_at, get_some, get_within, take_whole}
 use Rattle.hs_gathered.proofs.Rounds.{IsFit, all_start, page_at, all_pages_at, round_behind}
@@ -113,8 +112,8 @@ module _ (timely : TimedPagesAreTimely) (W : PlainWorkload) (fit : IsFit W) (J :
   starts_in_rounds client few =
       each_at (λ (page : DrawnPage). round_of W.settings.stride page.started ≤ rounds) (client_sends W J n.node client).drawn
       (λ i page h.
-      let at = page_at (record { node = n.node; number = client }) 0 (timed_pages W.settings.size (operations_of W n.node client)) (draws_at J (place_of W.settings.clients n.node client)) i page h in
-      let ops = operations_of W n.node client in
+      let at = page_at (record { node = n.node; number = client }) 0 (timed_pages W.settings.size (ops_of W n.node client)) (draws_at J (place_of W.settings.clients n.node client)) i page h in
+      let ops = ops_of W n.node client in
       let starts =
       all_get (λ t. t.started < length ops) (timed_pages W.settings.size ops) i at.timed
       (all_start 0 (length ops) (timed_pages W.settings.size ops) (timely W.settings.size ops fit.least (fit.bracketed (place_of W.settings.clients n.node client)))) at.there in
@@ -127,7 +126,7 @@ module _ (timely : TimedPagesAreTimely) (W : PlainWorkload) (fit : IsFit W) (J :
       each_at (λ (page : DrawnPage). page.client.number ≡ client) (client_sends W J n.node client).drawn
       (λ i page h.
       ap (λ owner. owner.number)
-      (page_at (record { node = n.node; number = client }) 0 (timed_pages W.settings.size (operations_of W n.node client)) (draws_at J (place_of W.settings.clients n.node client)) i page h).owner)
+      (page_at (record { node = n.node; number = client }) 0 (timed_pages W.settings.size (ops_of W n.node client)) (draws_at J (place_of W.settings.clients n.node client)) i page h).owner)
 
   -- what holds of the answers up to a round, the last of which is the last of all
   pub early_or_all : (P : Answer → Type 0) (round client : ℕ) → client < W.settings.clients → AllByRecursion P ((p.at (min round rounds)).answers client)

@@ -7,12 +7,12 @@ use Rattle.hs_model.specs.Laws.{sheets_of}
 use Rattle.hs_model.specs.Stepping.{Event}
 use Rattle.hs_records.specs.Plain.{PlainWorkload}
 use Rattle.hs_sent.specs.Draws.{count_started}
-use Rattle.hs_sent.specs.Sending.{draws_at, place_of}
+use Rattle.hs_sent.specs.Sending.{draws_at, place_of, ops_of}
 use Rattle.hs_words.specs.Ends.{Deed, IsTogether}
 use Rattle.hs_actors.specs.Doings.{NodeDoings, events_in, last_state}
 use Rattle.hs_actors.specs.Pools.{draw_answer}
 use Rattle.hs_gathered.specs.Turns.{Lent, AreTurns}
-use Rattle.hs_gathered.specs.Ends.{operations_of, done_by, Ends, GoesOn, HasMet}
+use Rattle.hs_gathered.specs.Ends.{done_by, Ends, GoesOn, HasMet}
 
 -- The lease names the draw that the journal notes for the page.
 pub record IsDrawnFor (W : PlainWorkload) (J : PlainJournal) (node : ℕ) (lent : Lent) : Type 0 where
@@ -28,8 +28,8 @@ pub record IsPoolOf (W : PlainWorkload) (J : PlainJournal) (n : NodeDoings) (rou
   pub passes : (k : ℕ) (pass : List Event) → slice_get n.passes k ≡ Some pass → GoesOn pass (at k) (at (suc k))
   pub meets : (k client : ℕ) → k < rounds → client < W.settings.clients → HasMet client (at k) (at (suc k))
   -- each client drew for the pages that it started, and has done all of its operations
-  pub started : (k client : ℕ) → k ≤ rounds → client < W.settings.clients → length ((at k).answers client) ≡ count_started W.settings.size (operations_of W n.node client) (done_by W n.node client k)
-  pub done : (client : ℕ) → client < W.settings.clients → length (operations_of W n.node client) ≤ rounds * W.settings.stride
+  pub started : (k client : ℕ) → k ≤ rounds → client < W.settings.clients → length ((at k).answers client) ≡ count_started W.settings.size (ops_of W n.node client) (done_by W n.node client k)
+  pub done : (client : ℕ) → client < W.settings.clients → length (ops_of W n.node client) ≤ rounds * W.settings.stride
   pub drawn : (client : ℕ) → client < W.settings.clients → map draw_answer (draws_at J (place_of W.settings.clients n.node client)) ≡ reverse ((at rounds).answers client)
   -- the chunks as they came
   pub lents : List Lent

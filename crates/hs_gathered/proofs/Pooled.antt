@@ -11,7 +11,7 @@ use Rattle.hs_model.specs.Standings.{Taken}
 use Rattle.hs_model.specs.Stepping.{Event}
 use Rattle.hs_records.specs.Plain.{PlainWorkload}
 use Rattle.hs_sent.specs.Drawn.{DrawnPage}
-use Rattle.hs_sent.specs.Sending.{ClientSends, client_sends, draws_at, place_of}
+use Rattle.hs_sent.specs.Sending.{ClientSends, client_sends, draws_at, place_of, ops_of}
 use Rattle.hs_sent.specs.Timing.{timed_pages}
 use Rattle.hs_words.specs.Ends.{Deed, Answer, answers_in, answers_by, is_any_given, AreAnswers}
 use Rattle.hs_words.specs.PoolHistory.{is_missed}
@@ -22,7 +22,7 @@ use Rattle.hs_lawful.specs.Pooled.{page_of}
 use Rattle.hs_actors.specs.Doings.{joined, NodeDoings, all_events, events_in, node_at_end}
 use Rattle.hs_actors.specs.Pools.{draw_answer, give_of, give_at, answers_to, IsPooled}
 use Rattle.hs_gathered.specs.Turns.{Lent, AreTurns}
-use Rattle.hs_gathered.specs.Ends.{operations_of, done_by}
+use Rattle.hs_gathered.specs.Ends.{done_by}
 use Rattle.hs_gathered.proofs.PoolOf.{IsDrawnFor, IsPoolOf}
 use Rattle.hs_gathered.proofs.Lists.{all_get, few_kept, range_at, range_long, take_whole, some_same}
 use Rattle.hs_gathered.proofs.Rounds.{starts_before, drawn_draws, page_of_draw}
@@ -58,10 +58,10 @@ module _ (adds : EventsAddThis) (W : PlainWorkload) (J : PlainJournal) (n : Node
   drawers : length (map (p.at rounds).answers (range_with_len 0 W.settings.clients)) ≡ W.settings.clients
   drawers = length-map (range_with_len 0 W.settings.clients) (p.at rounds).answers ∙ range_long 0 W.settings.clients
 
-  few_draws : (client : ℕ) → client < W.settings.clients → length (draws_at J (place_of W.settings.clients n.node client)) ≤ length (timed_pages W.settings.size (operations_of W n.node client))
+  few_draws : (client : ℕ) → client < W.settings.clients → length (draws_at J (place_of W.settings.clients n.node client)) ≤ length (timed_pages W.settings.size (ops_of W n.node client))
   few_draws client few =
       let long = sym (length-map (draws_at J (place_of W.settings.clients n.node client)) draw_answer) ∙ ap length (p.drawn client few) ∙ length-reverse ((p.at rounds).answers client) ∙ p.started rounds client (omega arith) few in
-      let kept = few_kept (starts_before (done_by W n.node client rounds)) (timed_pages W.settings.size (operations_of W n.node client)) in
+      let kept = few_kept (starts_before (done_by W n.node client rounds)) (timed_pages W.settings.size (ops_of W n.node client)) in
       omega (arith, long, kept)
 
   -- ---- what is given
@@ -78,7 +78,7 @@ module _ (adds : EventsAddThis) (W : PlainWorkload) (J : PlainJournal) (n : Node
       → option_and_then (λ (page : DrawnPage). give_of stamp page.draw) (page_of run lent.sheet) ≡ Some (record { stamp = stamp; event = pool.Given lent.buffer; draw = lent.draw })
   page_given lent stamp d =
       let client = lent.sheet.header.client.number in
-      let page = page_of_draw (record { node = n.node; number = client }) 0 (timed_pages W.settings.size (operations_of W n.node client)) (draws_at J (place_of W.settings.clients n.node client)) lent.sheet.header.page
+      let page = page_of_draw (record { node = n.node; number = client }) 0 (timed_pages W.settings.size (ops_of W n.node client)) (draws_at J (place_of W.settings.clients n.node client)) lent.sheet.header.page
       (draws.Got lent.buffer lent.draw) (few_draws client d.client) d.draw in
       ap (λ (o : Option ClientSends). option_and_then (λ (page : DrawnPage). give_of stamp page.draw) (option_and_then (λ (sends : ClientSends). slice_get sends.drawn lent.sheet.header.page) o)) (sends_there client d.client)
       ∙ ap (option_and_then (λ (page : DrawnPage). give_of stamp page.draw)) page.there
@@ -109,7 +109,7 @@ module _ (adds : EventsAddThis) (W : PlainWorkload) (J : PlainJournal) (n : Node
         spent = p.together.spent;
         nobody_else = subst (λ m. AllByRecursion (λ (deed : Deed). deed.by ≤ m) p.log) drawers p.together.nobody_else;
         drawn = λ client few. p.drawn client few ∙ ap reverse (answers_are client few);
-        paged = λ client few. drawn_draws (record { node = n.node; number = client }) 0 (timed_pages W.settings.size (operations_of W n.node client)) (draws_at J (place_of W.settings.clients n.node client)) (few_draws client few);
+        paged = λ client few. drawn_draws (record { node = n.node; number = client }) 0 (timed_pages W.settings.size (ops_of W n.node client)) (draws_at J (place_of W.settings.clients n.node client)) (few_draws client few);
         kinds = subst (AllByRecursion (λ (a : Answer). (is_any_given a.event ≡ true) ⊎ (is_missed a.event ≡ true))) p.together.giver (turns_kinds W.settings n.node p.lents (all_events n) (p.at (length n.passes)).turns last_turns);
         gives = turns_gives W.settings n.node p.lents adds (give_at run) named (all_events n) (p.at (length n.passes)).turns last_turns ∙ on_giver (filter (λ (a : Answer). is_any_given a.event));
         known = turns_known W.settings n.node p.lents adds (give_at run) named (all_events n) (p.at (length n.passes)).turns last_turns;

@@ -2,19 +2,15 @@
 use Rattle.std.specs.Prelude.{◌≡◌, ℕ, ◌*◌, ◌<◌, ◌≤◌, ◌==◌, min, true, List, ◌++◌, length}
 use Rattle.std.specs.List.{AllByRecursion, list_any}
 use Rattle.hs_model.specs.Stepping.{Event}
-use Rattle.hs_records.specs.Plain.{Operation, PlainWorkload}
-use Rattle.hs_sent.specs.Sending.{operations_at, place_of}
+use Rattle.hs_records.specs.Plain.{PlainWorkload}
+use Rattle.hs_sent.specs.Sending.{ops_of}
 use Rattle.hs_words.specs.Ends.{Answer, Turn, answers_in, told_in}
 use Rattle.hs_lawful.specs.Shape.{log_stamps}
 use Rattle.hs_actors.specs.Doings.{steps_of}
 
--- the operations of a node's client
-abbrev pub operations_of : PlainWorkload → (node client : ℕ) → List Operation
-operations_of W node client = operations_at W (place_of W.settings.clients node client)
-
 -- how many of its operations a client has done when so many rounds are over
 abbrev pub done_by : PlainWorkload → (node client rounds : ℕ) → ℕ
-done_by W node client rounds = min (rounds * W.settings.stride) (length (operations_of W node client))
+done_by W node client rounds = min (rounds * W.settings.stride) (length (ops_of W node client))
 
 -- what the ends of a pool know: the giver's turns and the answers of each client's drawer, the last of which stand first, and their floors
 pub record Ends : Type 0 where

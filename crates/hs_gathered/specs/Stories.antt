@@ -11,14 +11,15 @@ use Rattle.hs_model.specs.State.{AgentState, start}
 use Rattle.hs_model.specs.Stepping.{Answered, Unread, Event, after}
 use Rattle.hs_records.specs.Plain.{PlainWorkload}
 use Rattle.hs_sent.specs.Draws.{count_started}
-use Rattle.hs_sent.specs.Sending.{Sent, ClientSends, sends_of, sent_within, place_of}
+use Rattle.hs_sent.specs.Sending.{Sent, ClientSends, sends_of, sent_within, place_of, ops_of}
+use Rattle.hs_sent.specs.OneMore.{items_of}
 use Rattle.hs_words.specs.Ends.{Deed, IsTogether}
 use Rattle.hs_lawful.specs.Following.{asks_to, is_from}
 use Rattle.hs_actors.specs.Doings.{NodeDoings, Doings, chunks_in, crumbs_in, triggers_in, asks_in}
-use Rattle.hs_actors.specs.Facts.{items_of, IsPass, IsOwn, IsStamped, HandsReady}
+use Rattle.hs_actors.specs.Facts.{IsPass, IsOwn, IsStamped, HandsReady}
 use Rattle.hs_actors.specs.Pools.{draw_answer}
 use Rattle.hs_gathered.specs.Turns.{Lent, AreTurns}
-use Rattle.hs_gathered.specs.Ends.{operations_of, done_by, Ends, GoesOn, HasMet}
+use Rattle.hs_gathered.specs.Ends.{done_by, Ends, GoesOn, HasMet}
 
 -- A node: behind so many passes the events of its agent, and what the ends of its pool know; the chunks as they came to the agent; and all
 -- deeds at its pool.
@@ -60,7 +61,7 @@ abbrev pub draws_of : PlainWorkload → Story → (node client : ℕ) → List D
 draws_of W s node client = s.draws (place_of W.settings.clients node client)
 
 abbrev pub sends_at : PlainWorkload → Story → (node client : ℕ) → ClientSends
-sends_at W s node client = sends_of W.settings (record { node = node; number = client }) (operations_of W node client) (draws_of W s node client)
+sends_at W s node client = sends_of W.settings (record { node = node; number = client }) (ops_of W node client) (draws_of W s node client)
 
 -- a node's agent behind so many passes
 abbrev pub state_by : PlainWorkload → Story → (node passes : ℕ) → AgentState
@@ -125,7 +126,7 @@ pub record PoolsWith (W : PlainWorkload) (s : Story) (node : ℕ) : Type 0 where
   pub meets : (k client : ℕ) → k < s.rounds → client < W.settings.clients → HasMet client ((s.nodes node).ends k) ((s.nodes node).ends (suc k))
   -- each client drew for the pages that it started
   pub started : (k client : ℕ) → k ≤ s.rounds → client < W.settings.clients
-      → length (((s.nodes node).ends k).answers client) ≡ count_started W.settings.size (operations_of W node client) (done_by W node client k)
+      → length (((s.nodes node).ends k).answers client) ≡ count_started W.settings.size (ops_of W node client) (done_by W node client k)
   pub drawn : (client : ℕ) → client < W.settings.clients → map draw_answer (draws_of W s node client) ≡ reverse (((s.nodes node).ends s.rounds).answers client)
   pub turns : (k : ℕ) → k ≤ s.passes → AreTurns W.settings node (s.nodes node).lents ((s.nodes node).events k) ((s.nodes node).ends k).turns
   pub sheets : map (λ (lent : Lent). lent.sheet) (s.nodes node).lents ≡ sheets_of (state_by W s node s.passes).taken
@@ -142,7 +143,7 @@ pub record IsNodeStory (W : PlainWorkload) (s : Story) (node : ℕ) : Type 0 whe
   pub hands : HandsReady W.settings node (start W.settings) ((s.nodes node).events s.passes)
   pub unpinned : length (state_by W s node s.passes).pinned ≡ 0
   -- each client has done all of its operations when the rounds are over
-  pub done : (client : ℕ) → client < W.settings.clients → length (operations_of W node client) ≤ s.rounds * W.settings.stride
+  pub done : (client : ℕ) → client < W.settings.clients → length (ops_of W node client) ≤ s.rounds * W.settings.stride
   pub takes : (client : ℕ) → client < W.settings.clients → TakesFrom W s node client
   pub talks : TalksWith W s node
   pub pools : PoolsWith W s node

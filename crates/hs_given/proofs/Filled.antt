@@ -6,12 +6,12 @@ use Rattle.hs_base.specs.declared.ids.ClientId.{ClientId}
 use Rattle.hs_base.specs.declared.told.Crumb.{Crumb}
 use Rattle.hs_base.specs.declared.told.Trigger.{Trigger}
 use Rattle.hs_journal.specs.declared.journal.Draw.{Draw}
-use Rattle.hs_player.specs.Places.{IsAt, IsChunkAt, TakesCrumb, TakesTrigger, WentOn, done_behind}
+use Rattle.hs_player.specs.Places.{IsAt, IsChunkAt, TakesCrumb, TakesTrigger, WentOn}
 use Rattle.hs_player.specs.Playing.{Playing, Unleased}
 use Rattle.hs_records.specs.Plain.{Operation, PlainSettings}
 use Rattle.hs_sent.specs.Laws.{TimedPagesAreThePages, TimedPagesAreTimely}
 use Rattle.hs_sent.specs.Sending.{sends_of, sent_within}
-use Rattle.hs_sent.specs.SoFar.{AllChunksAreSent}
+use Rattle.hs_sent.specs.SoFar.{AllChunksAreSent, done_behind}
 use Rattle.hs_given.specs.declared.filling.Filling.{Filling}
 use Rattle.hs_given.specs.declared.script.Script.{Script}
 use Rattle.hs_given.specs.Fillings.{IsFilling, IsFilled}

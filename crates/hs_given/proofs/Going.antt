@@ -16,7 +16,7 @@ use Rattle.hs_sent.specs.Drawn.{has_buffer, drawn_from, drawn_pages}
 use Rattle.hs_sent.specs.Laws.{TimedPagesAreThePages, TimedPagesAreTimely}
 use Rattle.hs_sent.specs.Order.{ChunksAreInOrder, CrumbsAreInOrder, TriggersAreInOrder}
 use Rattle.hs_sent.specs.Sending.{ClientSends, Sent, sends_of, sent_chunks, sent_within}
-use Rattle.hs_sent.specs.SoFar.{FirstChunksAreSent, FirstOperationsSend, pages_within}
+use Rattle.hs_sent.specs.SoFar.{FirstChunksAreSent, FirstOperationsSend, pages_within, done_behind}
 use Rattle.hs_sent.specs.Timing.{timed_pages}
 use Rattle.hs_words.specs.Pages.{Sheet}
 use Rattle.hs_given.specs.declared.gathering.Gathering.{Gathering}

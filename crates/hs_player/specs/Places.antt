@@ -1,6 +1,6 @@
 -- Where a player is: how many of its client's operations are done, at which draws, and how much of what these sent the agent took. All
 -- else that they sent waits in the player's queues, in order.
-use Rattle.std.specs.Prelude.{◌≡◌, ◌↔◌, ℕ, ◌+◌, ◌-◌, ◌<◌, ◌≤◌, nat_lt, min, Bool, IsTrue, List, [], ◌∷◌, ◌++◌, length, map, take, drop, filter, slice_get, Option, Some, MatchOption}
+use Rattle.std.specs.Prelude.{◌≡◌, ◌↔◌, ℕ, ◌+◌, ◌-◌, ◌<◌, ◌≤◌, nat_lt, Bool, IsTrue, List, [], ◌∷◌, ◌++◌, length, map, take, drop, filter, slice_get, Option, Some, MatchOption}
 use Rattle.std.specs.List.{flat_map}
 use Rattle.hs_base.specs.declared.ids.ClientId.{ClientId}
 use Rattle.hs_base.specs.declared.settings.AutoRule.{AutoRule}
@@ -19,6 +19,7 @@ use Rattle.hs_sent.specs.Draws.{draws_behind, event_drawn, count_started}
 use Rattle.hs_sent.specs.Drawn.{DrawnPage}
 use Rattle.hs_sent.specs.OneMore.{items_of}
 use Rattle.hs_sent.specs.Sending.{Sent, ClientSends, sends_of, sent_within, sheet_of}
+use Rattle.hs_sent.specs.SoFar.{done_behind}
 use Rattle.hs_words.specs.Chunks.{Contents, with_page, clear_chunk}
 use Rattle.hs_words.specs.Pages.{Sheet}
 use Rattle.hs_words.specs.PoolHistory.{Event}
@@ -99,10 +100,6 @@ pub record IsWithin (rules : List AutoRule) (ops : List Operation) (pool : Pool)
   pub at : IsAt settings client ops drawn done k l m player
   pub rules_are : rules ≡ settings.autos
   pub sized : HasSize settings.size pool
-
--- how many operations are done when so many more were, of those that there are
-abbrev pub done_behind : (stride done : ℕ) → List Operation → ℕ
-done_behind stride done ops = min (done + stride) (length ops)
 
 -- the draws of the pages that these operations start, behind the history of the pool
 abbrev pub draws_going : PlainSettings → List Operation → (done done' : ℕ) → (buffers : ℕ) → List Event → List Draw

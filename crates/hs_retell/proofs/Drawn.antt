@@ -4,14 +4,14 @@ use Rattle.hs_records.specs.Plain.{PlainWorkload}
 use Rattle.hs_sent.specs.Draws.{count_started}
 use Rattle.hs_workload.specs.Validity.{IsValid}
 use Rattle.hs_caller.specs.Calling.{Calling}
-use Rattle.hs_gathered.specs.Ends.{operations_of, done_by}
+use Rattle.hs_gathered.specs.Ends.{done_by}
 use Rattle.hs_rounds.specs.Standing.{Site, Moment}
 use Rattle.hs_rounds.specs.Coming.{Came}
 use Rattle.hs_retell.specs.Laws.{RoundsAreNoted}
 use Rattle.hs_retell.specs.Noting.{NotesClient, JournalsNoteRounds}
 use Rattle.hs_journal.specs.Views.{PlainJournal}
 use Rattle.hs_lawful.specs.Passes.{passes_of}
-use Rattle.hs_sent.specs.Sending.{draws_at, place_of}
+use Rattle.hs_sent.specs.Sending.{draws_at, place_of, ops_of}
 use Rattle.std.specs.List.{flat_map}
 use Rattle.hs_gathered.proofs.Lists.{get_within}
 use Rattle.hs_retell.proofs.Moments.{site_of, site_there, stands_at}
@@ -39,7 +39,7 @@ module _ (sends : HaveSent) (W : PlainWorkload) (rounds : ℕ) (m : Moment) (val
       let done = done_at W valid rounds m came node few k client low own in
       let first = drawn_first W valid rounds m came sends node few client own k low in
       let sent = sent_at W valid rounds m came node few sends k client low own in
-      let ops = operations_of W node client in
+      let ops = ops_of W node client in
       let long = sent.each ∙ ap (count_started W.settings.size ops) done in
       record {
         done = done;

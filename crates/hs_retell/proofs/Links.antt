@@ -17,8 +17,8 @@ use Rattle.hs_rounds.specs.Standing.{Site, Moment, SiteStands}
 use Rattle.hs_rounds.specs.Meeting.{EndsMet, CallerMet}
 use Rattle.hs_rounds.specs.Moving.{IsSameDoing}
 use Rattle.hs_rounds.specs.Coming.{Came}
-use Rattle.hs_gathered.specs.Ends.{operations_of}
 use Rattle.hs_gathered.proofs.Lists.{HasItem, get_some}
+use Rattle.hs_sent.specs.Sending.{ops_of}
 use Rattle.hs_retell.proofs.Moments.{site_of, site_stands, site_acts, site_moves, doing_same}
 use Rattle.hs_retell.proofs.Meetings.{caller_at, acted_at, met_at, goes_at, caller_met, caller_moved}
 
@@ -126,7 +126,7 @@ module _ (W : PlainWorkload) (valid : IsValid W) (rounds : ℕ) (m : Moment) (ca
 
       flushed_in : (k : ℕ) → k < rounds → IsFlushed (kind.sender (caller_at W valid rounds m came node k client).client) (kind.sender (acted_at W valid rounds m came node k client).client)
       flushed_in k low =
-          kind.flushed (operations_of W node client) (caller_at W valid rounds m came node k client) (acted_at W valid rounds m came node k client) (goes_at W valid rounds m came node few k client low own)
+          kind.flushed (ops_of W node client) (caller_at W valid rounds m came node k client) (acted_at W valid rounds m came node k client) (goes_at W valid rounds m came node few k client low own)
 
       sizes : (k : ℕ) → k ≤ rounds → Sizes k
       sizes zero low = record { taken = began.taken; capacity = began.capacity }

@@ -6,6 +6,7 @@ use Rattle.hs_records.specs.Plain.{Operation, PlainSettings, PlainWorkload}
 use Rattle.hs_ring.specs.Parts.{AllBelow}
 use Rattle.hs_sent.specs.Draws.{count_started}
 use Rattle.hs_sent.specs.Timing.{TimedPage, timed_pages}
+use Rattle.hs_sent.specs.Sending.{ops_of}
 use Rattle.hs_words.specs.Ends.{Answer, Turn, answered, unread, met, answers_in, told_in, stamps_in}
 use Rattle.hs_workload.specs.Validity.{IsValid}
 use Rattle.hs_caller.specs.Calling.{Calling}
@@ -13,7 +14,7 @@ use Rattle.hs_caller.specs.Standing.{IsAt, Goes, HasSentSoFar}
 use Rattle.hs_rounds.specs.Standing.{Moment}
 use Rattle.hs_rounds.specs.Meeting.{told_of, CallerMet}
 use Rattle.hs_rounds.specs.Coming.{Came}
-use Rattle.hs_gathered.specs.Ends.{operations_of, done_by, Ends, HasMet}
+use Rattle.hs_gathered.specs.Ends.{done_by, Ends, HasMet}
 use Rattle.hs_retell.proofs.Drawing.{draws_long}
 use Rattle.hs_gathered.proofs.Lists.{reverse_on, all_each}
 use Rattle.hs_retell.proofs.Moments.{site_of, caller_of, site_there, caller_there, site_stands, site_acts, site_meets, site_moves, giver_same}
@@ -106,7 +107,7 @@ module _ (W : PlainWorkload) (valid : IsValid W) (rounds : ℕ) (m : Moment) (ca
     here_met k client low own =
         caller_there W valid rounds m came node ((came.acted k).works node) (site_of W valid rounds m came (came.met k) node) (site_meets W valid rounds m came k node low few).stands client own
 
-    pub goes_at : (k client : ℕ) → k < rounds → client < W.settings.clients → Goes W.settings (operations_of W node client) (caller_at node k client) (acted_at node k client)
+    pub goes_at : (k client : ℕ) → k < rounds → client < W.settings.clients → Goes W.settings (ops_of W node client) (caller_at node k client) (acted_at node k client)
     goes_at k client low own =
         (site_acts W valid rounds m came k node low few).goes client (caller_at node k client) (acted_at node k client) (here_at k client (omega (arith, low)) own) (here_acted k client low own)
 
@@ -122,7 +123,7 @@ module _ (W : PlainWorkload) (valid : IsValid W) (rounds : ℕ) (m : Moment) (ca
         let same = ap (λ callers. slice_get callers client) (site_moves W valid rounds m came k node low few).callers in
         let is : Some (caller_at node (suc k) client) ≡ Some (met_at node k client) = sym some ∙ same ∙ other in cc
 
-    pub is_at : (k client : ℕ) → k ≤ rounds → client < W.settings.clients → IsAt W.settings (record { node = node; number = client }) (operations_of W node client) (caller_at node k client)
+    pub is_at : (k client : ℕ) → k ≤ rounds → client < W.settings.clients → IsAt W.settings (record { node = node; number = client }) (ops_of W node client) (caller_at node k client)
     is_at k client low own = (site_stands W valid rounds m came k node low few).callers client (caller_at node k client) (here_at k client low own)
 
     -- ---- operations
@@ -185,14 +186,14 @@ module _ (W : PlainWorkload) (valid : IsValid W) (rounds : ℕ) (m : Moment) (ca
         either false e rest = rest
 
     module _ (sent : HaveSent) where
-      pub sent_at : (k client : ℕ) → k ≤ rounds → client < W.settings.clients → HasSentSoFar W.settings (record { node = node; number = client }) (operations_of W node client) (caller_at node k client)
-      sent_at k client low own = sent W.settings (record { node = node; number = client }) (operations_of W node client) (caller_at node k client) (is_at k client low own)
+      pub sent_at : (k client : ℕ) → k ≤ rounds → client < W.settings.clients → HasSentSoFar W.settings (record { node = node; number = client }) (ops_of W node client) (caller_at node k client)
+      sent_at k client low own = sent W.settings (record { node = node; number = client }) (ops_of W node client) (caller_at node k client) (is_at k client low own)
 
       pub started_at : (k client : ℕ) → k ≤ rounds → client < W.settings.clients
-          → length ((ends_at node k).answers client) ≡ count_started W.settings.size (operations_of W node client) (done_by W node client k)
+          → length ((ends_at node k).answers client) ≡ count_started W.settings.size (ops_of W node client) (done_by W node client k)
       started_at k client low own =
           let s = sent_at k client low own in
-          sym (draws_long (caller_at node k client).client.drawer.answers) ∙ ap length (sym s.draws) ∙ s.each ∙ ap (count_started W.settings.size (operations_of W node client)) (done_at k client low own)
+          sym (draws_long (caller_at node k client).client.drawer.answers) ∙ ap length (sym s.draws) ∙ s.each ∙ ap (count_started W.settings.size (ops_of W node client)) (done_at k client low own)
 
       pub none_drawn : (client : ℕ) → client < W.settings.clients → (ends_at node 0).answers client ≡ []
       none_drawn client own = empty ((ends_at node 0).answers client) (started_at 0 client (omega arith) own ∙ none (done_by W node client 0) (omega arith))
@@ -201,5 +202,5 @@ module _ (W : PlainWorkload) (valid : IsValid W) (rounds : ℕ) (m : Moment) (ca
           empty [] h = refl
           empty (a ∷ answers) h = absurd (omega (arith, h))
 
-          none : (done : ℕ) → done ≡ 0 → count_started W.settings.size (operations_of W node client) done ≡ 0
-          none done is = ap (count_started W.settings.size (operations_of W node client)) is ∙ none_started (timed_pages W.settings.size (operations_of W node client))
+          none : (done : ℕ) → done ≡ 0 → count_started W.settings.size (ops_of W node client) done ≡ 0
+          none done is = ap (count_started W.settings.size (ops_of W node client)) is ∙ none_started (timed_pages W.settings.size (ops_of W node client))

@@ -5,7 +5,7 @@ use Rattle.hs_base.specs.declared.ids.ClientId.{ClientId}
 use Rattle.hs_journal.specs.declared.journal.Draw.{Draw}
 use Rattle.hs_link.specs.Contents.{sent}
 use Rattle.hs_records.specs.Plain.{PlainWorkload}
-use Rattle.hs_sent.specs.Sending.{Sent, ClientSends, sends_of, sent_within}
+use Rattle.hs_sent.specs.Sending.{Sent, ClientSends, sends_of, sent_within, ops_of}
 use Rattle.hs_words.specs.Buffers.{Buffer}
 use Rattle.hs_words.specs.Ends.{Answer}
 use Rattle.hs_words.specs.Pages.{Sheet}
@@ -16,7 +16,7 @@ use Rattle.hs_caller.specs.Calling.{Calling}
 use Rattle.hs_caller.specs.Standing.{HasSentSoFar, sheets_in}
 use Rattle.hs_rounds.specs.Standing.{Moment}
 use Rattle.hs_rounds.specs.Coming.{Came}
-use Rattle.hs_gathered.specs.Ends.{operations_of, done_by}
+use Rattle.hs_gathered.specs.Ends.{done_by}
 use Rattle.hs_gathered.specs.Stories.{sent_by}
 use Rattle.hs_retell.proofs.Drawing.{draws_more}
 use Rattle.hs_retell.proofs.Moments.{site_acts}
@@ -27,7 +27,7 @@ module _ (W : PlainWorkload) (valid : IsValid W) (rounds : ℕ) (m : Moment) (ca
   last_draws = (caller_at W valid rounds m came node rounds client).client.core.draws
 
   abbrev pub sends_last : ClientSends
-  sends_last = sends_of W.settings (record { node = node; number = client }) (operations_of W node client) last_draws
+  sends_last = sends_of W.settings (record { node = node; number = client }) (ops_of W node client) last_draws
 
   -- what was drawn behind a round
   record Later (k : ℕ) : Type 0 where
@@ -60,9 +60,9 @@ module _ (W : PlainWorkload) (valid : IsValid W) (rounds : ℕ) (m : Moment) (ca
 
   -- ---- what was sent when all had acted
 
-  acted_sent : (k : ℕ) → k < rounds → HasSentSoFar W.settings (record { node = node; number = client }) (operations_of W node client) (acted_at W valid rounds m came node k client)
+  acted_sent : (k : ℕ) → k < rounds → HasSentSoFar W.settings (record { node = node; number = client }) (ops_of W node client) (acted_at W valid rounds m came node k client)
   acted_sent k low =
-      sends W.settings (record { node = node; number = client }) (operations_of W node client) (acted_at W valid rounds m came node k client)
+      sends W.settings (record { node = node; number = client }) (ops_of W node client) (acted_at W valid rounds m came node k client)
       ((site_acts W valid rounds m came k node low few).stands.callers client (acted_at W valid rounds m came node k client) (here_acted W valid rounds m came node few k client low own))
 
   acted_done : (k : ℕ) → k < rounds → (acted_at W valid rounds m came node k client).done ≡ done_by W node client (suc k)
@@ -78,7 +78,7 @@ module _ (W : PlainWorkload) (valid : IsValid W) (rounds : ℕ) (m : Moment) (ca
   chunks_sent k low =
       let d = drawn_first (suc k) (omega (arith, low)) in
       let whole : (acted_at W valid rounds m came node k client).client.core.draws ++ d.more ≡ last_draws = ap (λ front. front ++ d.more) (acted_draws k low) ∙ sym d.draws in
-      let ops = operations_of W node client in
+      let ops = ops_of W node client in
       let owner : ClientId = record { node = node; number = client } in
       sym (length-map (sent (acted_at W valid rounds m came node k client).client.chunks) (λ (chunk : Buffer Leased). chunk.chunk.page))
       ∙ ap length ((acted_sent k low).chunks d.more)

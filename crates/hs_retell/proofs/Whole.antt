@@ -14,7 +14,8 @@ use Rattle.hs_model.specs.Laws.{EventsAddThis}
 use Rattle.hs_model.specs.Stepping.{Event, after}
 use Rattle.hs_records.specs.Plain.{Operation, PlainSettings, PlainWorkload}
 use Rattle.hs_ring.specs.Parts.{Leased}
-use Rattle.hs_sent.specs.Sending.{Sent, ClientSends, sends_of, place_of}
+use Rattle.hs_sent.specs.Sending.{Sent, ClientSends, sends_of, place_of, ops_of}
+use Rattle.hs_sent.specs.OneMore.{items_of}
 use Rattle.hs_words.specs.Buffers.{Buffer}
 use Rattle.hs_words.specs.Ends.{Deed, Answer, IsTogether}
 use Rattle.hs_words.specs.Pages.{Sheet}
@@ -22,7 +23,6 @@ use Rattle.hs_workload.specs.Validity.{IsValid}
 use Rattle.hs_lawful.specs.Following.{is_from}
 use Rattle.hs_lawful.specs.Shape.{log_stamps}
 use Rattle.hs_actors.specs.Doings.{steps_of, chunks_in, crumbs_in, triggers_in}
-use Rattle.hs_actors.specs.Facts.{items_of}
 use Rattle.hs_actors.specs.Pools.{draw_answer}
 use Rattle.hs_caller.specs.Calling.{Calling}
 use Rattle.hs_caller.specs.Standing.{IsAt, IsLeasedTo, HasSentAll}
@@ -30,7 +30,7 @@ use Rattle.hs_desk.specs.Agents.{IsPageThere}
 use Rattle.hs_desk.specs.Work.{Work, is_of, came_of}
 use Rattle.hs_rounds.specs.Standing.{Site, Moment}
 use Rattle.hs_rounds.specs.Coming.{Came}
-use Rattle.hs_gathered.specs.Ends.{operations_of, done_by, Ends}
+use Rattle.hs_gathered.specs.Ends.{done_by, Ends}
 use Rattle.hs_gathered.specs.Stories.{NodeStory, Story, draws_of, sends_at, state_by, IsQueueStory, sent_by, TakesFrom, TalksWith, IsDrawnFor, PoolsWith, IsNodeStory, IsStory}
 use Rattle.hs_retell.specs.Spans.{Post, IsPost, IsStep}
 use Rattle.hs_retell.specs.Closing.{Closing, TakesLeft, IsBare, drawn_at, IsOver}
@@ -112,18 +112,18 @@ module _ (adds : EventsAddThis) (sends : HaveSent) (sends_all : HaveSentAll) (W 
           ∙ ap (λ r. (caller_at W valid rounds m came node rounds r).client.core.draws) rest
 
       sends_are : (client : ℕ) (own : client < W.settings.clients) → sends_at W story node client ≡ sends_last W valid rounds m came sends node few client own
-      sends_are client own = ap (sends_of W.settings (record { node = node; number = client }) (operations_of W node client)) (draws_last client own)
+      sends_are client own = ap (sends_of W.settings (record { node = node; number = client }) (ops_of W node client)) (draws_last client own)
 
-      last_at : (client : ℕ) → client < W.settings.clients → IsAt W.settings (record { node = node; number = client }) (operations_of W node client) (caller_at W valid rounds m came node rounds client)
+      last_at : (client : ℕ) → client < W.settings.clients → IsAt W.settings (record { node = node; number = client }) (ops_of W node client) (caller_at W valid rounds m came node rounds client)
       last_at client own = is_at W valid rounds m came node few rounds client (omega arith) own
 
-      all_done : (client : ℕ) → client < W.settings.clients → (caller_at W valid rounds m came node rounds client).done ≡ length (operations_of W node client)
+      all_done : (client : ℕ) → client < W.settings.clients → (caller_at W valid rounds m came node rounds client).done ≡ length (ops_of W node client)
       all_done client own = over.done node client (site_of W valid rounds m came m node) (caller_at W valid rounds m came node rounds client) (last_site W valid rounds m came passes nodes heard closing node few) (last_caller client own)
 
-      sent_all : (client : ℕ) → client < W.settings.clients → HasSentAll W.settings (record { node = node; number = client }) (operations_of W node client) (caller_at W valid rounds m came node rounds client)
-      sent_all client own = sends_all W.settings (record { node = node; number = client }) (operations_of W node client) (caller_at W valid rounds m came node rounds client) (last_at client own) (all_done client own)
+      sent_all : (client : ℕ) → client < W.settings.clients → HasSentAll W.settings (record { node = node; number = client }) (ops_of W node client) (caller_at W valid rounds m came node rounds client)
+      sent_all client own = sends_all W.settings (record { node = node; number = client }) (ops_of W node client) (caller_at W valid rounds m came node rounds client) (last_at client own) (all_done client own)
 
-      done : (client : ℕ) → client < W.settings.clients → length (operations_of W node client) ≤ rounds * W.settings.stride
+      done : (client : ℕ) → client < W.settings.clients → length (ops_of W node client) ≤ rounds * W.settings.stride
       done client own = let is = done_at W valid rounds m came node few rounds client (omega arith) own in let all = all_done client own in omega (arith, is, all)
 
       post_stands_at : (k : ℕ) → k ≤ passes → IsPost W node (heard_by W valid rounds m came passes nodes heard closing k) (post W valid rounds m came passes nodes heard closing node k)

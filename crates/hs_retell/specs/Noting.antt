@@ -5,12 +5,12 @@ use Rattle.hs_coord.specs.Messages.{Messages}
 use Rattle.hs_journal.specs.Views.{PlainJournal}
 use Rattle.hs_records.specs.Plain.{PlainWorkload}
 use Rattle.hs_sent.specs.Draws.{count_started}
-use Rattle.hs_sent.specs.Sending.{draws_at, place_of}
+use Rattle.hs_sent.specs.Sending.{draws_at, place_of, ops_of}
 use Rattle.hs_workload.specs.Validity.{IsValid}
 use Rattle.hs_lawful.specs.Following.{log_at}
 use Rattle.hs_lawful.specs.Passes.{passes_of}
 use Rattle.hs_actors.specs.Doings.{steps_of}
-use Rattle.hs_gathered.specs.Ends.{operations_of, done_by}
+use Rattle.hs_gathered.specs.Ends.{done_by}
 use Rattle.hs_caller.specs.Calling.{Calling}
 use Rattle.hs_rounds.specs.Standing.{Site, Moment}
 use Rattle.hs_rounds.specs.Coming.{Came}
@@ -21,7 +21,7 @@ use Rattle.hs_retell.specs.Laws.{IsRecounted}
 -- A client behind so many rounds: it had done their operations, and had drawn for the pages that these start, which are its first draws.
 pub record NotesClient (W : PlainWorkload) (J : PlainJournal) (node client rounds : ℕ) (caller : Calling) : Type 0 where
   pub done : caller.done ≡ done_by W node client rounds
-  pub draws : take (count_started W.settings.size (operations_of W node client) (done_by W node client rounds)) (draws_at J (place_of W.settings.clients node client)) ≡ caller.client.core.draws
+  pub draws : take (count_started W.settings.size (ops_of W node client) (done_by W node client rounds)) (draws_at J (place_of W.settings.clients node client)) ≡ caller.client.core.draws
 
 -- Behind so many rounds each agent had done what the journal notes in its first so many passes, and each client has its first draws.
 pub record NotesRounds (W : PlainWorkload) (rounds : ℕ) (m : Moment) (came : Came W rounds m) (J : PlainJournal) : Type 0 where

@@ -108,6 +108,10 @@ place_of each node number = node * each + number
 abbrev pub operations_at : PlainWorkload → ℕ → List Operation
 operations_at W place = unwrap_or (slice_get W.clients place) []
 
+-- the operations of the client of a node with this number
+abbrev pub ops_of : PlainWorkload → (node number : ℕ) → List Operation
+ops_of W node number = operations_at W (place_of W.settings.clients node number)
+
 abbrev pub draws_at : PlainJournal → ℕ → List Draw
 draws_at J place = unwrap_or (slice_get J.draws place) []
 

@@ -1,7 +1,7 @@
 -- What a client has sent when it has done the first of its operations. Pages are timed beside the end of their segment, which a client
 -- that is still at work may not have reached. What it sent is known all the same from the operations that it has done: their pages,
 -- but for the last one of an open trace, which may still take more.
-use Rattle.std.specs.Prelude.{◌≡◌, ℕ, ◌≤◌, nat_lt, Bool, true, false, if◌then◌else◌, List, [], ◌∷◌, ◌++◌, length, map, filter, replicate, refl}
+use Rattle.std.specs.Prelude.{◌≡◌, ℕ, ◌≤◌, nat_lt, Bool, true, false, if◌then◌else◌, List, [], ◌∷◌, ◌++◌, length, map, filter, replicate, refl, ◌+◌, min}
 use Rattle.hs_base.specs.declared.ids.ClientId.{ClientId}
 use Rattle.hs_base.specs.declared.limits.TheConstants.{MIN_SIZE}
 use Rattle.hs_base.specs.declared.settings.AutoRule.{AutoRule}
@@ -22,6 +22,10 @@ has_open_page is (Begin trace ∷ ops) = has_open_page false ops
 has_open_page is (Point moment payload ∷ ops) = has_open_page true ops
 has_open_page is (End ∷ ops) = has_open_page false ops
 has_open_page is (operation ∷ ops) = has_open_page is ops
+
+-- how many operations are done when so many more were, of those that there are
+abbrev pub done_behind : (stride done : ℕ) → List Operation → ℕ
+done_behind stride done ops = min (done + stride) (length ops)
 
 -- the pages that the first so many operations start, and those that they send
 abbrev pub started_within : ℕ → List TimedPage → List TimedPage

@@ -6,11 +6,11 @@ use Rattle.hs_base.specs.Ids.{client_of}
 use Rattle.hs_live.specs.Live.{incoming}
 use Rattle.hs_player.specs.Places.{IsPlayable}
 use Rattle.hs_records.specs.Plain.{Operation}
-use Rattle.hs_sent.specs.Sending.{place_of}
+use Rattle.hs_sent.specs.Sending.{place_of, ops_of}
 use Rattle.hs_workload.specs.Views.{operation_of, workload_of}
 use Rattle.hs_caller.specs.Calling.{Calling}
 use Rattle.hs_caller.specs.Making.{IsConnected}
-use Rattle.hs_caller.specs.Nodes.{AreBegun, Receiving, ops_of, lefts_of}
+use Rattle.hs_caller.specs.Nodes.{AreBegun, Receiving, lefts_of}
 use Rattle.hs_caller.specs.Standing.{IsDrawerFor}
 use Rattle.hs_caller.proofs.Clients.{next_is, can_draw, are_few, place_low, count_of, count_drawers}
 use Rattle.hs_caller.proofs.Connecting.{begun_more}

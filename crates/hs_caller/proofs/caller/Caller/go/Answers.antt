@@ -2,10 +2,11 @@ use Rattle.std.proofs.Common.{◌≡◌, ◌+◌, ◌≤◌, List, map, length, 
 use Rattle.std.proofs.lemmas.List.{length-map}
 use Rattle.hs_base.specs.declared.settings.AutoRule.{AutoRule}
 use Rattle.hs_records.specs.Plain.{settings_of}
+use Rattle.hs_sent.specs.SoFar.{done_behind}
 use Rattle.hs_workload.specs.Views.{operation_of}
 use Rattle.hs_caller.specs.Calling.{Calling}
 use Rattle.hs_caller.specs.Performing.{MayDo}
-use Rattle.hs_caller.specs.Standing.{IsAt, Goes, done_behind}
+use Rattle.hs_caller.specs.Standing.{IsAt, Goes}
 use Rattle.hs_caller.proofs.Operations.{stands, fewer_operations}
 use Rattle.hs_caller.proofs.Going.{may_do}
 use Rattle.hs_caller.proofs.Coming.{HasCome, come_none, come_more, went}

@@ -1,7 +1,7 @@
 use Rattle.std.proofs.Common.{map, arith}
 use Rattle.std.proofs.lemmas.Result.{on_ok_weaker}
+use Rattle.hs_sent.specs.SoFar.{done_behind}
 use Rattle.hs_workload.specs.Views.{operation_of}
-use Rattle.hs_player.specs.Places.{done_behind}
 use Rattle.hs_player.proofs.Pooling.{drew, went_pooled}
 use Rattle.hs_player.proofs.player.Player.go.Goals as goal
 

@@ -1,12 +1,13 @@
 use Rattle.std.proofs.Common.{◌≡◌, ◌+◌, ◌-◌, ◌≤◌, List, [], ◌∷◌, ◌++◌, length, map, take, drop, min, refl, sym, ap, ◌∙◌, subst, arith, take_all}
 use Rattle.std.proofs.lemmas.List.{length-map, map_more}
 use Rattle.hs_records.specs.Plain.{Operation}
+use Rattle.hs_sent.specs.SoFar.{done_behind}
 use Rattle.hs_workload.specs.declared.operation.Op.{Op}
 use Rattle.hs_workload.specs.Views.{operation_of}
 use Rattle.hs_player.specs.Inside.{working_in}
 use Rattle.hs_player.specs.PlayerInside.{playing_in}
 use Rattle.hs_player.specs.Playing.{Playing}
-use Rattle.hs_player.specs.Places.{IsAt, WentOn, done_behind}
+use Rattle.hs_player.specs.Places.{IsAt, WentOn}
 use Rattle.hs_player.proofs.Going.{HasGone, gone_none, gone_more}
 use Rattle.hs_player.proofs.Lists.{next_at, part_behind}
 use Rattle.hs_player.proofs.Ready.{IsReady, ready}
