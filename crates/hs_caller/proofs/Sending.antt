@@ -6,17 +6,17 @@ use Rattle.std.specs.List.{AllByRecursion}
 use Rattle.hs_base.specs.declared.ids.ClientId.{ClientId}
 use Rattle.hs_base.specs.declared.ids.TraceId.{TraceId}
 use Rattle.hs_client.specs.Core.{Core, Step, new_core}
-use Rattle.hs_client.specs.Calls.{AreSteps, IsBook, after, draws_supplied, filled_chunks, segments_of_steps, sheet_for}
+use Rattle.hs_client.specs.Calls.{AreSteps, IsBook, after, draws_supplied, filled_chunks, segments_of_steps, sheet_for, with_all}
 use Rattle.hs_journal.specs.declared.journal.Draw.{Draw}
 use Rattle.hs_journal.specs.declared.journal.Draw.TheVariants as noted
 use Rattle.hs_link.specs.Contents.{sent}
 use Rattle.hs_live.specs.Live.{Live}
-use Rattle.hs_live.specs.Writing.{Made, new_of, coming, noted as noted_as, buffer_got, buffers_by, draws_by, with_all}
+use Rattle.hs_live.specs.Writing.{Made, new_of, noted as noted_as, buffer_got, buffers_by, draws_by}
 use Rattle.hs_live.specs.Done.{HasDone, HasSent}
 use Rattle.hs_player.specs.Places.{IsPlayable}
 use Rattle.hs_records.specs.Plain.{Operation, PlainSettings}
 use Rattle.hs_records.specs.Pages.{PlainPage, pages_of}
-use Rattle.hs_records.specs.Records.{segments_of}
+use Rattle.hs_records.specs.Records.{segments_of, coming}
 use Rattle.hs_ring.specs.Parts.{Leased}
 use Rattle.hs_sent.specs.Draws.{count_started}
 use Rattle.hs_sent.specs.HandedOut.{CoresHandOutSoFar, sheets_of_items}

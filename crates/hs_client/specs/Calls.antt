@@ -52,6 +52,11 @@ abbrev pub with_last : Piece → List Segment → List Segment
 with_last piece [] = []
 with_last piece (segment ∷ older) = record { trace = segment.trace; pieces = segment.pieces ++ piece ∷ [] } ∷ older
 
+-- the same with these pieces more in the newest
+abbrev pub with_all : List Piece → List Segment → List Segment
+with_all [] segments = segments
+with_all (piece ∷ pieces) segments = with_all pieces (with_last piece segments)
+
 -- the segments that were begun; the newest stands first
 abbrev pub segments_of_steps : {L : Type 0} → List (Step L) → List Segment
 segments_of_steps [] = []

@@ -11,18 +11,18 @@ use Rattle.hs_base.specs.declared.told.Trigger.{Trigger}
 use Rattle.hs_base.specs.declared.settings.AutoRule.{AutoRule}
 use Rattle.hs_records.specs.Plain.{Operation, Begin, Point, End, Fire, Sample}
 use Rattle.hs_records.specs.Plain as plain
-use Rattle.hs_records.specs.Records.{NumberedOperation, Piece, Segment, numbered_of, open_behind, pieces_until_end, record_pieces, segments_from, segments_of}
+use Rattle.hs_records.specs.Records.{NumberedOperation, Piece, Segment, numbered_of, open_behind, pieces_until_end, record_pieces, segments_from, segments_of, coming}
 use Rattle.hs_auto.specs.Firing as firing
 use Rattle.hs_auto.specs.Watching.{Watch, HasSampled}
 use Rattle.hs_client.specs.Core.{Core, Current, Step, Began, after_step, new_core}
-use Rattle.hs_client.specs.Calls.{AreSteps, IsBook, May}
+use Rattle.hs_client.specs.Calls.{AreSteps, IsBook, May, with_all}
 use Rattle.hs_link.specs.Contents.{Outgoing, sent}
 use Rattle.hs_ring.specs.Parts.{Leased}
 use Rattle.hs_sent.specs.SoFar.{has_open_page}
 use Rattle.hs_sent.specs.Sending.{crumb_in, sample_in, samples_of, trigger_in}
 use Rattle.hs_live.specs.Keys.{Key}
 use Rattle.hs_live.specs.Live.{Live}
-use Rattle.hs_live.specs.Writing.{Made, Writing, with_all, IsWriting, WritesPieces, WritesEnd, coming, writing_of}
+use Rattle.hs_live.specs.Writing.{Made, Writing, IsWriting, WritesPieces, WritesEnd, writing_of}
 use Rattle.hs_live.specs.Done.{HasDone}
 use Rattle.hs_sent.specs.OneMore.{open_after, next_behind, AreWatching, OneMoreOperation, OneMoreCrumb, OneMoreTrigger}
 use Rattle.std.specs.List.{AllByRecursion}

@@ -11,7 +11,7 @@ use Rattle.hs_base.specs.declared.told.Trigger.{Trigger}
 use Rattle.hs_base.specs.declared.settings.AutoRule.{AutoRule}
 use Rattle.hs_base.specs.Rules.{fired_by}
 use Rattle.hs_records.specs.Plain.{Operation, Sample}
-use Rattle.hs_records.specs.Records.{NumberedOperation, Piece, numbered_of, segments_from, segments_of}
+use Rattle.hs_records.specs.Records.{NumberedOperation, Piece, numbered_of, segments_from, segments_of, coming}
 use Rattle.hs_auto.specs.Firing.{sampled}
 use Rattle.hs_auto.specs.Firing as firing
 use Rattle.hs_auto.specs.Watching.{Watch, HasSampled}
@@ -23,7 +23,7 @@ use Rattle.hs_sent.specs.Sending.{crumb_in, samples_of, trigger_in, trigger_of}
 use Rattle.hs_live.specs.declared.called.Called.TheVariants as called
 use Rattle.hs_live.specs.Keys.{Key}
 use Rattle.hs_live.specs.Live.{Live}
-use Rattle.hs_live.specs.Writing.{IsWriting, coming, writing_of}
+use Rattle.hs_live.specs.Writing.{IsWriting, writing_of}
 use Rattle.hs_live.specs.Done.{Does}
 use Rattle.hs_live.proofs.Lists.{found_in, lent_from}
 use Rattle.hs_live.proofs.Doing.{OneMore, done_now}

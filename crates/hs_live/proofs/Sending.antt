@@ -9,14 +9,14 @@ use Rattle.hs_base.specs.declared.ids.TraceId.{TraceId}
 use Rattle.hs_journal.specs.declared.journal.Draw.{Draw}
 use Rattle.hs_records.specs.Plain.{Operation, Begin, Point, End, Fire, Sample}
 use Rattle.hs_records.specs.Plain as plain
-use Rattle.hs_records.specs.Records.{AreBracketed, segments_of}
+use Rattle.hs_records.specs.Records.{AreBracketed, segments_of, coming}
 use Rattle.hs_records.specs.Pages.{PlainPage, segment_pages, pages_of}
 use Rattle.hs_words.specs.Pages.{Sheet}
 use Rattle.hs_words.specs.PoolHistory.{Event, Got, Empty, Given, Missed}
 use Rattle.hs_words.specs.Ends.{Answer}
 use Rattle.hs_words.specs.Buffers.{Buffer}
 use Rattle.hs_client.specs.Core.{Core, Step, all_pages, handed}
-use Rattle.hs_client.specs.Calls.{AreSteps, IsBook, after, open_trace, segments_of_steps, pages_of_steps, filled_chunks, sheet_for, note_of}
+use Rattle.hs_client.specs.Calls.{AreSteps, IsBook, after, open_trace, segments_of_steps, pages_of_steps, filled_chunks, sheet_for, note_of, with_all}
 use Rattle.hs_link.specs.Contents.{sent}
 use Rattle.hs_ring.specs.Parts.{Leased}
 use Rattle.hs_sent.specs.Timing.{TimedPage, timed_pages}
@@ -25,7 +25,7 @@ use Rattle.hs_sent.specs.Sending.{Sent, sent_chunks}
 use Rattle.hs_sent.specs.Laws.{TimedPagesAreThePages}
 use Rattle.hs_sent.specs.OneMore.{open_after, items_of}
 use Rattle.hs_live.specs.Live.{Live}
-use Rattle.hs_live.specs.Writing.{Made, new_of, coming, noted, draws_by, buffer_got, buffers_by, with_all}
+use Rattle.hs_live.specs.Writing.{Made, new_of, noted, draws_by, buffer_got, buffers_by}
 use Rattle.hs_live.specs.Done.{HasDone, HasSent, HasSentAll}
 
 nothing_comes : (size number : ℕ) (trace : Option TraceId) → coming size number trace [] ≡ []

@@ -11,10 +11,10 @@ use Rattle.hs_words.specs.PoolHistory.{Event, Got, Empty}
 use Rattle.hs_words.specs.Ends.{Answer}
 use Rattle.hs_words.specs.Buffers.{Buffer, buffer_of}
 use Rattle.hs_client.specs.Core.{Core, Step, Began, Wrote, Needed, Supplied, Ended_, Refused, after_step, handed, draw_of, number_after, supplied}
-use Rattle.hs_client.specs.Calls.{May, after, next_number, segments_of_steps, with_last, chunks_supplied, draws_supplied, handed_out}
+use Rattle.hs_client.specs.Calls.{May, after, next_number, segments_of_steps, with_last, chunks_supplied, draws_supplied, handed_out, with_all}
 use Rattle.hs_link.specs.Contents.{sent}
 use Rattle.hs_ring.specs.Parts.{Leased, Drawing, Draws, after_draw}
-use Rattle.hs_live.specs.Writing.{Made, Writing, new_of, noted, buffer_got, buffers_by, ComesBy, with_all, IsWriting}
+use Rattle.hs_live.specs.Writing.{Made, Writing, new_of, noted, buffer_got, buffers_by, ComesBy, IsWriting}
 
 abbrev pub piece_of : ℕ → ℕ → List ℕ → Piece
 piece_of number moment payload = record { number = number; moment = moment; payload = payload }

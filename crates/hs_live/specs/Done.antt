@@ -3,7 +3,7 @@
 use Rattle.std.specs.Prelude.{◌≡◌, false, List, [], ◌∷◌, ◌++◌, map, reverse, Some, None, is_some}
 use Rattle.std.specs.Option.{option_to_list}
 use Rattle.hs_records.specs.Plain.{Operation}
-use Rattle.hs_records.specs.Records.{numbered_of, segments_from, segments_of}
+use Rattle.hs_records.specs.Records.{numbered_of, segments_from, segments_of, coming}
 use Rattle.hs_records.specs.Pages.{pages_of}
 use Rattle.hs_client.specs.Core.{all_pages, handed}
 use Rattle.hs_client.specs.Calls.{note_of, filled_chunks}
@@ -19,7 +19,7 @@ use Rattle.hs_sent.specs.Sending.{sent_chunks, sent_crumbs, sent_triggers}
 use Rattle.hs_live.specs.declared.called.Called.{Called}
 use Rattle.hs_live.specs.declared.called.Called.TheVariants as called
 use Rattle.hs_live.specs.Live.{Live}
-use Rattle.hs_live.specs.Writing.{Made, IsWriting, coming, writing_of, draws_by, buffers_by}
+use Rattle.hs_live.specs.Writing.{Made, IsWriting, writing_of, draws_by, buffers_by}
 
 -- The client has done these operations. Whatever operations may follow, with the pieces that these add to the open trace
 -- and the segments that they begin, it has recorded the segments of all.

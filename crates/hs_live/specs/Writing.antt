@@ -2,12 +2,10 @@
 -- chunks were sent. What its operations are to record follows from the operations alone, and the steps have recorded it.
 use Rattle.std.specs.Prelude.{◌≡◌, ℕ, ◌+◌, ◌≤◌, List, [], ◌∷◌, ◌++◌, length, reverse, Option, Some, None, IsSome, MatchOption, refl}
 use Rattle.std.specs.List.{AllByRecursion}
-use Rattle.hs_base.specs.declared.ids.TraceId.{TraceId}
 use Rattle.hs_base.specs.declared.ids.ClientId.{ClientId}
 use Rattle.hs_base.specs.declared.settings.AutoRule.{AutoRule}
 use Rattle.hs_base.specs.declared.limits.TheConstants.{MIN_SIZE}
-use Rattle.hs_records.specs.Plain.{Operation}
-use Rattle.hs_records.specs.Records.{Piece, Segment, pieces_until_end}
+use Rattle.hs_records.specs.Records.{Piece, Segment}
 use Rattle.hs_journal.specs.declared.journal.Draw.{Draw}
 use Rattle.hs_journal.specs.declared.journal.Draw.TheVariants as draws
 use Rattle.hs_words.specs.Pools.{PoolName}
@@ -16,7 +14,7 @@ use Rattle.hs_words.specs.Ends.{Answer}
 use Rattle.hs_words.specs.Chunks.{clear_chunk}
 use Rattle.hs_words.specs.Buffers.{Buffer}
 use Rattle.hs_client.specs.Core.{Core, Step, new_core, handed}
-use Rattle.hs_client.specs.Calls.{AreSteps, after, next_number, segments_of_steps, with_last, chunks_supplied, draws_supplied, handed_out}
+use Rattle.hs_client.specs.Calls.{AreSteps, after, next_number, segments_of_steps, chunks_supplied, draws_supplied, handed_out, with_all}
 use Rattle.hs_link.specs.Contents.{Outgoing, sent}
 use Rattle.hs_ring.specs.Parts.{Leased, Drawing}
 use Rattle.hs_live.specs.Keys.{Key, IsChunkOf}
@@ -85,11 +83,6 @@ pub record ComesBy (made : Made) (steps : List (Step Leased)) (w : Writing) : Ty
 
 -- ---- what is recorded, and what is still to be recorded
 
--- the segments, the newest of which stands first, with these pieces more in the newest
-abbrev pub with_all : List Piece → List Segment → List Segment
-with_all [] segments = segments
-with_all (piece ∷ pieces) segments = with_all pieces (with_last piece segments)
-
 -- With these pieces more in the open trace and these segments behind it, the client has recorded all of these segments.
 pub record IsWriting (made : Made) (pieces : List Piece) (later all : List Segment) (w : Writing) : Type 0 where
   pub steps : List (Step Leased)
@@ -103,11 +96,6 @@ WritesPieces here old new = (made : Made) (pieces : List Piece) (later all : Lis
 -- Where no piece was next, the client is behind the trace.
 abbrev pub WritesEnd : Writing → Writing → Type 0
 WritesEnd old new = (made : Made) (later all : List Segment) → IsWriting made [] later all old → IsWriting made [] later all new
-
--- the pieces that further operations add to the open trace, if one is open
-abbrev pub coming : (size number : ℕ) → Option TraceId → List Operation → List Piece
-coming size number None operations = []
-coming size number (Some trace) operations = pieces_until_end size number operations
 
 -- ---- what a call takes
 

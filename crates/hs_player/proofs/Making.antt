@@ -7,11 +7,12 @@ use Rattle.hs_base.specs.declared.ids.ClientId.{ClientId}
 use Rattle.hs_base.specs.declared.limits.TheConstants.{MIN_SIZE}
 use Rattle.hs_auto.specs.Watching.{Watch, HasSampled}
 use Rattle.hs_client.specs.Core.{Core}
+use Rattle.hs_client.specs.Calls.{with_all}
 use Rattle.hs_journal.specs.declared.journal.Draw.{Draw}
 use Rattle.hs_records.specs.Plain.{Operation, PlainSettings}
-use Rattle.hs_records.specs.Records.{segments_from, segments_of}
+use Rattle.hs_records.specs.Records.{segments_from, segments_of, coming}
 use Rattle.hs_player.specs.Playing.{Working, Playing}
-use Rattle.hs_player.specs.Writing.{Made, IsSound, coming, new_of, with_all}
+use Rattle.hs_player.specs.Writing.{Made, IsSound, new_of}
 use Rattle.hs_player.specs.Doing.{Gone, HasDone}
 use Rattle.hs_player.specs.Places.{IsPlayable, IsAt, made_for}
 use Rattle.hs_player.proofs.Standing.{Laws, is_at}

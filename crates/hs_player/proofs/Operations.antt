@@ -9,7 +9,7 @@ use Rattle.hs_base.specs.declared.told.Trigger.{Trigger}
 use Rattle.hs_base.specs.declared.settings.AutoRule.{AutoRule}
 use Rattle.hs_records.specs.Plain.{Operation, Begin, Point, End, Fire, Sample}
 use Rattle.hs_records.specs.Plain as plain
-use Rattle.hs_records.specs.Records.{NumberedOperation, Piece, Segment, numbered_of, open_behind, pieces_until_end, piece_count, record_pieces, segments_from, segments_of}
+use Rattle.hs_records.specs.Records.{NumberedOperation, Piece, Segment, numbered_of, open_behind, pieces_until_end, piece_count, record_pieces, segments_from, segments_of, coming}
 use Rattle.hs_auto.specs.Firing as firing
 use Rattle.hs_auto.specs.Watching.{Watch, HasSampled}
 use Rattle.hs_client.specs.Core.{Core, Began, after_step}
@@ -21,7 +21,7 @@ use Rattle.hs_sent.specs.Sending.{crumb_in, sample_in, samples_of, trigger_in}
 use Rattle.hs_workload.specs.LookBack.{operation_pieces}
 use Rattle.hs_workload.specs.Validity.{client_pieces}
 use Rattle.hs_player.specs.Playing.{Unleased, Working}
-use Rattle.hs_player.specs.Writing.{Made, Writing, IsSound, IsWriting, Records, EndsTrace, coming}
+use Rattle.hs_player.specs.Writing.{Made, Writing, IsSound, IsWriting, Records, EndsTrace}
 use Rattle.hs_player.specs.Doing.{Gone, HasDone, Does, writing_of}
 use Rattle.hs_player.proofs.Sound.{sound_began, is_some_true}
 use Rattle.hs_player.proofs.Steps.{began_trace}

@@ -10,7 +10,7 @@ use Rattle.hs_base.specs.declared.told.Trigger.{Trigger}
 use Rattle.hs_base.specs.declared.settings.AutoRule.{AutoRule}
 use Rattle.hs_base.specs.Rules.{fired_by}
 use Rattle.hs_records.specs.Plain.{Operation, Sample}
-use Rattle.hs_records.specs.Records.{NumberedOperation, numbered_of}
+use Rattle.hs_records.specs.Records.{NumberedOperation, numbered_of, coming}
 use Rattle.hs_auto.specs.Firing.{sampled}
 use Rattle.hs_auto.specs.Firing as firing
 use Rattle.hs_auto.specs.Watching.{Watch, HasSampled}
@@ -19,7 +19,6 @@ use Rattle.hs_auto.specs.declared.sampled.Sampled.TheVariants as answers
 use Rattle.hs_sent.specs.OneMore.{AreWatching}
 use Rattle.hs_sent.specs.Sending.{crumb_in, samples_of, trigger_in, trigger_of}
 use Rattle.hs_player.specs.Playing.{Working}
-use Rattle.hs_player.specs.Writing.{coming}
 use Rattle.hs_player.specs.Doing.{Does}
 use Rattle.hs_player.proofs.Operations.{OneMore, IsApart, apart_writes, at, done_now, none_more}
 

@@ -8,9 +8,9 @@ use Rattle.hs_base.specs.declared.ids.TraceId.{TraceId}
 use Rattle.hs_base.specs.declared.told.Crumb.{Crumb}
 use Rattle.hs_base.specs.declared.told.Trigger.{Trigger}
 use Rattle.hs_client.specs.Core.{Core, Step, new_core}
-use Rattle.hs_client.specs.Calls.{AreSteps, IsBook, after, draws_supplied, filled_chunks, segments_of_steps}
+use Rattle.hs_client.specs.Calls.{AreSteps, IsBook, after, draws_supplied, filled_chunks, segments_of_steps, with_all}
 use Rattle.hs_records.specs.Plain.{Operation, PlainSettings}
-use Rattle.hs_records.specs.Records.{segments_of}
+use Rattle.hs_records.specs.Records.{segments_of, coming}
 use Rattle.hs_sent.specs.Draws.{count_started}
 use Rattle.hs_sent.specs.Drawn.{drawn_pages}
 use Rattle.hs_sent.specs.Laws.{TimedPagesAreTimely}
@@ -20,7 +20,7 @@ use Rattle.hs_sent.specs.HandedOut.{CoresHandOutSoFar}
 use Rattle.hs_sent.specs.SoFar.{has_open_page, pages_within, FirstCrumbsAreSent, FirstTriggersAreSent}
 use Rattle.hs_sent.specs.Timing.{timed_pages}
 use Rattle.hs_player.specs.Playing.{Working, Playing}
-use Rattle.hs_player.specs.Writing.{Made, new_of, buffer_got, coming, with_all}
+use Rattle.hs_player.specs.Writing.{Made, new_of, buffer_got}
 use Rattle.hs_player.specs.Doing.{Gone, HasDone}
 use Rattle.hs_player.specs.Places.{IsPlayable, IsAt, Waits, chunk_of, chunks_within, gone_of, made_for}
 use Rattle.hs_player.proofs.Fronts.{page_in, front_drawn, filled_are}

@@ -9,10 +9,10 @@ use Rattle.hs_words.specs.declared.token.Drawn.TheVariants as drawn
 use Rattle.hs_words.specs.Chunks.{Contents, clear_chunk}
 use Rattle.hs_words.specs.Buffers.{buffer_of}
 use Rattle.hs_client.specs.Core.{Core, Step, Began, Wrote, Needed, Supplied, Ended_, Refused, after_step, handed, draw_of, number_after, supplied}
-use Rattle.hs_client.specs.Calls.{May, after, next_number, segments_of_steps, with_last, chunks_supplied, draws_supplied, handed_out}
+use Rattle.hs_client.specs.Calls.{May, after, next_number, segments_of_steps, with_last, chunks_supplied, draws_supplied, handed_out, with_all}
 use Rattle.hs_player.specs.Playing.{Unleased}
 use Rattle.hs_player.specs.Wells.{IsClear}
-use Rattle.hs_player.specs.Writing.{Made, Writing, new_of, buffer_got, ComesBy, with_all, IsWriting}
+use Rattle.hs_player.specs.Writing.{Made, Writing, new_of, buffer_got, ComesBy, IsWriting}
 
 abbrev pub piece_of : ℕ → ℕ → List ℕ → Piece
 piece_of number moment payload = record { number = number; moment = moment; payload = payload }

@@ -9,12 +9,12 @@ use Rattle.hs_base.specs.declared.told.Crumb.{Crumb}
 use Rattle.hs_base.specs.declared.told.Trigger.{Trigger}
 use Rattle.hs_journal.specs.declared.journal.Draw.{Draw}
 use Rattle.hs_records.specs.Plain.{Operation, PlainSettings}
-use Rattle.hs_records.specs.Records.{segments_from, segments_of}
+use Rattle.hs_records.specs.Records.{segments_from, segments_of, coming}
 use Rattle.hs_sent.specs.OneMore.{items_of}
 use Rattle.hs_sent.specs.Order.{AreInOrder, CrumbsAreInOrder, TriggersAreInOrder, ChunksAreInOrder}
 use Rattle.hs_sent.specs.Sending.{Sent, sends_of, sent_within}
 use Rattle.hs_player.specs.Playing.{Unleased, Working, Playing}
-use Rattle.hs_player.specs.Writing.{Made, IsWriting, coming}
+use Rattle.hs_player.specs.Writing.{Made, IsWriting}
 use Rattle.hs_player.specs.Doing.{Gone, HasDone, HasNothing}
 use Rattle.hs_player.specs.Places.{IsAt, IsItemAt, Waits, chunks_within, gone_of, made_for, TakesChunk, TakesCrumb, TakesTrigger, TellsBare}
 use Rattle.hs_player.proofs.Chunks.{chunk_at, chunks_counted}

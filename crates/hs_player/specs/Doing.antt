@@ -7,13 +7,13 @@ use Rattle.hs_auto.specs.Watching.{Watch}
 use Rattle.hs_client.specs.Core.{IsLeft}
 use Rattle.hs_records.specs.Plain.{Operation, Begin, Point, End, Fire, Sample}
 use Rattle.hs_records.specs.Plain as plain
-use Rattle.hs_records.specs.Records.{numbered_of, piece_count, segments_from, segments_of}
+use Rattle.hs_records.specs.Records.{numbered_of, piece_count, segments_from, segments_of, coming}
 use Rattle.hs_sent.specs.OneMore.{open_after, items_of, AreWatching}
 use Rattle.hs_sent.specs.SoFar.{has_open_page}
 use Rattle.hs_sent.specs.Sending.{sent_crumbs, sent_triggers}
 use Rattle.hs_workload.specs.Validity.{client_pieces}
 use Rattle.hs_player.specs.Playing.{Unleased, Working}
-use Rattle.hs_player.specs.Writing.{Made, Writing, IsWriting, IsSound, coming}
+use Rattle.hs_player.specs.Writing.{Made, Writing, IsWriting, IsSound}
 
 -- what the agent took
 pub record Gone : Type 0 where

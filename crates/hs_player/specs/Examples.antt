@@ -4,17 +4,18 @@ use Rattle.std.proofs.Common.{lit<, lit≤, arith}
 use Rattle.hs_base.specs.declared.ids.ClientId.{ClientId}
 use Rattle.hs_base.specs.declared.settings.AutoRule.TheVariants.{Exception}
 use Rattle.hs_client.specs.Core.{new_core}
+use Rattle.hs_client.specs.Calls.{with_all}
 use Rattle.hs_journal.specs.declared.journal.Draw.{Draw}
 use Rattle.hs_journal.specs.declared.journal.Draw.TheVariants.{Got, Empty}
 use Rattle.hs_records.specs.Plain.{Operation, Point, End, PlainSettings}
-use Rattle.hs_records.specs.Records.{Piece, Segment}
+use Rattle.hs_records.specs.Records.{Piece, Segment, coming}
 use Rattle.hs_sent.specs.Samples.{t, settings, begin, crumb, fire}
 use Rattle.hs_sent.specs.Sending.{sends_of}
 use Rattle.hs_sent.specs.SoFar.{done_behind}
 use Rattle.hs_words.specs.Chunks.{clear_chunk}
 use Rattle.hs_words.specs.PoolHistory as pool
 use Rattle.hs_player.specs.Playing.{Unleased, Working}
-use Rattle.hs_player.specs.Writing.{buffer_got, coming, with_all}
+use Rattle.hs_player.specs.Writing.{buffer_got}
 use Rattle.hs_player.specs.Doing.{HasNothing, MayDo}
 use Rattle.hs_player.specs.Places.{IsPlayable, Waits, chunk_by, chunks_within, gone_of, made_for, draws_going}
 

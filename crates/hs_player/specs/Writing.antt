@@ -1,17 +1,15 @@
 -- How a player's pages come about: by steps of its core, whose draws are those of its well, and whose full chunks wait behind those that
 -- the agent took. What the operations are to record follows from them alone, and the steps have recorded it.
-use Rattle.std.specs.Prelude.{◌≡◌, ℕ, ◌+◌, ◌≤◌, List, [], ◌∷◌, ◌++◌, length, map, reverse, Option, Some, None, IsSome}
-use Rattle.hs_base.specs.declared.ids.TraceId.{TraceId}
+use Rattle.std.specs.Prelude.{◌≡◌, ℕ, ◌+◌, ◌≤◌, List, [], ◌++◌, length, map, reverse, Option, Some, None, IsSome}
 use Rattle.hs_base.specs.declared.ids.ClientId.{ClientId}
 use Rattle.hs_base.specs.declared.settings.AutoRule.{AutoRule}
 use Rattle.hs_base.specs.declared.limits.TheConstants.{MIN_SIZE}
-use Rattle.hs_records.specs.Plain.{Operation}
-use Rattle.hs_records.specs.Records.{Piece, Segment, pieces_until_end}
+use Rattle.hs_records.specs.Records.{Piece, Segment}
 use Rattle.hs_journal.specs.declared.journal.Draw.{Draw}
 use Rattle.hs_journal.specs.declared.journal.Draw.TheVariants as draws
 use Rattle.hs_words.specs.Chunks.{clear_chunk}
 use Rattle.hs_client.specs.Core.{Core, Step, new_core}
-use Rattle.hs_client.specs.Calls.{AreSteps, after, next_number, segments_of_steps, with_last, chunks_supplied, draws_supplied, handed_out}
+use Rattle.hs_client.specs.Calls.{AreSteps, after, next_number, segments_of_steps, chunks_supplied, draws_supplied, handed_out, with_all}
 use Rattle.hs_player.specs.Playing.{Unleased}
 use Rattle.hs_player.specs.Wells.{Way, IsReadyFor, DrawsAll}
 
@@ -48,11 +46,6 @@ pub record ComesBy (made : Made) (steps : List (Step (Unit {0}))) (gone : List U
 
 -- ---- what is recorded, and what is still to be recorded
 
--- the segments, the newest of which stands first, with these pieces more in the newest
-abbrev pub with_all : List Piece → List Segment → List Segment
-with_all [] segments = segments
-with_all (piece ∷ pieces) segments = with_all pieces (with_last piece segments)
-
 -- With these pieces more in the open trace and these segments behind it, the player has recorded all of these segments.
 pub record IsWriting (made : Made) (gone : List Unleased) (pieces : List Piece) (later all : List Segment) (w : Writing) : Type 0 where
   pub steps : List (Step (Unit {0}))
@@ -67,11 +60,6 @@ WritesPieces here old new =
 -- Where no piece was next, the player is behind the trace.
 abbrev pub WritesEnd : Writing → Writing → Type 0
 WritesEnd old new = (made : Made) (gone : List Unleased) (later all : List Segment) → IsWriting made gone [] later all old → IsWriting made gone [] later all new
-
--- the pieces that further operations add to the open trace, if one is open
-abbrev pub coming : (size number : ℕ) → Option TraceId → List Operation → List Piece
-coming size number None operations = []
-coming size number (Some trace) operations = pieces_until_end size number operations
 
 -- ---- what is spent
 

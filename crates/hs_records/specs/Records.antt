@@ -108,6 +108,11 @@ pieces_until_end size number (End ∷ ops) = []
 pieces_until_end size number (Point moment payload ∷ ops) = record_pieces size number moment payload ++ pieces_until_end size (number + 1) ops
 pieces_until_end size number (operation ∷ ops) = pieces_until_end size number ops
 
+-- the pieces that further operations add to the open trace, if one is open
+abbrev pub coming : (size number : ℕ) → Option TraceId → List Operation → List Piece
+coming size number None operations = []
+coming size number (Some trace) operations = pieces_until_end size number operations
+
 -- the segments of operations, the first point of which is the record of this number
 abbrev pub segments_from : ℕ → ℕ → List Operation → List Segment
 segments_from size number [] = []
