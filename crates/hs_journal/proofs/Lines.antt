@@ -3,7 +3,7 @@ use Rattle.std.proofs.Common.{◌≡◌, ◌<◌, ◌≤◌, ◌^◌, ℕ, suc, 
 use borrow.Author.Tests.{leb-true}
 use Rattle.std.specs.Prelude.{decimal, option_and_then, option_map, is_none}
 use Rattle.std.specs.List.{list_all, AllByRecursion}
-use Rattle.hs_text.specs.Text.{line_of, number_of, has_bad_byte}
+use Rattle.hs_text.specs.Text.{line_of, number_of, has_bad_byte, numbers_of}
 use Rattle.hs_text.specs.TextLaws.{is_word, number_of-decimal, decimal-number_of, is_word-decimal, words_of-line_of, line_of-words_of}
 use Rattle.hs_text.specs.Steps.{◌>>=◌, first_that_holds}
 use Rattle.hs_text.specs.Spelling.{spelled-text, spelled-every}
@@ -13,7 +13,7 @@ use Rattle.hs_journal.specs.declared.refusal.JournalReason.{JournalReason}
 use Rattle.hs_journal.specs.declared.refusal.JournalReason.TheVariants as reasons
 use Rattle.hs_journal.specs.declared.word.Keyword.{Keyword}
 use Rattle.hs_journal.specs.declared.line.Numbers.{Numbers}
-use Rattle.hs_journal.specs.Statements.{Statement, keyword_text, number_count, keyword_of, all_keywords, keywords_told_apart, numbers_of, says, statement_of, statement_line}
+use Rattle.hs_journal.specs.Statements.{Statement, keyword_text, number_count, keyword_of, all_keywords, keywords_told_apart, says, statement_of, statement_line}
 use Rattle.hs_journal.specs.Faults.{numbers_at, may_stand, is_out_of_range, is_out_of_order, statement_reasons, keyword_reasons, before_words, fault_at}
 use Rattle.hs_journal.specs.Forward.{three_numbers, Draft, past_of, after, statement_step, keyword_step, line_step}
 

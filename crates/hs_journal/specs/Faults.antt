@@ -5,6 +5,7 @@ use Rattle.hs_text.specs.declared.opening.LineReasons.{LineReasons}
 use Rattle.hs_text.specs.Steps.{first_that_holds}
 use Rattle.hs_text.specs.Opening.{line_reasons}
 use Rattle.hs_text.specs.Judging.{Judging, first_fault_in}
+use Rattle.hs_text.specs.Text.{numbers_of}
 use Rattle.hs_base.specs.declared.limits.TheConstants.{MAX_NODES, MAX_CLIENTS, MAX_BUFFERS}
 use Rattle.hs_journal.specs.declared.refusal.JournalReason.{JournalReason}
 use Rattle.hs_journal.specs.declared.refusal.JournalReason.TheVariants as reasons
@@ -16,7 +17,7 @@ use Rattle.hs_journal.specs.declared.word.Keyword.TheVariants as keywords
 use Rattle.hs_journal.specs.declared.place.Place.{Place}
 use Rattle.hs_journal.specs.declared.place.Place.TheVariants as places
 use Rattle.hs_journal.specs.declared.line.Numbers.{Numbers}
-use Rattle.hs_journal.specs.Statements.{Statement, number_count, keyword_of, numbers_of, says}
+use Rattle.hs_journal.specs.Statements.{Statement, number_count, keyword_of, says}
 use Rattle.hs_journal.specs.LookBack.{Past, said, past_said}
 
 -- ---- which word may stand at a place

@@ -1,7 +1,7 @@
 -- A line of a journal is a word and numbers: it says what that word says of the numbers. Each word has its own count of
 -- numbers, and what a line says has one text.
-use Rattle.std.specs.Prelude.{◌≡◌, ℕ, ◌==◌, List, [], ◌∷◌, length, map, codes, decimal, Option, Some, None, option_and_then, option_map, if◌then◌else◌, refl}
-use Rattle.hs_text.specs.Text.{words_of, line_of, number_of}
+use Rattle.std.specs.Prelude.{◌≡◌, ℕ, ◌==◌, List, [], ◌∷◌, length, map, codes, decimal, Option, Some, None, option_map, if◌then◌else◌, refl}
+use Rattle.hs_text.specs.Text.{words_of, line_of, numbers_of}
 use Rattle.hs_text.specs.Spelling.{spelled}
 use Rattle.hs_text.specs.Opening.{words_say}
 use Rattle.hs_base.specs.declared.ids.NodeId.{NodeId}
@@ -89,11 +89,6 @@ keywords_told_apart keywords.Unread = refl
 keywords_told_apart keywords.Coordinator = refl
 keywords_told_apart keywords.Told = refl
 keywords_told_apart keywords.End = refl
-
--- the numbers that words are, where each is one
-abbrev pub numbers_of : List (List ℕ) → Option (List ℕ)
-numbers_of [] = Some []
-numbers_of (word ∷ words) = option_and_then (λ n. option_map (λ ns. n ∷ ns) (numbers_of words)) (number_of word)
 
 -- what a word says with these words behind it, where they are as many numbers as it has
 abbrev pub says : Keyword → List (List ℕ) → Option Statement

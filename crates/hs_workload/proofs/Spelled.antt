@@ -7,7 +7,7 @@ use Rattle.hs_base.specs.declared.ids.TraceId.{TraceId}
 use Rattle.hs_base.specs.declared.settings.AutoRule.{AutoRule}
 use Rattle.hs_base.specs.declared.settings.AutoRule.TheVariants.{Exception, Percentile, Category, Queue}
 use Rattle.hs_text.specs.Spelling.{spelled-text, spelled-every}
-use Rattle.hs_text.specs.Text.{number_of, hex_of, trace_digits, payload_of, payload_text}
+use Rattle.hs_text.specs.Text.{number_of, hex_of, trace_digits, payload_of, payload_text, numbers_of}
 use Rattle.hs_text.specs.Writing.{trace_word}
 use Rattle.hs_text.specs.TextLaws.{is_word, number_of-decimal, decimal-number_of, hex_of-hex_text, hex_text-hex_of, payload_of-payload_text, payload_text-payload_of, is_word-decimal, is_word-hex_text, is_word-payload_text}
 use Rattle.hs_records.specs.Plain.{Operation, Begin, Point, Crumb, End, Fire, Sample}
@@ -15,7 +15,7 @@ use Rattle.hs_workload.specs.declared.word.Keyword.{Keyword}
 use Rattle.hs_workload.specs.declared.word.Keyword.TheVariants as keywords
 use Rattle.hs_workload.specs.declared.word.Kind.{Kind}
 use Rattle.hs_workload.specs.declared.word.Kind.TheVariants as kinds
-use Rattle.hs_workload.specs.Statements.{Statement, Put, Declare, Watch, Start, Operate, Finish, keyword_text, all_keywords, keywords_told_apart, kind_text, all_kinds, kind_of, kinds_told_apart, kind_count, auto_kind, auto_numbers, auto_rule, rule_numbers, number_count, numbers_of, numbers_at, numbers_say, trace_of, traces_of, fire, watch_said, says, statement_words}
+use Rattle.hs_workload.specs.Statements.{Statement, Put, Declare, Watch, Start, Operate, Finish, keyword_text, all_keywords, keywords_told_apart, kind_text, all_kinds, kind_of, kinds_told_apart, kind_count, auto_kind, auto_numbers, auto_rule, rule_numbers, number_count, numbers_at, numbers_say, trace_of, traces_of, fire, watch_said, says, statement_words}
 use Rattle.hs_workload.specs.Validity.{HasDigits}
 
 abbrev pub IsSmall : ℕ → Type 0

@@ -6,7 +6,7 @@ use Rattle.hs_base.specs.declared.settings.TriggerRule.{TriggerRule}
 use Rattle.hs_base.specs.declared.settings.AutoRule.{AutoRule}
 use Rattle.hs_base.specs.declared.settings.AutoRule.TheVariants.{Exception, Percentile, Category, Queue}
 use Rattle.hs_base.specs.Rules.{is_declared, fired_by}
-use Rattle.hs_text.specs.Text.{payload_of, text_of}
+use Rattle.hs_text.specs.Text.{payload_of, text_of, numbers_of}
 use Rattle.hs_text.specs.declared.opening.LineReasons.{LineReasons}
 use Rattle.hs_text.specs.Steps.{first_that_holds}
 use Rattle.hs_text.specs.Spelling.{spelled}
@@ -24,7 +24,7 @@ use Rattle.hs_workload.specs.declared.word.Keyword.{Keyword}
 use Rattle.hs_workload.specs.declared.word.Keyword.TheVariants as keywords
 use Rattle.hs_workload.specs.declared.word.Kind.{Kind}
 use Rattle.hs_workload.specs.Settings.{setting_place, setting_in, least, most}
-use Rattle.hs_workload.specs.Statements.{Statement, Put, Declare, Watch, Start, Operate, Finish, keyword_of, kind_of, kind_count, number_count, numbers_of, traces_of, says}
+use Rattle.hs_workload.specs.Statements.{Statement, Put, Declare, Watch, Start, Operate, Finish, keyword_of, kind_of, kind_count, number_count, traces_of, says}
 use Rattle.hs_workload.specs.LookBack.{Past, past_said, said, operation_pieces, is_done_said}
 use Rattle.hs_workload.specs.Grammar.{three_points_lines, two_nodes_lines}
 

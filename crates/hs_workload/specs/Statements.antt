@@ -7,7 +7,7 @@ use Rattle.hs_base.specs.declared.settings.TriggerRule.{TriggerRule}
 use Rattle.hs_base.specs.declared.settings.AutoRule.{AutoRule}
 use Rattle.hs_base.specs.declared.settings.AutoRule.TheVariants.{Exception, Percentile, Category, Queue}
 use Rattle.hs_base.specs.declared.limits.TheConstants.{MAX_LATERALS}
-use Rattle.hs_text.specs.Text.{words_of, line_of, number_of, hex_of, trace_digits, payload_of, payload_text}
+use Rattle.hs_text.specs.Text.{words_of, line_of, number_of, hex_of, trace_digits, payload_of, payload_text, numbers_of}
 use Rattle.hs_text.specs.Writing.{trace_word}
 use Rattle.hs_text.specs.Spelling.{spelled}
 use Rattle.hs_text.specs.Opening.{words_say}
@@ -136,11 +136,6 @@ abbrev pub statement_line : ℕ → Statement → List ℕ
 statement_line version statement = line_of (statement_words version statement)
 
 -- ---- what words say
-
--- the numbers that words are, where each is one
-abbrev pub numbers_of : List (List ℕ) → Option (List ℕ)
-numbers_of [] = Some []
-numbers_of (word ∷ words) = option_and_then (λ n. option_map (λ ns. n ∷ ns) (numbers_of words)) (number_of word)
 
 -- numbers by their places, 0 in the place of one that is missing
 abbrev pub numbers_at : List ℕ → Numbers
