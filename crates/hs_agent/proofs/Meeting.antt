@@ -4,25 +4,25 @@ use Rattle.std.specs.Option.{option_to_list}
 use Rattle.std.proofs.lemmas.List.{append_assoc}
 use Rattle.hs_journal.specs.declared.journal.Step.{Step}
 use Rattle.hs_records.specs.Plain.{PlainSettings}
-use Rattle.hs_model.specs.Laws.{EventsGoOn, StepsSayWhatTheyTell}
+use Rattle.hs_model.specs.Laws.{EventsGoOn, StepsSayWhatTheyTell, noted_as}
 use Rattle.hs_model.specs.State.{AgentState}
 use Rattle.hs_model.specs.Stepping.{Event, Took, Gave, step_of, step_of_answer, told_by, after, after_from, after_event, take_input, take_answer}
 use Rattle.hs_agent.specs.Runs.{Run, new_run, state_of}
-use Rattle.hs_agent.specs.Calls.{Call, Takes, Offers, Answers, after_call, run_after, events_in, events_of, told_at, told_from, step_at, MeetsModel}
+use Rattle.hs_agent.specs.Calls.{Call, Takes, Offers, Answers, after_call, run_after, events_in, events_of, told_at, told_from, MeetsModel}
 use Rattle.hs_agent.proofs.Following.{answer-log}
 use Rattle.hs_agent.proofs.Unchanged.{input-log}
 
 -- the log grows by a step for each event
-log-from : (settings : PlainSettings) (node : ℕ) (state : AgentState) (events : List Event) → (after_from settings node state events).log ≡ state.log ++ map step_at events
+log-from : (settings : PlainSettings) (node : ℕ) (state : AgentState) (events : List Event) → (after_from settings node state events).log ≡ state.log ++ map noted_as events
 log-from settings node state [] = sym (append-nil state.log)
 log-from settings node state (Took input ∷ events) =
     log-from settings node (after_event settings node state (Took input)) events
-    ∙ append_assoc (take_input settings node state input).log (step_of input ∷ []) (map step_at events)
-    ∙ ap (λ l. l ++ step_of input ∷ map step_at events) (input-log settings node state input)
+    ∙ append_assoc (take_input settings node state input).log (step_of input ∷ []) (map noted_as events)
+    ∙ ap (λ l. l ++ step_of input ∷ map noted_as events) (input-log settings node state input)
 log-from settings node state (Gave answer ∷ events) =
     log-from settings node (after_event settings node state (Gave answer)) events
-    ∙ append_assoc (take_answer state answer).log (step_of_answer answer ∷ []) (map step_at events)
-    ∙ ap (λ l. l ++ step_of_answer answer ∷ map step_at events) (answer-log state answer)
+    ∙ append_assoc (take_answer state answer).log (step_of_answer answer ∷ []) (map noted_as events)
+    ∙ ap (λ l. l ++ step_of_answer answer ∷ map noted_as events) (answer-log state answer)
 
 module _ {L : Type 0} where
   -- a call leaves the settings and the node, and adds its events

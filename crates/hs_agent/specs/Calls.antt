@@ -4,11 +4,11 @@ use Rattle.std.specs.Prelude.{◌≡◌, ◌≤◌, ℕ, List, [], ◌∷◌, �
 use Rattle.std.proofs.Common.{append-nil, ap, sym}
 use Rattle.std.specs.Option.{option_to_list}
 use Rattle.hs_base.specs.declared.told.Told.{Told}
-use Rattle.hs_journal.specs.declared.journal.Step.{Step}
 use Rattle.hs_records.specs.Plain.{PlainSettings}
 use Rattle.hs_words.specs.Buffers.{Buffer}
 use Rattle.hs_words.specs.declared.token.Given.{Given}
-use Rattle.hs_model.specs.Stepping.{Input, Chunk, Turn, Answered, Event, Took, Gave, step_of, step_of_answer, told_by, after}
+use Rattle.hs_model.specs.Stepping.{Input, Chunk, Turn, Answered, Event, Took, Gave, told_by, after}
+use Rattle.hs_model.specs.Laws.{noted_as}
 use Rattle.hs_agent.specs.declared.input.Input.{Input as Taken}
 use Rattle.hs_agent.specs.Points.{sheet_in}
 use Rattle.hs_agent.specs.Runs.{Run, new_run, state_of, input_of, buffers_in, after_input, after_chunk, after_turn, after_offer, answer_of, back_in, with_back, after_answer}
@@ -66,17 +66,12 @@ abbrev pub told_from : {L : Type 0} → Run L → List (Call L) → List Told
 told_from run [] = []
 told_from run (call ∷ calls) = told_at run call ++ told_from (after_call run call) calls
 
--- the step that an event leaves in the log
-abbrev pub step_at : Event → Step
-step_at (Took input) = step_of input
-step_at (Gave answer) = step_of_answer answer
-
 -- ---- what they come to
 
 pub record MeetsModel {L : Type 0} (settings : PlainSettings) (node : ℕ) (calls : List (Call L)) : Type 0 where
   pub state : state_of (run_after settings node calls) ≡ after settings node (events_of calls)
   pub told : told_from (new_run {L = L} settings node) calls ≡ (after settings node (events_of calls)).said
-  pub log : (after settings node (events_of calls)).log ≡ map step_at (events_of calls)
+  pub log : (after settings node (events_of calls)).log ≡ map noted_as (events_of calls)
 
 -- No more triggers are admitted than there were events.
 abbrev pub FewAreAdmitted : Type 0
