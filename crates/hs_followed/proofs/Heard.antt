@@ -7,6 +7,7 @@ use Rattle.hs_base.specs.declared.ids.NodeId.{NodeId}
 use Rattle.hs_base.specs.declared.node_set.NodeSet.{NodeSet}
 use Rattle.hs_base.specs.declared.told.Ask.{Ask}
 use Rattle.hs_base.specs.declared.told.Told.{Told}
+use Rattle.hs_base.specs.Changing.{ChangesAt}
 use Rattle.hs_clauses.specs.Finding.{AreAsked}
 use Rattle.hs_coord.specs.Following.{Message, Messages, message, first_of, is_newly_asked, AreAsks}
 use Rattle.hs_coord.specs.Kept.{HasTaken}
@@ -16,7 +17,6 @@ use Rattle.hs_lawful.specs.Following.{asks_to, is_from, NodeRun, Run, message_of
 use Rattle.hs_lockstep.specs.Performing.{StepByStep}
 use Rattle.hs_model.specs.Leading.{IsToldBelow}
 use Rattle.hs_records.specs.Plain.{PlainWorkload}
-use Rattle.hs_followed.specs.Clients.{ChangesAt}
 use Rattle.hs_followed.specs.Whole.{MayHearAt, HasHeard, HasNotHeard, AreSent, sent_by}
 use Rattle.hs_followed.specs.declared.hearing.Hearing.{Hearing}
 use Rattle.hs_followed.specs.declared.tracked.Tracked.{Tracked}

@@ -3,8 +3,8 @@ use Rattle.std.proofs.Common.{◌≡◌, ◌⊎◌, inl, inr, ℕ, zero, suc, �
 use Rattle.std.specs.Prelude.{slice_get}
 use Rattle.hs_base.specs.Listing.{Listing}
 use Rattle.hs_base.specs.declared.told.Ask.{Ask}
+use Rattle.hs_base.specs.Changing.{ChangesAt}
 use Rattle.hs_coord.specs.declared.asks.Asks.{Asks}
-use Rattle.hs_followed.specs.Clients.{ChangesAt}
 use Rattle.hs_followed.specs.Whole.{AreSent, sent_by}
 use Rattle.hs_followed.proofs.Lists.{found_in}
 

@@ -1,9 +1,10 @@
 -- What is left of what a client sends when its agent took some: all but the first so many chunks, which are still to be filled, and the
 -- first so many crumbs and triggers, which lie in queues.
-use Rattle.std.specs.Prelude.{◌≡◌, ◌⊎◌, ℕ, ◌<◌, ◌≤◌, List, ◌++◌, length, drop, slice_get, slice_set, Option, Some, None}
+use Rattle.std.specs.Prelude.{◌≡◌, ◌⊎◌, ℕ, ◌<◌, ◌≤◌, List, ◌++◌, length, drop, slice_get, Option, Some, None}
 use Rattle.std.specs.Option.{option_to_list}
 use Rattle.hs_base.specs.declared.told.Crumb.{Crumb}
 use Rattle.hs_base.specs.declared.told.Trigger.{Trigger}
+use Rattle.hs_base.specs.Changing.{ChangesAt}
 use Rattle.hs_clauses.specs.Finding.{IsFoundClient}
 use Rattle.hs_given.specs.Fillings.{IsFilling, MayFill, Fills}
 use Rattle.hs_given.specs.declared.filling.Filling.{Filling}
@@ -56,14 +57,6 @@ abbrev pub MayFillAny : PlainWorkload → List Sending → Type 0
 MayFillAny W clients = (client : ℕ) (s : Sending) → slice_get clients client ≡ Some s → MayFillNext W s
 
 -- ---- taking out
-
--- The item at a place became another one, of which this holds, and no other item changed.
-pub record ChangesAt {A : Type 0} (place : ℕ) (old new : List A) (Became : A → A → Type 0) : Type 0 where
-  pub before : A
-  pub stood : slice_get old place ≡ Some before
-  pub now : A
-  pub set : new ≡ slice_set old place now
-  pub became : Became before now
 
 -- There is no client at this place, or what was taken out of its queues is this.
 pub record IsNoClient (client : ℕ) (old new : List Sending) : Type 0 where

@@ -2,7 +2,7 @@
 
 ghost use Rattle.std.specs.Prelude.{◌≡◌, ◌<◌, ◌≤◌, length, IfOk, OnOk};
 ghost use Rattle.hs_base.specs.declared.limits.TheConstants.{MAX_NODES};
-ghost use Rattle.hs_followed.specs.Clients.{ChangesAt};
+ghost use Rattle.hs_base.specs.Changing.{ChangesAt};
 ghost use Rattle.hs_followed.specs.Whole.{MayHear, HearsOn, AreSent, sent_by};
 
 use crate::tracked::Tracked;

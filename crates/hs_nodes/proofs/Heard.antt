@@ -9,6 +9,7 @@ use Rattle.hs_base.specs.NodeSets.{has_node}
 use Rattle.hs_base.specs.declared.ids.NodeId.{NodeId}
 use Rattle.hs_base.specs.declared.told.Ask.{Ask}
 use Rattle.hs_base.specs.declared.told.Told.{Told}
+use Rattle.hs_base.specs.Changing.{ChangesAt}
 use Rattle.hs_coord.specs.Following.{Message, Messages, message, first_of, is_newly_asked, AreAsks}
 use Rattle.hs_coord.specs.Kept.{Kept, HasTaken}
 use Rattle.hs_coord.specs.declared.asks.Asks.{Asks}
@@ -23,7 +24,6 @@ use Rattle.hs_lockstep.specs.Performing.{after_names, StepByStep}
 use Rattle.hs_model.specs.Leading.{IsToldBelow}
 use Rattle.hs_workload.specs.declared.word.Setting.TheVariants as settings
 use Rattle.hs_nodes.specs.All.{AllHeard}
-use Rattle.hs_nodes.specs.Changing.{ChangesAt}
 use Rattle.hs_nodes.specs.Hearing.{with_ask, with_told, TellsNext, asked_by, AreAsked, name_of, HeardOf, IsHeardOut, waiting, HearsNode}
 use Rattle.hs_nodes.specs.Parts.{Parts}
 use Rattle.hs_nodes.specs.Standing.{Remain, PlayersStand, AgentStands, PoolStands, NodeIsHeard}

@@ -8,6 +8,7 @@ use Rattle.std.proofs.lemmas.Nat.{mul-add-lt, div-mul-add}
 use Rattle.std.proofs.lemmas.Option.{same_Some}
 use Rattle.hs_base.specs.declared.limits.TheConstants.{MAX_NODES, MAX_CLIENTS}
 use Rattle.hs_base.specs.Listing.{Listing}
+use Rattle.hs_base.specs.Changing.{ChangesAt}
 use Rattle.hs_coord.specs.Following.{Messages}
 use Rattle.hs_coord.specs.Kept.{Kept}
 use Rattle.hs_journal.specs.declared.journal.Draw.{Draw}
@@ -26,7 +27,6 @@ use Rattle.hs_workload.specs.declared.operation.Workload.{Workload}
 use Rattle.hs_workload.specs.declared.word.Setting.TheVariants as settings
 use Rattle.hs_workload.specs.declared.operation.Op.{Op}
 use Rattle.hs_nodes.specs.All.{HasHeard, AllAt, NodesAt, clients_gone, NodesBetween}
-use Rattle.hs_nodes.specs.Changing.{ChangesAt}
 use Rattle.hs_nodes.specs.Going.{node_goes, AreOf}
 use Rattle.hs_nodes.specs.Parts.{Parts}
 use Rattle.hs_nodes.specs.Standing.{PlayerStands, NodeIsHeard, NodeIsAt}

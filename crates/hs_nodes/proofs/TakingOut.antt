@@ -6,6 +6,7 @@ use Rattle.hs_agent.specs.declared.input.Input.TheVariants as inputs
 use Rattle.hs_base.specs.declared.told.Ask.{Ask}
 use Rattle.hs_base.specs.declared.told.Crumb.{Crumb}
 use Rattle.hs_base.specs.declared.told.Trigger.{Trigger}
+use Rattle.hs_base.specs.Changing.{ChangesAt}
 use Rattle.hs_journal.specs.declared.journal.Step.{Step}
 use Rattle.hs_journal.specs.declared.journal.Step.TheVariants as steps
 use Rattle.hs_lawful.specs.Following.{Chunks, Crumbs, Triggers, Asks, takes, taken, NodeRun, asks_to}
@@ -21,7 +22,6 @@ use Rattle.hs_words.specs.Buffers.{buffer_of}
 use Rattle.hs_agent.specs.Points.{sheet_in}
 use Rattle.hs_lawful.specs.Pooled.{pool_history}
 use Rattle.hs_words.specs.Pages.{Sheet}
-use Rattle.hs_nodes.specs.Changing.{ChangesAt}
 use Rattle.hs_nodes.specs.declared.queue.Queue.TheVariants as queues
 use Rattle.hs_nodes.specs.Parts.{Parts}
 use Rattle.hs_nodes.specs.Passing.{IsAmid, IsReady, IsDrained, IsThere}

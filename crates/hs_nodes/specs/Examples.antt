@@ -3,6 +3,7 @@ use Rattle.std.specs.Prelude.{◌≡◌, ℕ, zero, suc, ◌+◌, ◌≤◌, tru
 use Rattle.std.proofs.Common.{ap, arith}
 use Rattle.hs_base.specs.declared.told.Ask.{Ask}
 use Rattle.hs_base.specs.declared.told.Told.{Told}
+use Rattle.hs_base.specs.Changing.{ChangesAt}
 use Rattle.hs_coord.specs.declared.asks.Asks.{Asks}
 use Rattle.hs_lawful.specs.Following.{takes, followed}
 use Rattle.hs_lawful.specs.Journals.{of_trigger_first}
@@ -10,7 +11,6 @@ use Rattle.hs_lawful.specs.Workloads.{trigger_first, short_of_pins}
 use Rattle.hs_lockstep.specs.Lockstep.{machine_start}
 use Rattle.hs_journal.specs.declared.journal.Step.TheVariants as steps
 use Rattle.hs_nodes.specs.All.{clients_gone}
-use Rattle.hs_nodes.specs.Changing.{ChangesAt}
 use Rattle.hs_nodes.specs.declared.queue.Queue.TheVariants as queues
 use Rattle.hs_nodes.specs.Hearing.{with_ask, with_told, asked_by, TellsNext, AreAsked, waiting}
 use Rattle.hs_nodes.specs.Parts.{Parts}

@@ -1,4 +1,3 @@
-pub mod Changing
 pub mod Parts
 pub mod Queues
 pub mod Standing

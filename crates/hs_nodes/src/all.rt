@@ -8,7 +8,7 @@ ghost use Rattle.hs_lockstep.specs.Lockstep.{Machine, agents_take, agents_give, 
 ghost use Rattle.hs_records.specs.Plain.{PlainWorkload};
 ghost use Rattle.hs_workload.specs.Views.{workload_of};
 ghost use Rattle.hs_nodes.specs.All.{AllAt, NodesAt, NodesBetween, TellsLeft};
-ghost use Rattle.hs_nodes.specs.Changing.{ChangesAt};
+ghost use Rattle.hs_base.specs.Changing.{ChangesAt};
 ghost use Rattle.hs_nodes.specs.Going.{node_goes};
 ghost use Rattle.hs_nodes.specs.Left.{TellsNodeLeft};
 ghost use Rattle.hs_nodes.specs.Passing.{StandsStill};

@@ -6,7 +6,7 @@ ghost use Rattle.hs_coord.specs.Following.{Messages};
 ghost use Rattle.hs_records.specs.Plain.{PlainWorkload};
 ghost use Rattle.hs_lockstep.specs.Lockstep.{Machine, coordinator_hears};
 ghost use Rattle.hs_nodes.specs.All.{AllHeard, AllAt};
-ghost use Rattle.hs_nodes.specs.Changing.{ChangesAt};
+ghost use Rattle.hs_base.specs.Changing.{ChangesAt};
 ghost use Rattle.hs_nodes.specs.Hearing.{TellsNext, with_ask, asked_by, AreAsked, HearsNext, HearsNode};
 
 use crate::node::Node;

@@ -15,7 +15,7 @@ ghost use Rattle.hs_sent.specs.Sending.{place_of};
 ghost use Rattle.hs_workload.specs.Views.{operation_of};
 ghost use Rattle.hs_nodes.specs.Going.{node_goes, AreOf, IsOneOf};
 ghost use Rattle.hs_player.specs.Places.{IsWithin, Goes, KeepsPool, TakesChunk, TakesCrumb, TakesTrigger};
-ghost use Rattle.hs_nodes.specs.Changing.{ChangesAt};
+ghost use Rattle.hs_base.specs.Changing.{ChangesAt};
 ghost use Rattle.hs_nodes.specs.Queues.{IsQueueOf};
 ghost use Rattle.hs_nodes.specs.declared.queue.Queue.TheVariants as queues;
 ghost use Rattle.hs_nodes.specs.Passing.{IsAmid, IsReady, TakesNext, WentBy, WentOf, StandsStill, takes_by, takes_first, IsGiving, GivesNextOf};

@@ -3,8 +3,8 @@ use Rattle.std.proofs.lemmas.Option.{slice_get-get_or, same_Some}
 use Rattle.std.specs.Prelude.{slice_get}
 use Rattle.hs_base.specs.declared.ids.NodeId.{NodeId}
 use Rattle.hs_base.specs.declared.told.Told.{Told}
+use Rattle.hs_base.specs.Changing.{ChangesAt}
 use Rattle.hs_workload.specs.declared.word.Setting.TheVariants as settings
-use Rattle.hs_followed.specs.Clients.{ChangesAt}
 use Rattle.hs_followed.specs.declared.tracked.Tracked.{Tracked}
 use Rattle.hs_followed.proofs.Heard.{nothing_left, no_node, not_told, below, heard_one}
 use Rattle.hs_followed.proofs.Lists.{indexed}

@@ -1,10 +1,10 @@
 use Rattle.std.proofs.Common.{◌≡◌, ℕ, List, sym, ap, ◌∙◌, subst, map}
 use Rattle.hs_base.specs.declared.settings.AutoRule.{AutoRule}
+use Rattle.hs_base.specs.Changing.{ChangesAt}
 use Rattle.hs_player.specs.Places.{IsWithin, Goes}
 use Rattle.hs_records.specs.Plain.{Operation}
 use Rattle.hs_sent.specs.Sending.{operations_at, place_of}
 use Rattle.hs_workload.specs.Views.{operation_of}
-use Rattle.hs_nodes.specs.Changing.{ChangesAt}
 use Rattle.hs_nodes.specs.NodeLayout.{parts_in}
 use Rattle.hs_nodes.specs.Parts.{Parts}
 use Rattle.hs_nodes.specs.Passing.{StandsStill}

@@ -1,12 +1,12 @@
 use Rattle.std.proofs.Common.{◌<◌, length, Option, None, refl, subst, sym, append-nil}
 use Rattle.hs_agent.specs.declared.input.Input.TheVariants as inputs
+use Rattle.hs_base.specs.Changing.{ChangesAt}
 use Rattle.hs_journal.specs.declared.journal.Step.TheVariants as steps
 use Rattle.hs_player.specs.Places.{TakesChunk}
 use Rattle.hs_words.specs.contracts.token.UnitToken.TheImpl.{ghosts}
 use Rattle.hs_words.specs.Buffers.{buffer_in}
 use Rattle.hs_words.specs.declared.token.Held.{Held}
 use Rattle.hs_nodes.specs.Standing.{run_of}
-use Rattle.hs_nodes.specs.Changing.{ChangesAt}
 use Rattle.hs_nodes.specs.declared.queue.Queue.TheVariants as queues
 use Rattle.hs_nodes.specs.NodeLayout.{parts_in}
 use Rattle.hs_nodes.specs.Parts.{Parts}

@@ -1,11 +1,11 @@
 use Rattle.std.proofs.Common.{◌<◌, length, Option, subst, sym}
 use Rattle.hs_agent.specs.declared.input.Input.TheVariants as inputs
 use Rattle.hs_base.specs.declared.told.Crumb.{Crumb}
+use Rattle.hs_base.specs.Changing.{ChangesAt}
 use Rattle.hs_agent.specs.declared.input.Input.{Input}
 use Rattle.hs_journal.specs.declared.journal.Step.TheVariants as steps
 use Rattle.hs_player.specs.Places.{TakesCrumb}
 use Rattle.hs_words.specs.contracts.token.UnitToken.TheImpl.{ghosts}
-use Rattle.hs_nodes.specs.Changing.{ChangesAt}
 use Rattle.hs_nodes.specs.declared.queue.Queue.TheVariants as queues
 use Rattle.hs_nodes.specs.NodeLayout.{parts_in}
 use Rattle.hs_nodes.specs.Parts.{Parts}
