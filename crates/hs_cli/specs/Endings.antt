@@ -32,6 +32,7 @@ use Rattle.hs_cli.specs.declared.command.Command.{Command}
 use Rattle.hs_cli.specs.declared.command.Command.TheVariants.{Replay, Run, Watch, Convert, Make, Drill, Check, Compare}
 use Rattle.hs_streams.specs.declared.status.Status.{Status}
 use Rattle.hs_streams.specs.declared.status.Status.TheVariants.{Done, Usage, Refused, ReadFault, WriteFault, Memory, TooLong, Unlawful}
+use Rattle.hs_streams.specs.Statuses.{NoneFailed}
 
 -- ---- what a command owes
 
@@ -160,10 +161,6 @@ Wrote asked left left' written written' status = (text : List ℕ) × IsDue aske
 -- Some status was due, and of its text a front was written.
 abbrev pub WroteFront : Option Command → Option (List ℕ) → Option (List ℕ) → Option (List ℕ) → Option (List ℕ) → Type 0
 WroteFront asked left left' written written' = (status : Status) × (text : List ℕ) × IsDue asked left left' status text × GainsFront written written' text
-
--- Neither the source nor the sink failed.
-abbrev pub NoneFailed : (source source' sink sink' : ℕ) → Type 0
-NoneFailed source source' sink sink' = (source' ≡ source) × (sink' ≡ sink)
 
 -- The words are a command that reads.
 abbrev pub Reading : Option Command → Type 0

@@ -1,5 +1,5 @@
 -- The number with which the program ends, for each status.
-use Rattle.std.specs.Prelude.{ℕ}
+use Rattle.std.specs.Prelude.{ℕ, ◌≡◌}
 use Rattle.hs_streams.specs.declared.status.Status.{Status}
 use Rattle.hs_streams.specs.declared.status.Status.TheVariants.{Done, Usage, Refused, ReadFault, WriteFault, Memory, TooLong, Unlawful}
 
@@ -12,3 +12,7 @@ status_number WriteFault = 5
 status_number Memory = 6
 status_number TooLong = 7
 status_number Unlawful = 8
+
+-- neither stream failed
+abbrev pub NoneFailed : (source source' sink sink' : ℕ) → Type 0
+NoneFailed source source' sink sink' = (source' ≡ source) × (sink' ≡ sink)

@@ -5,7 +5,8 @@ use Rattle.hs_streams.specs.Input.{ReadWhole}
 use Rattle.hs_streams.specs.Written.{GainsFront}
 use Rattle.hs_streams.specs.declared.status.Status.{Status}
 use Rattle.hs_streams.specs.declared.status.Status.TheVariants.{Done, Usage, Refused, ReadFault, WriteFault, Memory, TooLong, Unlawful}
-use Rattle.replay.specs.Endings.{IsAnswer, IsDue, NoneFailed, Ends}
+use Rattle.hs_streams.specs.Statuses.{NoneFailed}
+use Rattle.replay.specs.Endings.{IsAnswer, IsDue, Ends}
 
 -- what `finish` answers
 abbrev pub Finishes : Status → List ℕ → Option (List ℕ) → Option (List ℕ) → ℕ → ℕ → Status → Type 0

@@ -13,6 +13,7 @@ use Rattle.hs_streams.specs.Refusals.{IsRefused, too_long_text}
 use Rattle.hs_streams.specs.Written.{GainsFront}
 use Rattle.hs_streams.specs.declared.status.Status.{Status}
 use Rattle.hs_streams.specs.declared.status.Status.TheVariants.{Done, Usage, Refused, ReadFault, WriteFault, Memory, TooLong, Unlawful}
+use Rattle.hs_streams.specs.Statuses.{NoneFailed}
 use Rattle.hs_workload.specs.Validity.{Reads}
 
 -- The text is an outcome of the workload. Its journal is the one that the lockstep schedule writes, and it is lawful.
@@ -37,10 +38,6 @@ Wrote left left' written written' status = (text : List ℕ) × IsDue left left'
 -- Some status was due, and of its text a front was written.
 abbrev pub WroteFront : (left left' written written' : Option (List ℕ)) → Type 0
 WroteFront left left' written written' = (status : Status) × (text : List ℕ) × IsDue left left' status text × GainsFront written written' text
-
--- Neither the source nor the sink failed.
-abbrev pub NoneFailed : (source source' sink sink' : ℕ) → Type 0
-NoneFailed source source' sink sink' = (source' ≡ source) × (sink' ≡ sink)
 
 -- what a status says
 abbrev pub Ends : (left left' written written' : Option (List ℕ)) (source source' sink sink' : ℕ) → Status → Type 0
