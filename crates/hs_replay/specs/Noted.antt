@@ -1,6 +1,6 @@
 -- The books that a replay leaves are those of the schedule's journal.
-use Rattle.std.specs.Prelude.{◌≡◌, List, [], ◌∷◌, length, map, refl}
-use Rattle.hs_base.specs.Listing.{Listing}
+use Rattle.std.specs.Prelude.{◌≡◌, [], ◌∷◌, map, refl}
+use Rattle.hs_base.specs.Listing.{listing}
 use Rattle.hs_base.specs.declared.told.Fate.TheVariants.{Live}
 use Rattle.hs_journal.specs.declared.journal.Draw.TheVariants.{Got}
 use Rattle.hs_journal.specs.Books.{agent_book_of, client_book_of}
@@ -17,9 +17,6 @@ pub record AreNoted (W : PlainWorkload) (noted : Noted) : Type 0 where
   pub agents_are : map agent_book_of noted.agents.items ≡ agent_books (followed W (lockstep W))
 
 -- ---- worked example
-
-abbrev listing : {A : Type 0} → List A → Listing A
-listing items = record { items = items; room = length items }
 
 -- the one client drew once and has a page with the record of a trace, and the one agent took its chunk, which lives
 abbrev of_one_point : Noted

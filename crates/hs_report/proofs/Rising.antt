@@ -11,8 +11,9 @@ use Rattle.std.proofs.lemmas.Map.Keys.{apart_from_distinct}
 use Rattle.std.proofs.lemmas.Option.{slice_get_within, get_or_from_slice_get, slice_get-get_or}
 use Rattle.hs_base.specs.declared.ids.TraceId.{TraceId}
 use Rattle.hs_collect.specs.Collected.{first_seen, is_of}
+use Rattle.hs_collect.specs.Views.{Sheets}
 use Rattle.hs_report.specs.declared.pages.Reported.{Reported}
-use Rattle.hs_report.specs.Pages.{Sheets, Traces, Note, note_of, noted}
+use Rattle.hs_report.specs.Pages.{Traces, Note, note_of, noted}
 use Rattle.hs_report.proofs.ByTrace.{filter_whole}
 use Rattle.hs_report.proofs.Seen.{is_trace, is_other, seen_once, seen_of_page}
 

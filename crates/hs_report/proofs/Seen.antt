@@ -5,8 +5,9 @@ use Rattle.std.proofs.lemmas.Bool.Decides.{nat_tests}
 use Rattle.std.proofs.lemmas.List.Elements.{filter-append, filter_passes, recursion_from_All, All-from_recursion, All-filter}
 use Rattle.hs_base.specs.declared.ids.TraceId.{TraceId}
 use Rattle.hs_collect.specs.Collected.{first_seen, is_of}
+use Rattle.hs_collect.specs.Views.{Sheets}
 use Rattle.hs_words.specs.Pages.{Sheet}
-use Rattle.hs_report.specs.Pages.{Sheets, Traces, with_trace}
+use Rattle.hs_report.specs.Pages.{Traces, with_trace}
 use Rattle.hs_report.proofs.ByTrace.{any_filtered}
 use Rattle.hs_report.proofs.Stable.{within}
 

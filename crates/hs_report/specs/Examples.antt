@@ -4,7 +4,7 @@ use Rattle.std.specs.Prelude.{◌≡◌, ℕ, zero, suc, List, [], ◌∷◌, �
 use Rattle.std.proofs.Common.{ap, arith}
 use Rattle.std.specs.Fmt.{digits}
 use Rattle.std.specs.List.{Any}
-use Rattle.hs_base.specs.Listing.{Listing}
+use Rattle.hs_base.specs.Listing.{listing}
 use Rattle.hs_base.specs.declared.ids.RecordId.{RecordId}
 use Rattle.hs_base.specs.declared.ids.TraceId.{TraceId}
 use Rattle.hs_base.specs.declared.told.Fate.TheVariants.{Reported}
@@ -24,9 +24,6 @@ use Rattle.hs_sent.specs.Samples.{t, settings, on_nodes, workload, fire, segment
 use Rattle.hs_words.specs.Pages.{Sheet}
 use Rattle.hs_report.specs.declared.outcome.Outcome.{Outcome}
 use Rattle.hs_report.specs.Outcomes.{IsOutcome}
-
-abbrev listing : {A : Type 0} → List A → Listing A
-listing items = record { items = items; room = length items }
 
 abbrev the_trace : TraceId
 the_trace = record { 0 = 1 }

@@ -5,7 +5,8 @@ ghost use Rattle.hs_base.specs.declared.ids.TraceId.{TraceId};
 ghost use Rattle.hs_collect.specs.Collected.{AreCollected, CanBeAdded};
 ghost use Rattle.hs_words.specs.Pages.{Sheet};
 ghost use Rattle.hs_words.specs.Reading.{Spells};
-ghost use Rattle.hs_report.specs.Pages.{Sheets, SpellAll, JoinsAs, AreRead, AreReported, Reordered, all_sent, bytes_of};
+ghost use Rattle.hs_collect.specs.Views.{Sheets};
+ghost use Rattle.hs_report.specs.Pages.{SpellAll, JoinsAs, AreRead, AreReported, Reordered, all_sent, bytes_of};
 
 use hs_base::{Bytes, ClientId, Memory, TraceId};
 use hs_collect::{Collector, reordered_pages_collect_the_same, runs_decide_the_records};
