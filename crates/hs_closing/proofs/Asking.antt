@@ -4,11 +4,11 @@ use Rattle.std.proofs.lemmas.Option.{same_Some}
 use Rattle.hs_coord.specs.Messages.{Messages}
 use Rattle.hs_coord.specs.declared.asks.Asks.{Asks}
 use Rattle.hs_records.specs.Plain.{PlainWorkload}
-use Rattle.hs_desk.specs.Coordinators.{Coordinating, IsCoordinating}
+use Rattle.hs_desk.specs.Coordinators.{Coordinating, IsCoordinating, asked_all}
 use Rattle.hs_desk.specs.Shut.{Shut}
 use Rattle.hs_desk.specs.Work.{Work}
 use Rattle.hs_rounds.specs.Standing.{moved_by, asked_by}
-use Rattle.hs_closing.specs.Shutting.{AllSents, IsShutAt, ShutStand, IsAskedOnly, AskedOnly, AskedFirst, Asked, asked_all}
+use Rattle.hs_closing.specs.Shutting.{AllSents, IsShutAt, ShutStand, IsAskedOnly, AskedOnly, AskedFirst, Asked}
 use Rattle.hs_desk.proofs.Lists.{same_or_less, found_in, got, within}
 
 only_none : (x : Shut) → IsAskedOnly x x

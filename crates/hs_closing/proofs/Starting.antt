@@ -20,8 +20,9 @@ use Rattle.hs_rounds.specs.Coming.{Came}
 use Rattle.hs_retell.specs.Spans.{Post}
 use Rattle.hs_retell.specs.Closing.{left_at}
 use Rattle.hs_retell.specs.Laws.{ClosingBegins}
-use Rattle.hs_closing.specs.Shutting.{AreSentsOf, ClosingAt, AreShutFrom, sents_of, sents_at}
+use Rattle.hs_closing.specs.Shutting.{AreSentsOf, ClosingAt, AreShutFrom, sents_at}
 use Rattle.hs_closing.proofs.Few.{few_shut}
+use Rattle.hs_closing.specs.Ended.{sents_of}
 use Rattle.hs_desk.proofs.Lists.{got, within}
 
 abbrev pub HaveSent : Type 0

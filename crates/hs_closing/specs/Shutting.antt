@@ -1,8 +1,7 @@
 -- Nodes whose links are closed, and the coordinator, in the passes behind the rounds.
-use Rattle.std.specs.Prelude.{◌≡◌, ℕ, ◌+◌, ◌<◌, ◌≤◌, min, true, List, [], ◌++◌, length, map, slice_get, Some}
+use Rattle.std.specs.Prelude.{◌≡◌, ℕ, ◌+◌, ◌<◌, ◌≤◌, min, true, List, [], ◌++◌, length, slice_get, Some}
 use Rattle.std.specs.Option.{option_map_or}
 use Rattle.hs_base.specs.declared.limits.TheConstants.{MAX_TAKEN, MAX_NODES}
-use Rattle.hs_base.specs.declared.told.Ask.{Ask}
 use Rattle.hs_coord.specs.Messages.{Messages}
 use Rattle.hs_coord.specs.declared.asks.Asks.{Asks}
 use Rattle.hs_link.specs.Contents.{sent}
@@ -14,9 +13,10 @@ use Rattle.hs_workload.specs.Validity.{IsValid}
 use Rattle.hs_actors.specs.Doings.{asks_in, crumbs_in, triggers_in, steps_of}
 use Rattle.hs_lawful.specs.Shape.{log_stamps}
 use Rattle.hs_caller.specs.Calling.{Calling}
-use Rattle.hs_desk.specs.Coordinators.{Coordinating, IsCoordinating, ask_for, all_empty}
+use Rattle.hs_closing.specs.Ended.{sents_of}
+use Rattle.hs_desk.specs.Coordinators.{Coordinating, IsCoordinating, all_empty, asked_all}
 use Rattle.hs_desk.specs.Manned.{EndsPass, IsManned}
-use Rattle.hs_desk.specs.Shut.{Shut, AllSent, IsShut, IsBare, all_sent}
+use Rattle.hs_desk.specs.Shut.{Shut, AllSent, IsShut, IsBare}
 use Rattle.hs_desk.specs.Turns.{Gives}
 use Rattle.hs_desk.specs.Work.{Work, IsFew, came_of}
 use Rattle.hs_rounds.specs.Standing.{Site, Moment, moved_by, asked_by}
@@ -140,13 +140,6 @@ pub record Passing (W : PlainWorkload) (sents : AllSents) (heard : Messages) (be
 
 -- ---- asks
 
-abbrev pub with_asks : List Ask → Work → Work
-with_asks asks work = record work { asked = work.asked ++ asks }
-
--- the works when an ask went to each node for which it is
-abbrev pub asked_all : Asks → (ℕ → Work) → ℕ → Work
-asked_all asks works node = with_asks (ask_for node asks) (works node)
-
 -- Nothing changed but the asks that wait for the agent.
 pub record IsAskedOnly (old new : Shut) : Type 0 where
   pub giver : new.giver ≡ old.giver
@@ -227,11 +220,6 @@ pub record ClosedAt (W : PlainWorkload) (rounds : ℕ) (m : Moment) (sents : All
   pub bare : AllBare W (λ node. (at.posts node).work) nodes coordinator
 
 -- ---- from the rounds
-
--- all that these clients sent
-abbrev pub sents_of : List Calling → AllSent
-sents_of callers =
-    all_sent (map (λ (c : Calling). c.client.chunks) callers) (map (λ (c : Calling). c.client.crumbs) callers) (map (λ (c : Calling). c.client.triggers) callers)
 
 -- all that the clients of each node sent
 abbrev pub sents_at : Moment → AllSents

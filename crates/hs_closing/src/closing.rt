@@ -7,9 +7,9 @@ ghost use Rattle.hs_coord.specs.Messages.{Messages};
 ghost use Rattle.hs_records.specs.Plain.{PlainWorkload};
 ghost use Rattle.hs_rounds.specs.Standing.{Moment};
 ghost use Rattle.hs_desk.specs.Agents.{IsAskable};
-ghost use Rattle.hs_desk.specs.Coordinators.{ask_for};
-ghost use Rattle.hs_desk.specs.Work.{Work};
-ghost use Rattle.hs_closing.specs.Shutting.{AllSents, IsShutAt, with_asks, IsAskedOnly, AskedOnly, MayPass, CanPass, HasPassed, MayTell, Tells, HasTold, MayPassAll, Stand, Passing, MayBeAsked, ShutStand, asked_all, Asked, IsAsking, AllBare, ClosedAt, ClosingAt, MayClose};
+ghost use Rattle.hs_desk.specs.Coordinators.{ask_for, asked_all};
+ghost use Rattle.hs_desk.specs.Work.{Work, with_asks};
+ghost use Rattle.hs_closing.specs.Shutting.{AllSents, IsShutAt, IsAskedOnly, AskedOnly, MayPass, CanPass, HasPassed, MayTell, Tells, HasTold, MayPassAll, Stand, Passing, MayBeAsked, ShutStand, Asked, IsAsking, AllBare, ClosedAt, ClosingAt, MayClose};
 
 use hs_base::{List, Memory, NodeId, OpenGate};
 use hs_coord::Asks;

@@ -12,6 +12,7 @@ use Rattle.hs_coord.specs.declared.asks.Asks.{Asks}
 use Rattle.hs_lawful.specs.Following.{asks_to, is_from}
 use Rattle.hs_records.specs.Plain.{PlainWorkload}
 use Rattle.hs_desk.specs.Agents.{IsAskable, IsTellable}
+use Rattle.hs_desk.specs.Work.{Work, with_asks}
 
 -- the messages, and the asks, of each node
 abbrev pub Tellings : Type 0
@@ -48,6 +49,10 @@ ask_for node asks = if has_node asks.to node then asks.ask ∷ [] else []
 -- the asks for a node among those that wait
 abbrev pub asks_for : ℕ → List Asks → List Ask
 asks_for node asks = flat_map (ask_for node) asks
+
+-- the works when an ask went to each node for which it is
+abbrev pub asked_all : Asks → (ℕ → Work) → ℕ → Work
+asked_all asks works node = with_asks (ask_for node asks) (works node)
 
 -- a message of a node that there is, which may be heard
 pub record IsHearable (W : PlainWorkload) (m : Message) : Type 0 where

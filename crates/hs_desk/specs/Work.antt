@@ -29,6 +29,9 @@ with_events events came work = record work { events = work.events ++ events; cam
 abbrev pub with_ask : Ask → Work → Work
 with_ask ask work = record work { asked = work.asked ++ ask ∷ [] }
 
+abbrev pub with_asks : List Ask → Work → Work
+with_asks asks work = record work { asked = work.asked ++ asks }
+
 abbrev pub with_moved : Told → Work → Work
 with_moved told work = record work { moved = work.moved ++ told ∷ [] }
 

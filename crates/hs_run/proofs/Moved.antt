@@ -4,7 +4,7 @@ use Rattle.std.proofs.lemmas.Bool.{cases_eq}
 use Rattle.std.proofs.lemmas.List.{length-map}
 use Rattle.hs_coord.specs.declared.asks.Asks.{Asks}
 use Rattle.hs_records.specs.Plain.{PlainWorkload}
-use Rattle.hs_desk.specs.Coordinators.{Coordinating, IsCoordinating}
+use Rattle.hs_desk.specs.Coordinators.{Coordinating, IsCoordinating, asked_all}
 use Rattle.hs_desk.specs.Manned.{Manned}
 use Rattle.hs_desk.specs.Work.{Work}
 use Rattle.hs_rounds.specs.Standing.{Site, Moment, SiteStands, Stands, moved_by, asked_by}
@@ -12,7 +12,7 @@ use Rattle.hs_rounds.specs.Moving.{IsSameDoing, SiteMoves}
 use Rattle.hs_run.specs.declared.node.Node.{Node}
 use Rattle.hs_run.specs.Changing.{EachChanged}
 use Rattle.hs_run.specs.Moments.{IsHere, MovedTo}
-use Rattle.hs_run.specs.Movings.{Tells, HasTold, SiteAsked, NodeAsked, NodeMoves, SitesStand, AskedFirst, Telling, Moving, asked_all}
+use Rattle.hs_run.specs.Movings.{Tells, HasTold, SiteAsked, NodeAsked, NodeMoves, SitesStand, AskedFirst, Telling, Moving}
 use Rattle.hs_run.specs.Nodes.{sites_of}
 use Rattle.hs_run.proofs.Changed.{first_none, first_more, first_all}
 use Rattle.hs_desk.proofs.Lists.{same_or_less, found_in, got, within}

@@ -1,12 +1,11 @@
 -- What was told and asked is moved between the agents and the coordinator, node by node and ask by ask.
-use Rattle.std.specs.Prelude.{◌≡◌, ℕ, ◌<◌, ◌≤◌, ◌++◌, List, length, slice_get, Some}
+use Rattle.std.specs.Prelude.{◌≡◌, ℕ, ◌<◌, ◌≤◌, List, length, slice_get, Some}
 use Rattle.hs_base.specs.declared.limits.TheConstants.{MAX_NODES}
-use Rattle.hs_base.specs.declared.told.Ask.{Ask}
 use Rattle.hs_coord.specs.Messages.{Messages}
 use Rattle.hs_coord.specs.declared.asks.Asks.{Asks}
 use Rattle.hs_records.specs.Plain.{PlainWorkload}
 use Rattle.hs_workload.specs.Validity.{IsValid}
-use Rattle.hs_desk.specs.Coordinators.{Coordinating, IsCoordinating, ask_for}
+use Rattle.hs_desk.specs.Coordinators.{Coordinating, IsCoordinating, asked_all}
 use Rattle.hs_desk.specs.Manned.{Manned, IsManned}
 use Rattle.hs_desk.specs.Work.{Work}
 use Rattle.hs_rounds.specs.Standing.{Site, Moment, SiteStands, moved_by, asked_by}
@@ -56,13 +55,6 @@ pub record HasTold (W : PlainWorkload) (node : ℕ) (work : Work) (heard : Messa
   pub asks : after.asks ≡ before.asks
 
 -- ---- asks
-
-abbrev pub with_asks : List Ask → Work → Work
-with_asks asks work = record work { asked = work.asked ++ asks }
-
--- the works when an ask went to each node for which it is
-abbrev pub asked_all : Asks → (ℕ → Work) → ℕ → Work
-asked_all asks works node = with_asks (ask_for node asks) (works node)
 
 -- Nothing changed but the asks that wait for the agent.
 pub record SiteAsked (old new : Site) : Type 0 where

@@ -6,12 +6,12 @@ ghost use Rattle.hs_base.specs.declared.limits.TheConstants.{MAX_NODES};
 ghost use Rattle.hs_coord.specs.Messages.{Messages};
 ghost use Rattle.hs_records.specs.Plain.{PlainWorkload};
 ghost use Rattle.hs_desk.specs.Agents.{IsAskable};
-ghost use Rattle.hs_desk.specs.Coordinators.{ask_for};
-ghost use Rattle.hs_desk.specs.Work.{Work};
+ghost use Rattle.hs_desk.specs.Coordinators.{ask_for, asked_all};
+ghost use Rattle.hs_desk.specs.Work.{Work, with_asks};
 ghost use Rattle.hs_rounds.specs.Standing.{Moment, SiteStands};
 ghost use Rattle.hs_run.specs.Changing.{EachChanged};
 ghost use Rattle.hs_run.specs.Moments.{IsHere, MovedTo};
-ghost use Rattle.hs_run.specs.Movings.{HasMet, AllStand, MayTell, Tells, HasTold, SiteAsked, SitesStand, Moving, IsMoving, Items, NodeAsked, MayBeAsked, asked_all, with_asks};
+ghost use Rattle.hs_run.specs.Movings.{HasMet, AllStand, MayTell, Tells, HasTold, SiteAsked, SitesStand, Moving, IsMoving, Items, NodeAsked, MayBeAsked};
 
 use crate::node::Node;
 use crate::site::Site;

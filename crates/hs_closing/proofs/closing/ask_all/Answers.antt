@@ -1,7 +1,7 @@
 use Rattle.std.proofs.Common.{◌<◌, length, refl, sym, ap, subst, ◌∙◌, arith}
-use Rattle.hs_desk.specs.Coordinators.{Coordinating}
+use Rattle.hs_desk.specs.Coordinators.{Coordinating, asked_all}
 use Rattle.hs_rounds.specs.Standing.{moved_by, asked_by}
-use Rattle.hs_closing.specs.Shutting.{Asked, asked_all}
+use Rattle.hs_closing.specs.Shutting.{Asked}
 use Rattle.hs_closing.proofs.Asking.{asking_more}
 use Rattle.hs_closing.proofs.closing.ask_all.Goals as goal
 

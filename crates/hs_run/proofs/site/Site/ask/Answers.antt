@@ -5,10 +5,9 @@ use Rattle.hs_base.specs.NodeSets.{has_node}
 use Rattle.hs_base.specs.declared.told.Ask.{Ask}
 use Rattle.hs_desk.specs.Coordinators.{ask_for}
 use Rattle.hs_desk.specs.Manned.{Manned}
-use Rattle.hs_desk.specs.Work.{Work, with_ask}
+use Rattle.hs_desk.specs.Work.{Work, with_ask, with_asks}
 use Rattle.hs_rounds.specs.Standing.{Site, SiteStands}
 use Rattle.hs_run.specs.Layout.{site_of}
-use Rattle.hs_run.specs.Movings.{with_asks}
 use Rattle.hs_run.proofs.Telling.{on_ok_two, site_with}
 use Rattle.hs_run.proofs.site.Site.ask.Goals as goal
 
