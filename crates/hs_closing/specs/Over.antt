@@ -13,6 +13,12 @@ use Rattle.hs_closing.specs.declared.place.Place.{Place}
 abbrev pub place_site : Place → Site
 place_site p = record { callers = p.callers.items; agent = p.agent }
 
+-- All operations are done.
+abbrev pub AllDone : PlainWorkload → List Site → Type 0
+AllDone W sites =
+    (node number : ℕ) (site : Site) (caller : Calling) → slice_get sites node ≡ Some site → slice_get site.callers number ≡ Some caller
+    → caller.done ≡ length (operations_at W (place_of W.settings.clients node number))
+
 pub record RoundsOver (W : PlainWorkload) (places : List Place) (coordinator : Coordinating) : Type 0 where
   pub valid : IsValid W
   pub rounds : ℕ
@@ -21,5 +27,4 @@ pub record RoundsOver (W : PlainWorkload) (places : List Place) (coordinator : C
   pub begin : AllBegin W (came.at 0)
   pub nodes : moment.standing.nodes ≡ map place_site places
   pub coordinator_is : moment.standing.coordinator ≡ coordinator
-  pub all : (node number : ℕ) (site : Site) (caller : Calling) → slice_get moment.standing.nodes node ≡ Some site → slice_get site.callers number ≡ Some caller
-      → caller.done ≡ length (operations_at W (place_of W.settings.clients node number))
+  pub all : AllDone W moment.standing.nodes

@@ -10,6 +10,7 @@ use Rattle.hs_workload.specs.Validity.{IsValid, client_pieces, workload_pieces}
 use Rattle.hs_workload.specs.declared.word.Setting.TheVariants as settings
 use Rattle.hs_caller.specs.Calling.{Calling}
 use Rattle.hs_caller.specs.Standing.{IsAt, HasSentSoFar}
+use Rattle.hs_closing.specs.Over.{AllDone}
 use Rattle.hs_desk.specs.Coordinators.{Coordinating}
 use Rattle.hs_desk.specs.Work.{Work, IsFew, triggered}
 use Rattle.hs_rounds.specs.Standing.{Site, Moment, Stands}
@@ -19,7 +20,7 @@ use Rattle.hs_rounds.specs.Moving.{Moves}
 use Rattle.hs_rounds.specs.Coming.{Came, NoRoundsCome, RoundsGoOn}
 use Rattle.hs_retell.specs.Laws.{AllBegin}
 use Rattle.hs_run.specs.declared.node.Node.{Node}
-use Rattle.hs_run.specs.Moments.{IsHere, AreFew, ActedTo, MetTo, MovedTo, CanBegin, DoneIn, AllDone, RoundsMade, RoundsOver}
+use Rattle.hs_run.specs.Moments.{IsHere, AreFew, ActedTo, MetTo, MovedTo, CanBegin, DoneIn, RoundsMade, RoundsOver}
 use Rattle.hs_run.specs.Movings.{AllStand}
 use Rattle.hs_run.specs.Nodes.{AreWhole, TellsLeft}
 use Rattle.hs_run.proofs.Few.{few_met}

@@ -3,6 +3,7 @@ use Rattle.std.specs.Prelude.{◌≡◌, ℕ, ◌*◌, ◌<◌, min, List, lengt
 use Rattle.hs_records.specs.Plain.{PlainWorkload}
 use Rattle.hs_sent.specs.Sending.{operations_at, place_of}
 use Rattle.hs_caller.specs.Calling.{Calling}
+use Rattle.hs_closing.specs.Over.{AllDone}
 use Rattle.hs_desk.specs.Coordinators.{Coordinating}
 use Rattle.hs_desk.specs.Work.{IsFew}
 use Rattle.hs_rounds.specs.Standing.{Site, Moment, Stands, IsBegun}
@@ -53,12 +54,6 @@ abbrev pub DoneIn : PlainWorkload → ℕ → List Site → Type 0
 DoneIn W rounds sites =
     (node number : ℕ) (site : Site) (caller : Calling) → slice_get sites node ≡ Some site → slice_get site.callers number ≡ Some caller
     → caller.done ≡ min (rounds * W.settings.stride) (length (operations_at W (place_of W.settings.clients node number)))
-
--- All operations are done.
-abbrev pub AllDone : PlainWorkload → List Site → Type 0
-AllDone W sites =
-    (node number : ℕ) (site : Site) (caller : Calling) → slice_get sites node ≡ Some site → slice_get site.callers number ≡ Some caller
-    → caller.done ≡ length (operations_at W (place_of W.settings.clients node number))
 
 -- So many rounds led here.
 pub record RoundsMade (W : PlainWorkload) (rounds : ℕ) (nodes : List Node) (coordinator : Coordinating) : Type 0 where
