@@ -4,6 +4,7 @@ use Rattle.std.proofs.Common.{◌≡◌, ℕ, false, List, [], ◌∷◌, map, r
 use Rattle.std.specs.Prelude.{fold}
 use Rattle.std.specs.List.{AllByRecursion}
 use Rattle.hs_base.specs.declared.ids.TraceId.{TraceId}
+use Rattle.hs_clauses.specs.Beginning.{MayBegin}
 use Rattle.hs_journal.specs.Views.{PlainJournal}
 use Rattle.hs_ledger.specs.declared.ledger.Entry.{Entry}
 use Rattle.hs_lawful.specs.Ends.{rounds_of}
@@ -22,7 +23,7 @@ use Rattle.hs_workload.specs.Validity.{IsClient, IsValid}
 use Rattle.hs_workload.specs.declared.word.Setting.TheVariants as settings
 use Rattle.hs_compare.specs.declared.coming.Coming.{Coming}
 use Rattle.hs_compare.specs.declared.script.Script.{Script}
-use Rattle.hs_compare.specs.Beginning.{AreScripts, MayBegin}
+use Rattle.hs_compare.specs.Beginning.{AreScripts}
 use Rattle.hs_compare.specs.Comparing.{comparison_by}
 use Rattle.hs_compare.specs.Happens.{coming_of}
 use Rattle.hs_compare.specs.Marked.{traces_of}

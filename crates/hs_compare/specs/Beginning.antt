@@ -1,20 +1,12 @@
--- A valid workload with a journal of its shape, and the scripts of its clients.
-use Rattle.std.specs.Prelude.{◌≡◌, ℕ, true, List, length, Some, slice_get}
+-- The scripts of its clients.
+use Rattle.std.specs.Prelude.{◌≡◌, ℕ, List, length, Some, slice_get}
 use Rattle.std.specs.List.{flat_map, range_with_len}
-use Rattle.hs_journal.specs.Views.{PlainJournal}
-use Rattle.hs_lawful.specs.Played.{played}
-use Rattle.hs_lawful.specs.Shape.{has_shape}
 use Rattle.hs_outcome.specs.Outcomes.{client_at}
 use Rattle.hs_records.specs.Plain.{PlainWorkload}
 use Rattle.hs_samplers.specs.Coming.{Coming, comings_of}
 use Rattle.hs_sent.specs.Sending.{operations_at}
-use Rattle.hs_workload.specs.Validity.{IsValid}
 use Rattle.hs_compare.specs.declared.script.Script.{Script}
 use Rattle.hs_compare.specs.Scripts.{IsClientScript}
-
-pub record MayBegin (W : PlainWorkload) (J : PlainJournal) : Type 0 where
-  pub valid : IsValid W
-  pub shape : has_shape (played W J) ≡ true
 
 -- One script for each client, in their order.
 pub record AreScripts (W : PlainWorkload) (scripts : List Script) : Type 0 where

@@ -7,6 +7,7 @@ use Rattle.std.specs.List.{range_with_len}
 use Rattle.hs_agent.specs.Runs as agents
 use Rattle.hs_base.specs.declared.ids.ClientId.{ClientId}
 use Rattle.hs_clauses.specs.Finding.{AreAsked}
+use Rattle.hs_clauses.specs.Beginning.{MayBegin}
 use Rattle.hs_client.specs.Calls.{note_of}
 use Rattle.hs_journal.specs.Books.{PlainClientBook}
 use Rattle.hs_journal.specs.Views.{PlainJournal}
@@ -20,7 +21,7 @@ use Rattle.hs_records.specs.Plain.{Operation, PlainWorkload}
 use Rattle.hs_sent.specs.Sending.{draws_at, operations_at, place_of}
 use Rattle.hs_given.specs.Sendings.{IsSending}
 use Rattle.hs_given.specs.declared.sending.Sending.{Sending}
-use Rattle.hs_followed.specs.Beginning.{MayBegin, AreFirst, IsNewHearing}
+use Rattle.hs_followed.specs.Beginning.{AreFirst, IsNewHearing}
 use Rattle.hs_followed.specs.Clients.{ClientStands}
 use Rattle.hs_followed.specs.Ends.{ends_within}
 use Rattle.hs_followed.specs.Nodes.{Stands}

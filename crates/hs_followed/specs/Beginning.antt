@@ -1,19 +1,9 @@
--- A workload and a journal of its shape, and the parts of the nodes before anything was performed.
-use Rattle.std.specs.Prelude.{◌≡◌, ℕ, true, List, [], length, slice_get, Some}
+-- The parts of the nodes before anything was performed.
+use Rattle.std.specs.Prelude.{◌≡◌, ℕ, List, [], length, slice_get, Some}
 use Rattle.hs_base.specs.Listing.{Listing}
 use Rattle.hs_base.specs.declared.told.Ask.{Ask}
 use Rattle.hs_coord.specs.Kept.{HasTaken}
-use Rattle.hs_journal.specs.Views.{PlainJournal}
-use Rattle.hs_lawful.specs.Played.{played}
-use Rattle.hs_lawful.specs.Shape.{has_shape}
-use Rattle.hs_records.specs.Plain.{PlainWorkload}
-use Rattle.hs_workload.specs.Validity.{IsValid}
 use Rattle.hs_followed.specs.declared.hearing.Hearing.{Hearing}
-
--- The workload is valid, and the journal has its shape.
-pub record MayBegin (W : PlainWorkload) (J : PlainJournal) : Type 0 where
-  pub valid : IsValid W
-  pub shape : has_shape (played W J) ≡ true
 
 -- There are so many items, and each is what its place says.
 pub record AreFirst {A : Type 0} (Is : ℕ → A → Type 0) (count : ℕ) (items : List A) : Type 0 where

@@ -5,7 +5,8 @@ ghost use Rattle.hs_base.specs.declared.limits.TheConstants.{MAX_NODES};
 ghost use Rattle.hs_journal.specs.Views.{journal_of};
 ghost use Rattle.hs_lawful.specs.Following.{followed, node_start, run_start};
 ghost use Rattle.hs_workload.specs.Views.{workload_of};
-ghost use Rattle.hs_followed.specs.Beginning.{MayBegin, IsNewHearing};
+ghost use Rattle.hs_clauses.specs.Beginning.{MayBegin};
+ghost use Rattle.hs_followed.specs.Beginning.{IsNewHearing};
 ghost use Rattle.hs_followed.specs.Clients.{ClientStands};
 ghost use Rattle.hs_followed.specs.Whole.{NodeAt, AllAt};
 
