@@ -13,7 +13,7 @@ use Rattle.hs_lawful.specs.Following.{NodeRun, Run}
 use Rattle.hs_lawful.specs.Passes.{queues_of, is_offer, is_unread, but_last, last_of, steps_in, pass_ends, offers_end}
 use Rattle.hs_lawful.specs.Played.{state_behind}
 use Rattle.hs_actors.specs.Doings.{NodeDoings, steps_of, state_after, journal_of, node_at_end}
-use Rattle.hs_actors.specs.Facts.{IsPass, IsStamped, EndsItsOffers, EndOffersFrom}
+use Rattle.hs_actors.specs.Facts.{IsPass, IsStamped, EndsPass, EndOffersFrom}
 use Rattle.hs_actors.specs.Playing.{DoingsAreFollowed, MakeTheirOffers}
 use Rattle.hs_actors.proofs.Behind.{log_passes, state_there}
 use Rattle.hs_actors.proofs.Clauses.{mapped_true}
@@ -85,7 +85,7 @@ module _ (adds : EventsAddThis) (W : PlainWorkload) (J : PlainJournal) (n : Node
     abbrev cut : List (List Step)
     cut = map steps_of n.passes
 
-    ends_at : (place : ℕ) (pass : List Event) → EndsItsOffers W n place pass → pass_ends W.settings run cut (suc place) (steps_of pass) ≡ true
+    ends_at : (place : ℕ) (pass : List Event) → EndsPass W (state_after W.settings n (suc place)) pass → pass_ends W.settings run cut (suc place) (steps_of pass) ≡ true
     ends_at place pass e = either e.ends
       where
         quiet : NoUnread (items W pass e.is_pass)

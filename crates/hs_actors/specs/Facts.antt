@@ -106,16 +106,16 @@ IsStamped (Given stamp) = Unit {0}
 IsStamped (Missed stamp) = Unit {0}
 IsStamped Unread = ⊥
 
--- The loop of the pass with this place offers until the hand is empty, or until an offer is unread.
-pub record EndsItsOffers (W : PlainWorkload) (n : NodeDoings) (place : ℕ) (pass : List Event) : Type 0 where
+-- The pass is one of the loop, and it offers until the hand of the agent behind it is empty, or until an offer is unread.
+pub record EndsPass (W : PlainWorkload) (behind : AgentState) (pass : List Event) : Type 0 where
   pub is_pass : IsPass W pass
   pub before : List Answered
   pub stamped : AllByRecursion IsStamped before
-  pub ends : ((is_pass.offers ≡ before) × ((state_after W.settings n (suc place)).hand ≡ [])) ⊎ (is_pass.offers ≡ before ++ Unread ∷ [])
+  pub ends : ((is_pass.offers ≡ before) × (behind.hand ≡ [])) ⊎ (is_pass.offers ≡ before ++ Unread ∷ [])
 
 abbrev pub EndOffersFrom : PlainWorkload → NodeDoings → ℕ → List (List Event) → Type 0
 EndOffersFrom W n place [] = Unit {0}
-EndOffersFrom W n place (pass ∷ passes) = EndsItsOffers W n place pass × EndOffersFrom W n (suc place) passes
+EndOffersFrom W n place (pass ∷ passes) = EndsPass W (state_after W.settings n (suc place)) pass × EndOffersFrom W n (suc place) passes
 
 abbrev pub HaveOffers : PlainWorkload → Doings → Type 0
 HaveOffers W d = AllByRecursion (λ (n : NodeDoings). EndOffersFrom W n 0 n.passes) d.nodes

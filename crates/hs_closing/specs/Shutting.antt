@@ -11,18 +11,20 @@ use Rattle.hs_ring.specs.Parts.{Leased, Giving}
 use Rattle.hs_words.specs.Buffers.{Buffer}
 use Rattle.hs_workload.specs.Validity.{IsValid}
 use Rattle.hs_actors.specs.Doings.{asks_in, crumbs_in, triggers_in, steps_of}
+use Rattle.hs_actors.specs.Facts.{EndsPass}
 use Rattle.hs_lawful.specs.Shape.{log_stamps}
 use Rattle.hs_caller.specs.Calling.{Calling}
-use Rattle.hs_closing.specs.Ended.{sents_of}
 use Rattle.hs_desk.specs.Coordinators.{Coordinating, IsCoordinating, all_empty, asked_all}
-use Rattle.hs_desk.specs.Manned.{EndsPass, IsManned}
+use Rattle.hs_desk.specs.Manned.{IsManned}
 use Rattle.hs_desk.specs.Shut.{Shut, AllSent, IsShut, IsBare}
 use Rattle.hs_desk.specs.Turns.{Gives}
-use Rattle.hs_desk.specs.Work.{Work, IsFew, came_of}
+use Rattle.hs_desk.specs.Work.{Work, IsFew, came_of, with_events}
+use Rattle.hs_desk.specs.Agents.{state_at}
 use Rattle.hs_rounds.specs.Standing.{Site, Moment, moved_by, asked_by}
 use Rattle.hs_rounds.specs.Moving.{IsSameDoing}
 use Rattle.hs_retell.specs.Spans.{Post}
 use Rattle.hs_retell.specs.Closing.{Closing}
+use Rattle.hs_closing.specs.Ended.{sents_of}
 
 -- what the clients of each node sent
 abbrev pub AllSents : Type 0
@@ -51,7 +53,7 @@ pub record PassedAlone (W : PlainWorkload) (node : ℕ) (sents : AllSents) (old 
   pub events : new.events ≡ old.events ++ pass
   pub came : List (Buffer Leased)
   pub came_is : new.came ≡ old.came ++ came
-  pub ends : EndsPass W old pass
+  pub ends : EndsPass W (state_at W (with_events pass [] old)) pass
   pub gives : Gives giver giver' (log_stamps (steps_of pass))
   pub takes : (client : ℕ) → client < W.settings.clients → TakesItems (sents node) client old new
   pub asks : min (length old.asked) (length (asks_in old.events) + MAX_TAKEN) ≤ length (asks_in new.events)

@@ -9,6 +9,7 @@ use Rattle.hs_base.specs.declared.told.Ask.{Ask}
 use Rattle.hs_base.specs.declared.told.Crumb.{Crumb}
 use Rattle.hs_base.specs.declared.told.Trigger.{Trigger}
 use Rattle.hs_actors.specs.Doings.{asks_in, ask_in, crumb_in, trigger_in, crumbs_in, triggers_in, steps_of}
+use Rattle.hs_actors.specs.Facts.{EndsPass}
 use Rattle.hs_lawful.specs.Shape.{log_stamps}
 use Rattle.hs_link.specs.Contents.{Incoming}
 use Rattle.hs_live.specs.Keys.{Key}
@@ -20,7 +21,7 @@ use Rattle.hs_ring.specs.Parts.{Leased}
 use Rattle.hs_words.specs.Buffers.{Buffer}
 use Rattle.hs_desk.specs.Agents.{IsWithin, state_at}
 use Rattle.hs_desk.specs.Lines.{Line, Lines, linked, HandsOut, HandOutFirst, lines_of}
-use Rattle.hs_desk.specs.Manned.{Manned, IsManned, HasReceived, Passes, EndsPass, EachReceives, TakesItsAsks, desk_of}
+use Rattle.hs_desk.specs.Manned.{Manned, IsManned, HasReceived, Passes, EachReceives, TakesItsAsks, desk_of}
 use Rattle.hs_desk.specs.Passing.{CanPass, MakesPass, events_made}
 use Rattle.hs_desk.specs.Stages.{Desking, Helping, events_from, chunks_of, stamps_of}
 use Rattle.hs_desk.specs.Turns.{Gives}
@@ -161,7 +162,7 @@ module _ (W : PlainWorkload) (work : Work) (old new : Lines) (desk : Desking) (m
   pub triggers_behind : (client : ℕ) (h : Helping) → slice_get made.helpings client ≡ Some h → triggers_in client (work.events ++ pass) ≡ triggers_in client work.events ++ h.triggers
   triggers_behind client h at = flat_more (trigger_in client) work.events pass ∙ ap (λ (l : List Trigger). triggers_in client work.events ++ l) (triggers_made client made.helpings made.asks made.answers h at)
 
-  pub ends_pass : EndsPass W work pass
+  pub ends_pass : EndsPass W (state_at W (with_events pass [] work)) pass
   ends_pass =
       let (p, same) = is_pass made.helpings made.asks W made.answers made.number few_chunks few_crumbs few_triggers made.few_asks in
       record {

@@ -1,20 +1,19 @@
 -- An agent in the rounds, as contracts see it, and what it is between them: its agent, its port, the asks that wait for it and the
 -- messages that wait to be fetched.
-use Rattle.std.specs.Prelude.{◌≡◌, ◌⊎◌, ℕ, ◌+◌, ◌≤◌, min, List, [], ◌∷◌, ◌++◌, length}
-use Rattle.std.specs.List.{AllByRecursion}
+use Rattle.std.specs.Prelude.{◌≡◌, ℕ, ◌+◌, ◌≤◌, min, List, [], ◌++◌, length}
 use Rattle.hs_base.specs.declared.limits.TheConstants.{MAX_TAKEN}
 use Rattle.hs_base.specs.declared.told.Ask.{Ask}
 use Rattle.hs_base.specs.declared.told.Crumb.{Crumb}
 use Rattle.hs_base.specs.declared.told.Told.{Told}
 use Rattle.hs_base.specs.declared.told.Trigger.{Trigger}
 use Rattle.hs_actors.specs.Doings.{asks_in, crumbs_in, triggers_in, steps_of}
-use Rattle.hs_actors.specs.Facts.{IsPass, IsStamped}
+use Rattle.hs_actors.specs.Facts.{EndsPass}
 use Rattle.hs_agent.specs.Keeping.{Keeping}
 use Rattle.hs_lawful.specs.Shape.{log_stamps}
 use Rattle.hs_link.specs.Contents.{Incoming, IsSameReceiver}
 use Rattle.hs_live.specs.Live.{Port, IsEnd}
 use Rattle.hs_live.specs.Keys.{Key}
-use Rattle.hs_model.specs.Stepping.{Answered, Unread, Event}
+use Rattle.hs_model.specs.Stepping.{Event}
 use Rattle.hs_records.specs.Plain.{PlainWorkload}
 use Rattle.hs_ring.specs.Parts.{Leased}
 use Rattle.hs_words.specs.Buffers.{Buffer}
@@ -57,13 +56,6 @@ pub record BeginsAt (W : PlainWorkload) (node : ℕ) (port : Port) : Type 0 wher
 
 -- ---- a pass
 
--- The pass is one of the loop, and it offers until the hand is empty or an offer is unread.
-pub record EndsPass (W : PlainWorkload) (work : Work) (pass : List Event) : Type 0 where
-  pub is_pass : IsPass W pass
-  pub before : List Answered
-  pub stamped : AllByRecursion IsStamped before
-  pub ends : ((is_pass.offers ≡ before) × ((state_at W (with_events pass [] work)).hand ≡ [])) ⊎ (is_pass.offers ≡ before ++ Unread ∷ [])
-
 -- Of what the receiver was told of it received all, or as many items as a pass takes.
 pub record ReceivesInPass {T : Type 0} (old new : Incoming T Key) : Type 0 where
   pub same : IsSameReceiver old new
@@ -83,7 +75,7 @@ TakesItsAsks work pass = min (length work.asked) (length (asks_in work.events) +
 
 pub record Passes (W : PlainWorkload) (work : Work) (pass : List Event) (came : List (Buffer Leased)) (old new : Manned) : Type 0 where
   pub stands : IsManned W (with_events pass came work) new
-  pub ends : EndsPass W work pass
+  pub ends : EndsPass W (state_at W (with_events pass [] work)) pass
   pub gives : Gives old.port.giver new.port.giver (log_stamps (steps_of pass))
   pub chunks : EachReceives old.port.chunks new.port.chunks
   pub crumbs : EachReceives old.port.crumbs new.port.crumbs

@@ -9,6 +9,7 @@ use Rattle.hs_base.specs.declared.told.Crumb.{Crumb}
 use Rattle.hs_base.specs.declared.told.Told.{Told}
 use Rattle.hs_base.specs.declared.told.Trigger.{Trigger}
 use Rattle.hs_actors.specs.Doings.{crumbs_in, triggers_in, steps_of}
+use Rattle.hs_actors.specs.Facts.{EndsPass}
 use Rattle.hs_agent.specs.Keeping.{Keeping}
 use Rattle.hs_lawful.specs.Shape.{log_stamps}
 use Rattle.hs_link.specs.Contents.{Incoming, Outgoing, Remaining, sent}
@@ -21,7 +22,7 @@ use Rattle.hs_words.specs.Buffers.{Buffer, buffer_of}
 use Rattle.hs_words.specs.declared.token.Held.{Held}
 use Rattle.hs_desk.specs.Agents.{state_at}
 use Rattle.hs_desk.specs.Lines.{Lines, closed}
-use Rattle.hs_desk.specs.Manned.{EndsPass, TakesItsAsks}
+use Rattle.hs_desk.specs.Manned.{TakesItsAsks}
 use Rattle.hs_desk.specs.Stages.{Desking, Stands}
 use Rattle.hs_desk.specs.Turns.{Gives}
 use Rattle.hs_desk.specs.Work.{Work, came_of, with_events}
@@ -109,7 +110,7 @@ TakesLeft all before behind = min (length all) (length before + MAX_TAKEN) ≤ l
 
 pub record PassesShut (W : PlainWorkload) (work : Work) (all : AllSent) (pass : List Event) (came : List (Buffer Leased)) (old new : Shut) : Type 0 where
   pub stands : IsShut W (with_events pass came work) all new
-  pub ends : EndsPass W work pass
+  pub ends : EndsPass W (state_at W (with_events pass [] work)) pass
   pub gives : Gives old.giver new.giver (log_stamps (steps_of pass))
   pub chunks : (client : ℕ) → client < W.settings.clients → TakesLeft (all.chunks client) (came_of client work) (came_of client (with_events pass came work))
   pub crumbs : (client : ℕ) → client < W.settings.clients → TakesLeft (all.crumbs client) (crumbs_in client work.events) (crumbs_in client (work.events ++ pass))

@@ -1,12 +1,12 @@
 -- What a story does, as doings told pass by pass.
-use Rattle.std.proofs.Common.{◌≡◌, ◌⊎◌, inl, inr, ℕ, suc, ◌+◌, ◌<◌, ◌≤◌, Bool, true, false, List, [], ◌∷◌, ◌++◌, length, refl, sym, ap, subst, ◌∙◌, Option, Some, unwrap_or, arith, map, filter, slice_get, count_by, nat_lt, ltb-true, ltb-false}
+use Rattle.std.proofs.Common.{◌≡◌, ℕ, suc, ◌+◌, ◌<◌, ◌≤◌, Bool, true, false, List, [], ◌∷◌, length, refl, sym, ap, subst, ◌∙◌, Option, Some, unwrap_or, arith, map, filter, slice_get, count_by, nat_lt, ltb-true, ltb-false}
 use Rattle.std.specs.List.{AllByRecursion, range_with_len}
 use Rattle.hs_coord.specs.Messages.{message}
 use Rattle.hs_journal.specs.declared.journal.Draw.{Draw}
 use Rattle.hs_journal.specs.Views.{PlainJournal}
 use Rattle.hs_model.specs.Laws.{sheets_of}
 use Rattle.hs_model.specs.State.{AgentState, start}
-use Rattle.hs_model.specs.Stepping.{Unread, Event, after}
+use Rattle.hs_model.specs.Stepping.{Event, after}
 use Rattle.hs_records.specs.Plain.{PlainWorkload}
 use Rattle.hs_sent.specs.Sending.{ClientSends, client_sends, sends_of, draws_at, place_of, ops_of}
 use Rattle.hs_sent.specs.OneMore.{items_of}
@@ -15,10 +15,10 @@ use Rattle.hs_lawful.specs.Following.{asks_to, is_from}
 use Rattle.hs_actors.specs.Pools.{draw_answer}
 use Rattle.hs_workload.specs.Validity.{IsValid}
 use Rattle.hs_actors.specs.Doings.{NodeDoings, all_events, events_in, state_after, last_state, chunks_in, crumbs_in, triggers_in, asks_in, heard_in, all_heard, journal_of}
-use Rattle.hs_actors.specs.Facts.{IsPass, IsOwn, TookAllOf, HandsReady, IsPlayable, EndsItsOffers, EndOffersFrom}
+use Rattle.hs_actors.specs.Facts.{IsPass, IsOwn, TookAllOf, HandsReady, IsPlayable, EndsPass, EndOffersFrom}
 use Rattle.hs_gathered.specs.Turns.{AreTurns}
 use Rattle.hs_gathered.specs.Ends.{GoesOn}
-use Rattle.hs_gathered.specs.Stories.{NodeStory, Story, added, node_doings, doings_of, draws_of, sends_at, state_by, EndsPass, IsQueueStory, sent_by, TakesFrom, TalksWith, PoolsWith, IsNodeStory, IsStory}
+use Rattle.hs_gathered.specs.Stories.{NodeStory, Story, added, node_doings, doings_of, draws_of, sends_at, state_by, IsQueueStory, sent_by, TakesFrom, TalksWith, PoolsWith, IsNodeStory, IsStory}
 use Rattle.hs_gathered.specs.Stories as stories
 use Rattle.hs_gathered.proofs.Lists.{all_each, each_at}
 use Rattle.hs_gathered.proofs.PoolOf.{IsDrawnFor, IsPoolOf}
@@ -139,27 +139,21 @@ module _ (W : PlainWorkload) (s : Story) (story : IsStory W s) where
         each_at (IsPass W) (node_doings s node).passes
         (λ k pass h. let at = unmapped_at (added (s.nodes node).events) s.passes k pass h in subst (IsPass W) at.is ((story.each node low).ends k at.low).is_pass)
 
-    offers_from : (place : ℕ) (passes : List (List Event)) → ((i : ℕ) (pass : List Event) → slice_get passes i ≡ Some pass → EndsItsOffers W (node_doings s node) (place + i) pass) → EndOffersFrom W (node_doings s node) place passes
+    offers_from : (place : ℕ) (passes : List (List Event)) → ((i : ℕ) (pass : List Event) → slice_get passes i ≡ Some pass → EndsPass W (state_after W.settings (node_doings s node) (suc (place + i))) pass) → EndOffersFrom W (node_doings s node) place passes
     offers_from place [] each = tt
     offers_from place (pass ∷ passes) each =
         let zeroth : place + 0 ≡ place = omega arith in (
-          subst (λ m. EndsItsOffers W (node_doings s node) m pass) zeroth (each 0 pass refl),
-          offers_from (suc place) passes (λ i p h. let next : place + suc i ≡ suc place + i = omega arith in subst (λ m. EndsItsOffers W (node_doings s node) m p) next (each (suc i) p h)),
+          subst (λ m. EndsPass W (state_after W.settings (node_doings s node) (suc m)) pass) zeroth (each 0 pass refl),
+          offers_from (suc place) passes (λ i p h. let next : place + suc i ≡ suc place + i = omega arith in subst (λ m. EndsPass W (state_after W.settings (node_doings s node) (suc m)) p) next (each (suc i) p h)),
         )
 
-    ends_offers : (k : ℕ) (pass : List Event) → slice_get (node_doings s node).passes k ≡ Some pass → EndsItsOffers W (node_doings s node) (0 + k) pass
+    ends_offers : (k : ℕ) (pass : List Event) → slice_get (node_doings s node).passes k ≡ Some pass → EndsPass W (state_after W.settings (node_doings s node) (suc (0 + k))) pass
     ends_offers k pass h =
         let at = unmapped_at (added (s.nodes node).events) s.passes k pass h in
         let zeroth : k ≡ 0 + k = omega arith in
-        subst (λ m. EndsItsOffers W (node_doings s node) m pass) zeroth (subst (EndsItsOffers W (node_doings s node) k) at.is (here ((story.each node low).ends k at.low) (state_there (suc k) (let few = at.low in omega (arith, few)))))
-      where
-        here : EndsPass W (state_by W s node (suc k)) (added (s.nodes node).events k) → state_after W.settings (node_doings s node) (suc k) ≡ state_by W s node (suc k) → EndsItsOffers W (node_doings s node) k (added (s.nodes node).events k)
-        here e same = record { is_pass = e.is_pass; before = e.before; stamped = e.stamped; ends = either e.ends }
-          where
-            either : ((e.is_pass.offers ≡ e.before) × ((state_by W s node (suc k)).hand ≡ [])) ⊎ (e.is_pass.offers ≡ e.before ++ Unread ∷ [])
-                → ((e.is_pass.offers ≡ e.before) × ((state_after W.settings (node_doings s node) (suc k)).hand ≡ [])) ⊎ (e.is_pass.offers ≡ e.before ++ Unread ∷ [])
-            either (inl (offers, empty)) = inl (offers, ap (λ (state : AgentState). state.hand) same ∙ empty)
-            either (inr offers) = inr offers
+        let there = state_there (suc k) (let few = at.low in omega (arith, few)) in
+        subst (λ m. EndsPass W (state_after W.settings (node_doings s node) (suc m)) pass) zeroth
+        (subst (EndsPass W (state_after W.settings (node_doings s node) (suc k))) at.is (subst (λ (state : AgentState). EndsPass W state (added (s.nodes node).events k)) (sym there) ((story.each node low).ends k at.low)))
 
     pub all_offers : EndOffersFrom W (node_doings s node) 0 (node_doings s node).passes
     all_offers = offers_from 0 (node_doings s node).passes ends_offers

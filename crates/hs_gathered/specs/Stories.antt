@@ -1,6 +1,6 @@
 -- The story of a run: where its parts stood behind each pass. Rounds come first, in which clients are at work beside the agents and the
 -- coordinator, and behind them passes alone, until nothing is left. What a part promises of each pass is told here in its words.
-use Rattle.std.specs.Prelude.{◌≡◌, ◌⊎◌, ℕ, suc, ◌+◌, ◌*◌, ◌<◌, ◌≤◌, min, List, [], ◌∷◌, ◌++◌, length, map, drop, filter, reverse, slice_get, count_by, Some, refl}
+use Rattle.std.specs.Prelude.{◌≡◌, ℕ, suc, ◌+◌, ◌*◌, ◌<◌, ◌≤◌, min, List, [], ◌∷◌, ◌++◌, length, map, drop, filter, reverse, slice_get, count_by, Some, refl}
 use Rattle.std.specs.List.{AllByRecursion, range_with_len}
 use Rattle.hs_base.specs.declared.limits.TheConstants.{MAX_TAKEN}
 use Rattle.hs_coord.specs.Messages.{Message, Messages, message}
@@ -8,7 +8,7 @@ use Rattle.hs_journal.specs.declared.journal.Draw.{Draw}
 use Rattle.hs_journal.specs.declared.journal.Draw.TheVariants as draws
 use Rattle.hs_model.specs.Laws.{sheets_of}
 use Rattle.hs_model.specs.State.{AgentState, start}
-use Rattle.hs_model.specs.Stepping.{Answered, Unread, Event, after}
+use Rattle.hs_model.specs.Stepping.{Event, after}
 use Rattle.hs_records.specs.Plain.{PlainWorkload}
 use Rattle.hs_sent.specs.Draws.{count_started}
 use Rattle.hs_sent.specs.Sending.{Sent, ClientSends, sends_of, sent_within, place_of, ops_of}
@@ -16,7 +16,7 @@ use Rattle.hs_sent.specs.OneMore.{items_of}
 use Rattle.hs_words.specs.Ends.{Deed, IsTogether}
 use Rattle.hs_lawful.specs.Following.{asks_to, is_from}
 use Rattle.hs_actors.specs.Doings.{NodeDoings, Doings, chunks_in, crumbs_in, triggers_in, asks_in}
-use Rattle.hs_actors.specs.Facts.{IsPass, IsOwn, IsStamped, HandsReady}
+use Rattle.hs_actors.specs.Facts.{IsOwn, HandsReady, EndsPass}
 use Rattle.hs_actors.specs.Pools.{draw_answer}
 use Rattle.hs_gathered.specs.Turns.{Lent, AreTurns}
 use Rattle.hs_gathered.specs.Ends.{done_by, Ends, GoesOn, HasMet}
@@ -68,13 +68,6 @@ abbrev pub state_by : PlainWorkload → Story → (node passes : ℕ) → AgentS
 state_by W s node passes = after W.settings node ((s.nodes node).events passes)
 
 -- ---- a pass
-
--- The pass is one of the loop, and offers until the hand is empty or an offer is unread.
-pub record EndsPass (W : PlainWorkload) (behind : AgentState) (pass : List Event) : Type 0 where
-  pub is_pass : IsPass W pass
-  pub before : List Answered
-  pub stamped : AllByRecursion IsStamped before
-  pub ends : ((is_pass.offers ≡ before) × (behind.hand ≡ [])) ⊎ (is_pass.offers ≡ before ++ Unread ∷ [])
 
 -- ---- a queue
 

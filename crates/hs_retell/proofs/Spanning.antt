@@ -1,20 +1,21 @@
 -- What a node's passes make of its story.
-use Rattle.std.proofs.Common.{◌≡◌, ◌⊎◌, inl, inr, ℕ, zero, suc, ◌+◌, ◌-◌, ◌<◌, ◌≤◌, min, Bool, true, false, cond, List, [], ◌∷◌, ◌++◌, length, refl, sym, ap, subst, ◌∙◌, arith, map, filter, drop, count_by, eqb-true, append-nil, append_assoc}
+use Rattle.std.proofs.Common.{◌≡◌, ℕ, zero, suc, ◌+◌, ◌-◌, ◌<◌, ◌≤◌, min, Bool, true, false, cond, List, [], ◌∷◌, ◌++◌, length, refl, sym, ap, subst, ◌∙◌, arith, map, filter, drop, count_by, eqb-true, append-nil, append_assoc}
 use Rattle.std.proofs.lemmas.List.{length-map}
 use Rattle.std.proofs.lemmas.List.Sums.{length-filter}
 use Rattle.std.proofs.lemmas.Simd.{map-map}
 use Rattle.hs_base.specs.declared.limits.TheConstants.{MAX_TAKEN}
 use Rattle.hs_coord.specs.Messages.{Message, Messages, message}
 use Rattle.hs_model.specs.Laws.{EventsAddThis, sheets_of}
-use Rattle.hs_model.specs.Stepping.{Unread, Event, after}
+use Rattle.hs_model.specs.Stepping.{Event, after}
+use Rattle.hs_model.specs.State.{AgentState}
 use Rattle.hs_records.specs.Plain.{PlainWorkload}
 use Rattle.hs_ring.specs.Parts.{Leased}
 use Rattle.hs_words.specs.Buffers.{Buffer}
 use Rattle.hs_lawful.specs.Following.{is_from, asks_to}
 use Rattle.hs_actors.specs.Doings.{asks_in}
+use Rattle.hs_actors.specs.Facts.{EndsPass}
 use Rattle.hs_desk.specs.Coordinators.{heard_of}
-use Rattle.hs_desk.specs.Manned as desk
-use Rattle.hs_gathered.specs.Stories.{added, EndsPass}
+use Rattle.hs_gathered.specs.Stories.{added}
 use Rattle.hs_gathered.specs.Turns.{Lent, AreTurns}
 use Rattle.hs_retell.specs.Spans.{Post, IsPost, IsStep}
 use Rattle.hs_retell.proofs.Chunks.{sheets_taken}
@@ -61,18 +62,10 @@ module _ (W : PlainWorkload) (node passes : ℕ) (heard : ℕ → Messages) (pos
     grows k few = (steps k few).events ∙ ap (λ pass. events_by k ++ pass) (sym (added_is k few))
 
     pub ends_pass : (k : ℕ) (few : k < passes) → EndsPass W (after W.settings node (events_by (suc k))) (added events_by k)
-    ends_pass k few = subst (EndsPass W (after W.settings node (events_by (suc k)))) (sym (added_is k few)) (here (steps k few).ends)
+    ends_pass k few = subst (EndsPass W (after W.settings node (events_by (suc k)))) (sym (added_is k few)) (subst (λ (s : AgentState). EndsPass W s (steps k few).pass) state (steps k few).ends)
       where
         state : after W.settings (post k).work.node (events_by k ++ (steps k few).pass) ≡ after W.settings node (events_by (suc k))
         state = ap (λ m. after W.settings m (events_by k ++ (steps k few).pass)) (posts k (omega (arith, few))).node_is ∙ ap (after W.settings node) (sym (steps k few).events)
-
-        here : desk.EndsPass W (post k).work (steps k few).pass → EndsPass W (after W.settings node (events_by (suc k))) (steps k few).pass
-        here e = record { is_pass = e.is_pass; before = e.before; stamped = e.stamped; ends = either e.ends }
-          where
-            either : ((e.is_pass.offers ≡ e.before) × ((after W.settings (post k).work.node (events_by k ++ (steps k few).pass)).hand ≡ [])) ⊎ (e.is_pass.offers ≡ e.before ++ Unread ∷ [])
-                → ((e.is_pass.offers ≡ e.before) × ((after W.settings node (events_by (suc k))).hand ≡ [])) ⊎ (e.is_pass.offers ≡ e.before ++ Unread ∷ [])
-            either (inl (offers, empty)) = inl (offers, ap (λ s. s.hand) (sym state) ∙ empty)
-            either (inr offers) = inr offers
 
     -- the chunks of earlier passes stand first
     record CameBy (k : ℕ) : Type 0 where

@@ -15,12 +15,11 @@ use Rattle.hs_words.specs.Ends.{Turn}
 use Rattle.hs_lawful.specs.Following.{asks_to}
 use Rattle.hs_lawful.specs.Shape.{log_stamps}
 use Rattle.hs_actors.specs.Doings.{asks_in, steps_of}
-use Rattle.hs_actors.specs.Facts.{HandsReady}
-use Rattle.hs_desk.specs.Agents.{IsPageThere, IsWithin}
+use Rattle.hs_actors.specs.Facts.{HandsReady, EndsPass}
+use Rattle.hs_desk.specs.Agents.{IsPageThere, IsWithin, state_at}
 use Rattle.hs_desk.specs.Coordinators.{heard_of}
-use Rattle.hs_desk.specs.Manned.{EndsPass}
 use Rattle.hs_desk.specs.Turns.{AreTurns}
-use Rattle.hs_desk.specs.Work.{Work}
+use Rattle.hs_desk.specs.Work.{Work, with_events}
 
 -- what was done at a node, and the giver of its pool
 pub record Post : Type 0 where
@@ -46,7 +45,7 @@ pub record IsStep (W : PlainWorkload) (node : ℕ) (heard heard' : Messages) (ol
   pub events : new.work.events ≡ old.work.events ++ pass
   pub came : List (Buffer Leased)
   pub came_is : new.work.came ≡ old.work.came ++ came
-  pub ends : EndsPass W old.work pass
+  pub ends : EndsPass W (state_at W (with_events pass [] old.work)) pass
   pub more : List Turn
   pub turns : new.giver.turns ≡ more ++ old.giver.turns
   pub high : AllByRecursion (λ stamp. old.giver.floor ≤ stamp) (log_stamps (steps_of pass))
