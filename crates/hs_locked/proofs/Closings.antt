@@ -3,10 +3,11 @@ use Rattle.std.proofs.Common.{◌≡◌, ℕ, suc, ◌+◌, List, [], ◌∷◌,
 use Rattle.atomic_table.specs.Seated.{TableId}
 use Rattle.atomic_table.specs.Table.{Joins}
 use Rattle.hs_words.specs.Pools.{PoolName}
+use Rattle.hs_words.specs.Plans.{Plan}
 use Rattle.hs_ring.specs.Parts.{Drawing, AreInOrder, answers_of_all}
 use Rattle.hs_ring.specs.Seats.{name_of}
 use Rattle.hs_locked.specs.Views.{nothing, Post, away, nobody, drawing, desk_of, post_of, having_closed}
-use Rattle.hs_locked.specs.Rule.{Plan, Locked}
+use Rattle.hs_locked.specs.Rule.{Locked}
 use Rattle.hs_locked.specs.Seats.{Place, IsFree, drawing_of}
 use Rattle.hs_locked.specs.Making.{closed_post}
 use Rattle.hs_locked.proofs.Owed.{Mine, closes_at}

@@ -3,14 +3,15 @@ use Rattle.std.proofs.Common.{◌≡◌, ℕ, List, [], ◌∷◌, length, rever
 use lib.ListN.{length-map}
 use Rattle.std.proofs.lemmas.List.{length-reverse, reverse-append, reverse-reverse}
 use Rattle.hs_words.specs.PoolHistory.{Event, Got, Empty, Given, Missed, is_empty, is_missed, queue_after, IsHistoryBack}
-use Rattle.hs_words.specs.Ends.{Deed, event_in, events_of, is_any_got, is_any_given, Counts}
+use Rattle.hs_words.specs.Ends.{Deed, event_in, events_of, is_any_got, is_any_given, Counts, queue_of}
 use Rattle.hs_words.specs.declared.token.Tally.{Tally}
 use Rattle.hs_words.proofs.Deeds.{stamp_is}
 use Rattle.hs_words.proofs.Waiting.{counted, drawn_kinds, given_kinds}
+use Rattle.hs_words.specs.Plans.{Plan}
 use Rattle.hs_pool.specs.Pool.{IsAfter, waiting}
 use Rattle.hs_locked.specs.declared.store.Store.{Store}
 use Rattle.hs_locked.specs.Stored.{with_one, GoesOn, IsCounted}
-use Rattle.hs_locked.specs.Rule.{Plan, queue_of, StoreOk}
+use Rattle.hs_locked.specs.Rule.{StoreOk}
 
 module _ (plan : Plan) (log : List Deed) (store : Store) (ok : StoreOk plan log store) where
   back : reverse (reverse (events_of log)) ≡ events_of log

@@ -7,18 +7,11 @@ use mathlib.Core.Option.{some, none}
 use mathlib.Core.Option as maybe
 use lib.ListN.{get_elem?}
 use Rattle.atomic_table.specs.Table.{State}
-use Rattle.hs_base.specs.declared.limits.TheConstants.{MAX_BUFFERS, MAX_OPERATIONS}
-use Rattle.hs_words.specs.PoolHistory.{queue_after}
-use Rattle.hs_words.specs.Ends.{Deed, events_of, answers_by, answers_in, is_any_got, IsGot, NoneSince, EachSpends, EachUnread, AreAnswers, Counts}
+use Rattle.hs_words.specs.Ends.{Deed, events_of, answers_by, answers_in, is_any_got, IsGot, NoneSince, EachSpends, EachUnread, AreAnswers, Counts, queue_of}
+use Rattle.hs_words.specs.Plans.{total, Plan, Within}
 use Rattle.hs_pool.specs.Pool.{IsAfter, HasSize}
 use Rattle.hs_locked.specs.declared.store.Store.{Store}
-use Rattle.hs_locked.specs.Views.{Desk, Hand, nothing, kept, Post, Palm, bare, holds, Stand, away, queued, inside, closing, View, nobody, drawing, leasing, giving, drawer_note, giver_note, Has, HasStore, AtSeat, total, all_left}
-
--- how many buffers there are, their size, and the allowances of the drawers
-pub record Plan : Type 0 where
-  pub buffers : ℕ
-  pub size : ℕ
-  pub allowances : List ℕ
+use Rattle.hs_locked.specs.Views.{Desk, Hand, nothing, kept, Post, Palm, bare, holds, Stand, away, queued, inside, closing, View, nobody, drawing, leasing, giving, drawer_note, giver_note, Has, HasStore, AtSeat, all_left}
 
 -- A buffer's one place: in the queue, with the number that it leaves under, counting all that leave from 0; with a drawer; with
 -- the lease of a seat; with the giver.
@@ -50,9 +43,6 @@ pub record Facts : Type 0 where
   pub giver : ℕ
   pub made : ℕ
   pub opened : ℕ
-
-abbrev pub queue_of : ℕ → List Deed → List ℕ
-queue_of n log = queue_after n (events_of log)
 
 -- how many buffers left the queue
 abbrev pub gots_in : List Deed → ℕ
@@ -155,11 +145,6 @@ module _ (plan : Plan) (f : Facts) (j : ℕ) where
   Knows (giver_note floor) = floor ≤ length f.log
 
 -- ---- the whole
-
-pub record Within (plan : Plan) : Type 0 where
-  pub some_there : 1 ≤ plan.buffers
-  pub few : plan.buffers ≤ MAX_BUFFERS
-  pub draws : total plan.allowances ≤ MAX_OPERATIONS
 
 pub record Kept (plan : Plan) (s : State Store View) (f : Facts) : Type 0 where
   pub within : Within plan

@@ -6,6 +6,7 @@ use mathlib.Core.Option.{some}
 use lib.ListN.{get_elem?}
 use Rattle.hs_words.specs.PoolHistory.{Event, Got, Empty, Given}
 use Rattle.hs_words.specs.Ends.{Answer, Turn, answered, met, stamps_in}
+use Rattle.hs_words.specs.Plans.{first_of, rest_of, total}
 use Rattle.hs_pool.specs.Pool.{waiting}
 use Rattle.hs_locked.specs.declared.store.Store.{Store}
 use Rattle.hs_locked.specs.Stored.{next_draw}
@@ -246,14 +247,6 @@ having_heard view note = view
 
 -- ---- drawers are made and closed
 
-abbrev pub first_of : List ℕ → ℕ
-first_of [] = 0
-first_of (x ∷ xs) = x
-
-abbrev pub rest_of : List ℕ → List ℕ
-rest_of [] = []
-rest_of (x ∷ xs) = xs
-
 abbrev pub with_drawer : View → View
 with_drawer (giving post palm stand) =
     giving (record {
@@ -302,10 +295,6 @@ spent_at away = 0
 spent_at (queued ticket) = 1
 spent_at (inside store) = 1
 spent_at (closing store) = 0
-
-abbrev pub total : List ℕ → ℕ
-total [] = 0
-total (x ∷ xs) = x + total xs
 
 -- How many more tickets a seat may take, or hand on the right to: two for each draw that is left, one to draw and one to give
 -- what was got.

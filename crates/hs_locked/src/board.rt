@@ -24,7 +24,7 @@ pub struct Plan {
 }
 
 impl Model for Plan {
-    ghost use Rattle.hs_locked.specs.Rule.{Plan as TheValue};
+    ghost use Rattle.hs_words.specs.Plans.{Plan as TheValue};
 
     ghost Value = { TheValue };
 

@@ -4,7 +4,8 @@ ghost use Rattle.std.specs.Prelude.{ℕ, ◌<◌};
 ghost use Rattle.atomic_table.specs.Table.{State};
 ghost use Rattle.hs_locked.specs.declared.store.Store.{Store};
 ghost use Rattle.hs_locked.specs.Views.{View};
-ghost use Rattle.hs_locked.specs.Rule.{Plan, Locked};
+ghost use Rattle.hs_words.specs.Plans.{Plan};
+ghost use Rattle.hs_locked.specs.Rule.{Locked};
 ghost use Rattle.hs_locked.specs.Places.{IsInOnePlace};
 
 /// Between any two steps of the threads, each buffer of a locked pool is in one place and in no other: it waits in the store,

@@ -7,10 +7,11 @@ use Rattle.hs_words.specs.Pools.{PoolName}
 use Rattle.hs_words.specs.PoolHistory.{is_missed, is_empty}
 use Rattle.hs_words.specs.Ends.{Deed, events_of, is_any_got, is_any_given, IsTogether}
 use Rattle.hs_words.proofs.Waiting.{drawn_kinds, given_kinds}
+use Rattle.hs_words.specs.Plans.{Plan}
 use Rattle.hs_ring.specs.Parts.{Drawing, AreInOrder, answers_of_all}
 use Rattle.hs_ring.specs.Views.{nothing, Post, bare, View, nobody, giving, drawing, desk_of, post_of, having_closed}
 use Rattle.hs_ring.specs.Steps.{drawn_of, published_of, Over, IsOver}
-use Rattle.hs_ring.specs.Rule.{Plan, Ring}
+use Rattle.hs_ring.specs.Rule.{Ring}
 use Rattle.hs_ring.specs.Seats.{Place, IsFree, name_of, drawing_of}
 use Rattle.hs_ring.specs.Making.{closed_post}
 use Rattle.hs_ring.proofs.Owed.{Mine, closes_at}

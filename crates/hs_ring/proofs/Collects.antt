@@ -8,8 +8,9 @@ use Rattle.atomic_table.specs.Table.{step, gives, stepped, Allows, Splits}
 use Rattle.atomic_table.proofs.Lists.{set_here, set_else}
 use Rattle.hs_words.specs.Ends.{got_by}
 use Rattle.hs_words.proofs.Deeds.{draw_is_at}
+use Rattle.hs_words.specs.Plans.{Plan}
 use Rattle.hs_ring.specs.Views.{Desk, Hand, nothing, drew, kept, View, drawing, leasing}
-use Rattle.hs_ring.specs.Rule.{Plan, Cell, free, drawn, Spot, queued, with_drawer, leased, Facts, CellOk, HandOk, SpotOk, DeskOk, Knows, Kept, Ring}
+use Rattle.hs_ring.specs.Rule.{Cell, free, drawn, Spot, queued, with_drawer, leased, Facts, CellOk, HandOk, SpotOk, DeskOk, Knows, Kept, Ring}
 use Rattle.hs_ring.specs.Steps.{did_collect}
 use Rattle.hs_ring.proofs.Updates.{put, put_cases, put_here, put_else, left_set, left_and}
 use Rattle.hs_ring.proofs.Spots.{still_with, with_more, with_last, spot_stays}

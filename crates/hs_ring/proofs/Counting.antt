@@ -9,11 +9,12 @@ use Rattle.hs_ring.specs.declared.board.TheConstants.{PUBLISHED}
 use Rattle.hs_base.specs.declared.limits.TheConstants.{MAX_BUFFERS, MAX_OPERATIONS}
 use Rattle.hs_words.specs.Chunks.{Contents}
 use Rattle.hs_words.specs.PoolHistory.{is_missed, is_empty}
-use Rattle.hs_words.specs.Ends.{events_of, drawn_in, given_in, is_any_got, is_any_given}
+use Rattle.hs_words.specs.Ends.{events_of, drawn_in, given_in, is_any_got, is_any_given, queue_of}
 use Rattle.hs_words.proofs.Deeds.{stamp_is}
 use Rattle.hs_words.proofs.Waiting.{few, waiting_length, drawn_kinds, given_kinds}
+use Rattle.hs_words.specs.Plans.{Plan}
 use Rattle.hs_ring.specs.Views.{View}
-use Rattle.hs_ring.specs.Rule.{Plan, Facts, published, queue_of, Knows, Kept, Ring}
+use Rattle.hs_ring.specs.Rule.{Facts, published, Knows, Kept, Ring}
 use Rattle.hs_ring.specs.Steps.{drawn_of, published_of, IsStamp}
 
 -- ---- lists
@@ -106,7 +107,7 @@ module _ (plan : Plan) (s : State (Option Contents) View) (f : Facts) (k : Kept 
   one_more_published = one_published (published n f.log) (drawn_in f.log) (get_or s.words 0 0) (let p = few_published in omega arith) (let d = few_drawn in omega arith) k.counts
 
   pub entry_below : (number : ℕ) → number % (2 * n) < 2 * n
-  entry_below number = mod-lt number (let one = k.within.some in omega arith)
+  entry_below number = mod-lt number (let one = k.within.some_there in omega arith)
 
 -- ---- seats
 

@@ -11,11 +11,12 @@ use Rattle.atomic_table.proofs.Lists.{set_here, set_else}
 use Rattle.hs_ring.specs.declared.board.TheConstants.{PUBLISHED}
 use Rattle.hs_words.specs.Chunks.{Contents, clear_chunk}
 use Rattle.hs_words.specs.PoolHistory.{Got, Empty, is_missed, is_empty}
-use Rattle.hs_words.specs.Ends.{Deed, Answer, got_by, empty_by, events_of, drawn_in, given_in, answer_to}
+use Rattle.hs_words.specs.Ends.{Deed, Answer, got_by, empty_by, events_of, drawn_in, given_in, answer_to, queue_of}
 use Rattle.hs_words.proofs.Deeds.{none_yet, answers_and}
 use Rattle.hs_words.proofs.Waiting.{counted, waiting_below}
+use Rattle.hs_words.specs.Plans.{Plan}
 use Rattle.hs_ring.specs.Views.{Desk, Hand, nothing, drew, View, drawing, desk_after, InHand, IsWith}
-use Rattle.hs_ring.specs.Rule.{Plan, Cell, free, waits, drawn, Spot, queued, with_drawer, Facts, published, queue_of, IsLaid, CellOk, IsLastOf, HandOk, SpotOk, DeskOk, Knows, Kept, Ring}
+use Rattle.hs_ring.specs.Rule.{Cell, free, waits, drawn, Spot, queued, with_drawer, Facts, published, IsLaid, CellOk, IsLastOf, HandOk, SpotOk, DeskOk, Knows, Kept, Ring}
 use Rattle.hs_ring.specs.Steps.{drawn_of, did_draw}
 use Rattle.hs_ring.proofs.Updates.{ap₃, put, put_cases, put_here, put_else, left_set}
 use Rattle.hs_ring.proofs.Spots.{now_with, still_with, spot_stays}

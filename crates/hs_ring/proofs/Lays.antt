@@ -14,8 +14,9 @@ use Rattle.atomic_table.proofs.Lists.{set_here, set_else, exchanged, one_turn}
 use Rattle.hs_words.specs.Chunks.{Contents}
 use Rattle.hs_words.specs.Ends.{Answer, got_by, drawn_in, unread, answers_in, told_in, SpendsThe, IsUnread}
 use Rattle.hs_words.proofs.Deeds.{all_of, unspent, draw_is_at}
+use Rattle.hs_words.specs.Plans.{Plan}
 use Rattle.hs_ring.specs.Views.{drew, Post, Palm, holds, lays, View, giving, post_after}
-use Rattle.hs_ring.specs.Rule.{Plan, Cell, free, waits, drawn, laid, queued, with_giver, Facts, published, IsLaid, CellOk, HandOk, HasLease, PalmOk, IsSettled, PostOk, Knows, Kept, Ring}
+use Rattle.hs_ring.specs.Rule.{Cell, free, waits, drawn, laid, queued, with_giver, Facts, published, IsLaid, CellOk, HandOk, HasLease, PalmOk, IsSettled, PostOk, Knows, Kept, Ring}
 use Rattle.hs_ring.specs.Steps.{did_lay}
 use Rattle.hs_ring.proofs.Updates.{put, put_cases, put_here, put_else, left_set}
 use Rattle.hs_ring.proofs.Spots.{still_with, spot_stays}
@@ -149,7 +150,7 @@ module _ (plan : Plan) (s : St) (f : Facts) (k : Kept plan s f) (id : ℕ) (post
           let low : drawn_in f.log ≤ number = ok.3 in
           let high : number < P = ok.4 in
           let lapped = lap plan s f k in
-          let one = k.within.some in
+          let one = k.within.some_there in
           let same : number ≡ P = one_turn number P (2 * n) (omega arith) (omega arith) (sym ok.0 ∙ i_is) in
           absurd (omega arith)
       go (drawn number buffer drawer) ok =

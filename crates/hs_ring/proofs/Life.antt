@@ -13,8 +13,9 @@ use Rattle.hs_ring.specs.declared.board.TheConstants.{PUBLISHED}
 use Rattle.hs_words.specs.Chunks.{Contents, clear_chunk}
 use Rattle.hs_words.specs.Ends.{Deed, Answer, AreAnswers}
 use Rattle.hs_words.proofs.Deeds.{all_of, no_answers}
-use Rattle.hs_ring.specs.Views.{Desk, nothing, Post, Palm, bare, View, nobody, drawing, leasing, giving, drawer_note, giver_note, with_drawer, new_drawer, having_closed, first_of, rest_of, total}
-use Rattle.hs_ring.specs.Rule.{Plan, Cell, free, waits, queued, Facts, CellOk, DeskOk, PostOk, Knows, Kept, Ring, Within, first_post, first_view}
+use Rattle.hs_words.specs.Plans.{first_of, rest_of, total, Plan, Within}
+use Rattle.hs_ring.specs.Views.{Desk, nothing, Post, Palm, bare, View, nobody, drawing, leasing, giving, drawer_note, giver_note, with_drawer, new_drawer, having_closed}
+use Rattle.hs_ring.specs.Rule.{Cell, free, waits, queued, Facts, CellOk, DeskOk, PostOk, Knows, Kept, Ring, first_post, first_view}
 use Rattle.hs_ring.specs.Steps.{did_look, Over}
 use Rattle.hs_ring.proofs.Updates.{put, put_here, put_else, left_set, left_and}
 use Rattle.hs_ring.proofs.Counting.{found_drawn, found_published, reseated, seated_too}
@@ -349,7 +350,7 @@ module _ (plan : Plan) (ws : List ℕ) (xs : List (Option Contents)) (within : W
         counts = out.counts ∙ (let e : n * PUBLISHED ≡ (n + 0) * PUBLISHED + 0 = omega arith in e);
         lawful = tt;
         spent = tt;
-        voids = (let one = within.some in let z : 0 + (0 - (n + 0)) ≡ 0 = omega arith in z);
+        voids = (let one = within.some_there in let z : 0 + (0 - (n + 0)) ≡ 0 = omega arith in z);
         each_cell = λ e low. cell₀ e low (dec_le n e);
         each_queued = λ i buffer seen.
             let r = range_at 0 n i buffer seen in

@@ -11,9 +11,10 @@ use Rattle.atomic_table.specs.Seated.{TableId}
 use Rattle.hs_base.specs.declared.limits.TheConstants.{MAX_BUFFERS, MAX_OPERATIONS}
 use Rattle.hs_words.specs.Chunks.{Contents, clear_chunk, clear_chunks}
 use Rattle.hs_words.specs.Pools.{PoolName}
+use Rattle.hs_words.specs.Plans.{total, Plan, Within}
 use Rattle.hs_ring.specs.Parts.{Drawing, new_drawers}
-use Rattle.hs_ring.specs.Views.{Post, bare, giving, desk_of, post_of, with_drawer, new_drawer, total}
-use Rattle.hs_ring.specs.Rule.{Plan, Ring, Within, first_view}
+use Rattle.hs_ring.specs.Views.{Post, bare, giving, desk_of, post_of, with_drawer, new_drawer}
+use Rattle.hs_ring.specs.Rule.{Ring, first_view}
 use Rattle.hs_ring.specs.Seats.{Place, name_of, drawing_of}
 use Rattle.hs_ring.specs.Making.{first_words, first_slots, IsMaking}
 use Rattle.hs_ring.proofs.Owed.{Mine, makes_at}
@@ -85,7 +86,7 @@ pub new_ring : (plan : Plan) (words : List ℕ) (slots : List (Option Contents))
     → chunks ≡ clear_chunks (length chunks) plan.size → words ≡ first_words plan.buffers → slots ≡ first_slots chunks → Ring plan (opening words slots (first_view plan))
 new_ring plan words slots chunks some_there few buffers draws clear words_are slots_are =
     let n = plan.buffers in
-    let within : Within plan = record { some = omega arith; few = omega arith; draws = (let t = total_is_sum plan.allowances in omega arith) } in
+    let within : Within plan = record { some_there = omega arith; few = omega arith; draws = (let t = total_is_sum plan.allowances in omega arith) } in
     let made : slots ≡ made_slots plan.size 0 n n =
     slots_are ∙ ap₂ (λ (l : List Contents) (m : ℕ). map (λ (chunk : Contents). Some chunk) l ++ replicate m None) (clear ∙ ap (λ (m : ℕ). clear_chunks m plan.size) (sym buffers)) (sym buffers) in
     subst (λ (ws : List ℕ). Ring plan (opening ws slots (first_view plan))) (sym words_are)

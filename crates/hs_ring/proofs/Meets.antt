@@ -8,8 +8,9 @@ use Rattle.atomic_table.specs.Table.{Splits, Joins}
 use Rattle.atomic_table.proofs.Lists.{set_else}
 use Rattle.hs_words.specs.Ends.{Deed, Answer, met, got_by, answers_by, told_in, stamps_in, IsAt, put_if, answer_to}
 use Rattle.hs_words.proofs.Deeds.{all_both, at_below, draw_is_at, at_once}
+use Rattle.hs_words.specs.Plans.{Plan}
 use Rattle.hs_ring.specs.Views.{Desk, Hand, nothing, drew, Post, Palm, View, nobody, drawing, giving, drawer_note, giver_note, post_after, IsWith, all_left}
-use Rattle.hs_ring.specs.Rule.{Plan, Facts, HandOk, IsSettled, DeskOk, PostOk, Knows, Kept, Ring}
+use Rattle.hs_ring.specs.Rule.{Facts, HandOk, IsSettled, DeskOk, PostOk, Knows, Kept, Ring}
 use Rattle.hs_ring.proofs.Updates.{left_set, left_and}
 use Rattle.hs_ring.proofs.Counting.{reseated, seated_too}
 use Rattle.hs_ring.proofs.Spots.{still_with, with_more, spot_stays}

@@ -6,8 +6,9 @@ use Rattle.std.specs.Prelude.{Option, ◌==◌}
 use Rattle.atomic_table.specs.Table.{Me, step, rest, Allows, Splits, Joins}
 use Rattle.hs_ring.specs.declared.board.TheConstants.{PUBLISHED}
 use Rattle.hs_words.specs.Chunks.{Contents}
+use Rattle.hs_words.specs.Plans.{Plan}
 use Rattle.hs_ring.specs.Views.{Desk, Hand, nothing, drew, kept, Post, Palm, bare, holds, lays, retakes, View, nobody, drawing, leasing, giving, drawer_note, giver_note, without_lease, lease_of, with_lease, note_of, having_heard, with_drawer, new_drawer, having_closed}
-use Rattle.hs_ring.specs.Rule.{Plan, Ring}
+use Rattle.hs_ring.specs.Rule.{Ring}
 use Rattle.hs_ring.specs.Steps.{did_draw, did_collect, did_lay, did_publish, did_retake, did_look}
 use Rattle.hs_ring.specs.Seats.{CanDraw, CanCollect, CanLease, IsLease, CanTake, CanLay, CanPublish, CanRetake}
 use Rattle.hs_ring.proofs.Draws.{Held, draws}

@@ -4,8 +4,9 @@ use mathlib.Core.Option.{some, some-injective}
 use mathlib.Core.Option as maybe
 use lib.ListN.{get_elem?}
 use Rattle.hs_words.specs.Chunks.{Contents, clear_chunk}
+use Rattle.hs_words.specs.Plans.{Plan}
 use Rattle.hs_ring.specs.Views.{Hand, nothing, drew, kept, Palm, bare, holds, lays, retakes, View, nobody, drawing, leasing, giving, drawer_note, giver_note, InHand, InPalm, Has, IsWith}
-use Rattle.hs_ring.specs.Rule.{Plan, Cell, free, waits, drawn, laid, Spot, queued, with_drawer, leased, with_giver, Facts, CellOk, HandOk, PalmOk, SpotOk, Kept}
+use Rattle.hs_ring.specs.Rule.{Cell, free, waits, drawn, laid, Spot, queued, with_drawer, leased, with_giver, Facts, CellOk, HandOk, PalmOk, SpotOk, Kept}
 use Rattle.hs_ring.specs.Places.{Site, entry, seat, IsThere, Waits, IsInOnePlace}
 use Rattle.hs_ring.proofs.Counting.{at_length, found_drawn, found_published, entry_below}
 use Rattle.hs_ring.proofs.Draws.{St}

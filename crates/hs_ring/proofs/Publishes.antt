@@ -13,11 +13,12 @@ use Rattle.atomic_table.proofs.Lists.{set_here, set_else}
 use Rattle.hs_ring.specs.declared.board.TheConstants.{PUBLISHED}
 use Rattle.hs_words.specs.Chunks.{Contents, clear_chunk}
 use Rattle.hs_words.specs.PoolHistory.{Given, Missed, is_missed, is_empty}
-use Rattle.hs_words.specs.Ends.{Deed, Answer, answered, given_of, missed, events_of, drawn_in, given_in, answer_to, answers_in, told_in}
+use Rattle.hs_words.specs.Ends.{Deed, Answer, answered, given_of, missed, events_of, drawn_in, given_in, answer_to, answers_in, told_in, queue_of}
 use Rattle.hs_words.proofs.Deeds.{answers_and, answers_below, are_answers_more, unread_more, got_below}
 use Rattle.hs_words.proofs.Waiting.{counted as one_counted, may_give, given_kinds}
+use Rattle.hs_words.specs.Plans.{Plan}
 use Rattle.hs_ring.specs.Views.{Post, bare, lays, retakes, View, giving, post_after}
-use Rattle.hs_ring.specs.Rule.{Plan, Cell, free, waits, laid, Spot, queued, with_giver, Facts, published, queue_of, IsLaid, CellOk, PalmOk, SpotOk, PostOk, Knows, Kept, Ring}
+use Rattle.hs_ring.specs.Rule.{Cell, free, waits, laid, Spot, queued, with_giver, Facts, published, IsLaid, CellOk, PalmOk, SpotOk, PostOk, Knows, Kept, Ring}
 use Rattle.hs_ring.specs.Steps.{published_of, did_publish}
 use Rattle.hs_ring.proofs.Updates.{put, put_cases, put_here, put_else, left_set}
 use Rattle.hs_ring.proofs.Spots.{still_with, spot_stays}

@@ -9,8 +9,9 @@ use Rattle.atomic_table.specs.Table.{step, gives, stepped, Allows}
 use Rattle.atomic_table.proofs.Lists.{set_here, set_else}
 use Rattle.hs_words.specs.Chunks.{Contents}
 use Rattle.hs_words.specs.Ends.{answers_in}
+use Rattle.hs_words.specs.Plans.{Plan}
 use Rattle.hs_ring.specs.Views.{Post, holds, retakes, View, giving}
-use Rattle.hs_ring.specs.Rule.{Plan, Cell, free, laid, queued, Facts, published, IsLaid, CellOk, PalmOk, PostOk, Knows, Kept, Ring}
+use Rattle.hs_ring.specs.Rule.{Cell, free, laid, queued, Facts, published, IsLaid, CellOk, PalmOk, PostOk, Knows, Kept, Ring}
 use Rattle.hs_ring.specs.Steps.{did_retake}
 use Rattle.hs_ring.proofs.Updates.{put, put_cases, put_else, left_set}
 use Rattle.hs_ring.proofs.Spots.{still_with, spot_stays}

@@ -8,8 +8,9 @@ use Rattle.hs_words.specs.Chunks.{Contents}
 use Rattle.hs_words.specs.PoolHistory.{is_missed}
 use Rattle.hs_words.specs.Ends.{Deed, Answer, got_by, events_of, drawn_in, answers_by, told_in, IsAt, Names}
 use Rattle.hs_words.proofs.Deeds.{all_of, draw_more, got_more, none_more, answers_more, answers_below, are_answers_more, unread_more}
+use Rattle.hs_words.specs.Plans.{Plan}
 use Rattle.hs_ring.specs.Views.{Desk, Hand, nothing, drew, kept, Post, Palm, bare, holds, lays, retakes, View, nobody, drawing, leasing, giving, drawer_note, giver_note}
-use Rattle.hs_ring.specs.Rule.{Plan, Cell, free, waits, drawn, laid, Spot, queued, with_drawer, leased, with_giver, Facts, published, IsLaid, CellOk, IsLastOf, HandOk, HasLease, PalmOk, IsSettled, DeskOk, PostOk, Knows}
+use Rattle.hs_ring.specs.Rule.{Cell, free, waits, drawn, laid, Spot, queued, with_drawer, leased, with_giver, Facts, published, IsLaid, CellOk, IsLastOf, HandOk, HasLease, PalmOk, IsSettled, DeskOk, PostOk, Knows}
 
 -- The deeds that were added are all of one end, and name only the buffer that was at `spot`; nothing but that buffer, the entry
 -- that was `cell` and that end's hand has changed.

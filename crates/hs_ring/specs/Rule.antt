@@ -9,17 +9,11 @@ use mathlib.Core.Option as maybe
 use lib.ListN.{get_elem?}
 use Rattle.atomic_table.specs.Table.{State}
 use Rattle.hs_ring.specs.declared.board.TheConstants.{PUBLISHED}
-use Rattle.hs_base.specs.declared.limits.TheConstants.{MAX_BUFFERS, MAX_OPERATIONS}
 use Rattle.hs_words.specs.Chunks.{Contents, clear_chunk}
-use Rattle.hs_words.specs.PoolHistory.{is_missed, is_empty, queue_after, IsHistoryBack}
-use Rattle.hs_words.specs.Ends.{Deed, got_by, events_of, drawn_in, given_in, answers_by, answers_in, told_in, IsDraw, IsGot, NoneSince, EachSpends, EachUnread, AreAnswers}
-use Rattle.hs_ring.specs.Views.{Desk, Hand, nothing, drew, kept, Post, Palm, bare, holds, lays, retakes, View, nobody, drawing, leasing, giving, drawer_note, giver_note, IsWith, total, all_left}
-
--- how many buffers there are, their size, and the allowances of the drawers
-pub record Plan : Type 0 where
-  pub buffers : ℕ
-  pub size : ℕ
-  pub allowances : List ℕ
+use Rattle.hs_words.specs.PoolHistory.{is_missed, is_empty, IsHistoryBack}
+use Rattle.hs_words.specs.Ends.{Deed, got_by, events_of, drawn_in, given_in, answers_by, answers_in, told_in, IsDraw, IsGot, NoneSince, EachSpends, EachUnread, AreAnswers, queue_of}
+use Rattle.hs_words.specs.Plans.{total, Plan, Within}
+use Rattle.hs_ring.specs.Views.{Desk, Hand, nothing, drew, kept, Post, Palm, bare, holds, lays, retakes, View, nobody, drawing, leasing, giving, drawer_note, giver_note, IsWith, all_left}
 
 -- an entry is free; or it holds a number whose buffer waits, or was drawn by a drawer that has not collected it; or the
 -- giver has laid it. Where it was drawn or laid, its slot is with that end's seat.
@@ -51,9 +45,6 @@ pub record Facts : Type 0 where
 
 abbrev pub published : ℕ → List Deed → ℕ
 published n log = n + given_in log
-
-abbrev pub queue_of : ℕ → List Deed → List ℕ
-queue_of n log = queue_after n (events_of log)
 
 -- ---- entries
 
@@ -147,11 +138,6 @@ module _ (plan : Plan) (f : Facts) (j : ℕ) where
   Knows (giver_note floor) = floor ≤ length f.log
 
 -- ---- the whole
-
-pub record Within (plan : Plan) : Type 0 where
-  pub some : 1 ≤ plan.buffers
-  pub few : plan.buffers ≤ MAX_BUFFERS
-  pub draws : total plan.allowances ≤ MAX_OPERATIONS
 
 pub record Kept (plan : Plan) (s : State (Option Contents) View) (f : Facts) : Type 0 where
   pub within : Within plan

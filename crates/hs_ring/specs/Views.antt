@@ -6,6 +6,7 @@ use mathlib.Core.Option.{some}
 use lib.ListN.{get_elem?}
 use Rattle.hs_words.specs.PoolHistory.{Event, Got, Empty, Given, Missed}
 use Rattle.hs_words.specs.Ends.{Answer, Turn, answered, unread, met, stamps_in}
+use Rattle.hs_words.specs.Plans.{first_of, rest_of, total}
 
 pub record Desk : Type 0 where
   pub size : ℕ
@@ -238,14 +239,6 @@ having_heard view note = view
 
 -- ---- drawers are made and closed
 
-abbrev pub first_of : List ℕ → ℕ
-first_of [] = 0
-first_of (x ∷ xs) = x
-
-abbrev pub rest_of : List ℕ → List ℕ
-rest_of [] = []
-rest_of (x ∷ xs) = xs
-
 abbrev pub with_drawer : View → View
 with_drawer (giving post palm) =
     giving (record {
@@ -277,10 +270,6 @@ having_closed (giving post palm) (drawing desk hand) =
 having_closed view other = view
 
 -- ---- allowances
-
-abbrev pub total : List ℕ → ℕ
-total [] = 0
-total (x ∷ xs) = x + total xs
 
 -- the draws that a seat may still make or hand out
 abbrev pub left_in : View → ℕ

@@ -4,7 +4,8 @@ ghost use Rattle.std.specs.Prelude.{ℕ, ◌<◌, Option};
 ghost use Rattle.atomic_table.specs.Table.{State};
 ghost use Rattle.hs_words.specs.Chunks.{Contents};
 ghost use Rattle.hs_ring.specs.Views.{View};
-ghost use Rattle.hs_ring.specs.Rule.{Plan, Ring};
+ghost use Rattle.hs_words.specs.Plans.{Plan};
+ghost use Rattle.hs_ring.specs.Rule.{Ring};
 ghost use Rattle.hs_ring.specs.Places.{IsInOnePlace};
 
 /// Between any two steps of the threads, each buffer of a ring is in one place and in no other: its chunk waits in an entry,

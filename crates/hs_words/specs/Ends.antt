@@ -4,7 +4,7 @@
 use Rattle.std.specs.Prelude.{◌≡◌, ◌⊎◌, ℕ, zero, suc, ◌+◌, ◌*◌, ◌<◌, ◌≤◌, Bool, true, false, ◌==◌, List, [], ◌∷◌, ◌++◌, length, map, count_by, refl}
 use Rattle.std.specs.List.{AllByRecursion}
 use Rattle.std.proofs.Common.{lit<, lit≤, arith, ap, ◌∙◌, inl, inr}
-use Rattle.hs_words.specs.PoolHistory.{Event, Got, Empty, Given, Missed, is_empty, is_missed, IsHistoryBack}
+use Rattle.hs_words.specs.PoolHistory.{Event, Got, Empty, Given, Missed, is_empty, is_missed, IsHistoryBack, queue_after}
 use Rattle.hs_words.specs.declared.token.Tally.{Tally}
 
 -- An event and the end that made it: 0 is the giver, and the drawer with the number d is d + 1. A give also names, by
@@ -43,6 +43,10 @@ event_in deed = deed.event
 
 abbrev pub events_of : List Deed → List Event
 events_of log = map event_in log
+
+-- what waits behind these deeds
+abbrev pub queue_of : ℕ → List Deed → List ℕ
+queue_of n log = queue_after n (events_of log)
 
 -- ---- counts
 

@@ -7,3 +7,4 @@ pub mod Pools
 pub mod PoolHistory
 pub mod PoolAnswers
 pub mod Ends
+pub mod Plans
