@@ -11,15 +11,17 @@ use Rattle.hs_words.specs.Ends.{Deed, Answer, answered, got_by, empty_by, given_
 use Rattle.hs_words.proofs.Deeds.{none_yet, answers_and, answers_below, are_answers_more, unread_more}
 use Rattle.hs_words.proofs.Waiting.{counted, waiting_below}
 use Rattle.hs_words.specs.Plans.{total, Plan}
+use Rattle.hs_words.specs.Seats.{AtSeat}
 use Rattle.hs_pool.specs.Pool.{waiting}
+use Rattle.hs_ring.proofs.Spots.{now_with, still_with}
 use Rattle.hs_locked.specs.declared.store.Store.{Store}
 use Rattle.hs_locked.specs.Stored.{next_draw, GoesOn}
-use Rattle.hs_locked.specs.Views.{Desk, Hand, nothing, kept, Post, Palm, bare, holds, Stand, away, queued, inside, closing, View, drawing, giving, desk_after, hand_after, post_after, given_answer, Has, AtSeat, left_in, all_left, having_left}
+use Rattle.hs_locked.specs.Views.{Desk, Hand, nothing, kept, Post, Palm, bare, holds, Stand, away, queued, inside, closing, View, drawing, giving, desk_after, hand_after, post_after, given_answer, Has, left_in, all_left, having_left}
 use Rattle.hs_locked.specs.Rule.{Spot, waits, with_drawer, leased, with_giver, home, out, Facts, gots_in, StoreOk, StandOk, HasLease, HandOk, PalmOk, InLine, SpotOk, DeskOk, PostOk, Knows, Kept, Locked}
 use Rattle.hs_locked.specs.Steps.{did_leave}
 use Rattle.hs_locked.proofs.Updates.{put, put_cases, put_here, put_else, left_set}
 use Rattle.hs_locked.proofs.Stores.{events_are, line, lawful, goes}
-use Rattle.hs_locked.proofs.Spots.{now_with, still_with, spot_stays}
+use Rattle.hs_locked.proofs.Spots.{spot_stays}
 use Rattle.hs_locked.proofs.Stays.{at_end, IsEnd, drawers_end, givers_end, Moves, facts_after, hand_stays, in_palm_stays, knows_stays, reseated}
 use Rattle.hs_locked.proofs.Turns.{St, one_more, few_tickets, gone_stays}
 

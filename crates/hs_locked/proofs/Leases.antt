@@ -4,12 +4,14 @@ use mathlib.Core.Option.{some}
 use lib.ListN.{get_elem?}
 use Rattle.atomic_table.specs.Table.{Splits, Joins}
 use Rattle.atomic_table.proofs.Lists.{at_set, set_else}
+use Rattle.hs_ring.proofs.Spots.{now_with, still_with, else_with, with_more, with_last}
 use Rattle.hs_words.specs.Plans.{total, Plan}
 use Rattle.hs_words.specs.Ends.{queue_of}
-use Rattle.hs_locked.specs.Views.{Desk, Hand, nothing, kept, Post, bare, holds, away, View, nobody, drawing, leasing, giving, Has, HasStore, AtSeat, all_left}
+use Rattle.hs_words.specs.Seats.{AtSeat}
+use Rattle.hs_locked.specs.Views.{Desk, Hand, nothing, kept, Post, bare, holds, away, View, nobody, drawing, leasing, giving, Has, HasStore, all_left}
 use Rattle.hs_locked.specs.Rule.{Spot, waits, with_drawer, leased, with_giver, Facts, gots_in, HasLease, HandOk, SpotOk, DeskOk, PostOk, Knows, Kept, Locked}
 use Rattle.hs_locked.proofs.Updates.{put, put_cases, put_here, put_else, left_set, left_and}
-use Rattle.hs_locked.proofs.Spots.{now_with, still_with, else_with, with_more, with_last, spot_stays, out_stays}
+use Rattle.hs_locked.proofs.Spots.{spot_stays, out_stays}
 use Rattle.hs_locked.proofs.Stays.{IsEnd, drawers_end, givers_end, Moves, facts_after, hand_stays, in_palm_stays, knows_stays, reseated, seated_too}
 use Rattle.hs_locked.proofs.Turns.{St}
 

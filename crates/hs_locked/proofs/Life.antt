@@ -6,6 +6,7 @@ use native.Mathlib.Decide.{ℕ_discrete}
 use Rattle.std.specs.List.{range_with_len}
 use Rattle.atomic_table.specs.Table.{opening, Splits, Joins}
 use Rattle.atomic_table.proofs.Lists.{at_set, set_else}
+use Rattle.hs_ring.proofs.Spots.{still_with, with_more}
 use Rattle.hs_words.specs.Ends.{Deed, Answer, AreAnswers}
 use Rattle.hs_words.proofs.Deeds.{all_of, no_answers}
 use Rattle.hs_words.specs.Plans.{first_of, rest_of, total, Plan, Within}
@@ -13,7 +14,7 @@ use Rattle.hs_locked.specs.declared.store.Store.{Store}
 use Rattle.hs_locked.specs.Views.{Desk, nothing, Post, bare, Stand, away, queued, inside, closing, View, nobody, drawing, leasing, giving, drawer_note, giver_note, with_drawer, new_drawer, having_closed, Has, HasStore, all_left}
 use Rattle.hs_locked.specs.Rule.{waits, home, Facts, StoreOk, StandOk, DeskOk, PostOk, Knows, Kept, Locked, first_post, first_view}
 use Rattle.hs_locked.proofs.Updates.{put, put_here, put_else, left_set, left_and}
-use Rattle.hs_locked.proofs.Spots.{still_with, with_more, spot_stays, out_stays}
+use Rattle.hs_locked.proofs.Spots.{spot_stays, out_stays}
 use Rattle.hs_locked.proofs.Stays.{reseated, seated_too}
 use Rattle.hs_locked.proofs.Turns.{St}
 use Rattle.hs_locked.proofs.Places.{spot_reseated}

@@ -4,12 +4,14 @@ use mathlib.Core.Option.{some}
 use lib.ListN.{get_elem?}
 use Rattle.atomic_table.specs.Table.{Splits, Joins}
 use Rattle.atomic_table.proofs.Lists.{set_else}
+use Rattle.hs_ring.proofs.Spots.{still_with, with_more}
 use Rattle.hs_words.specs.Ends.{met, stamps_in}
 use Rattle.hs_words.specs.Plans.{Plan}
-use Rattle.hs_locked.specs.Views.{Desk, Hand, Post, Palm, Stand, View, nobody, drawing, giving, drawer_note, giver_note, with_floor, post_after, Has, HasStore, AtSeat, all_left}
+use Rattle.hs_words.specs.Seats.{AtSeat}
+use Rattle.hs_locked.specs.Views.{Desk, Hand, Post, Palm, Stand, View, nobody, drawing, giving, drawer_note, giver_note, with_floor, post_after, Has, HasStore, all_left}
 use Rattle.hs_locked.specs.Rule.{Facts, DeskOk, PostOk, Knows, Kept, Locked}
 use Rattle.hs_locked.proofs.Updates.{left_set, left_and}
-use Rattle.hs_locked.proofs.Spots.{still_with, with_more, spot_stays, out_stays}
+use Rattle.hs_locked.proofs.Spots.{spot_stays, out_stays}
 use Rattle.hs_locked.proofs.Stays.{reseated, seated_too}
 use Rattle.hs_locked.proofs.Turns.{St}
 

@@ -6,8 +6,9 @@ use lib.ListN.{get_elem?}
 use Rattle.hs_pool.specs.Pool.{waiting}
 use Rattle.hs_words.specs.Plans.{Plan}
 use Rattle.hs_words.specs.Ends.{queue_of}
+use Rattle.hs_words.specs.Seats.{AtSeat}
 use Rattle.hs_locked.specs.declared.store.Store.{Store}
-use Rattle.hs_locked.specs.Views.{Hand, nothing, kept, Palm, bare, holds, Stand, away, queued, inside, closing, View, nobody, drawing, leasing, giving, drawer_note, giver_note, InHand, InPalm, Has, StandHas, HasStore, AtSeat}
+use Rattle.hs_locked.specs.Views.{Hand, nothing, kept, Palm, bare, holds, Stand, away, queued, inside, closing, View, nobody, drawing, leasing, giving, drawer_note, giver_note, InHand, InPalm, Has, StandHas, HasStore}
 use Rattle.hs_locked.specs.Rule.{Spot, waits, with_drawer, leased, with_giver, Slot, home, out, Facts, gots_in, SlotOk, OutOk, StandOk, HandOk, PalmOk, SpotOk, Kept}
 use Rattle.hs_locked.specs.Places.{Site, in_line, seat, IsStore, IsThere, IsInOnePlace}
 use Rattle.hs_locked.proofs.Stores.{line}

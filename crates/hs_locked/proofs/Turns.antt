@@ -14,13 +14,14 @@ use Rattle.hs_words.specs.Ends.{Deed, IsTogether, AreAnswers, queue_of}
 use Rattle.hs_words.proofs.Deeds.{all_of, got_below}
 use Rattle.hs_words.specs.Plans.{total, Plan}
 use Rattle.hs_pool.specs.Pool.{HasSize, IsOut, waiting}
+use Rattle.hs_ring.proofs.Spots.{now_with, still_with}
 use Rattle.hs_locked.specs.declared.store.Store.{Store}
 use Rattle.hs_locked.specs.Views.{Desk, Hand, nothing, Post, bare, holds, Stand, away, queued, inside, closing, View, drawing, giving, Has, HasStore, left_in, all_left}
 use Rattle.hs_locked.specs.Rule.{waits, with_giver, Slot, home, out, Facts, HasTheStore, SlotOk, StandOk, PalmOk, HasLease, DeskOk, PostOk, Knows, Kept, Locked}
 use Rattle.hs_locked.specs.Steps.{did_take_ticket, did_look, did_close}
 use Rattle.hs_locked.proofs.Updates.{put, put_cases, put_here, put_else, left_set}
 use Rattle.hs_locked.proofs.Stores.{events_are, line, is_counted, lawful}
-use Rattle.hs_locked.proofs.Spots.{now_with, still_with, spot_stays, out_stays}
+use Rattle.hs_locked.proofs.Spots.{spot_stays, out_stays}
 use Rattle.hs_locked.proofs.Stays.{IsEnd, drawers_end, givers_end, Moves, facts_after, knows_stays, reseated}
 
 abbrev pub St : Type 0

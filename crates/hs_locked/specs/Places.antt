@@ -9,8 +9,9 @@ use lib.ListN.{get_elem?}
 use Rattle.atomic_table.specs.Table.{State}
 use Rattle.hs_pool.specs.Pool.{waiting}
 use Rattle.hs_words.specs.Chunks.{clear_chunk}
+use Rattle.hs_words.specs.Seats.{AtSeat}
 use Rattle.hs_locked.specs.declared.store.Store.{Store}
-use Rattle.hs_locked.specs.Views.{nothing, inside, View, nobody, drawing, leasing, desk_of, Has, HasStore, AtSeat}
+use Rattle.hs_locked.specs.Views.{nothing, inside, View, nobody, drawing, leasing, desk_of, Has, HasStore}
 
 abbrev pub Table : Type 0
 Table = State Store View

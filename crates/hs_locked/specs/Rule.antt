@@ -9,9 +9,10 @@ use lib.ListN.{get_elem?}
 use Rattle.atomic_table.specs.Table.{State}
 use Rattle.hs_words.specs.Ends.{Deed, events_of, answers_by, answers_in, is_any_got, IsGot, NoneSince, EachSpends, EachUnread, AreAnswers, Counts, queue_of}
 use Rattle.hs_words.specs.Plans.{total, Plan, Within}
+use Rattle.hs_words.specs.Seats.{AtSeat}
 use Rattle.hs_pool.specs.Pool.{IsAfter, HasSize}
 use Rattle.hs_locked.specs.declared.store.Store.{Store}
-use Rattle.hs_locked.specs.Views.{Desk, Hand, nothing, kept, Post, Palm, bare, holds, Stand, away, queued, inside, closing, View, nobody, drawing, leasing, giving, drawer_note, giver_note, Has, HasStore, AtSeat, all_left}
+use Rattle.hs_locked.specs.Views.{Desk, Hand, nothing, kept, Post, Palm, bare, holds, Stand, away, queued, inside, closing, View, nobody, drawing, leasing, giving, drawer_note, giver_note, Has, HasStore, all_left}
 
 -- A buffer's one place: in the queue, with the number that it leaves under, counting all that leave from 0; with a drawer; with
 -- the lease of a seat; with the giver.

@@ -2,8 +2,6 @@
 -- answers, their floor, which is above every stamp that they know, and how they stand at the lock. A lease is a seat of its
 -- own, and so is a note that one end hands to another when they meet.
 use Rattle.std.specs.Prelude.{◌≡◌, ℕ, suc, ◌+◌, ◌-◌, ◌*◌, List, [], ◌∷◌, max}
-use mathlib.Core.Option.{some}
-use lib.ListN.{get_elem?}
 use Rattle.hs_words.specs.PoolHistory.{Event, Got, Empty, Given}
 use Rattle.hs_words.specs.Ends.{Answer, Turn, answered, met, stamps_in}
 use Rattle.hs_words.specs.Plans.{first_of, rest_of, total}
@@ -135,10 +133,6 @@ HasStore store (leasing buffer draw) = ⊥
 HasStore store (giving post palm stand) = StandHas store stand
 HasStore store (drawer_note floor stamps) = ⊥
 HasStore store (giver_note floor) = ⊥
-
--- the seat j is one of which this holds
-abbrev pub AtSeat : List View → (View → Type 0) → ℕ → Type 0
-AtSeat views P j = (v : View) × (get_elem? views j ≡ some v) × P v
 
 -- ---- at the lock
 

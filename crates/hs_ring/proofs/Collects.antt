@@ -9,7 +9,7 @@ use Rattle.atomic_table.proofs.Lists.{set_here, set_else}
 use Rattle.hs_words.specs.Ends.{got_by}
 use Rattle.hs_words.proofs.Deeds.{draw_is_at}
 use Rattle.hs_words.specs.Plans.{Plan}
-use Rattle.hs_ring.specs.Views.{Desk, Hand, nothing, drew, kept, View, drawing, leasing}
+use Rattle.hs_ring.specs.Views.{Desk, Hand, nothing, drew, kept, View, drawing, leasing, Has}
 use Rattle.hs_ring.specs.Rule.{Cell, free, drawn, Spot, queued, with_drawer, leased, Facts, CellOk, HandOk, SpotOk, DeskOk, Knows, Kept, Ring}
 use Rattle.hs_ring.specs.Steps.{did_collect}
 use Rattle.hs_ring.proofs.Updates.{put, put_cases, put_here, put_else, left_set, left_and}
@@ -114,7 +114,7 @@ module _ (plan : Plan) (s : St) (f : Facts) (k : Kept plan s f) (id : ℕ) (desk
         each_spot = λ buffer low.
             spot_stays n f.cells cells' f.seats f.giver s.views (set s.views id w) buffer
             (λ number is. queued_stays n f.log [] f.cells cells' f.spots f.spots f.hands hands' (suc d) (queued 0) (drawn h b d) collect_moves (λ number buffer e. cc) _ _ buffer is)
-            (still_with s.views id (drawing desk (drew h b t)) w buffer at (λ had. had)) (f.spots buffer) (k.each_spot buffer low);
+            (still_with s.views id (drawing desk (drew h b t)) w at (Has buffer) (λ had. had)) (f.spots buffer) (k.each_spot buffer low);
         left = (let e = left_set s.views id (drawing desk (drew h b t)) w at in let l = k.left in omega arith);
         by_giver = k.by_giver;
         all_made = k.all_made;
@@ -201,9 +201,9 @@ module _ (plan : Plan) (s : St) (f : Facts) (k : Kept plan s f) (id : ℕ) (desk
   lease_spots : (buffer : ℕ) → buffer < plan.buffers → SpotOk plan.buffers f.cells f.seats f.giver views' buffer (spots' buffer)
   lease_spots buffer low =
       put_cases (SpotOk plan.buffers f.cells f.seats f.giver views' buffer) f.spots b (leased new) buffer
-      (λ same. with_last (set s.views id (drawing desk nothing)) (leasing b t) buffer new (length-set s.views id (drawing desk nothing)) (sym same))
+      (λ same. with_last (set s.views id (drawing desk nothing)) (leasing b t) (Has buffer) new (length-set s.views id (drawing desk nothing)) (sym same))
       (λ other. spot_stays plan.buffers f.cells f.cells f.seats f.giver s.views views' buffer (λ number is. is)
-      (λ j had. with_more (set s.views id (drawing desk nothing)) (leasing b t) buffer j (still_with s.views id (drawing desk (kept b t)) (drawing desk nothing) buffer at (λ one. other (sym one)) j had))
+      (λ j had. with_more (set s.views id (drawing desk nothing)) (leasing b t) (Has buffer) j (still_with s.views id (drawing desk (kept b t)) (drawing desk nothing) at (Has buffer) (λ one. other (sym one)) j had))
       (f.spots buffer) (k.each_spot buffer low))
 
   pub lease_kept : Kept plan record { words = s.words; homes = s.homes; views = set s.views id (drawing desk nothing) ++ leasing b t ∷ [] } after_lease

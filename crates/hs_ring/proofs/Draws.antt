@@ -15,7 +15,8 @@ use Rattle.hs_words.specs.Ends.{Deed, Answer, got_by, empty_by, events_of, drawn
 use Rattle.hs_words.proofs.Deeds.{none_yet, answers_and}
 use Rattle.hs_words.proofs.Waiting.{counted, waiting_below}
 use Rattle.hs_words.specs.Plans.{Plan}
-use Rattle.hs_ring.specs.Views.{Desk, Hand, nothing, drew, View, drawing, desk_after, InHand, IsWith}
+use Rattle.hs_words.specs.Seats.{AtSeat}
+use Rattle.hs_ring.specs.Views.{Desk, Hand, nothing, drew, View, drawing, desk_after, InHand, Has}
 use Rattle.hs_ring.specs.Rule.{Cell, free, waits, drawn, Spot, queued, with_drawer, Facts, published, IsLaid, CellOk, IsLastOf, HandOk, SpotOk, DeskOk, Knows, Kept, Ring}
 use Rattle.hs_ring.specs.Steps.{drawn_of, did_draw}
 use Rattle.hs_ring.proofs.Updates.{ap₃, put, put_cases, put_here, put_else, left_set}
@@ -117,7 +118,7 @@ module _ (plan : Plan) (s : St) (f : Facts) (k : Kept plan s f) (id : ℕ) (desk
           each_hand = empty_hands;
           in_palm = palm_stays n f.log (deed ∷ []) f.cells f.cells f.spots f.spots f.hands f.hands (suc d) (queued 0) free empty_moves (omega arith) (λ e. cc) (λ number e. cc) f.palm k.in_palm;
           each_spot = λ buffer low.
-              spot_stays n f.cells f.cells f.seats f.giver s.views (set s.views id w) buffer (λ number is. is) (still_with s.views id (drawing desk hand) w buffer at (λ had. subst (InHand buffer) idle had))
+              spot_stays n f.cells f.cells f.seats f.giver s.views (set s.views id w) buffer (λ number is. is) (still_with s.views id (drawing desk hand) w at (Has buffer) (λ had. subst (InHand buffer) idle had))
               (f.spots buffer) (k.each_spot buffer low);
           left = (let e = left_set s.views id (drawing desk hand) w at in let l = k.left in omega arith);
           by_giver = ap length (answers_stay n f.log (deed ∷ []) f.cells f.cells f.spots f.spots f.hands f.hands (suc d) (queued 0) free empty_moves 0 (λ e. omega arith)) ∙ (let e = k.by_giver in omega arith);
@@ -248,10 +249,10 @@ module _ (plan : Plan) (s : St) (f : Facts) (k : Kept plan s f) (id : ℕ) (desk
     got_spots : (buffer : ℕ) → buffer < n → SpotOk n cells' f.seats f.giver (set s.views id got_view) buffer (spots' buffer)
     got_spots buffer low =
         put_cases (SpotOk n cells' f.seats f.giver (set s.views id got_view) buffer) f.spots b (with_drawer d) buffer
-        (λ same. subst (IsWith (set s.views id got_view) buffer) (sym mine.seat) (now_with s.views id (drawing desk hand) got_view buffer at (sym same)))
+        (λ same. subst (AtSeat (set s.views id got_view) (Has buffer)) (sym mine.seat) (now_with s.views id (drawing desk hand) got_view at (Has buffer) (sym same)))
         (λ other. spot_stays n f.cells cells' f.seats f.giver s.views (set s.views id got_view) buffer
         (λ number' is. got_moves.cells_stay (number' % (2 * n)) (λ e. let both : waits number' buffer ≡ waits number b = sym is ∙ e in other cc) ∙ is)
-        (still_with s.views id (drawing desk hand) got_view buffer at (λ had. absurd (subst (InHand buffer) idle had)))
+        (still_with s.views id (drawing desk hand) got_view at (Has buffer) (λ had. absurd (subst (InHand buffer) idle had)))
         (f.spots buffer) (k.each_spot buffer low))
 
     got_queued : (i buffer : ℕ) → get_elem? (queue_of n (got ∷ f.log)) i ≡ some buffer → cells' ((drawn_in (got ∷ f.log) + i) % (2 * n)) ≡ waits (drawn_in (got ∷ f.log) + i) buffer

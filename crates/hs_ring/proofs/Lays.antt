@@ -15,7 +15,7 @@ use Rattle.hs_words.specs.Chunks.{Contents}
 use Rattle.hs_words.specs.Ends.{Answer, got_by, drawn_in, unread, answers_in, told_in, SpendsThe, IsUnread}
 use Rattle.hs_words.proofs.Deeds.{all_of, unspent, draw_is_at}
 use Rattle.hs_words.specs.Plans.{Plan}
-use Rattle.hs_ring.specs.Views.{drew, Post, Palm, holds, lays, View, giving, post_after}
+use Rattle.hs_ring.specs.Views.{drew, Post, Palm, holds, lays, View, giving, post_after, Has}
 use Rattle.hs_ring.specs.Rule.{Cell, free, waits, drawn, laid, queued, with_giver, Facts, published, IsLaid, CellOk, HandOk, HasLease, PalmOk, IsSettled, PostOk, Knows, Kept, Ring}
 use Rattle.hs_ring.specs.Steps.{did_lay}
 use Rattle.hs_ring.proofs.Updates.{put, put_cases, put_here, put_else, left_set}
@@ -130,7 +130,7 @@ module _ (plan : Plan) (s : St) (f : Facts) (k : Kept plan s f) (id : ℕ) (post
           each_spot = λ buffer low.
               spot_stays n f.cells cells' f.seats f.giver s.views (set s.views id w) buffer
               (λ number is. queued_stays n f.log [] f.cells cells' f.spots f.spots f.hands f.hands 0 (queued 0) free lay_moves (λ number buffer e. cc) _ _ buffer is)
-              (still_with s.views id (giving post (holds b t)) w buffer at (λ had. had)) (f.spots buffer) (k.each_spot buffer low);
+              (still_with s.views id (giving post (holds b t)) w at (Has buffer) (λ had. had)) (f.spots buffer) (k.each_spot buffer low);
           left = (let e = left_set s.views id (giving post (holds b t)) w at in let l = k.left in omega arith);
           by_giver = k.by_giver;
           all_made = k.all_made;
@@ -211,7 +211,7 @@ module _ (plan : Plan) (s : St) (f : Facts) (k : Kept plan s f) (id : ℕ) (post
         each_hand = k.each_hand;
         in_palm = k.in_palm;
         each_spot = λ buffer low.
-            spot_stays n f.cells f.cells f.seats f.giver s.views (set s.views id w₂) buffer (λ number is. is) (still_with s.views id (giving post (holds b t)) w₂ buffer at (λ had. had)) (f.spots buffer) (k.each_spot buffer low);
+            spot_stays n f.cells f.cells f.seats f.giver s.views (set s.views id w₂) buffer (λ number is. is) (still_with s.views id (giving post (holds b t)) w₂ at (Has buffer) (λ had. had)) (f.spots buffer) (k.each_spot buffer low);
         left = (let e = left_set s.views id (giving post (holds b t)) w₂ at in let l = k.left in omega arith);
         by_giver = k.by_giver;
         all_made = k.all_made;

@@ -14,7 +14,7 @@ use Rattle.hs_words.specs.Chunks.{Contents, clear_chunk}
 use Rattle.hs_words.specs.Ends.{Deed, Answer, AreAnswers}
 use Rattle.hs_words.proofs.Deeds.{all_of, no_answers}
 use Rattle.hs_words.specs.Plans.{first_of, rest_of, total, Plan, Within}
-use Rattle.hs_ring.specs.Views.{Desk, nothing, Post, Palm, bare, View, nobody, drawing, leasing, giving, drawer_note, giver_note, with_drawer, new_drawer, having_closed}
+use Rattle.hs_ring.specs.Views.{Desk, nothing, Post, Palm, bare, View, nobody, drawing, leasing, giving, drawer_note, giver_note, with_drawer, new_drawer, having_closed, Has}
 use Rattle.hs_ring.specs.Rule.{Cell, free, waits, queued, Facts, CellOk, DeskOk, PostOk, Knows, Kept, Ring, first_post, first_view}
 use Rattle.hs_ring.specs.Steps.{did_look, Over}
 use Rattle.hs_ring.proofs.Updates.{put, put_here, put_else, left_set, left_and}
@@ -107,7 +107,7 @@ module _ (plan : Plan) (s : St) (f : Facts) (k : Kept plan s f) (id : ℕ) (post
         in_palm = k.in_palm;
         each_spot = λ buffer low.
             spot_reseated plan s f k buffer seats' (set s.views id w ++ new ∷ []) (λ drawer low. put_else f.seats f.made (length s.views) drawer (λ same. let o = k.still_open in omega arith))
-            (λ j had. with_more (set s.views id w) new buffer j (still_with s.views id (giving post palm) w buffer at (λ in_palm. in_palm) j had)) low;
+            (λ j had. with_more (set s.views id w) new (Has buffer) j (still_with s.views id (giving post palm) w at (Has buffer) (λ in_palm. in_palm) j had)) low;
         left = (let e = left_set s.views id (giving post palm) w at in let a = left_and (set s.views id w) new in let t = total_parts post.spare in let l = k.left in omega arith);
         by_giver = k.by_giver;
         all_made = all_of f.log (λ (d : Deed) (le : d.by ≤ f.made). omega arith) k.all_made;
@@ -190,7 +190,7 @@ module _ (plan : Plan) (s : St) (f : Facts) (k : Kept plan s f) (id : ℕ) (post
         in_palm = k.in_palm;
         each_spot = λ buffer low.
             spot_stays plan.buffers f.cells f.cells f.seats f.giver s.views (set (set s.views id w₁) other nobody) buffer (λ number is. is)
-            (λ j had. still_with (set s.views id w₁) other (drawing desk nothing) nobody buffer desk_at (λ none. none) j (still_with s.views id (giving post palm) w₁ buffer at (λ in_palm. in_palm) j had))
+            (λ j had. still_with (set s.views id w₁) other (drawing desk nothing) nobody desk_at (Has buffer) (λ none. none) j (still_with s.views id (giving post palm) w₁ at (Has buffer) (λ in_palm. in_palm) j had))
             (f.spots buffer) (k.each_spot buffer low);
         left = (let e = left_set s.views id (giving post palm) w₁ at in let e' = left_set (set s.views id w₁) other (drawing desk nothing) nobody desk_at in let l = k.left in omega arith);
         by_giver = k.by_giver;
@@ -256,7 +256,7 @@ looks plan slots id post palm held s (f, k) wide at small =
               each_hand = k.each_hand;
               in_palm = k.in_palm;
               each_spot = λ buffer low.
-                  spot_stays plan.buffers f.cells f.cells f.seats f.giver s.views (set s.views id w) buffer (λ number is. is) (still_with s.views id w w buffer at (λ in_palm. in_palm)) (f.spots buffer) (k.each_spot buffer low);
+                  spot_stays plan.buffers f.cells f.cells f.seats f.giver s.views (set s.views id w) buffer (λ number is. is) (still_with s.views id w w at (Has buffer) (λ in_palm. in_palm)) (f.spots buffer) (k.each_spot buffer low);
               left = (let e = left_set s.views id w w at in let l = k.left in omega arith);
               by_giver = k.by_giver;
               all_made = k.all_made;

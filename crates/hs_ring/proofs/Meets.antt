@@ -9,7 +9,8 @@ use Rattle.atomic_table.proofs.Lists.{set_else}
 use Rattle.hs_words.specs.Ends.{Deed, Answer, met, got_by, answers_by, told_in, stamps_in, IsAt, put_if, answer_to}
 use Rattle.hs_words.proofs.Deeds.{all_both, at_below, draw_is_at, at_once}
 use Rattle.hs_words.specs.Plans.{Plan}
-use Rattle.hs_ring.specs.Views.{Desk, Hand, nothing, drew, Post, Palm, View, nobody, drawing, giving, drawer_note, giver_note, post_after, IsWith, all_left}
+use Rattle.hs_words.specs.Seats.{AtSeat}
+use Rattle.hs_ring.specs.Views.{Desk, Hand, nothing, drew, Post, Palm, View, nobody, drawing, giving, drawer_note, giver_note, post_after, all_left, Has}
 use Rattle.hs_ring.specs.Rule.{Facts, HandOk, IsSettled, DeskOk, PostOk, Knows, Kept, Ring}
 use Rattle.hs_ring.proofs.Updates.{left_set, left_and}
 use Rattle.hs_ring.proofs.Counting.{reseated, seated_too}
@@ -60,7 +61,7 @@ module _ (plan : Plan) (s : St) (f : Facts) (k : Kept plan s f) (id : ℕ) (desk
         in_palm = k.in_palm;
         each_spot = λ buffer low.
             spot_stays plan.buffers f.cells f.cells f.seats f.giver s.views (set s.views id (drawing desk nothing) ++ drawer_note desk.floor (stamps_in desk.answers) ∷ []) buffer (λ number is. is)
-            (λ j had. with_more (set s.views id (drawing desk nothing)) (drawer_note desk.floor (stamps_in desk.answers)) buffer j (still_with s.views id (drawing desk nothing) (drawing desk nothing) buffer at (λ none. none) j had))
+            (λ j had. with_more (set s.views id (drawing desk nothing)) (drawer_note desk.floor (stamps_in desk.answers)) (Has buffer) j (still_with s.views id (drawing desk nothing) (drawing desk nothing) at (Has buffer) (λ none. none) j had))
             (f.spots buffer) (k.each_spot buffer low);
         left = (let e = left_set s.views id (drawing desk nothing) (drawing desk nothing) at in let a = left_and (set s.views id (drawing desk nothing)) (drawer_note desk.floor (stamps_in desk.answers)) in let l = k.left in omega arith);
         by_giver = k.by_giver;
@@ -78,7 +79,7 @@ notes_draws plan id desk s (f, k) at = (f, note_kept plan s f k id desk at)
 -- ---- other notes change nothing but what seats know
 
 -- seats that know more
-pub known_kept : (plan : Plan) (s : St) (f : Facts) (views : List View) → Kept plan s f → all_left views ≡ all_left s.views → ((buffer j : ℕ) → IsWith s.views buffer j → IsWith views buffer j) → ((j : ℕ) (v : View) → get_elem? views j ≡ some v → Knows plan f j v)
+pub known_kept : (plan : Plan) (s : St) (f : Facts) (views : List View) → Kept plan s f → all_left views ≡ all_left s.views → ((buffer j : ℕ) → AtSeat s.views (Has buffer) j → AtSeat views (Has buffer) j) → ((j : ℕ) (v : View) → get_elem? views j ≡ some v → Knows plan f j v)
     → Kept plan record { words = s.words; homes = s.homes; views = views } f
 known_kept plan s f views k left withs each =
     record {
@@ -108,7 +109,7 @@ notes_floor plan id post palm s (f, k) at =
       f,
       known_kept plan s f (set s.views id (giving post palm) ++ giver_note post.floor ∷ []) k
           (let e = left_set s.views id (giving post palm) (giving post palm) at in let a = left_and (set s.views id (giving post palm)) (giver_note post.floor) in omega arith)
-          (λ buffer j had. with_more (set s.views id (giving post palm)) (giver_note post.floor) buffer j (still_with s.views id (giving post palm) (giving post palm) buffer at (λ in_palm. in_palm) j had))
+          (λ buffer j had. with_more (set s.views id (giving post palm)) (giver_note post.floor) (Has buffer) j (still_with s.views id (giving post palm) (giving post palm) at (Has buffer) (λ in_palm. in_palm) j had))
           (seated_too plan f (set s.views id (giving post palm)) (giver_note post.floor) own.floor (reseated plan f s.views id (giving post palm) own (λ j v other seen. k.each_seat j v seen))),
     )
 
@@ -143,7 +144,7 @@ giver_hears plan id post palm other floor stamps s (f, k) at differ note_at =
       f,
       known_kept plan s f (set (set s.views id w) other nobody) k
           (let e = left_set s.views id (giving post palm) w at in let e' = left_set (set s.views id w) other (drawer_note floor stamps) nobody note_at in omega arith)
-          (λ buffer j had. still_with (set s.views id w) other (drawer_note floor stamps) nobody buffer note_at (λ none. none) j (still_with s.views id (giving post palm) w buffer at (λ in_palm. in_palm) j had))
+          (λ buffer j had. still_with (set s.views id w) other (drawer_note floor stamps) nobody note_at (Has buffer) (λ none. none) j (still_with s.views id (giving post palm) w at (Has buffer) (λ in_palm. in_palm) j had))
           (both_seats plan s f k id other w nobody now tt),
     )
 
@@ -166,6 +167,6 @@ drawer_hears plan id desk hand other floor s (f, k) at differ note_at =
       f,
       known_kept plan s f (set (set s.views id w) other nobody) k
           (let e = left_set s.views id (drawing desk hand) w at in let e' = left_set (set s.views id w) other (giver_note floor) nobody note_at in omega arith)
-          (λ buffer j had. still_with (set s.views id w) other (giver_note floor) nobody buffer note_at (λ none. none) j (still_with s.views id (drawing desk hand) w buffer at (λ in_hand. in_hand) j had))
+          (λ buffer j had. still_with (set s.views id w) other (giver_note floor) nobody note_at (Has buffer) (λ none. none) j (still_with s.views id (drawing desk hand) w at (Has buffer) (λ in_hand. in_hand) j had))
           (both_seats plan s f k id other w nobody now tt),
     )

@@ -5,7 +5,8 @@ use mathlib.Core.Option as maybe
 use lib.ListN.{get_elem?}
 use Rattle.hs_words.specs.Chunks.{Contents, clear_chunk}
 use Rattle.hs_words.specs.Plans.{Plan}
-use Rattle.hs_ring.specs.Views.{Hand, nothing, drew, kept, Palm, bare, holds, lays, retakes, View, nobody, drawing, leasing, giving, drawer_note, giver_note, InHand, InPalm, Has, IsWith}
+use Rattle.hs_words.specs.Seats.{AtSeat}
+use Rattle.hs_ring.specs.Views.{Hand, nothing, drew, kept, Palm, bare, holds, lays, retakes, View, nobody, drawing, leasing, giving, drawer_note, giver_note, InHand, InPalm, Has}
 use Rattle.hs_ring.specs.Rule.{Cell, free, waits, drawn, laid, Spot, queued, with_drawer, leased, with_giver, Facts, CellOk, HandOk, PalmOk, SpotOk, Kept}
 use Rattle.hs_ring.specs.Places.{Site, entry, seat, IsThere, Waits, IsInOnePlace}
 use Rattle.hs_ring.proofs.Counting.{at_length, found_drawn, found_published, entry_below}
@@ -54,17 +55,17 @@ module _ (plan : Plan) (s : St) (f : Facts) (k : Kept plan s f) (buffer : ℕ) w
   seat_fits j (giver_note floor) seen has = absurd has
 
   -- a drawer that has the buffer is open
-  drawer_open : (drawer j : ℕ) → f.spots buffer ≡ with_drawer drawer → IsWith s.views buffer j → drawer < f.opened
+  drawer_open : (drawer j : ℕ) → f.spots buffer ≡ with_drawer drawer → AtSeat s.views (Has buffer) j → drawer < f.opened
   drawer_open drawer j is (v, seen, has) = (subst (Fits (seat j)) is (seat_fits j v seen has)).1
 
   -- a drawer that is not open gets another seat
-  pub spot_reseated : (seats' : ℕ → ℕ) (views' : List View) → ((drawer : ℕ) → drawer < f.opened → seats' drawer ≡ f.seats drawer) → ((j : ℕ) → IsWith s.views buffer j → IsWith views' buffer j)
+  pub spot_reseated : (seats' : ℕ → ℕ) (views' : List View) → ((drawer : ℕ) → drawer < f.opened → seats' drawer ≡ f.seats drawer) → ((j : ℕ) → AtSeat s.views (Has buffer) j → AtSeat views' (Has buffer) j)
       → buffer < n → SpotOk n f.cells seats' f.giver views' buffer (f.spots buffer)
   spot_reseated seats' views' same goes low = go (f.spots buffer) refl (k.each_spot buffer low)
     where
       go : (spot : Spot) → f.spots buffer ≡ spot → SpotOk n f.cells f.seats f.giver s.views buffer spot → SpotOk n f.cells seats' f.giver views' buffer spot
       go (queued number) is ok = ok
-      go (with_drawer drawer) is ok = subst (IsWith views' buffer) (sym (same drawer (drawer_open drawer (f.seats drawer) is ok))) (goes (f.seats drawer) ok)
+      go (with_drawer drawer) is ok = subst (AtSeat views' (Has buffer)) (sym (same drawer (drawer_open drawer (f.seats drawer) is ok))) (goes (f.seats drawer) ok)
       go (leased j) is ok = goes j ok
       go with_giver is ok = goes f.giver ok
 
@@ -113,7 +114,7 @@ module _ (plan : Plan) (s : St) (f : Facts) (k : Kept plan s f) (buffer : ℕ) w
         clear = ok.2;
       }
 
-  at_seat : (j : ℕ) → IsWith s.views buffer j → IsInOnePlace plan.size s buffer
+  at_seat : (j : ℕ) → AtSeat s.views (Has buffer) j → IsInOnePlace plan.size s buffer
   at_seat j with_it =
       record {
         site = seat j;

@@ -17,7 +17,7 @@ use Rattle.hs_words.specs.Ends.{Deed, Answer, answered, given_of, missed, events
 use Rattle.hs_words.proofs.Deeds.{answers_and, answers_below, are_answers_more, unread_more, got_below}
 use Rattle.hs_words.proofs.Waiting.{counted as one_counted, may_give, given_kinds}
 use Rattle.hs_words.specs.Plans.{Plan}
-use Rattle.hs_ring.specs.Views.{Post, bare, lays, retakes, View, giving, post_after}
+use Rattle.hs_ring.specs.Views.{Post, bare, lays, retakes, View, giving, post_after, Has}
 use Rattle.hs_ring.specs.Rule.{Cell, free, waits, laid, Spot, queued, with_giver, Facts, published, IsLaid, CellOk, PalmOk, SpotOk, PostOk, Knows, Kept, Ring}
 use Rattle.hs_ring.specs.Steps.{published_of, did_publish}
 use Rattle.hs_ring.proofs.Updates.{put, put_cases, put_here, put_else, left_set}
@@ -161,7 +161,7 @@ module _ (plan : Plan) (s : St) (f : Facts) (k : Kept plan s f) (id : ℕ) (post
         (λ same. ap cells' (sym i_is) ∙ put_here f.cells i (waits P b) ∙ ap (waits P) (sym same))
         (λ other. spot_stays n f.cells cells' f.seats f.giver s.views (set s.views id w) buffer
         (λ number is. queued_stays n f.log (deed ∷ []) f.cells cells' f.spots spots' f.hands f.hands 0 with_giver (laid P) give_moves (λ number buffer e. cc) _ _ buffer is)
-        (still_with s.views id (giving post (lays b t)) w buffer at (λ one. other (sym one)))
+        (still_with s.views id (giving post (lays b t)) w at (Has buffer) (λ one. other (sym one)))
         (f.spots buffer) (k.each_spot buffer low))
 
     give_queued : (a buffer : ℕ) → get_elem? (queue_of n (deed ∷ f.log)) a ≡ some buffer → cells' ((drawn_in (deed ∷ f.log) + a) % (2 * n)) ≡ waits (drawn_in (deed ∷ f.log) + a) buffer
@@ -283,7 +283,7 @@ module _ (plan : Plan) (s : St) (f : Facts) (k : Kept plan s f) (id : ℕ) (post
           each_hand = λ d. hand_stays n f.log (missed ∷ []) f.cells f.cells f.spots f.spots f.hands f.hands 0 (queued 0) free miss_moves d (λ e. omega arith) (λ e. cc) (λ number buffer e. cc) (f.hands d) (k.each_hand d);
           in_palm = (lease_stays n f.log (missed ∷ []) f.cells f.cells f.spots f.spots f.hands f.hands 0 (queued 0) free miss_moves b t with_giver (λ e. cc) in_hand.0, (P, (let e : suc P ≡ n + (1 + given_in f.log) = omega arith in e), in_hand.1));
           each_spot = λ buffer low.
-              spot_stays n f.cells f.cells f.seats f.giver s.views (set s.views id w₂) buffer (λ number is. is) (still_with s.views id (giving post (lays b t)) w₂ buffer at (λ had. had)) (f.spots buffer) (k.each_spot buffer low);
+              spot_stays n f.cells f.cells f.seats f.giver s.views (set s.views id w₂) buffer (λ number is. is) (still_with s.views id (giving post (lays b t)) w₂ at (Has buffer) (λ had. had)) (f.spots buffer) (k.each_spot buffer low);
           left = (let e = left_set s.views id (giving post (lays b t)) w₂ at in let l = k.left in omega arith);
           by_giver = ap length (answers_and missed f.log 0 refl) ∙ (let e = k.by_giver in omega arith);
           all_made = ((let z : 0 ≤ f.made = omega arith in z), k.all_made);

@@ -10,7 +10,7 @@ use Rattle.atomic_table.proofs.Lists.{set_here, set_else}
 use Rattle.hs_words.specs.Chunks.{Contents}
 use Rattle.hs_words.specs.Ends.{answers_in}
 use Rattle.hs_words.specs.Plans.{Plan}
-use Rattle.hs_ring.specs.Views.{Post, holds, retakes, View, giving}
+use Rattle.hs_ring.specs.Views.{Post, holds, retakes, View, giving, Has}
 use Rattle.hs_ring.specs.Rule.{Cell, free, laid, queued, Facts, published, IsLaid, CellOk, PalmOk, PostOk, Knows, Kept, Ring}
 use Rattle.hs_ring.specs.Steps.{did_retake}
 use Rattle.hs_ring.proofs.Updates.{put, put_cases, put_else, left_set}
@@ -105,7 +105,7 @@ module _ (plan : Plan) (s : St) (f : Facts) (k : Kept plan s f) (id : ℕ) (post
         each_spot = λ buffer low.
             spot_stays n f.cells cells' f.seats f.giver s.views (set s.views id w) buffer
             (λ h is. queued_stays n f.log [] f.cells cells' f.spots f.spots f.hands f.hands 0 (queued 0) (laid number) retake_moves (λ number buffer e. cc) _ _ buffer is)
-            (still_with s.views id (giving post (retakes b t)) w buffer at (λ had. had)) (f.spots buffer) (k.each_spot buffer low);
+            (still_with s.views id (giving post (retakes b t)) w at (Has buffer) (λ had. had)) (f.spots buffer) (k.each_spot buffer low);
         left = (let e = left_set s.views id (giving post (retakes b t)) w at in let l = k.left in omega arith);
         by_giver = k.by_giver;
         all_made = k.all_made;

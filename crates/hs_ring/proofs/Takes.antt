@@ -6,7 +6,8 @@ use Rattle.atomic_table.specs.Table.{Splits, Joins}
 use Rattle.atomic_table.proofs.Lists.{at_set, set_else}
 use Rattle.hs_words.specs.Ends.{Deed}
 use Rattle.hs_words.specs.Plans.{Plan}
-use Rattle.hs_ring.specs.Views.{Hand, Post, Palm, bare, holds, View, nobody, leasing, giving, IsWith}
+use Rattle.hs_words.specs.Seats.{AtSeat}
+use Rattle.hs_ring.specs.Views.{Hand, Post, Palm, bare, holds, View, nobody, leasing, giving, Has}
 use Rattle.hs_ring.specs.Rule.{Cell, free, Spot, queued, leased, with_giver, Facts, published, IsLaid, CellOk, HasLease, PalmOk, SpotOk, PostOk, Knows, Kept, Ring}
 use Rattle.hs_ring.proofs.Updates.{put, put_cases, put_here, put_else, left_set, left_and}
 use Rattle.hs_ring.proofs.Spots.{now_with, still_with, else_with, with_more, with_last, spot_stays}
@@ -96,10 +97,10 @@ module _ (plan : Plan) (s : St) (f : Facts) (k : Kept plan s f) (id : ℕ) (post
   take_spots : (buffer : ℕ) → buffer < n → SpotOk n f.cells f.seats f.giver views' buffer (spots' buffer)
   take_spots buffer low =
       put_cases (SpotOk n f.cells f.seats f.giver views' buffer) f.spots b with_giver buffer
-      (λ same. subst (IsWith views' buffer) (sym (ours plan s f k id post bare at).seat)
-      (else_with (set s.views id w) other nobody buffer id (λ e. differ (sym e)) (now_with s.views id (giving post bare) w buffer at (sym same))))
+      (λ same. subst (AtSeat views' (Has buffer)) (sym (ours plan s f k id post bare at).seat)
+      (else_with (set s.views id w) other nobody (Has buffer) id (λ e. differ (sym e)) (now_with s.views id (giving post bare) w at (Has buffer) (sym same))))
       (λ apart. spot_stays n f.cells f.cells f.seats f.giver s.views views' buffer (λ number is. is)
-      (λ j had. still_with (set s.views id w) other (leasing b t) nobody buffer lease_at (λ one. apart (sym one)) j (still_with s.views id (giving post bare) w buffer at (λ none. absurd none) j had))
+      (λ j had. still_with (set s.views id w) other (leasing b t) nobody lease_at (Has buffer) (λ one. apart (sym one)) j (still_with s.views id (giving post bare) w at (Has buffer) (λ none. absurd none) j had))
       (f.spots buffer) (k.each_spot buffer low))
 
   pub take_kept : Kept plan record { words = s.words; homes = s.homes; views = set (set s.views id w) other nobody } after_take
@@ -182,9 +183,9 @@ module _ (plan : Plan) (s : St) (f : Facts) (k : Kept plan s f) (id : ℕ) (post
   lease_spots : (buffer : ℕ) → buffer < plan.buffers → SpotOk plan.buffers f.cells f.seats f.giver views₁ buffer (spots₁ buffer)
   lease_spots buffer low =
       put_cases (SpotOk plan.buffers f.cells f.seats f.giver views₁ buffer) f.spots b (leased new) buffer
-      (λ same. with_last (set s.views id w₁) (leasing b t) buffer new (length-set s.views id w₁) (sym same))
+      (λ same. with_last (set s.views id w₁) (leasing b t) (Has buffer) new (length-set s.views id w₁) (sym same))
       (λ other. spot_stays plan.buffers f.cells f.cells f.seats f.giver s.views views₁ buffer (λ number is. is)
-      (λ j had. with_more (set s.views id w₁) (leasing b t) buffer j (still_with s.views id (giving post (holds b t)) w₁ buffer at (λ one. other (sym one)) j had))
+      (λ j had. with_more (set s.views id w₁) (leasing b t) (Has buffer) j (still_with s.views id (giving post (holds b t)) w₁ at (Has buffer) (λ one. other (sym one)) j had))
       (f.spots buffer) (k.each_spot buffer low))
 
   pub lease_kept : Kept plan record { words = s.words; homes = s.homes; views = set s.views id w₁ ++ leasing b t ∷ [] } after_lease

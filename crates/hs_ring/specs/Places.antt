@@ -7,7 +7,8 @@ use lib.ListN.{get_elem?}
 use Rattle.atomic_table.specs.Table.{State}
 use Rattle.hs_ring.specs.declared.board.TheConstants.{PUBLISHED}
 use Rattle.hs_words.specs.Chunks.{Contents, clear_chunk}
-use Rattle.hs_ring.specs.Views.{nothing, bare, View, drawing, leasing, giving, desk_of, post_of, nobody, Has, IsWith}
+use Rattle.hs_words.specs.Seats.{AtSeat}
+use Rattle.hs_ring.specs.Views.{nothing, bare, View, drawing, leasing, giving, desk_of, post_of, nobody, Has}
 use Rattle.hs_ring.specs.Steps.{drawn_of, published_of}
 
 abbrev pub Table : Type 0
@@ -20,7 +21,7 @@ pub data Site : Type 0 where
 -- the buffer is there
 abbrev pub IsThere : Table → ℕ → Site → Type 0
 IsThere s buffer (entry e) = (chunk : Contents) × (get_elem? s.homes e ≡ some (some (Some chunk))) × (chunk.number ≡ buffer)
-IsThere s buffer (seat j) = IsWith s.views buffer j
+IsThere s buffer (seat j) = AtSeat s.views (Has buffer) j
 
 -- the entry's chunk waits for a draw: it is clear, and its number was published and not drawn
 pub record Waits (size : ℕ) (s : Table) (buffer e : ℕ) : Type 0 where

@@ -13,7 +13,8 @@ use Rattle.hs_words.specs.Chunks.{Contents, clear_chunk}
 use Rattle.hs_words.specs.PoolHistory.{is_missed, is_empty, IsHistoryBack}
 use Rattle.hs_words.specs.Ends.{Deed, got_by, events_of, drawn_in, given_in, answers_by, answers_in, told_in, IsDraw, IsGot, NoneSince, EachSpends, EachUnread, AreAnswers, queue_of}
 use Rattle.hs_words.specs.Plans.{total, Plan, Within}
-use Rattle.hs_ring.specs.Views.{Desk, Hand, nothing, drew, kept, Post, Palm, bare, holds, lays, retakes, View, nobody, drawing, leasing, giving, drawer_note, giver_note, IsWith, all_left}
+use Rattle.hs_words.specs.Seats.{AtSeat}
+use Rattle.hs_ring.specs.Views.{Desk, Hand, nothing, drew, kept, Post, Palm, bare, holds, lays, retakes, View, nobody, drawing, leasing, giving, drawer_note, giver_note, all_left, Has}
 
 -- an entry is free; or it holds a number whose buffer waits, or was drawn by a drawer that has not collected it; or the
 -- giver has laid it. Where it was drawn or laid, its slot is with that end's seat.
@@ -96,9 +97,9 @@ module _ (n : ℕ) (log : List Deed) (cells : ℕ → Cell) (spots : ℕ → Spo
 module _ (n : ℕ) (cells : ℕ → Cell) (seats : ℕ → ℕ) (giver : ℕ) (views : List View) (buffer : ℕ) where
   abbrev pub SpotOk : Spot → Type 0
   SpotOk (queued number) = cells (number % (2 * n)) ≡ waits number buffer
-  SpotOk (with_drawer drawer) = IsWith views buffer (seats drawer)
-  SpotOk (leased j) = IsWith views buffer j
-  SpotOk with_giver = IsWith views buffer giver
+  SpotOk (with_drawer drawer) = AtSeat views (Has buffer) (seats drawer)
+  SpotOk (leased j) = AtSeat views (Has buffer) j
+  SpotOk with_giver = AtSeat views (Has buffer) giver
 
 -- ---- views
 

@@ -2,8 +2,6 @@
 -- has left, its floor, which is above every stamp that it knows, and its answers. The giver's seat knows its turns beside
 -- its floor. A lease is a seat of its own, and so is a note that one end hands to another when they meet.
 use Rattle.std.specs.Prelude.{◌≡◌, ℕ, suc, ◌+◌, ◌-◌, List, [], ◌∷◌, max}
-use mathlib.Core.Option.{some}
-use lib.ListN.{get_elem?}
 use Rattle.hs_words.specs.PoolHistory.{Event, Got, Empty, Given, Missed}
 use Rattle.hs_words.specs.Ends.{Answer, Turn, answered, unread, met, stamps_in}
 use Rattle.hs_words.specs.Plans.{first_of, rest_of, total}
@@ -211,10 +209,6 @@ Has buffer (leasing b draw) = b ≡ buffer
 Has buffer (giving post palm) = InPalm buffer palm
 Has buffer (drawer_note floor stamps) = ⊥
 Has buffer (giver_note floor) = ⊥
-
--- the seat j is one that has the buffer
-abbrev pub IsWith : List View → ℕ → ℕ → Type 0
-IsWith views buffer j = (v : View) × (get_elem? views j ≡ some v) × Has buffer v
 
 -- the least stamp that an end may be told next
 abbrev pub floor_of : View → ℕ

@@ -8,3 +8,4 @@ pub mod PoolHistory
 pub mod PoolAnswers
 pub mod Ends
 pub mod Plans
+pub mod Seats
