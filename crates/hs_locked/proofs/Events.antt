@@ -12,12 +12,13 @@ use Rattle.hs_words.proofs.Deeds.{none_yet, answers_and, answers_below, are_answ
 use Rattle.hs_words.proofs.Waiting.{counted, waiting_below}
 use Rattle.hs_words.specs.Plans.{total, Plan}
 use Rattle.hs_words.specs.Seats.{AtSeat}
+use Rattle.hs_words.specs.Spots.{Spot, in_queue, with_drawer, leased, with_giver, HasLease}
 use Rattle.hs_pool.specs.Pool.{waiting}
 use Rattle.hs_ring.proofs.Spots.{now_with, still_with}
 use Rattle.hs_locked.specs.declared.store.Store.{Store}
 use Rattle.hs_locked.specs.Stored.{next_draw, GoesOn}
 use Rattle.hs_locked.specs.Views.{Desk, Hand, nothing, kept, Post, Palm, bare, holds, Stand, away, queued, inside, closing, View, drawing, giving, desk_after, hand_after, post_after, given_answer, Has, left_in, all_left, having_left}
-use Rattle.hs_locked.specs.Rule.{Spot, waits, with_drawer, leased, with_giver, home, out, Facts, gots_in, StoreOk, StandOk, HasLease, HandOk, PalmOk, InLine, SpotOk, DeskOk, PostOk, Knows, Kept, Locked}
+use Rattle.hs_locked.specs.Rule.{home, out, Facts, gots_in, StoreOk, StandOk, HandOk, PalmOk, InLine, SpotOk, DeskOk, PostOk, Knows, Kept, Locked}
 use Rattle.hs_locked.specs.Steps.{did_leave}
 use Rattle.hs_locked.proofs.Updates.{put, put_cases, put_here, put_else, left_set}
 use Rattle.hs_locked.proofs.Stores.{events_are, line, lawful, goes}
@@ -60,7 +61,7 @@ module _ (plan : Plan) (s : St) (f : Facts) (k : Kept plan s f) (id : ℕ) (v w 
   leave_stand e other (closing st) ok = let both : out e ≡ out end = sym ok.2 ∙ standing.2 in let same : e ≡ end = cc in absurd (other same)
 
   pub leave_kept : StoreOk plan log' new → Spends f.log deed.event deed.draw
-      → ((i buffer : ℕ) → get_elem? (queue_of n log') i ≡ some buffer → spots buffer ≡ waits (gots_in log' + i))
+      → ((i buffer : ℕ) → get_elem? (queue_of n log') i ≡ some buffer → spots buffer ≡ in_queue (gots_in log' + i))
       → ((d : ℕ) → HandOk n log' spots d (hands d)) → PalmOk n log' spots palm → ((buffer : ℕ) → buffer < n → SpotOk n log' f.seats f.giver (set s.views id w) buffer (spots buffer)) → left_in w ≤ left_in v → ((j : ℕ) → j ≢ id → leased j ≢ spot) → Knows plan after_leave id w
       → Kept plan (stepped s 1 x id ((0, new) ∷ []) w gives) after_leave
   leave_kept store_ok spends in_queue in_hand in_palm in_spot fewer apart own =
@@ -121,7 +122,7 @@ module _ (plan : Plan) (s : St) (f : Facts) (k : Kept plan s f) (id : ℕ) (desk
     abbrev none_got : Deed
     none_got = empty_by (suc d₀)
 
-    empty_moves : Moves f (none_got ∷ []) (put f.stands (suc d₀) away) f.spots f.hands f.palm (suc d₀) (waits 0)
+    empty_moves : Moves f (none_got ∷ []) (put f.stands (suc d₀) away) f.spots f.hands f.palm (suc d₀) (in_queue 0)
     empty_moves =
         record {
           by = (refl, tt);
@@ -159,11 +160,11 @@ module _ (plan : Plan) (s : St) (f : Facts) (k : Kept plan s f) (id : ℕ) (desk
 
     pub empty_kept : Kept plan (stepped s 1 x id ((0, new) ∷ []) w₁ gives) after_empty
     empty_kept =
-        leave_kept plan s f k id v₀ w₁ at (suc d₀) ender old own.stand_is none_got refl new f.spots f.hands f.palm (waits 0) empty_moves x x_is
+        leave_kept plan s f k id v₀ w₁ at (suc d₀) ender old own.stand_is none_got refl new f.spots f.hands f.palm (in_queue 0) empty_moves x x_is
         (goes plan f.log old new none_got old_ok goes_on refl) tt
-        (λ i buffer seen. k.each_queued i buffer seen ∙ ap waits (let c = counted is_any_got Empty (events_of f.log) in let e : gots_in f.log + i ≡ gots_in (none_got ∷ f.log) + i = omega arith in e))
-        (λ d. hand_stays plan f (none_got ∷ []) f.tickets f.holder new home (put f.stands (suc d₀) away) f.spots f.hands f.palm (suc d₀) (waits 0) empty_moves d (λ e. cc) (f.hands d) (k.each_hand d))
-        (in_palm_stays plan f (none_got ∷ []) f.tickets f.holder new home (put f.stands (suc d₀) away) f.spots f.hands f.palm (suc d₀) (waits 0) empty_moves (λ e. cc) f.palm k.in_palm)
+        (λ i buffer seen. k.each_queued i buffer seen ∙ ap in_queue (let c = counted is_any_got Empty (events_of f.log) in let e : gots_in f.log + i ≡ gots_in (none_got ∷ f.log) + i = omega arith in e))
+        (λ d. hand_stays plan f (none_got ∷ []) f.tickets f.holder new home (put f.stands (suc d₀) away) f.spots f.hands f.palm (suc d₀) (in_queue 0) empty_moves d (λ e. cc) (f.hands d) (k.each_hand d))
+        (in_palm_stays plan f (none_got ∷ []) f.tickets f.holder new home (put f.stands (suc d₀) away) f.spots f.hands f.palm (suc d₀) (in_queue 0) empty_moves (λ e. cc) f.palm k.in_palm)
         empty_spots (omega arith) (λ j _ e. cc) empty_desk
 
   -- ---- a buffer was got
@@ -183,13 +184,13 @@ module _ (plan : Plan) (s : St) (f : Facts) (k : Kept plan s f) (id : ℕ) (desk
     in_front : get_elem? (queue_of plan.buffers f.log) 0 ≡ some b
     in_front = ap (λ (l : List ℕ). get_elem? l 0) (sym (line plan f.log old old_ok) ∙ front)
 
-    was_waiting : f.spots b ≡ waits (gots_in f.log)
-    was_waiting = k.each_queued 0 b in_front ∙ ap waits (add-zero (gots_in f.log))
+    was_waiting : f.spots b ≡ in_queue (gots_in f.log)
+    was_waiting = k.each_queued 0 b in_front ∙ ap in_queue (add-zero (gots_in f.log))
 
-    not_b : (b' : ℕ) → f.spots b' ≢ waits (gots_in f.log) → b' ≢ b
+    not_b : (b' : ℕ) → f.spots b' ≢ in_queue (gots_in f.log) → b' ≢ b
     not_b b' far same = far (ap f.spots same ∙ was_waiting)
 
-    got_moves : Moves f (got ∷ []) (put f.stands (suc d₀) away) spots' hands' f.palm (suc d₀) (waits (gots_in f.log))
+    got_moves : Moves f (got ∷ []) (put f.stands (suc d₀) away) spots' hands' f.palm (suc d₀) (in_queue (gots_in f.log))
     got_moves =
         record {
           by = (refl, tt);
@@ -222,11 +223,11 @@ module _ (plan : Plan) (s : St) (f : Facts) (k : Kept plan s f) (id : ℕ) (desk
     one_got : gots_in (got ∷ f.log) ≡ suc (gots_in f.log)
     one_got = let c = counted is_any_got (Got b) (events_of f.log) in omega arith
 
-    got_queue : (i buffer : ℕ) → get_elem? (queue_of plan.buffers (got ∷ f.log)) i ≡ some buffer → spots' buffer ≡ waits (gots_in (got ∷ f.log) + i)
+    got_queue : (i buffer : ℕ) → get_elem? (queue_of plan.buffers (got ∷ f.log)) i ≡ some buffer → spots' buffer ≡ in_queue (gots_in (got ∷ f.log) + i)
     got_queue i buffer seen =
-        let before : f.spots buffer ≡ waits (gots_in f.log + suc i) = k.each_queued (suc i) buffer (at_rest (queue_of plan.buffers f.log) i buffer seen) in
-        let other : f.spots buffer ≢ waits (gots_in f.log) = λ e. let both : waits (gots_in f.log + suc i) ≡ waits (gots_in f.log) = sym before ∙ e in let ns : gots_in f.log + suc i ≡ gots_in f.log = cc in omega arith in
-        got_moves.spots_stay buffer other ∙ before ∙ ap waits (let c = one_got in let e : gots_in f.log + suc i ≡ gots_in (got ∷ f.log) + i = omega arith in e)
+        let before : f.spots buffer ≡ in_queue (gots_in f.log + suc i) = k.each_queued (suc i) buffer (at_rest (queue_of plan.buffers f.log) i buffer seen) in
+        let other : f.spots buffer ≢ in_queue (gots_in f.log) = λ e. let both : in_queue (gots_in f.log + suc i) ≡ in_queue (gots_in f.log) = sym before ∙ e in let ns : gots_in f.log + suc i ≡ gots_in f.log = cc in omega arith in
+        got_moves.spots_stay buffer other ∙ before ∙ ap in_queue (let c = one_got in let e : gots_in f.log + suc i ≡ gots_in (got ∷ f.log) + i = omega arith in e)
 
     -- another buffer that waits is one nearer to the front
     moved_up : (buffer number : ℕ) → buffer ≢ b → InLine plan.buffers f.log buffer number → InLine plan.buffers (got ∷ f.log) buffer number
@@ -250,13 +251,13 @@ module _ (plan : Plan) (s : St) (f : Facts) (k : Kept plan s f) (id : ℕ) (desk
           none_yet (got ∷ f.log) b stamp (le_refl (suc stamp)),
           waiting_below plan.buffers (events_of f.log) (lawful plan f.log old old_ok) 0 b in_front,
         ))
-        (λ _. hand_stays plan f (got ∷ []) f.tickets f.holder new home (put f.stands (suc d₀) away) spots' hands' f.palm (suc d₀) (waits (gots_in f.log)) got_moves d (λ e. cc) (f.hands d) (k.each_hand d))
+        (λ _. hand_stays plan f (got ∷ []) f.tickets f.holder new home (put f.stands (suc d₀) away) spots' hands' f.palm (suc d₀) (in_queue (gots_in f.log)) got_moves d (λ e. cc) (f.hands d) (k.each_hand d))
 
     pub got_kept : Kept plan (stepped s 1 x id ((0, new) ∷ []) w₂ gives) after_got
     got_kept =
-        leave_kept plan s f k id v₀ w₂ at (suc d₀) ender old own.stand_is got refl new spots' hands' f.palm (waits (gots_in f.log)) got_moves x x_is
+        leave_kept plan s f k id v₀ w₂ at (suc d₀) ender old own.stand_is got refl new spots' hands' f.palm (in_queue (gots_in f.log)) got_moves x x_is
         (goes plan f.log old new got old_ok goes_on refl) tt got_queue got_hands
-        (in_palm_stays plan f (got ∷ []) f.tickets f.holder new home (put f.stands (suc d₀) away) spots' hands' f.palm (suc d₀) (waits (gots_in f.log)) got_moves (λ e. cc) f.palm k.in_palm)
+        (in_palm_stays plan f (got ∷ []) f.tickets f.holder new home (put f.stands (suc d₀) away) spots' hands' f.palm (suc d₀) (in_queue (gots_in f.log)) got_moves (λ e. cc) f.palm k.in_palm)
         got_spots (omega arith) (λ j _ e. cc) got_desk
 
 -- the view after a draw, by what waited and the stamp
@@ -320,7 +321,7 @@ module _ (plan : Plan) (s : St) (f : Facts) (k : Kept plan s f) (id : ℕ) (post
     place = gots_in f.log + length (queue_of plan.buffers f.log)
 
     abbrev spots₃ : ℕ → Spot
-    spots₃ = put f.spots b (waits place)
+    spots₃ = put f.spots b (in_queue place)
 
     not_this : (b' : ℕ) → f.spots b' ≢ with_giver → b' ≢ b
     not_this b' far same = far (ap f.spots same ∙ has.0)
@@ -330,7 +331,7 @@ module _ (plan : Plan) (s : St) (f : Facts) (k : Kept plan s f) (id : ℕ) (post
         record {
           by = (refl, tt);
           names = λ b' far. ((λ e. not_this b' far (sym e)), tt);
-          spots_stay = λ b' far. put_else f.spots b (waits place) b' (not_this b' far);
+          spots_stay = λ b' far. put_else f.spots b (in_queue place) b' (not_this b' far);
           hands_stay = λ _ _. refl;
           stands_stay = λ e other. put_else f.stands 0 away e other;
           palm_stays = λ other. absurd (other refl);
@@ -361,15 +362,15 @@ module _ (plan : Plan) (s : St) (f : Facts) (k : Kept plan s f) (id : ℕ) (post
           unread = unread_more plan.buffers (deed ∷ []) f.log post.turns (subst (AllByRecursion (λ (a : Answer). a.stamp < length f.log)) (sym ours.answers) (answers_below f.log 0)) ours.unread;
         }
 
-    give_queue : (i buffer : ℕ) → get_elem? (queue_of plan.buffers (deed ∷ f.log)) i ≡ some buffer → spots₃ buffer ≡ waits (gots_in (deed ∷ f.log) + i)
+    give_queue : (i buffer : ℕ) → get_elem? (queue_of plan.buffers (deed ∷ f.log)) i ≡ some buffer → spots₃ buffer ≡ in_queue (gots_in (deed ∷ f.log) + i)
     give_queue i buffer seen =
         let same : (m : ℕ) → gots_in f.log + m ≡ gots_in (deed ∷ f.log) + m = λ m. let c = counted is_any_got (Given b) (events_of f.log) in omega arith in
         ⊎_elim
         (λ (before : get_elem? (queue_of plan.buffers f.log) i ≡ some buffer).
         let was = k.each_queued i buffer before in
-        give_moves.spots_stay buffer (λ e. let both = sym was ∙ e in absurd cc) ∙ was ∙ ap waits (same i))
+        give_moves.spots_stay buffer (λ e. let both = sym was ∙ e in absurd cc) ∙ was ∙ ap in_queue (same i))
         (λ (last : (i ≡ length (queue_of plan.buffers f.log)) × (b ≡ buffer)).
-        ap spots₃ (sym last.1) ∙ put_here f.spots b (waits place) ∙ ap waits (ap (λ (m : ℕ). gots_in f.log + m) (sym last.0) ∙ same i))
+        ap spots₃ (sym last.1) ∙ put_here f.spots b (in_queue place) ∙ ap in_queue (ap (λ (m : ℕ). gots_in f.log + m) (sym last.0) ∙ same i))
         (at_end (queue_of plan.buffers f.log) b buffer i seen)
 
     -- the buffer is the last that waits now, and each other is where it was
@@ -377,7 +378,7 @@ module _ (plan : Plan) (s : St) (f : Facts) (k : Kept plan s f) (id : ℕ) (post
     give_spots buffer low =
         let queue = queue_of plan.buffers f.log in
         let same : (m : ℕ) → gots_in f.log + m ≡ gots_in (deed ∷ f.log) + m = λ m. let c = counted is_any_got (Given b) (events_of f.log) in omega arith in
-        put_cases (SpotOk plan.buffers (deed ∷ f.log) f.seats f.giver (set s.views id w₃) buffer) f.spots b (waits place) buffer
+        put_cases (SpotOk plan.buffers (deed ∷ f.log) f.seats f.giver (set s.views id w₃) buffer) f.spots b (in_queue place) buffer
         (λ here. (length queue, same (length queue), at_last queue b (length queue) refl ∙ ap some (sym here)))
         (λ other. spot_stays plan.buffers f.log (deed ∷ f.log) f.seats f.giver s.views (set s.views id w₃) buffer
         (λ number is. (is.0, is.1 ∙ same is.0, at_longer queue (b ∷ []) is.0 buffer is.2))

@@ -8,8 +8,9 @@ use Rattle.hs_ring.proofs.Spots.{now_with, still_with, else_with, with_more, wit
 use Rattle.hs_words.specs.Plans.{total, Plan}
 use Rattle.hs_words.specs.Ends.{queue_of}
 use Rattle.hs_words.specs.Seats.{AtSeat}
+use Rattle.hs_words.specs.Spots.{Spot, in_queue, with_drawer, leased, with_giver, HasLease}
 use Rattle.hs_locked.specs.Views.{Desk, Hand, nothing, kept, Post, bare, holds, away, View, nobody, drawing, leasing, giving, Has, HasStore, all_left}
-use Rattle.hs_locked.specs.Rule.{Spot, waits, with_drawer, leased, with_giver, Facts, gots_in, HasLease, HandOk, SpotOk, DeskOk, PostOk, Knows, Kept, Locked}
+use Rattle.hs_locked.specs.Rule.{Facts, gots_in, HandOk, SpotOk, DeskOk, PostOk, Knows, Kept, Locked}
 use Rattle.hs_locked.proofs.Updates.{put, put_cases, put_here, put_else, left_set, left_and}
 use Rattle.hs_locked.proofs.Spots.{spot_stays, out_stays}
 use Rattle.hs_locked.proofs.Stays.{IsEnd, drawers_end, givers_end, Moves, facts_after, hand_stays, in_palm_stays, knows_stays, reseated, seated_too}
@@ -81,7 +82,7 @@ module _ (plan : Plan) (s : St) (f : Facts) (k : Kept plan s f) (id : ℕ) (desk
       (reseated plan after_lease s.views id (drawing desk nothing away) lease_desk
       (λ j v far seen. knows_stays plan f [] f.tickets f.holder f.stored f.slot f.stands spots' hands' f.palm (suc d₀) (with_drawer d₀) lease_moves id ender j far (λ e. cc) v (k.each_seat j v seen)))
 
-  lease_queue : (i buffer : ℕ) → get_elem? (queue_of plan.buffers f.log) i ≡ some buffer → spots' buffer ≡ waits (gots_in f.log + i)
+  lease_queue : (i buffer : ℕ) → get_elem? (queue_of plan.buffers f.log) i ≡ some buffer → spots' buffer ≡ in_queue (gots_in f.log + i)
   lease_queue i buffer seen = let was = k.each_queued i buffer seen in lease_moves.spots_stay buffer (λ e. let both = sym was ∙ e in absurd cc) ∙ was
 
   abbrev v₀ : View
@@ -196,7 +197,7 @@ module _ (plan : Plan) (s : St) (f : Facts) (k : Kept plan s f) (id : ℕ) (post
       knows_stays plan f [] f.tickets f.holder f.stored f.slot f.stands spots₁ f.hands (holds b t) 0 (leased other) take_moves id giver_end j else.0 (λ e. away_from cc) v (k.each_seat j v else.1))
       (at_set s.views id j w v seen))
 
-  take_queue : (i buffer : ℕ) → get_elem? (queue_of n f.log) i ≡ some buffer → spots₁ buffer ≡ waits (gots_in f.log + i)
+  take_queue : (i buffer : ℕ) → get_elem? (queue_of n f.log) i ≡ some buffer → spots₁ buffer ≡ in_queue (gots_in f.log + i)
   take_queue i buffer seen = let was = k.each_queued i buffer seen in take_moves.spots_stay buffer (λ e. let both = sym was ∙ e in absurd cc) ∙ was
 
   abbrev views₁ : List View

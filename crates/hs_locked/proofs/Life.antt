@@ -10,9 +10,10 @@ use Rattle.hs_ring.proofs.Spots.{still_with, with_more}
 use Rattle.hs_words.specs.Ends.{Deed, Answer, AreAnswers}
 use Rattle.hs_words.proofs.Deeds.{all_of, no_answers}
 use Rattle.hs_words.specs.Plans.{first_of, rest_of, total, Plan, Within}
+use Rattle.hs_words.specs.Spots.{in_queue}
 use Rattle.hs_locked.specs.declared.store.Store.{Store}
 use Rattle.hs_locked.specs.Views.{Desk, nothing, Post, bare, Stand, away, queued, inside, closing, View, nobody, drawing, leasing, giving, drawer_note, giver_note, with_drawer, new_drawer, having_closed, Has, HasStore, all_left}
-use Rattle.hs_locked.specs.Rule.{waits, home, Facts, StoreOk, StandOk, DeskOk, PostOk, Knows, Kept, Locked, first_post, first_view}
+use Rattle.hs_locked.specs.Rule.{home, Facts, StoreOk, StandOk, DeskOk, PostOk, Knows, Kept, Locked, first_post, first_view}
 use Rattle.hs_locked.proofs.Updates.{put, put_here, put_else, left_set, left_and}
 use Rattle.hs_locked.proofs.Spots.{spot_stays, out_stays}
 use Rattle.hs_locked.proofs.Stays.{reseated, seated_too}
@@ -300,7 +301,7 @@ module _ (plan : Plan) (within : Within plan) (store : Store) (ok : StoreOk plan
         stored = store;
         slot = home;
         stands = λ _. away;
-        spots = waits;
+        spots = in_queue;
         hands = λ _. nothing;
         seats = λ _. 0;
         palm = bare;
@@ -342,7 +343,7 @@ module _ (plan : Plan) (within : Within plan) (store : Store) (ok : StoreOk plan
         slot_ok = refl;
         out_ok = tt;
         spent = tt;
-        each_queued = λ i buffer seen. ap waits (let r = range_at 0 plan.buffers i buffer seen in let e : buffer ≡ 0 + i = omega arith in e);
+        each_queued = λ i buffer seen. ap in_queue (let r = range_at 0 plan.buffers i buffer seen in let e : buffer ≡ 0 + i = omega arith in e);
         each_hand = λ d. tt;
         in_palm = tt;
         each_spot = λ buffer low. (buffer, (let e : buffer ≡ 0 + buffer = omega arith in e), range_there 0 plan.buffers buffer low ∙ ap some (let e : 0 + buffer ≡ buffer = omega arith in e));

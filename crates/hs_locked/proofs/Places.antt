@@ -7,9 +7,10 @@ use Rattle.hs_pool.specs.Pool.{waiting}
 use Rattle.hs_words.specs.Plans.{Plan}
 use Rattle.hs_words.specs.Ends.{queue_of}
 use Rattle.hs_words.specs.Seats.{AtSeat}
+use Rattle.hs_words.specs.Spots.{Spot, in_queue, with_drawer, leased, with_giver}
 use Rattle.hs_locked.specs.declared.store.Store.{Store}
 use Rattle.hs_locked.specs.Views.{Hand, nothing, kept, Palm, bare, holds, Stand, away, queued, inside, closing, View, nobody, drawing, leasing, giving, drawer_note, giver_note, InHand, InPalm, Has, StandHas, HasStore}
-use Rattle.hs_locked.specs.Rule.{Spot, waits, with_drawer, leased, with_giver, Slot, home, out, Facts, gots_in, SlotOk, OutOk, StandOk, HandOk, PalmOk, SpotOk, Kept}
+use Rattle.hs_locked.specs.Rule.{Slot, home, out, Facts, gots_in, SlotOk, OutOk, StandOk, HandOk, PalmOk, SpotOk, Kept}
 use Rattle.hs_locked.specs.Places.{Site, in_line, seat, IsStore, IsThere, IsInOnePlace}
 use Rattle.hs_locked.proofs.Stores.{line}
 use Rattle.hs_locked.proofs.Turns.{St}
@@ -55,11 +56,11 @@ module _ (plan : Plan) (s : St) (f : Facts) (k : Kept plan s f) (buffer : ℕ) w
 
   -- the site is that of the place
   abbrev pub Fits : Site → Spot → Type 0
-  Fits (in_line i) (waits number) = number ≡ gots_in f.log + i
+  Fits (in_line i) (in_queue number) = number ≡ gots_in f.log + i
   Fits (in_line i) (with_drawer drawer) = ⊥
   Fits (in_line i) (leased j) = ⊥
   Fits (in_line i) with_giver = ⊥
-  Fits (seat j) (waits number) = ⊥
+  Fits (seat j) (in_queue number) = ⊥
   Fits (seat j) (with_drawer drawer) = (f.seats drawer ≡ j) × (drawer < f.opened)
   Fits (seat j) (leased i) = i ≡ j
   Fits (seat j) with_giver = f.giver ≡ j
@@ -98,7 +99,7 @@ module _ (plan : Plan) (s : St) (f : Facts) (k : Kept plan s f) (buffer : ℕ) w
   spot_reseated seats' views' same goes low = go (f.spots buffer) refl (k.each_spot buffer low)
     where
       go : (spot : Spot) → f.spots buffer ≡ spot → SpotOk n f.log f.seats f.giver s.views buffer spot → SpotOk n f.log seats' f.giver views' buffer spot
-      go (waits number) is ok = ok
+      go (in_queue number) is ok = ok
       go (with_drawer drawer) is ok = subst (AtSeat views' (Has buffer)) (sym (same drawer (drawer_open drawer (f.seats drawer) is ok))) (goes (f.seats drawer) ok)
       go (leased j) is ok = goes j ok
       go with_giver is ok = goes f.giver ok
@@ -115,9 +116,9 @@ module _ (plan : Plan) (s : St) (f : Facts) (k : Kept plan s f) (buffer : ℕ) w
 
   -- a place has one site
   one_site : (spot : Spot) (a b : Site) → Fits a spot → Fits b spot → b ≡ a
-  one_site (waits number) (in_line i) (in_line i') p q = ap in_line (let e : i' ≡ i = omega arith in e)
-  one_site (waits number) (in_line i) (seat j) p q = absurd q
-  one_site (waits number) (seat j) b p q = absurd p
+  one_site (in_queue number) (in_line i) (in_line i') p q = ap in_line (let e : i' ≡ i = omega arith in e)
+  one_site (in_queue number) (in_line i) (seat j) p q = absurd q
+  one_site (in_queue number) (seat j) b p q = absurd p
   one_site (with_drawer drawer) (in_line i) b p q = absurd p
   one_site (with_drawer drawer) (seat j) (in_line i) p q = absurd q
   one_site (with_drawer drawer) (seat j) (seat j') p q = ap seat (sym q.0 ∙ p.0)
@@ -132,7 +133,7 @@ module _ (plan : Plan) (s : St) (f : Facts) (k : Kept plan s f) (buffer : ℕ) w
   at_site site is = record { site = site; there = is; nowhere_else = λ other is'. one_site (f.spots buffer) site other (fits site is) (fits other is') }
 
   in_place : (spot : Spot) → SpotOk n f.log f.seats f.giver s.views buffer spot → IsInOnePlace s buffer
-  in_place (waits number) (i, is, seen) = at_site (in_line i) (f.stored, the_store plan s f k, ap (λ (l : List ℕ). get_elem? l i) (line plan f.log f.stored k.store_ok) ∙ seen)
+  in_place (in_queue number) (i, is, seen) = at_site (in_line i) (f.stored, the_store plan s f k, ap (λ (l : List ℕ). get_elem? l i) (line plan f.log f.stored k.store_ok) ∙ seen)
   in_place (with_drawer drawer) is = at_site (seat (f.seats drawer)) is
   in_place (leased j) is = at_site (seat j) is
   in_place with_giver is = at_site (seat f.giver) is

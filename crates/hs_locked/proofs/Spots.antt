@@ -4,15 +4,16 @@ use Rattle.std.proofs.Common.{ℕ, List}
 use mathlib.Core.Option as maybe
 use Rattle.hs_words.specs.Ends.{Deed}
 use Rattle.hs_words.specs.Seats.{AtSeat}
+use Rattle.hs_words.specs.Spots.{Spot, in_queue, with_drawer, leased, with_giver}
 use Rattle.hs_locked.specs.declared.store.Store.{Store}
 use Rattle.hs_locked.specs.Views.{View, Has, HasStore}
-use Rattle.hs_locked.specs.Rule.{Spot, waits, with_drawer, leased, with_giver, Slot, home, out, OutOk, InLine, SpotOk}
+use Rattle.hs_locked.specs.Rule.{Slot, home, out, OutOk, InLine, SpotOk}
 
 pub spot_stays : (n : ℕ) (log log' : List Deed) (seats : ℕ → ℕ) (giver : ℕ) (views views' : List View) (buffer : ℕ)
     → ((number : ℕ) → InLine n log buffer number → InLine n log' buffer number)
     → ((j : ℕ) → AtSeat views (Has buffer) j → AtSeat views' (Has buffer) j)
     → (spot : Spot) → SpotOk n log seats giver views buffer spot → SpotOk n log' seats giver views' buffer spot
-spot_stays n log log' seats giver views views' buffer on_line on_seat (waits number) is = on_line number is
+spot_stays n log log' seats giver views views' buffer on_line on_seat (in_queue number) is = on_line number is
 spot_stays n log log' seats giver views views' buffer on_line on_seat (with_drawer drawer) is = on_seat (seats drawer) is
 spot_stays n log log' seats giver views views' buffer on_line on_seat (leased j) is = on_seat j is
 spot_stays n log log' seats giver views views' buffer on_line on_seat with_giver is = on_seat giver is

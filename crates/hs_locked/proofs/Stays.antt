@@ -7,9 +7,10 @@ use Rattle.atomic_table.proofs.Lists.{at_set}
 use Rattle.hs_words.specs.Ends.{Deed, Answer, answers_by, Names}
 use Rattle.hs_words.proofs.Deeds.{all_of, got_more, none_more, answers_more, answers_below, are_answers_more, unread_more}
 use Rattle.hs_words.specs.Plans.{Plan}
+use Rattle.hs_words.specs.Spots.{Spot, with_drawer, leased, with_giver, HasLease}
 use Rattle.hs_locked.specs.declared.store.Store.{Store}
 use Rattle.hs_locked.specs.Views.{Desk, Hand, nothing, kept, Post, Palm, bare, holds, Stand, View, nobody, drawing, leasing, giving, drawer_note, giver_note}
-use Rattle.hs_locked.specs.Rule.{Spot, with_drawer, leased, with_giver, Slot, Facts, HasLease, HandOk, PalmOk, DeskOk, PostOk, Knows}
+use Rattle.hs_locked.specs.Rule.{Slot, Facts, HandOk, PalmOk, DeskOk, PostOk, Knows}
 
 -- ---- lists
 

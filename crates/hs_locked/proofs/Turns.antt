@@ -13,11 +13,12 @@ use Rattle.hs_base.specs.declared.limits.TheConstants.{MAX_OPERATIONS}
 use Rattle.hs_words.specs.Ends.{Deed, IsTogether, AreAnswers, queue_of}
 use Rattle.hs_words.proofs.Deeds.{all_of, got_below}
 use Rattle.hs_words.specs.Plans.{total, Plan}
+use Rattle.hs_words.specs.Spots.{in_queue, with_giver, HasLease}
 use Rattle.hs_pool.specs.Pool.{HasSize, IsOut, waiting}
 use Rattle.hs_ring.proofs.Spots.{now_with, still_with}
 use Rattle.hs_locked.specs.declared.store.Store.{Store}
 use Rattle.hs_locked.specs.Views.{Desk, Hand, nothing, Post, bare, holds, Stand, away, queued, inside, closing, View, drawing, giving, Has, HasStore, left_in, all_left}
-use Rattle.hs_locked.specs.Rule.{waits, with_giver, Slot, home, out, Facts, HasTheStore, SlotOk, StandOk, PalmOk, HasLease, DeskOk, PostOk, Knows, Kept, Locked}
+use Rattle.hs_locked.specs.Rule.{Slot, home, out, Facts, HasTheStore, SlotOk, StandOk, PalmOk, DeskOk, PostOk, Knows, Kept, Locked}
 use Rattle.hs_locked.specs.Steps.{did_take_ticket, did_look, did_close}
 use Rattle.hs_locked.proofs.Updates.{put, put_cases, put_here, put_else, left_set}
 use Rattle.hs_locked.proofs.Stores.{events_are, line, is_counted, lawful}
@@ -47,7 +48,7 @@ pub gone_stays : (f : Facts) (end : ℕ) (stand : Stand) (hands : ℕ → Hand) 
 gone_stays f end stand hands low stay d high is = let other : suc d ≢ end = λ e. omega arith in (stay d other ∙ is.0, put_else f.stands end stand (suc d) other ∙ is.1)
 
 -- how an end stands changes, and nothing else
-pub stand_moves : (f : Facts) (end : ℕ) (stand : Stand) → Moves f [] (put f.stands end stand) f.spots f.hands f.palm end (waits 0)
+pub stand_moves : (f : Facts) (end : ℕ) (stand : Stand) → Moves f [] (put f.stands end stand) f.spots f.hands f.palm end (in_queue 0)
 stand_moves f end stand =
     record {
       by = tt;
@@ -103,7 +104,7 @@ module _ (plan : Plan) (s : St) (f : Facts) (k : Kept plan s f) (id : ℕ) (v w 
         still_open = k.still_open;
         gone = λ d high. gone_stays f end (queued t) f.hands is_end.low (λ _ _. refl) d high (k.gone d high);
         each_seat = reseated plan after_ticket s.views id w own
-            (λ j v' far seen. knows_stays plan f [] (suc t) (put f.holder t end) f.stored f.slot (put f.stands end (queued t)) f.spots f.hands f.palm end (waits 0) (stand_moves f end (queued t)) id is_end j far (λ e. cc) v' (k.each_seat j v' seen));
+            (λ j v' far seen. knows_stays plan f [] (suc t) (put f.holder t end) f.stored f.slot (put f.stands end (queued t)) f.spots f.hands f.palm end (in_queue 0) (stand_moves f end (queued t)) id is_end j far (λ e. cc) v' (k.each_seat j v' seen));
       }
 
 module _ (plan : Plan) (slots id : ℕ) where
@@ -205,7 +206,7 @@ module _ (plan : Plan) (s : St) (f : Facts) (k : Kept plan s f) (id : ℕ) (v w 
         still_open = k.still_open;
         gone = λ d high. gone_stays f end stand f.hands is_end.low (λ _ _. refl) d high (k.gone d high);
         each_seat = reseated plan after_take s.views id w own
-            (λ j v' far seen. knows_stays plan f [] f.tickets f.holder f.stored (out end) (put f.stands end stand) f.spots f.hands f.palm end (waits 0) (stand_moves f end stand) id is_end j far (λ e. cc) v' (k.each_seat j v' seen));
+            (λ j v' far seen. knows_stays plan f [] f.tickets f.holder f.stored (out end) (put f.stands end stand) f.spots f.hands f.palm end (in_queue 0) (stand_moves f end stand) id is_end j far (λ e. cc) v' (k.each_seat j v' seen));
       }
 
 -- ---- a look

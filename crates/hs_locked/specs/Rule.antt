@@ -7,20 +7,13 @@ use mathlib.Core.Option.{some, none}
 use mathlib.Core.Option as maybe
 use lib.ListN.{get_elem?}
 use Rattle.atomic_table.specs.Table.{State}
-use Rattle.hs_words.specs.Ends.{Deed, events_of, answers_by, answers_in, is_any_got, IsGot, NoneSince, EachSpends, EachUnread, AreAnswers, Counts, queue_of}
+use Rattle.hs_words.specs.Ends.{Deed, events_of, answers_by, answers_in, is_any_got, EachSpends, EachUnread, AreAnswers, Counts, queue_of}
 use Rattle.hs_words.specs.Plans.{total, Plan, Within}
 use Rattle.hs_words.specs.Seats.{AtSeat}
+use Rattle.hs_words.specs.Spots.{Spot, in_queue, with_drawer, leased, with_giver, HasLease}
 use Rattle.hs_pool.specs.Pool.{IsAfter, HasSize}
 use Rattle.hs_locked.specs.declared.store.Store.{Store}
 use Rattle.hs_locked.specs.Views.{Desk, Hand, nothing, kept, Post, Palm, bare, holds, Stand, away, queued, inside, closing, View, nobody, drawing, leasing, giving, drawer_note, giver_note, Has, HasStore, all_left}
-
--- A buffer's one place: in the queue, with the number that it leaves under, counting all that leave from 0; with a drawer; with
--- the lease of a seat; with the giver.
-pub data Spot : Type 0 where
-  waits : ℕ → Spot
-  with_drawer : ℕ → Spot
-  leased : ℕ → Spot
-  with_giver : Spot
 
 -- the store is in its slot, or with an end
 pub data Slot : Type 0 where
@@ -85,9 +78,6 @@ module _ (f : Facts) (end : ℕ) where
 
 -- ---- hands
 
-abbrev pub HasLease : ℕ → List Deed → (ℕ → Spot) → ℕ → ℕ → Spot → Type 0
-HasLease n log spots buffer draw spot = (spots buffer ≡ spot) × IsGot log draw buffer × NoneSince buffer draw log × (buffer < n)
-
 abbrev pub HandOk : ℕ → List Deed → (ℕ → Spot) → ℕ → Hand → Type 0
 HandOk n log spots drawer nothing = Unit {0}
 HandOk n log spots drawer (kept buffer stamp) = HasLease n log spots buffer stamp (with_drawer drawer)
@@ -105,7 +95,7 @@ InLine n log buffer number = (i : ℕ) × (number ≡ gots_in log + i) × (get_e
 -- the buffer is in its place: it waits, or the place's seat has it
 module _ (n : ℕ) (log : List Deed) (seats : ℕ → ℕ) (giver : ℕ) (views : List View) (buffer : ℕ) where
   abbrev pub SpotOk : Spot → Type 0
-  SpotOk (waits number) = InLine n log buffer number
+  SpotOk (in_queue number) = InLine n log buffer number
   SpotOk (with_drawer drawer) = AtSeat views (Has buffer) (seats drawer)
   SpotOk (leased j) = AtSeat views (Has buffer) j
   SpotOk with_giver = AtSeat views (Has buffer) giver
@@ -158,7 +148,7 @@ pub record Kept (plan : Plan) (s : State Store View) (f : Facts) : Type 0 where
   pub slot_ok : SlotOk (get_elem? s.homes 0) f.stored f.stands f.slot
   pub out_ok : OutOk (get_elem? s.homes 0) s.views f.stored f.slot
   pub spent : EachSpends f.log
-  pub each_queued : (i buffer : ℕ) → get_elem? (queue_of plan.buffers f.log) i ≡ some buffer → f.spots buffer ≡ waits (gots_in f.log + i)
+  pub each_queued : (i buffer : ℕ) → get_elem? (queue_of plan.buffers f.log) i ≡ some buffer → f.spots buffer ≡ in_queue (gots_in f.log + i)
   pub each_hand : (drawer : ℕ) → HandOk plan.buffers f.log f.spots drawer (f.hands drawer)
   pub in_palm : PalmOk plan.buffers f.log f.spots f.palm
   pub each_spot : (buffer : ℕ) → buffer < plan.buffers → SpotOk plan.buffers f.log f.seats f.giver s.views buffer (f.spots buffer)

@@ -9,8 +9,9 @@ use Rattle.atomic_table.proofs.Lists.{set_here, set_else}
 use Rattle.hs_words.specs.Ends.{got_by}
 use Rattle.hs_words.proofs.Deeds.{draw_is_at}
 use Rattle.hs_words.specs.Plans.{Plan}
+use Rattle.hs_words.specs.Spots.{Spot, in_queue, with_drawer, leased}
 use Rattle.hs_ring.specs.Views.{Desk, Hand, nothing, drew, kept, View, drawing, leasing, Has}
-use Rattle.hs_ring.specs.Rule.{Cell, free, drawn, Spot, queued, with_drawer, leased, Facts, CellOk, HandOk, SpotOk, DeskOk, Knows, Kept, Ring}
+use Rattle.hs_ring.specs.Rule.{Cell, free, drawn, Facts, CellOk, HandOk, SpotOk, DeskOk, Knows, Kept, Ring}
 use Rattle.hs_ring.specs.Steps.{did_collect}
 use Rattle.hs_ring.proofs.Updates.{put, put_cases, put_here, put_else, left_set, left_and}
 use Rattle.hs_ring.proofs.Spots.{still_with, with_more, with_last, spot_stays}
@@ -45,7 +46,7 @@ module _ (plan : Plan) (s : St) (f : Facts) (k : Kept plan s f) (id : ℕ) (desk
   abbrev after_collect : Facts
   after_collect = facts_after f [] cells' f.spots hands' f.palm
 
-  collect_moves : Moves f.log [] f.cells cells' f.spots f.spots f.hands hands' (suc d) (queued 0) (drawn h b d)
+  collect_moves : Moves f.log [] f.cells cells' f.spots f.spots f.hands hands' (suc d) (in_queue 0) (drawn h b d)
   collect_moves =
       record {
         by = tt;
@@ -68,7 +69,7 @@ module _ (plan : Plan) (s : St) (f : Facts) (k : Kept plan s f) (id : ℕ) (desk
   collect_hands d' =
       put_cases (HandOk n f.log cells' f.spots d') f.hands d (kept b t) d'
       (λ same. subst (λ (c : ℕ). HandOk n f.log cells' f.spots c (kept b t)) (sym same) (had.1, (suc d, draw_is_at f.log h t (got_by (suc d) b) had.2), had.3, had.5))
-      (λ other. hand_stays n f.log [] f.cells cells' f.spots f.spots f.hands hands' (suc d) (queued 0) (drawn h b d) collect_moves d' (λ e. other (omega arith)) (λ e. cc) (λ number buffer e. other cc) (f.hands d') (k.each_hand d'))
+      (λ other. hand_stays n f.log [] f.cells cells' f.spots f.spots f.hands hands' (suc d) (in_queue 0) (drawn h b d) collect_moves d' (λ e. other (omega arith)) (λ e. cc) (λ number buffer e. other cc) (f.hands d') (k.each_hand d'))
 
   i_below : i < length s.homes
   i_below = let e = k.homes in let less = entry_below plan s f k h in omega arith
@@ -94,8 +95,8 @@ module _ (plan : Plan) (s : St) (f : Facts) (k : Kept plan s f) (id : ℕ) (desk
 
   collect_seats : (j : ℕ) (v : View) → get_elem? (set s.views id w) j ≡ some v → Knows plan after_collect j v
   collect_seats = reseated plan after_collect s.views id w collect_desk
-      (λ j v other seen. knows_stays plan f [] cells' f.spots hands' f.palm (suc d) (queued 0) (drawn h b d) collect_moves j (another plan s f k id desk (drew h b t) at j other) (λ e. cc)
-      (λ _ post palm ok. post_stays plan f [] cells' f.spots hands' f.palm (suc d) (queued 0) (drawn h b d) collect_moves j post palm refl (omega arith) (let a = own.active in omega arith) refl ok) v (k.each_seat j v seen))
+      (λ j v other seen. knows_stays plan f [] cells' f.spots hands' f.palm (suc d) (in_queue 0) (drawn h b d) collect_moves j (another plan s f k id desk (drew h b t) at j other) (λ e. cc)
+      (λ _ post palm ok. post_stays plan f [] cells' f.spots hands' f.palm (suc d) (in_queue 0) (drawn h b d) collect_moves j post palm refl (omega arith) (let a = own.active in omega arith) refl ok) v (k.each_seat j v seen))
 
   pub collect_kept : Kept plan (stepped s (i + 1) 0 id ((i, None) ∷ held) w gives) after_collect
   collect_kept =
@@ -108,12 +109,12 @@ module _ (plan : Plan) (s : St) (f : Facts) (k : Kept plan s f) (id : ℕ) (desk
         spent = k.spent;
         voids = k.voids;
         each_cell = collect_cells;
-        each_queued = λ a buffer seen. queued_stays n f.log [] f.cells cells' f.spots f.spots f.hands hands' (suc d) (queued 0) (drawn h b d) collect_moves (λ number buffer e. cc) _ _ buffer (k.each_queued a buffer seen);
+        each_queued = λ a buffer seen. queued_stays n f.log [] f.cells cells' f.spots f.spots f.hands hands' (suc d) (in_queue 0) (drawn h b d) collect_moves (λ number buffer e. cc) _ _ buffer (k.each_queued a buffer seen);
         each_hand = collect_hands;
-        in_palm = palm_stays n f.log [] f.cells cells' f.spots f.spots f.hands hands' (suc d) (queued 0) (drawn h b d) collect_moves refl (λ e. cc) (λ number e. cc) f.palm k.in_palm;
+        in_palm = palm_stays n f.log [] f.cells cells' f.spots f.spots f.hands hands' (suc d) (in_queue 0) (drawn h b d) collect_moves refl (λ e. cc) (λ number e. cc) f.palm k.in_palm;
         each_spot = λ buffer low.
             spot_stays n f.cells cells' f.seats f.giver s.views (set s.views id w) buffer
-            (λ number is. queued_stays n f.log [] f.cells cells' f.spots f.spots f.hands hands' (suc d) (queued 0) (drawn h b d) collect_moves (λ number buffer e. cc) _ _ buffer is)
+            (λ number is. queued_stays n f.log [] f.cells cells' f.spots f.spots f.hands hands' (suc d) (in_queue 0) (drawn h b d) collect_moves (λ number buffer e. cc) _ _ buffer is)
             (still_with s.views id (drawing desk (drew h b t)) w at (Has buffer) (λ had. had)) (f.spots buffer) (k.each_spot buffer low);
         left = (let e = left_set s.views id (drawing desk (drew h b t)) w at in let l = k.left in omega arith);
         by_giver = k.by_giver;
@@ -188,7 +189,7 @@ module _ (plan : Plan) (s : St) (f : Facts) (k : Kept plan s f) (id : ℕ) (desk
   lease_cells : (e : ℕ) → e < 2 * plan.buffers → CellOk plan.buffers plan.size f.log spots' hands₁ f.palm e (get_or s.words (suc e) 0) (get_elem? s.homes e) (f.cells e)
   lease_cells e low =
       cell_stays plan.buffers plan.size f.log f.log f.spots spots' f.hands hands₁ f.palm f.palm e (get_or s.words (suc e) 0) (get_or s.words (suc e) 0) (get_elem? s.homes e) (get_elem? s.homes e) refl refl
-      (λ number buffer _ above below is. (above, below, put_else f.spots b (leased new) buffer (λ same. let both : queued number ≡ with_drawer d₁ = sym is ∙ ap f.spots same ∙ had₁.0 in absurd cc) ∙ is))
+      (λ number buffer _ above below is. (above, below, put_else f.spots b (leased new) buffer (λ same. let both : in_queue number ≡ with_drawer d₁ = sym is ∙ ap f.spots same ∙ had₁.0 in absurd cc) ∙ is))
       (λ number buffer drawer stamp _ above below lapped is.
       (above, below, lapped, put_else f.hands d₁ nothing drawer (λ same. let both : kept b t ≡ drew number buffer stamp = sym (ap f.hands same ∙ own₁.hand_is) ∙ is in absurd cc) ∙ is))
       (λ number _ is. is)

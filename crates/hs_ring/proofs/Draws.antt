@@ -16,8 +16,9 @@ use Rattle.hs_words.proofs.Deeds.{none_yet, answers_and}
 use Rattle.hs_words.proofs.Waiting.{counted, waiting_below}
 use Rattle.hs_words.specs.Plans.{Plan}
 use Rattle.hs_words.specs.Seats.{AtSeat}
+use Rattle.hs_words.specs.Spots.{Spot, in_queue, with_drawer}
 use Rattle.hs_ring.specs.Views.{Desk, Hand, nothing, drew, View, drawing, desk_after, InHand, Has}
-use Rattle.hs_ring.specs.Rule.{Cell, free, waits, drawn, Spot, queued, with_drawer, Facts, published, IsLaid, CellOk, IsLastOf, HandOk, SpotOk, DeskOk, Knows, Kept, Ring}
+use Rattle.hs_ring.specs.Rule.{Cell, free, waits, drawn, Facts, published, IsLaid, CellOk, IsLastOf, HandOk, SpotOk, DeskOk, Knows, Kept, Ring}
 use Rattle.hs_ring.specs.Steps.{drawn_of, did_draw}
 use Rattle.hs_ring.proofs.Updates.{ap₃, put, put_cases, put_here, put_else, left_set}
 use Rattle.hs_ring.proofs.Spots.{now_with, still_with, spot_stays}
@@ -56,7 +57,7 @@ module _ (plan : Plan) (s : St) (f : Facts) (k : Kept plan s f) (id : ℕ) (desk
     abbrev after_empty : Facts
     after_empty = facts_after f (deed ∷ []) f.cells f.spots f.hands f.palm
 
-    empty_moves : Moves f.log (deed ∷ []) f.cells f.cells f.spots f.spots f.hands f.hands (suc d) (queued 0) free
+    empty_moves : Moves f.log (deed ∷ []) f.cells f.cells f.spots f.spots f.hands f.hands (suc d) (in_queue 0) free
     empty_moves =
         record {
           by = (refl, tt);
@@ -88,12 +89,12 @@ module _ (plan : Plan) (s : St) (f : Facts) (k : Kept plan s f) (id : ℕ) (desk
     empty_hands d' =
         dite (ℕ_discrete d' d)
         (λ same. subst (HandOk n (deed ∷ f.log) f.cells f.spots d') (sym (ap f.hands same ∙ mine.hand_is ∙ idle)) tt)
-        (λ other. hand_stays n f.log (deed ∷ []) f.cells f.cells f.spots f.spots f.hands f.hands (suc d) (queued 0) free empty_moves d' (λ e. other (omega arith)) (λ e. cc) (λ number buffer e. cc) (f.hands d') (k.each_hand d'))
+        (λ other. hand_stays n f.log (deed ∷ []) f.cells f.cells f.spots f.spots f.hands f.hands (suc d) (in_queue 0) free empty_moves d' (λ e. other (omega arith)) (λ e. cc) (λ number buffer e. cc) (f.hands d') (k.each_hand d'))
 
     empty_seats : (j : ℕ) (v : View) → get_elem? (set s.views id w) j ≡ some v → Knows plan after_empty j v
     empty_seats = reseated plan after_empty s.views id w empty_desk
-        (λ j v other seen. knows_stays plan f (deed ∷ []) f.cells f.spots f.hands f.palm (suc d) (queued 0) free empty_moves j (another j other) (λ e. cc)
-        (λ _ post palm ok. post_stays plan f (deed ∷ []) f.cells f.spots f.hands f.palm (suc d) (queued 0) free empty_moves j post palm refl (omega arith) (let a = mine.active in omega arith)
+        (λ j v other seen. knows_stays plan f (deed ∷ []) f.cells f.spots f.hands f.palm (suc d) (in_queue 0) free empty_moves j (another j other) (λ e. cc)
+        (λ _ post palm ok. post_stays plan f (deed ∷ []) f.cells f.spots f.hands f.palm (suc d) (in_queue 0) free empty_moves j post palm refl (omega arith) (let a = mine.active in omega arith)
         (let c = counted is_missed Empty (events_of f.log) in omega arith) ok) v (k.each_seat j v seen))
 
     pub empty_kept : Kept plan (stepped s 0 x id held w keeps) after_empty
@@ -116,12 +117,12 @@ module _ (plan : Plan) (s : St) (f : Facts) (k : Kept plan s f) (id : ℕ) (desk
               (f.cells e) (k.each_cell e low);
           each_queued = λ i buffer seen. absurd (let less = at_length (queue_of n f.log) i buffer seen in let l = line plan s f k in omega arith);
           each_hand = empty_hands;
-          in_palm = palm_stays n f.log (deed ∷ []) f.cells f.cells f.spots f.spots f.hands f.hands (suc d) (queued 0) free empty_moves (omega arith) (λ e. cc) (λ number e. cc) f.palm k.in_palm;
+          in_palm = palm_stays n f.log (deed ∷ []) f.cells f.cells f.spots f.spots f.hands f.hands (suc d) (in_queue 0) free empty_moves (omega arith) (λ e. cc) (λ number e. cc) f.palm k.in_palm;
           each_spot = λ buffer low.
               spot_stays n f.cells f.cells f.seats f.giver s.views (set s.views id w) buffer (λ number is. is) (still_with s.views id (drawing desk hand) w at (Has buffer) (λ had. subst (InHand buffer) idle had))
               (f.spots buffer) (k.each_spot buffer low);
           left = (let e = left_set s.views id (drawing desk hand) w at in let l = k.left in omega arith);
-          by_giver = ap length (answers_stay n f.log (deed ∷ []) f.cells f.cells f.spots f.spots f.hands f.hands (suc d) (queued 0) free empty_moves 0 (λ e. omega arith)) ∙ (let e = k.by_giver in omega arith);
+          by_giver = ap length (answers_stay n f.log (deed ∷ []) f.cells f.cells f.spots f.spots f.hands f.hands (suc d) (in_queue 0) free empty_moves 0 (λ e. omega arith)) ∙ (let e = k.by_giver in omega arith);
           all_made = ((let a = mine.active in let b = k.still_open in omega arith), k.all_made);
           still_open = k.still_open;
           unmade = k.unmade;
@@ -167,13 +168,13 @@ module _ (plan : Plan) (s : St) (f : Facts) (k : Kept plan s f) (id : ℕ) (desk
     pub full : get_elem? s.homes e₀ ≡ some (some (Some (clear_chunk plan.size b)))
     full = was_ok.2
 
-    was_queued : f.spots b ≡ queued number
+    was_queued : f.spots b ≡ in_queue number
     was_queued = was_ok.5
 
-    not_b : (b' : ℕ) → f.spots b' ≢ queued number → b' ≢ b
+    not_b : (b' : ℕ) → f.spots b' ≢ in_queue number → b' ≢ b
     not_b b' far same = far (ap f.spots same ∙ was_queued)
 
-    got_moves : Moves f.log (got ∷ []) f.cells cells' f.spots spots' f.hands hands' (suc d) (queued number) (waits number b)
+    got_moves : Moves f.log (got ∷ []) f.cells cells' f.spots spots' f.hands hands' (suc d) (in_queue number) (waits number b)
     got_moves =
         record {
           by = (refl, tt);
@@ -208,15 +209,15 @@ module _ (plan : Plan) (s : St) (f : Facts) (k : Kept plan s f) (id : ℕ) (desk
           last_yet (got ∷ f.log) (suc d) stamp (le_refl (suc stamp)),
           waiting_below n (events_of f.log) k.lawful 0 b front,
         ))
-        (λ other. hand_stays n f.log (got ∷ []) f.cells cells' f.spots spots' f.hands hands' (suc d) (queued number) (waits number b) got_moves d' (λ e. other (omega arith)) (λ e. cc) (λ number buffer e. cc) (f.hands d') (k.each_hand d'))
+        (λ other. hand_stays n f.log (got ∷ []) f.cells cells' f.spots spots' f.hands hands' (suc d) (in_queue number) (waits number b) got_moves d' (λ e. other (omega arith)) (λ e. cc) (λ number buffer e. cc) (f.hands d') (k.each_hand d'))
 
     abbrev act : Act (Option Contents)
     act = takes e₀ (Some (clear_chunk plan.size b))
 
     got_seats : (j : ℕ) (v : View) → get_elem? (set s.views id got_view) j ≡ some v → Knows plan after_got j v
     got_seats = reseated plan after_got s.views id got_view got_desk
-        (λ j v other seen. knows_stays plan f (got ∷ []) cells' spots' hands' f.palm (suc d) (queued number) (waits number b) got_moves j (another j other) (λ e. cc)
-        (λ _ post palm ok. post_stays plan f (got ∷ []) cells' spots' hands' f.palm (suc d) (queued number) (waits number b) got_moves j post palm refl (omega arith) (let a = mine.active in omega arith)
+        (λ j v other seen. knows_stays plan f (got ∷ []) cells' spots' hands' f.palm (suc d) (in_queue number) (waits number b) got_moves j (another j other) (λ e. cc)
+        (λ _ post palm ok. post_stays plan f (got ∷ []) cells' spots' hands' f.palm (suc d) (in_queue number) (waits number b) got_moves j post palm refl (omega arith) (let a = mine.active in omega arith)
         (let c = counted is_missed (Got b) (events_of f.log) in omega arith) ok) v (k.each_seat j v seen))
 
     got_cells : (e : ℕ) → e < 2 * n → CellOk n plan.size (got ∷ f.log) spots' hands' f.palm e (get_or (set s.words 0 x) (suc e) 0) (get_elem? (set s.homes e₀ maybe.none) e) (cells' e)
@@ -237,7 +238,7 @@ module _ (plan : Plan) (s : St) (f : Facts) (k : Kept plan s f) (id : ℕ) (desk
         word (set_else s.homes e₀ e maybe.none other)
         (λ number' buffer there above below is.
         let differ : number' ≢ number = λ same. other (there ∙ ap (λ (m : ℕ). m % (2 * n)) same) in
-        let apart : buffer ≢ b = λ same. differ (let both : queued number' ≡ queued number = sym is ∙ ap f.spots same ∙ was_queued in cc) in
+        let apart : buffer ≢ b = λ same. differ (let both : in_queue number' ≡ in_queue number = sym is ∙ ap f.spots same ∙ was_queued in cc) in
         (omega arith, omega arith, put_else f.spots b (with_drawer d) buffer apart ∙ is))
         (λ number' buffer drawer stamp' there above below lapped is.
         let apart : drawer ≢ d = λ same. let both : nothing ≡ drew number' buffer stamp' = sym (ap f.hands same ∙ mine.hand_is ∙ idle) ∙ is in absurd cc in
@@ -275,10 +276,10 @@ module _ (plan : Plan) (s : St) (f : Facts) (k : Kept plan s f) (id : ℕ) (desk
           each_cell = got_cells;
           each_queued = got_queued;
           each_hand = got_hands;
-          in_palm = palm_stays n f.log (got ∷ []) f.cells cells' f.spots spots' f.hands hands' (suc d) (queued number) (waits number b) got_moves (omega arith) (λ e. cc) (λ number e. cc) f.palm k.in_palm;
+          in_palm = palm_stays n f.log (got ∷ []) f.cells cells' f.spots spots' f.hands hands' (suc d) (in_queue number) (waits number b) got_moves (omega arith) (λ e. cc) (λ number e. cc) f.palm k.in_palm;
           each_spot = got_spots;
           left = (let e = left_set s.views id (drawing desk hand) got_view at in let l = k.left in omega arith);
-          by_giver = ap length (answers_stay n f.log (got ∷ []) f.cells cells' f.spots spots' f.hands hands' (suc d) (queued number) (waits number b) got_moves 0 (λ e. omega arith)) ∙ (let e = k.by_giver in omega arith);
+          by_giver = ap length (answers_stay n f.log (got ∷ []) f.cells cells' f.spots spots' f.hands hands' (suc d) (in_queue number) (waits number b) got_moves 0 (λ e. omega arith)) ∙ (let e = k.by_giver in omega arith);
           all_made = ((let a = mine.active in let b = k.still_open in omega arith), k.all_made);
           still_open = k.still_open;
           unmade = λ d' high. put_else f.hands d (drew number b stamp) d' (λ same. let a = mine.active in let o = k.still_open in omega arith) ∙ k.unmade d' high;

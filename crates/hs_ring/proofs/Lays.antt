@@ -15,8 +15,9 @@ use Rattle.hs_words.specs.Chunks.{Contents}
 use Rattle.hs_words.specs.Ends.{Answer, got_by, drawn_in, unread, answers_in, told_in, SpendsThe, IsUnread}
 use Rattle.hs_words.proofs.Deeds.{all_of, unspent, draw_is_at}
 use Rattle.hs_words.specs.Plans.{Plan}
+use Rattle.hs_words.specs.Spots.{in_queue, with_giver, HasLease}
 use Rattle.hs_ring.specs.Views.{drew, Post, Palm, holds, lays, View, giving, post_after, Has}
-use Rattle.hs_ring.specs.Rule.{Cell, free, waits, drawn, laid, queued, with_giver, Facts, published, IsLaid, CellOk, HandOk, HasLease, PalmOk, IsSettled, PostOk, Knows, Kept, Ring}
+use Rattle.hs_ring.specs.Rule.{Cell, free, waits, drawn, laid, Facts, published, IsLaid, CellOk, HandOk, PalmOk, IsSettled, PostOk, Knows, Kept, Ring}
 use Rattle.hs_ring.specs.Steps.{did_lay}
 use Rattle.hs_ring.proofs.Updates.{put, put_cases, put_here, put_else, left_set}
 use Rattle.hs_ring.proofs.Spots.{still_with, spot_stays}
@@ -46,7 +47,7 @@ module _ (plan : Plan) (s : St) (f : Facts) (k : Kept plan s f) (id : ℕ) (post
   abbrev own : PostOk plan f id post (holds b t)
   own = ours plan s f k id post (holds b t) at
 
-  has : HasLease n f.log f.cells f.spots b t with_giver
+  has : HasLease n f.log f.spots b t with_giver
   has = subst (PalmOk n f.log f.cells f.spots) own.palm_is k.in_palm
 
   pub i_low : i < 2 * n
@@ -72,7 +73,7 @@ module _ (plan : Plan) (s : St) (f : Facts) (k : Kept plan s f) (id : ℕ) (post
     abbrev after_lay : Facts
     after_lay = facts_after f [] cells' f.spots f.hands (lays b t)
 
-    lay_moves : Moves f.log [] f.cells cells' f.spots f.spots f.hands f.hands 0 (queued 0) free
+    lay_moves : Moves f.log [] f.cells cells' f.spots f.spots f.hands f.hands 0 (in_queue 0) free
     lay_moves =
         record {
           by = tt;
@@ -110,7 +111,7 @@ module _ (plan : Plan) (s : St) (f : Facts) (k : Kept plan s f) (id : ℕ) (post
 
     lay_seats : (j : ℕ) (v : View) → get_elem? (set s.views id w) j ≡ some v → Knows plan after_lay j v
     lay_seats = reseated plan after_lay s.views id w (same_post plan f id post (holds b t) (lays b t) cells' f.spots own)
-        (λ j v other seen. knows_stays plan f [] cells' f.spots f.hands (lays b t) 0 (queued 0) free lay_moves j (λ d _ e. omega arith) (λ e. cc)
+        (λ j v other seen. knows_stays plan f [] cells' f.spots f.hands (lays b t) 0 (in_queue 0) free lay_moves j (λ d _ e. omega arith) (λ e. cc)
         (no_giver plan s f k id post (holds b t) at [] cells' f.spots f.hands (lays b t) j other) v (k.each_seat j v seen))
 
     pub lay_kept : Kept plan (stepped s (i + 1) (P + 1) id held w (takes i None)) after_lay
@@ -124,12 +125,12 @@ module _ (plan : Plan) (s : St) (f : Facts) (k : Kept plan s f) (id : ℕ) (post
           spent = k.spent;
           voids = k.voids;
           each_cell = lay_cells;
-          each_queued = λ a buffer seen. queued_stays n f.log [] f.cells cells' f.spots f.spots f.hands f.hands 0 (queued 0) free lay_moves (λ number buffer e. cc) _ _ buffer (k.each_queued a buffer seen);
-          each_hand = λ d. hand_stays n f.log [] f.cells cells' f.spots f.spots f.hands f.hands 0 (queued 0) free lay_moves d (λ e. omega arith) (λ e. cc) (λ number buffer e. cc) (f.hands d) (k.each_hand d);
+          each_queued = λ a buffer seen. queued_stays n f.log [] f.cells cells' f.spots f.spots f.hands f.hands 0 (in_queue 0) free lay_moves (λ number buffer e. cc) _ _ buffer (k.each_queued a buffer seen);
+          each_hand = λ d. hand_stays n f.log [] f.cells cells' f.spots f.spots f.hands f.hands 0 (in_queue 0) free lay_moves d (λ e. omega arith) (λ e. cc) (λ number buffer e. cc) (f.hands d) (k.each_hand d);
           in_palm = (has, ap cells' (sym i_is) ∙ put_here f.cells i (laid P));
           each_spot = λ buffer low.
               spot_stays n f.cells cells' f.seats f.giver s.views (set s.views id w) buffer
-              (λ number is. queued_stays n f.log [] f.cells cells' f.spots f.spots f.hands f.hands 0 (queued 0) free lay_moves (λ number buffer e. cc) _ _ buffer is)
+              (λ number is. queued_stays n f.log [] f.cells cells' f.spots f.spots f.hands f.hands 0 (in_queue 0) free lay_moves (λ number buffer e. cc) _ _ buffer is)
               (still_with s.views id (giving post (holds b t)) w at (Has buffer) (λ had. had)) (f.spots buffer) (k.each_spot buffer low);
           left = (let e = left_set s.views id (giving post (holds b t)) w at in let l = k.left in omega arith);
           by_giver = k.by_giver;

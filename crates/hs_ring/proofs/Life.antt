@@ -14,8 +14,9 @@ use Rattle.hs_words.specs.Chunks.{Contents, clear_chunk}
 use Rattle.hs_words.specs.Ends.{Deed, Answer, AreAnswers}
 use Rattle.hs_words.proofs.Deeds.{all_of, no_answers}
 use Rattle.hs_words.specs.Plans.{first_of, rest_of, total, Plan, Within}
+use Rattle.hs_words.specs.Spots.{in_queue}
 use Rattle.hs_ring.specs.Views.{Desk, nothing, Post, Palm, bare, View, nobody, drawing, leasing, giving, drawer_note, giver_note, with_drawer, new_drawer, having_closed, Has}
-use Rattle.hs_ring.specs.Rule.{Cell, free, waits, queued, Facts, CellOk, DeskOk, PostOk, Knows, Kept, Ring, first_post, first_view}
+use Rattle.hs_ring.specs.Rule.{Cell, free, waits, Facts, CellOk, DeskOk, PostOk, Knows, Kept, Ring, first_post, first_view}
 use Rattle.hs_ring.specs.Steps.{did_look, Over}
 use Rattle.hs_ring.proofs.Updates.{put, put_here, put_else, left_set, left_and}
 use Rattle.hs_ring.proofs.Counting.{found_drawn, found_published, reseated, seated_too}
@@ -303,12 +304,12 @@ module _ (plan : Plan) (ws : List ℕ) (xs : List (Option Contents)) (within : W
   n = plan.buffers
 
   abbrev f₀ : Facts
-  f₀ = record { log = []; cells = start_cells n; spots = queued; hands = λ _. nothing; seats = λ _. 0; palm = bare; giver = 0; made = 0; opened = 0 }
+  f₀ = record { log = []; cells = start_cells n; spots = in_queue; hands = λ _. nothing; seats = λ _. 0; palm = bare; giver = 0; made = 0; opened = 0 }
 
   homes₀ : List (maybe.Option (Option Contents))
   homes₀ = map some xs
 
-  cell₀ : (e : ℕ) → e < 2 * n → (d : Dec (n ≤ e)) → CellOk n plan.size [] queued (λ _. nothing) bare e (get_or ws (suc e) 0) (get_elem? (map some xs) e) (start_cell n e d)
+  cell₀ : (e : ℕ) → e < 2 * n → (d : Dec (n ≤ e)) → CellOk n plan.size [] in_queue (λ _. nothing) bare e (get_or ws (suc e) 0) (get_elem? (map some xs) e) (start_cell n e d)
   unfolding start_cell
   cell₀ e low (yes high) = (out.zeros e high low, at_map some xs e None (out.nones e high low))
   cell₀ e low (no below) =

@@ -6,8 +6,9 @@ use lib.ListN.{get_elem?}
 use Rattle.hs_words.specs.Chunks.{Contents, clear_chunk}
 use Rattle.hs_words.specs.Plans.{Plan}
 use Rattle.hs_words.specs.Seats.{AtSeat}
+use Rattle.hs_words.specs.Spots.{Spot, in_queue, with_drawer, leased, with_giver}
 use Rattle.hs_ring.specs.Views.{Hand, nothing, drew, kept, Palm, bare, holds, lays, retakes, View, nobody, drawing, leasing, giving, drawer_note, giver_note, InHand, InPalm, Has}
-use Rattle.hs_ring.specs.Rule.{Cell, free, waits, drawn, laid, Spot, queued, with_drawer, leased, with_giver, Facts, CellOk, HandOk, PalmOk, SpotOk, Kept}
+use Rattle.hs_ring.specs.Rule.{Cell, free, waits, drawn, laid, Facts, CellOk, HandOk, PalmOk, SpotOk, Kept}
 use Rattle.hs_ring.specs.Places.{Site, entry, seat, IsThere, Waits, IsInOnePlace}
 use Rattle.hs_ring.proofs.Counting.{at_length, found_drawn, found_published, entry_below}
 use Rattle.hs_ring.proofs.Draws.{St}
@@ -18,11 +19,11 @@ module _ (plan : Plan) (s : St) (f : Facts) (k : Kept plan s f) (buffer : ℕ) w
 
   -- the site is that of the place
   abbrev pub Fits : Site → Spot → Type 0
-  Fits (entry e) (queued number) = e ≡ number % (2 * n)
+  Fits (entry e) (in_queue number) = e ≡ number % (2 * n)
   Fits (entry e) (with_drawer drawer) = ⊥
   Fits (entry e) (leased j) = ⊥
   Fits (entry e) with_giver = ⊥
-  Fits (seat j) (queued number) = ⊥
+  Fits (seat j) (in_queue number) = ⊥
   Fits (seat j) (with_drawer drawer) = (f.seats drawer ≡ j) × (drawer < f.opened)
   Fits (seat j) (leased i) = i ≡ j
   Fits (seat j) with_giver = f.giver ≡ j
@@ -64,7 +65,7 @@ module _ (plan : Plan) (s : St) (f : Facts) (k : Kept plan s f) (buffer : ℕ) w
   spot_reseated seats' views' same goes low = go (f.spots buffer) refl (k.each_spot buffer low)
     where
       go : (spot : Spot) → f.spots buffer ≡ spot → SpotOk n f.cells f.seats f.giver s.views buffer spot → SpotOk n f.cells seats' f.giver views' buffer spot
-      go (queued number) is ok = ok
+      go (in_queue number) is ok = ok
       go (with_drawer drawer) is ok = subst (AtSeat views' (Has buffer)) (sym (same drawer (drawer_open drawer (f.seats drawer) is ok))) (goes (f.seats drawer) ok)
       go (leased j) is ok = goes j ok
       go with_giver is ok = goes f.giver ok
@@ -86,9 +87,9 @@ module _ (plan : Plan) (s : St) (f : Facts) (k : Kept plan s f) (buffer : ℕ) w
 
   -- a place has one site
   one_site : (spot : Spot) (a b : Site) → Fits a spot → Fits b spot → b ≡ a
-  one_site (queued number) (entry e) (entry e') p q = ap entry (q ∙ sym p)
-  one_site (queued number) (entry e) (seat j) p q = absurd q
-  one_site (queued number) (seat j) b p q = absurd p
+  one_site (in_queue number) (entry e) (entry e') p q = ap entry (q ∙ sym p)
+  one_site (in_queue number) (entry e) (seat j) p q = absurd q
+  one_site (in_queue number) (seat j) b p q = absurd p
   one_site (with_drawer drawer) (entry e) b p q = absurd p
   one_site (with_drawer drawer) (seat j) (entry e) p q = absurd q
   one_site (with_drawer drawer) (seat j) (seat j') p q = ap seat (sym q.0 ∙ p.0)
@@ -136,7 +137,7 @@ module _ (plan : Plan) (s : St) (f : Facts) (k : Kept plan s f) (buffer : ℕ) w
       }
 
   in_place : (spot : Spot) → SpotOk n f.cells f.seats f.giver s.views buffer spot → IsInOnePlace plan.size s buffer
-  in_place (queued number) is = at_entry number is
+  in_place (in_queue number) is = at_entry number is
   in_place (with_drawer drawer) is = at_seat (f.seats drawer) is
   in_place (leased j) is = at_seat j is
   in_place with_giver is = at_seat f.giver is

@@ -17,8 +17,9 @@ use Rattle.hs_words.specs.Ends.{Deed, Answer, answered, given_of, missed, events
 use Rattle.hs_words.proofs.Deeds.{answers_and, answers_below, are_answers_more, unread_more, got_below}
 use Rattle.hs_words.proofs.Waiting.{counted as one_counted, may_give, given_kinds}
 use Rattle.hs_words.specs.Plans.{Plan}
+use Rattle.hs_words.specs.Spots.{Spot, in_queue, with_giver}
 use Rattle.hs_ring.specs.Views.{Post, bare, lays, retakes, View, giving, post_after, Has}
-use Rattle.hs_ring.specs.Rule.{Cell, free, waits, laid, Spot, queued, with_giver, Facts, published, IsLaid, CellOk, PalmOk, SpotOk, PostOk, Knows, Kept, Ring}
+use Rattle.hs_ring.specs.Rule.{Cell, free, waits, laid, Facts, published, IsLaid, CellOk, PalmOk, SpotOk, PostOk, Knows, Kept, Ring}
 use Rattle.hs_ring.specs.Steps.{published_of, did_publish}
 use Rattle.hs_ring.proofs.Updates.{put, put_cases, put_here, put_else, left_set}
 use Rattle.hs_ring.proofs.Spots.{still_with, spot_stays}
@@ -68,7 +69,7 @@ module _ (plan : Plan) (s : St) (f : Facts) (k : Kept plan s f) (id : ℕ) (post
     cells' = put f.cells i (waits P b)
 
     abbrev spots' : ℕ → Spot
-    spots' = put f.spots b (queued P)
+    spots' = put f.spots b (in_queue P)
 
     abbrev after_give : Facts
     after_give = facts_after f (deed ∷ []) cells' spots' f.hands bare
@@ -81,7 +82,7 @@ module _ (plan : Plan) (s : St) (f : Facts) (k : Kept plan s f) (id : ℕ) (post
         record {
           by = (refl, tt);
           names = λ b' far. ((λ e. not_b b' far (sym e)), tt);
-          spots_stay = λ b' far. put_else f.spots b (queued P) b' (not_b b' far);
+          spots_stay = λ b' far. put_else f.spots b (in_queue P) b' (not_b b' far);
           cells_stay = λ e far. put_else f.cells i (waits P b) e (λ same. far (ap f.cells same ∙ there));
           hands_stay = λ _ _. refl;
           fresh = λ d number buffer stamp is. inl is;
@@ -94,7 +95,7 @@ module _ (plan : Plan) (s : St) (f : Facts) (k : Kept plan s f) (id : ℕ) (post
         let e = h % (2 * n) in
         let ok : CellOk n plan.size f.log f.spots f.hands f.palm e (get_or s.words (suc e) 0) (get_elem? s.homes e) (waits h b) =
         subst (CellOk n plan.size f.log f.spots f.hands f.palm e (get_or s.words (suc e) 0) (get_elem? s.homes e)) (k.each_queued a b seen) (k.each_cell e (entry_below plan s f k h)) in
-        let both : queued h ≡ with_giver = sym ok.5 ∙ in_hand.0.0 in
+        let both : in_queue h ≡ with_giver = sym ok.5 ∙ in_hand.0.0 in
         absurd cc
 
     abbrev answer : Answer
@@ -140,12 +141,12 @@ module _ (plan : Plan) (s : St) (f : Facts) (k : Kept plan s f) (id : ℕ) (post
           ap (get_elem? homes') same ∙ set_here s.homes i (some (Some (clear_chunk plan.size b))) (let h = k.homes in let l = i_low in omega arith),
           omega arith,
           omega arith,
-          put_here f.spots b (queued P),
+          put_here f.spots b (in_queue P),
         ))
         (λ other. cell_stays n plan.size f.log (deed ∷ f.log) f.spots spots' f.hands f.hands f.palm bare e (get_or s.words (suc e) 0) (get_or (set s.words 0 x) (suc e) 0) (get_elem? s.homes e) (get_elem? homes' e)
         word (set_else s.homes i e (some (Some (clear_chunk plan.size b))) other)
         (λ number buffer here above below is.
-        (omega arith, omega arith, put_else f.spots b (queued P) buffer (λ same. let both : queued number ≡ with_giver = sym is ∙ ap f.spots same ∙ in_hand.0.0 in absurd cc) ∙ is))
+        (omega arith, omega arith, put_else f.spots b (in_queue P) buffer (λ same. let both : in_queue number ≡ with_giver = sym is ∙ ap f.spots same ∙ in_hand.0.0 in absurd cc) ∙ is))
         (λ number buffer drawer stamp here above below lapped is.
         let round = not_round e number other here lapped in
         (omega arith, omega arith, omega arith, is))
@@ -157,7 +158,7 @@ module _ (plan : Plan) (s : St) (f : Facts) (k : Kept plan s f) (id : ℕ) (post
     -- the buffer waits now, and each other is where it was
     give_spots : (buffer : ℕ) → buffer < n → SpotOk n cells' f.seats f.giver (set s.views id w) buffer (spots' buffer)
     give_spots buffer low =
-        put_cases (SpotOk n cells' f.seats f.giver (set s.views id w) buffer) f.spots b (queued P) buffer
+        put_cases (SpotOk n cells' f.seats f.giver (set s.views id w) buffer) f.spots b (in_queue P) buffer
         (λ same. ap cells' (sym i_is) ∙ put_here f.cells i (waits P b) ∙ ap (waits P) (sym same))
         (λ other. spot_stays n f.cells cells' f.seats f.giver s.views (set s.views id w) buffer
         (λ number is. queued_stays n f.log (deed ∷ []) f.cells cells' f.spots spots' f.hands f.hands 0 with_giver (laid P) give_moves (λ number buffer e. cc) _ _ buffer is)
@@ -203,7 +204,7 @@ module _ (plan : Plan) (s : St) (f : Facts) (k : Kept plan s f) (id : ℕ) (post
     abbrev after_miss : Facts
     after_miss = facts_after f (missed ∷ []) f.cells f.spots f.hands (retakes b t)
 
-    miss_moves : Moves f.log (missed ∷ []) f.cells f.cells f.spots f.spots f.hands f.hands 0 (queued 0) free
+    miss_moves : Moves f.log (missed ∷ []) f.cells f.cells f.spots f.spots f.hands f.hands 0 (in_queue 0) free
     miss_moves =
         record {
           by = (refl, tt);
@@ -236,7 +237,7 @@ module _ (plan : Plan) (s : St) (f : Facts) (k : Kept plan s f) (id : ℕ) (post
           misses = (let c = one_counted is_missed Missed (events_of f.log) in let m = own.misses in omega arith);
           floor = le_refl (suc (length f.log));
           unread = unread_more n (missed ∷ []) f.log post.turns (subst (AllByRecursion (λ (a : Answer). a.stamp < length f.log)) (sym own.answers) (answers_below f.log 0)) own.unread;
-          told = all_settled n f.log (missed ∷ []) f.cells f.cells f.spots f.spots f.hands f.hands 0 (queued 0) free miss_moves (told_in post.turns) own.told;
+          told = all_settled n f.log (missed ∷ []) f.cells f.cells f.spots f.spots f.hands f.hands 0 (in_queue 0) free miss_moves (told_in post.turns) own.told;
         }
 
     abbrev w₂ : View
@@ -244,7 +245,7 @@ module _ (plan : Plan) (s : St) (f : Facts) (k : Kept plan s f) (id : ℕ) (post
 
     miss_seats : (j : ℕ) (v : View) → get_elem? (set s.views id w₂) j ≡ some v → Knows plan after_miss j v
     miss_seats = reseated plan after_miss s.views id w₂ miss_ours
-        (λ j v other seen. knows_stays plan f (missed ∷ []) f.cells f.spots f.hands (retakes b t) 0 (queued 0) free miss_moves j (λ d _ e. omega arith) (λ e. cc)
+        (λ j v other seen. knows_stays plan f (missed ∷ []) f.cells f.spots f.hands (retakes b t) 0 (in_queue 0) free miss_moves j (λ d _ e. omega arith) (λ e. cc)
         (no_giver plan s f k id post (lays b t) at (missed ∷ []) f.cells f.spots f.hands (retakes b t) j other) v (k.each_seat j v seen))
 
     miss_cells : (e : ℕ) → e < 2 * n → CellOk n plan.size (missed ∷ f.log) f.spots f.hands (retakes b t) e (get_or (set s.words 0 x) (suc e) 0) (get_elem? s.homes e) (f.cells e)
@@ -280,8 +281,8 @@ module _ (plan : Plan) (s : St) (f : Facts) (k : Kept plan s f) (id : ℕ) (post
           voids = (let a = one_counted is_missed Missed (events_of f.log) in let c = one_counted is_empty Missed (events_of f.log) in let v = k.voids in omega arith);
           each_cell = miss_cells;
           each_queued = λ a buffer seen. absurd (let less = at_length (queue_of n f.log) a buffer seen in let l = line plan s f k in omega arith);
-          each_hand = λ d. hand_stays n f.log (missed ∷ []) f.cells f.cells f.spots f.spots f.hands f.hands 0 (queued 0) free miss_moves d (λ e. omega arith) (λ e. cc) (λ number buffer e. cc) (f.hands d) (k.each_hand d);
-          in_palm = (lease_stays n f.log (missed ∷ []) f.cells f.cells f.spots f.spots f.hands f.hands 0 (queued 0) free miss_moves b t with_giver (λ e. cc) in_hand.0, (P, (let e : suc P ≡ n + (1 + given_in f.log) = omega arith in e), in_hand.1));
+          each_hand = λ d. hand_stays n f.log (missed ∷ []) f.cells f.cells f.spots f.spots f.hands f.hands 0 (in_queue 0) free miss_moves d (λ e. omega arith) (λ e. cc) (λ number buffer e. cc) (f.hands d) (k.each_hand d);
+          in_palm = (lease_stays n f.log (missed ∷ []) f.cells f.cells f.spots f.spots f.hands f.hands 0 (in_queue 0) free miss_moves b t with_giver (λ e. cc) in_hand.0, (P, (let e : suc P ≡ n + (1 + given_in f.log) = omega arith in e), in_hand.1));
           each_spot = λ buffer low.
               spot_stays n f.cells f.cells f.seats f.giver s.views (set s.views id w₂) buffer (λ number is. is) (still_with s.views id (giving post (lays b t)) w₂ at (Has buffer) (λ had. had)) (f.spots buffer) (k.each_spot buffer low);
           left = (let e = left_set s.views id (giving post (lays b t)) w₂ at in let l = k.left in omega arith);

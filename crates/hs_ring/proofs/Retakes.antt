@@ -10,8 +10,9 @@ use Rattle.atomic_table.proofs.Lists.{set_here, set_else}
 use Rattle.hs_words.specs.Chunks.{Contents}
 use Rattle.hs_words.specs.Ends.{answers_in}
 use Rattle.hs_words.specs.Plans.{Plan}
+use Rattle.hs_words.specs.Spots.{in_queue}
 use Rattle.hs_ring.specs.Views.{Post, holds, retakes, View, giving, Has}
-use Rattle.hs_ring.specs.Rule.{Cell, free, laid, queued, Facts, published, IsLaid, CellOk, PalmOk, PostOk, Knows, Kept, Ring}
+use Rattle.hs_ring.specs.Rule.{Cell, free, laid, Facts, published, IsLaid, CellOk, PalmOk, PostOk, Knows, Kept, Ring}
 use Rattle.hs_ring.specs.Steps.{did_retake}
 use Rattle.hs_ring.proofs.Updates.{put, put_cases, put_else, left_set}
 use Rattle.hs_ring.proofs.Spots.{still_with, spot_stays}
@@ -46,7 +47,7 @@ module _ (plan : Plan) (s : St) (f : Facts) (k : Kept plan s f) (id : ℕ) (post
   abbrev after_retake : Facts
   after_retake = facts_after f [] cells' f.spots f.hands (holds b t)
 
-  retake_moves : Moves f.log [] f.cells cells' f.spots f.spots f.hands f.hands 0 (queued 0) (laid number)
+  retake_moves : Moves f.log [] f.cells cells' f.spots f.spots f.hands f.hands 0 (in_queue 0) (laid number)
   retake_moves =
       record {
         by = tt;
@@ -85,7 +86,7 @@ module _ (plan : Plan) (s : St) (f : Facts) (k : Kept plan s f) (id : ℕ) (post
 
   retake_seats : (j : ℕ) (v : View) → get_elem? (set s.views id w) j ≡ some v → Knows plan after_retake j v
   retake_seats = reseated plan after_retake s.views id w (same_post plan f id post (retakes b t) (holds b t) cells' f.spots own)
-      (λ j v other seen. knows_stays plan f [] cells' f.spots f.hands (holds b t) 0 (queued 0) (laid number) retake_moves j (λ d _ e. omega arith) (λ e. cc)
+      (λ j v other seen. knows_stays plan f [] cells' f.spots f.hands (holds b t) 0 (in_queue 0) (laid number) retake_moves j (λ d _ e. omega arith) (λ e. cc)
       (no_giver plan s f k id post (retakes b t) at [] cells' f.spots f.hands (holds b t) j other) v (k.each_seat j v seen))
 
   pub retake_kept : Kept plan (stepped s (i + 1) 0 id ((i, None) ∷ held) w gives) after_retake
@@ -99,12 +100,12 @@ module _ (plan : Plan) (s : St) (f : Facts) (k : Kept plan s f) (id : ℕ) (post
         spent = k.spent;
         voids = k.voids;
         each_cell = retake_cells;
-        each_queued = λ a buffer seen. queued_stays n f.log [] f.cells cells' f.spots f.spots f.hands f.hands 0 (queued 0) (laid number) retake_moves (λ number buffer e. cc) _ _ buffer (k.each_queued a buffer seen);
-        each_hand = λ d. hand_stays n f.log [] f.cells cells' f.spots f.spots f.hands f.hands 0 (queued 0) (laid number) retake_moves d (λ e. omega arith) (λ e. cc) (λ number buffer e. cc) (f.hands d) (k.each_hand d);
+        each_queued = λ a buffer seen. queued_stays n f.log [] f.cells cells' f.spots f.spots f.hands f.hands 0 (in_queue 0) (laid number) retake_moves (λ number buffer e. cc) _ _ buffer (k.each_queued a buffer seen);
+        each_hand = λ d. hand_stays n f.log [] f.cells cells' f.spots f.spots f.hands f.hands 0 (in_queue 0) (laid number) retake_moves d (λ e. omega arith) (λ e. cc) (λ number buffer e. cc) (f.hands d) (k.each_hand d);
         in_palm = in_hand.0;
         each_spot = λ buffer low.
             spot_stays n f.cells cells' f.seats f.giver s.views (set s.views id w) buffer
-            (λ h is. queued_stays n f.log [] f.cells cells' f.spots f.spots f.hands f.hands 0 (queued 0) (laid number) retake_moves (λ number buffer e. cc) _ _ buffer is)
+            (λ h is. queued_stays n f.log [] f.cells cells' f.spots f.spots f.hands f.hands 0 (in_queue 0) (laid number) retake_moves (λ number buffer e. cc) _ _ buffer is)
             (still_with s.views id (giving post (retakes b t)) w at (Has buffer) (λ had. had)) (f.spots buffer) (k.each_spot buffer low);
         left = (let e = left_set s.views id (giving post (retakes b t)) w at in let l = k.left in omega arith);
         by_giver = k.by_giver;

@@ -6,8 +6,9 @@ use native.Mathlib.Decide.{ℕ_discrete}
 use lib.ListN.{get_elem?}
 use Rattle.atomic_table.proofs.Lists.{set_here, set_else, at_longer, at_last}
 use Rattle.hs_words.specs.Seats.{AtSeat}
+use Rattle.hs_words.specs.Spots.{Spot, in_queue, with_drawer, leased, with_giver}
 use Rattle.hs_ring.specs.Views.{View, Has}
-use Rattle.hs_ring.specs.Rule.{Cell, waits, Spot, queued, with_drawer, leased, with_giver, SpotOk}
+use Rattle.hs_ring.specs.Rule.{Cell, waits, SpotOk}
 use Rattle.hs_ring.proofs.Counting.{at_length}
 
 -- ---- seats
@@ -44,7 +45,7 @@ pub spot_stays : (n : ℕ) (cells cells' : ℕ → Cell) (seats : ℕ → ℕ) (
     → ((number : ℕ) → cells (number % (2 * n)) ≡ waits number buffer → cells' (number % (2 * n)) ≡ waits number buffer)
     → ((j : ℕ) → AtSeat views (Has buffer) j → AtSeat views' (Has buffer) j)
     → (spot : Spot) → SpotOk n cells seats giver views buffer spot → SpotOk n cells' seats giver views' buffer spot
-spot_stays n cells cells' seats giver views views' buffer on_waits on_seat (queued number) is = on_waits number is
+spot_stays n cells cells' seats giver views views' buffer on_waits on_seat (in_queue number) is = on_waits number is
 spot_stays n cells cells' seats giver views views' buffer on_waits on_seat (with_drawer drawer) is = on_seat (seats drawer) is
 spot_stays n cells cells' seats giver views views' buffer on_waits on_seat (leased j) is = on_seat j is
 spot_stays n cells cells' seats giver views views' buffer on_waits on_seat with_giver is = on_seat giver is

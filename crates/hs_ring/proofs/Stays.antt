@@ -9,8 +9,9 @@ use Rattle.hs_words.specs.PoolHistory.{is_missed}
 use Rattle.hs_words.specs.Ends.{Deed, Answer, got_by, events_of, drawn_in, answers_by, told_in, IsAt, Names}
 use Rattle.hs_words.proofs.Deeds.{all_of, draw_more, got_more, none_more, answers_more, answers_below, are_answers_more, unread_more}
 use Rattle.hs_words.specs.Plans.{Plan}
+use Rattle.hs_words.specs.Spots.{Spot, in_queue, with_drawer, leased, with_giver, HasLease}
 use Rattle.hs_ring.specs.Views.{Desk, Hand, nothing, drew, kept, Post, Palm, bare, holds, lays, retakes, View, nobody, drawing, leasing, giving, drawer_note, giver_note}
-use Rattle.hs_ring.specs.Rule.{Cell, free, waits, drawn, laid, Spot, queued, with_drawer, leased, with_giver, Facts, published, IsLaid, CellOk, IsLastOf, HandOk, HasLease, PalmOk, IsSettled, DeskOk, PostOk, Knows}
+use Rattle.hs_ring.specs.Rule.{Cell, free, waits, drawn, laid, Facts, published, IsLaid, CellOk, IsLastOf, HandOk, PalmOk, IsSettled, DeskOk, PostOk, Knows}
 
 -- The deeds that were added are all of one end, and name only the buffer that was at `spot`; nothing but that buffer, the entry
 -- that was `cell` and that end's hand has changed.
@@ -43,7 +44,7 @@ module _ (n : ℕ) (log added : List Deed) (cells cells' : ℕ → Cell) (spots 
   longer : length log ≤ length (added ++ log)
   longer = omega (arith, length-append added log)
 
-  pub lease_stays : (buffer draw : ℕ) (place : Spot) → place ≢ spot → HasLease n log cells spots buffer draw place → HasLease n (added ++ log) cells' spots' buffer draw place
+  pub lease_stays : (buffer draw : ℕ) (place : Spot) → place ≢ spot → HasLease n log spots buffer draw place → HasLease n (added ++ log) spots' buffer draw place
   lease_stays buffer draw place other (at, got, none, below) =
       let away : spots buffer ≢ spot = λ e. other (sym at ∙ e) in (
         m.spots_stay buffer away ∙ at,
@@ -99,7 +100,7 @@ module _ (n : ℕ) (log added : List Deed) (cells cells' : ℕ → Cell) (spots 
 -- an entry that a step does not touch
 pub cell_stays : (n size : ℕ) (log log' : List Deed) (spots spots' : ℕ → Spot) (hands hands' : ℕ → Hand) (palm palm' : Palm) (e word word' : ℕ) (home home' : maybe.Option (maybe.Option (Option Contents)))
     → word' ≡ word → home' ≡ home
-    → ((number buffer : ℕ) → e ≡ number % (2 * n) → drawn_in log ≤ number → number < published n log → spots buffer ≡ queued number → (drawn_in log' ≤ number) × (number < published n log') × (spots' buffer ≡ queued number))
+    → ((number buffer : ℕ) → e ≡ number % (2 * n) → drawn_in log ≤ number → number < published n log → spots buffer ≡ in_queue number → (drawn_in log' ≤ number) × (number < published n log') × (spots' buffer ≡ in_queue number))
     → ((number buffer drawer stamp : ℕ) → e ≡ number % (2 * n) → number < drawn_in log → number < published n log → published n log ≤ number + 2 * n → hands drawer ≡ drew number buffer stamp
     → (number < drawn_in log') × (number < published n log') × (published n log' ≤ number + 2 * n) × (hands' drawer ≡ drew number buffer stamp))
     → ((number : ℕ) → e ≡ number % (2 * n) → IsLaid (published n log) number palm → IsLaid (published n log') number palm')

@@ -7,8 +7,9 @@ use Rattle.atomic_table.proofs.Lists.{at_set, set_else}
 use Rattle.hs_words.specs.Ends.{Deed}
 use Rattle.hs_words.specs.Plans.{Plan}
 use Rattle.hs_words.specs.Seats.{AtSeat}
+use Rattle.hs_words.specs.Spots.{Spot, in_queue, leased, with_giver, HasLease}
 use Rattle.hs_ring.specs.Views.{Hand, Post, Palm, bare, holds, View, nobody, leasing, giving, Has}
-use Rattle.hs_ring.specs.Rule.{Cell, free, Spot, queued, leased, with_giver, Facts, published, IsLaid, CellOk, HasLease, PalmOk, SpotOk, PostOk, Knows, Kept, Ring}
+use Rattle.hs_ring.specs.Rule.{Cell, free, Facts, published, IsLaid, CellOk, PalmOk, SpotOk, PostOk, Knows, Kept, Ring}
 use Rattle.hs_ring.proofs.Updates.{put, put_cases, put_here, put_else, left_set, left_and}
 use Rattle.hs_ring.proofs.Spots.{now_with, still_with, else_with, with_more, with_last, spot_stays}
 use Rattle.hs_ring.proofs.Stays.{Moves, hand_stays, cell_stays, facts_after, knows_stays}
@@ -51,7 +52,7 @@ module _ (plan : Plan) (s : St) (f : Facts) (k : Kept plan s f) (id : ℕ) (post
   lease_before : get_elem? s.views other ≡ some (leasing b t)
   lease_before = sym (set_else s.views id other (giving post (holds b t)) differ) ∙ lease_at
 
-  has : HasLease n f.log f.cells f.spots b t (leased other)
+  has : HasLease n f.log f.spots b t (leased other)
   has = k.each_seat other (leasing b t) lease_before
 
   abbrev spots' : ℕ → Spot
@@ -74,7 +75,7 @@ module _ (plan : Plan) (s : St) (f : Facts) (k : Kept plan s f) (id : ℕ) (post
   take_cells : (e : ℕ) → e < 2 * n → CellOk n plan.size f.log spots' f.hands (holds b t) e (get_or s.words (suc e) 0) (get_elem? s.homes e) (f.cells e)
   take_cells e low =
       cell_stays n plan.size f.log f.log f.spots spots' f.hands f.hands f.palm (holds b t) e (get_or s.words (suc e) 0) (get_or s.words (suc e) 0) (get_elem? s.homes e) (get_elem? s.homes e) refl refl
-      (λ number buffer _ above below is. (above, below, put_else f.spots b with_giver buffer (λ same. let both : queued number ≡ leased other = sym is ∙ ap f.spots same ∙ has.0 in absurd cc) ∙ is))
+      (λ number buffer _ above below is. (above, below, put_else f.spots b with_giver buffer (λ same. let both : in_queue number ≡ leased other = sym is ∙ ap f.spots same ∙ has.0 in absurd cc) ∙ is))
       (λ number buffer drawer stamp _ above below lapped is. (above, below, lapped, is))
       (λ number _ is. subst (IsLaid (published n f.log) number) (ours plan s f k id post bare at).palm_is is)
       (f.cells e) (k.each_cell e low)
@@ -138,7 +139,7 @@ module _ (plan : Plan) (s : St) (f : Facts) (k : Kept plan s f) (id : ℕ) (post
   abbrev own₁ : PostOk plan f id post (holds b t)
   own₁ = ours plan s f k id post (holds b t) at
 
-  had₁ : HasLease plan.buffers f.log f.cells f.spots b t with_giver
+  had₁ : HasLease plan.buffers f.log f.spots b t with_giver
   had₁ = subst (PalmOk plan.buffers f.log f.cells f.spots) own₁.palm_is k.in_palm
 
   abbrev spots₁ : ℕ → Spot
@@ -161,7 +162,7 @@ module _ (plan : Plan) (s : St) (f : Facts) (k : Kept plan s f) (id : ℕ) (post
   lease_cells : (e : ℕ) → e < 2 * plan.buffers → CellOk plan.buffers plan.size f.log spots₁ f.hands bare e (get_or s.words (suc e) 0) (get_elem? s.homes e) (f.cells e)
   lease_cells e low =
       cell_stays plan.buffers plan.size f.log f.log f.spots spots₁ f.hands f.hands f.palm bare e (get_or s.words (suc e) 0) (get_or s.words (suc e) 0) (get_elem? s.homes e) (get_elem? s.homes e) refl refl
-      (λ number buffer _ above below is. (above, below, put_else f.spots b (leased new) buffer (λ same. let both : queued number ≡ with_giver = sym is ∙ ap f.spots same ∙ had₁.0 in absurd cc) ∙ is))
+      (λ number buffer _ above below is. (above, below, put_else f.spots b (leased new) buffer (λ same. let both : in_queue number ≡ with_giver = sym is ∙ ap f.spots same ∙ had₁.0 in absurd cc) ∙ is))
       (λ number buffer drawer stamp _ above below lapped is. (above, below, lapped, is))
       (λ number _ is. subst (IsLaid (published plan.buffers f.log) number) own₁.palm_is is)
       (f.cells e) (k.each_cell e low)

@@ -14,6 +14,7 @@ use Rattle.hs_words.specs.PoolHistory.{is_missed, is_empty, IsHistoryBack}
 use Rattle.hs_words.specs.Ends.{Deed, got_by, events_of, drawn_in, given_in, answers_by, answers_in, told_in, IsDraw, IsGot, NoneSince, EachSpends, EachUnread, AreAnswers, queue_of}
 use Rattle.hs_words.specs.Plans.{total, Plan, Within}
 use Rattle.hs_words.specs.Seats.{AtSeat}
+use Rattle.hs_words.specs.Spots.{Spot, in_queue, with_drawer, leased, with_giver, HasLease}
 use Rattle.hs_ring.specs.Views.{Desk, Hand, nothing, drew, kept, Post, Palm, bare, holds, lays, retakes, View, nobody, drawing, leasing, giving, drawer_note, giver_note, all_left, Has}
 
 -- an entry is free; or it holds a number whose buffer waits, or was drawn by a drawer that has not collected it; or the
@@ -23,13 +24,6 @@ pub data Cell : Type 0 where
   waits : ℕ → ℕ → Cell
   drawn : ℕ → ℕ → ℕ → Cell
   laid : ℕ → Cell
-
--- A buffer's one place: in the queue under a number; drawn by a drawer or collected by it; with the lease of a seat; with the giver.
-pub data Spot : Type 0 where
-  queued : ℕ → Spot
-  with_drawer : ℕ → Spot
-  leased : ℕ → Spot
-  with_giver : Spot
 
 -- what the rule knows beside the table: all deeds, the entries, the places, what each drawer and the giver have in hand, their seats,
 -- how many drawers were made, and how many of these are not closed
@@ -61,7 +55,7 @@ module _ (n size : ℕ) (log : List Deed) (spots : ℕ → Spot) (hands : ℕ �
   CellOk free = (word ≡ 0) × (home ≡ some (some None))
   CellOk (waits number buffer) =
       (e ≡ number % (2 * n)) × (word ≡ suc number) × (home ≡ some (some (Some (clear_chunk size buffer))))
-      × (drawn_in log ≤ number) × (number < published n log) × (spots buffer ≡ queued number)
+      × (drawn_in log ≤ number) × (number < published n log) × (spots buffer ≡ in_queue number)
   CellOk (drawn number buffer drawer) =
       (e ≡ number % (2 * n)) × (word ≡ suc number) × (home ≡ some maybe.none)
       × (number < drawn_in log) × (number < published n log) × (published n log ≤ number + 2 * n) × ((stamp : ℕ) × (hands drawer ≡ drew number buffer stamp))
@@ -82,21 +76,18 @@ module _ (n : ℕ) (log : List Deed) (cells : ℕ → Cell) (spots : ℕ → Spo
       × NoneSince buffer stamp log × IsLastOf (suc drawer) stamp log × (buffer < n)
   HandOk drawer (kept buffer stamp) = (spots buffer ≡ with_drawer drawer) × IsGot log stamp buffer × NoneSince buffer stamp log × (buffer < n)
 
-  abbrev pub HasLease : ℕ → ℕ → Spot → Type 0
-  HasLease buffer draw spot = (spots buffer ≡ spot) × IsGot log draw buffer × NoneSince buffer draw log × (buffer < n)
-
   abbrev pub PalmOk : Palm → Type 0
   PalmOk bare = Unit {0}
-  PalmOk (holds buffer draw) = HasLease buffer draw with_giver
-  PalmOk (lays buffer draw) = HasLease buffer draw with_giver × (cells (published n log % (2 * n)) ≡ laid (published n log))
-  PalmOk (retakes buffer draw) = HasLease buffer draw with_giver × ((number : ℕ) × (suc number ≡ published n log) × (cells (number % (2 * n)) ≡ laid number))
+  PalmOk (holds buffer draw) = HasLease n log spots buffer draw with_giver
+  PalmOk (lays buffer draw) = HasLease n log spots buffer draw with_giver × (cells (published n log % (2 * n)) ≡ laid (published n log))
+  PalmOk (retakes buffer draw) = HasLease n log spots buffer draw with_giver × ((number : ℕ) × (suc number ≡ published n log) × (cells (number % (2 * n)) ≡ laid number))
 
 -- ---- buffers
 
 -- the buffer is in its place: its number's entry waits with it, or the place's seat has it
 module _ (n : ℕ) (cells : ℕ → Cell) (seats : ℕ → ℕ) (giver : ℕ) (views : List View) (buffer : ℕ) where
   abbrev pub SpotOk : Spot → Type 0
-  SpotOk (queued number) = cells (number % (2 * n)) ≡ waits number buffer
+  SpotOk (in_queue number) = cells (number % (2 * n)) ≡ waits number buffer
   SpotOk (with_drawer drawer) = AtSeat views (Has buffer) (seats drawer)
   SpotOk (leased j) = AtSeat views (Has buffer) j
   SpotOk with_giver = AtSeat views (Has buffer) giver
@@ -133,7 +124,7 @@ module _ (plan : Plan) (f : Facts) (j : ℕ) where
   abbrev pub Knows : View → Type 0
   Knows nobody = Unit {0}
   Knows (drawing desk hand) = DeskOk desk hand
-  Knows (leasing buffer draw) = HasLease plan.buffers f.log f.cells f.spots buffer draw (leased j)
+  Knows (leasing buffer draw) = HasLease plan.buffers f.log f.spots buffer draw (leased j)
   Knows (giving post palm) = PostOk post palm
   Knows (drawer_note floor stamps) = (floor ≤ length f.log) × AllByRecursion (IsSettled f.log f.hands) stamps
   Knows (giver_note floor) = floor ≤ length f.log

@@ -9,3 +9,4 @@ pub mod PoolAnswers
 pub mod Ends
 pub mod Plans
 pub mod Seats
+pub mod Spots
