@@ -12,11 +12,11 @@ use Rattle.hs_words.specs.declared.token.Tally.{Tally}
 use Rattle.hs_words.specs.Plans.{total, Plan, Within}
 use Rattle.hs_pool.specs.Pool.{IsAfter}
 use Rattle.hs_ring.specs.Parts.{Drawing, new_drawers}
-use Rattle.hs_ring.specs.Seats.{name_of}
+use Rattle.hs_ring.specs.Seats.{name_of, IsSameSeat}
 use Rattle.hs_locked.specs.declared.store.Store.{Store}
 use Rattle.hs_locked.specs.Views.{Post, bare, away, giving, desk_of, post_of, with_drawer, new_drawer}
 use Rattle.hs_locked.specs.Rule.{StoreOk, Locked, first_post, first_view}
-use Rattle.hs_locked.specs.Seats.{Place, IsAt, IsSameSeat, IsFree, drawing_of}
+use Rattle.hs_locked.specs.Seats.{Place, IsAt, IsFree, drawing_of}
 use Rattle.hs_locked.specs.Making.{making_post, IsMaking}
 use Rattle.hs_locked.proofs.Owed.{Mine, makes_at}
 use Rattle.hs_locked.proofs.Life.{starts}

@@ -7,11 +7,12 @@ use Rattle.hs_words.specs.Ends.{Answer}
 use Rattle.hs_words.proofs.Deeds.{all_of}
 use Rattle.hs_pool.specs.Pool.{HasSize, waiting}
 use Rattle.hs_ring.specs.Parts.{AllBelow}
+use Rattle.hs_ring.specs.Seats.{IsSameSeat}
 use Rattle.hs_locked.specs.declared.store.Store.{Store}
 use Rattle.hs_locked.specs.Stored.{next_draw, GoesOn}
 use Rattle.hs_locked.specs.Views.{Desk, nothing, away, inside, drawing, desk_of, desk_after, hand_after, size_of, floor_of, event_of, standing, having_left}
 use Rattle.hs_locked.specs.Steps.{Finds}
-use Rattle.hs_locked.specs.Seats.{Place, IsSameSeat, IsIdle, IsDrawerSeat, StandsInside, stand_of}
+use Rattle.hs_locked.specs.Seats.{Place, IsIdle, IsDrawerSeat, StandsInside, stand_of}
 use Rattle.hs_locked.proofs.Turns.{Held}
 use Rattle.hs_locked.proofs.Owed.{Mine}
 use Rattle.hs_locked.proofs.Making.{at_there}

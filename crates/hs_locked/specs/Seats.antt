@@ -14,10 +14,6 @@ use Rattle.hs_locked.specs.Views.{Desk, Hand, nothing, kept, Post, Palm, bare, h
 abbrev pub Place : Type 0
 Place = Seat Store View
 
--- the two are one seat at the same table
-abbrev pub IsSameSeat : Place → Place → Type 0
-IsSameSeat s t = (t.table_id ≡ s.table_id) × (t.id ≡ s.id)
-
 -- the seat is at this table, which has a word for the tickets, one for the turn, and a slot
 abbrev pub IsAt : TableId → Place → Type 0
 IsAt table s = (s.table_id ≡ table) × (table.words ≡ 2) × (table.slots ≡ 1)

@@ -3,9 +3,9 @@ ghost use Rattle.std.specs.Prelude.{◌≡◌, [], length};
 ghost use Rattle.std.specs.List.{AllByRecursion};
 ghost use Rattle.hs_words.specs.Ends.{IsTogether, Counts};
 ghost use Rattle.hs_ring.specs.Parts.{AreInOrder, AreAllEnds, Closes, answers_of_all};
-ghost use Rattle.hs_ring.specs.Seats.{name_of};
+ghost use Rattle.hs_ring.specs.Seats.{name_of, IsSameSeat};
 ghost use Rattle.hs_locked.specs.Views.{post_of};
-ghost use Rattle.hs_locked.specs.Seats.{IsAt, IsFree, IsSameSeat};
+ghost use Rattle.hs_locked.specs.Seats.{IsAt, IsFree};
 ghost use Rattle.hs_locked.specs.Making.{closed_post};
 
 use crate::board::{Place, TURNS, Words};

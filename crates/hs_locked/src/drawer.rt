@@ -2,7 +2,8 @@
 ghost use Rattle.std.specs.Prelude.{◌≡◌, ◌-◌, ◌≤◌};
 ghost use Rattle.hs_ring.specs.Parts.{Draws};
 ghost use Rattle.hs_locked.specs.Views.{desk_of};
-ghost use Rattle.hs_locked.specs.Seats.{IsDrawerSeat, IsSameSeat, drawing_of};
+ghost use Rattle.hs_ring.specs.Seats.{IsSameSeat};
+ghost use Rattle.hs_locked.specs.Seats.{IsDrawerSeat, drawing_of};
 
 use crate::board::Place;
 use crate::lease::{LockedLease, make_lease};

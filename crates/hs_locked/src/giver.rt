@@ -1,9 +1,9 @@
 //! The end that gives.
 ghost use Rattle.std.specs.Prelude.{◌≡◌, []};
 ghost use Rattle.hs_ring.specs.Parts.{Gives, Meets};
-ghost use Rattle.hs_ring.specs.Seats.{name_of};
+ghost use Rattle.hs_ring.specs.Seats.{name_of, IsSameSeat};
 ghost use Rattle.hs_locked.specs.Views.{desk_of, post_of, note_of, having_heard};
-ghost use Rattle.hs_locked.specs.Seats.{IsAt, IsIdle, IsFree, IsGiverSeat, IsSameSeat, IsGiven, giving_of};
+ghost use Rattle.hs_locked.specs.Seats.{IsAt, IsIdle, IsFree, IsGiverSeat, IsGiven, giving_of};
 
 use crate::board::{Place, Words};
 use crate::drawer::LockedDrawer;

@@ -1,7 +1,8 @@
 //! The lease of a chunk.
 ghost use Rattle.std.specs.Prelude.{◌≡◌, []};
 ghost use Rattle.hs_locked.specs.Views.{lease_of, without_lease, with_lease};
-ghost use Rattle.hs_locked.specs.Seats.{IsAt, IsSameSeat, CanLease, IsLease, IsFree, StandsAway, stand_of};
+ghost use Rattle.hs_ring.specs.Seats.{IsSameSeat};
+ghost use Rattle.hs_locked.specs.Seats.{IsAt, CanLease, IsLease, IsFree, StandsAway, stand_of};
 
 use crate::board::{Place, Words};
 use crate::plays::{MakeLease, TakeLease};

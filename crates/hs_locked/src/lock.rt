@@ -3,7 +3,8 @@ ghost use Rattle.std.specs.Prelude.{◌≡◌, ℕ, [], ◌∷◌};
 ghost use Rattle.hs_locked.specs.Views.{queued, inside, standing, ticket_of, event_of, having_left, size_of};
 ghost use Rattle.hs_locked.specs.Stored.{GoesOn};
 ghost use Rattle.hs_locked.specs.Steps.{Finds};
-ghost use Rattle.hs_locked.specs.Seats.{IsAt, IsSameSeat, MayTurn, StandsAway, StandsQueued, StandsInside, stand_of};
+ghost use Rattle.hs_ring.specs.Seats.{IsSameSeat};
+ghost use Rattle.hs_locked.specs.Seats.{IsAt, MayTurn, StandsAway, StandsQueued, StandsInside, stand_of};
 
 use crate::board::{Board, Place, TICKETS, TURNS};
 use crate::plays::{LeaveTurn, LookAtTurn, TakeTicket};

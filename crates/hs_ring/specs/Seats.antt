@@ -17,7 +17,7 @@ abbrev pub Place : Type 0
 Place = Seat (Option Contents) View
 
 -- the two are one seat at the same table
-abbrev pub IsSameSeat : Place → Place → Type 0
+abbrev pub IsSameSeat : {T V : Type 0} → Seat T V → Seat T V → Type 0
 IsSameSeat s t = (t.table_id ≡ s.table_id) × (t.id ≡ s.id)
 
 -- the seat is at this table, which has a word for the counts and a word and a slot for each entry

@@ -1,7 +1,8 @@
 use Rattle.std.proofs.Common.{◌≡◌, ◌++◌, length, List}
 use Rattle.hs_ring.specs.Parts.{Drawing, answers_of_all}
+use Rattle.hs_ring.specs.Seats.{IsSameSeat}
 use Rattle.hs_locked.specs.Views.{post_of}
-use Rattle.hs_locked.specs.Seats.{IsSameSeat, IsFree}
+use Rattle.hs_locked.specs.Seats.{IsFree}
 use Rattle.hs_locked.specs.Making.{closed_post}
 use Rattle.hs_locked.proofs.closing.close_drawers.Given as goal
 
