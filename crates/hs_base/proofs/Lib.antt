@@ -1,3 +1,4 @@
 pub mod LateralsLemmas
 pub mod NodeSetLemmas
 pub mod RankLemmas
+pub mod Updates

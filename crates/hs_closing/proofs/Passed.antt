@@ -9,6 +9,7 @@ use Rattle.hs_records.specs.Plain.{PlainWorkload}
 use Rattle.hs_ring.specs.Parts.{Leased}
 use Rattle.hs_words.specs.Buffers.{Buffer}
 use Rattle.hs_actors.specs.Doings.{asks_in, crumbs_in, triggers_in, steps_of}
+use Rattle.hs_base.proofs.Updates.{put, put_here, put_else}
 use Rattle.hs_lawful.specs.Shape.{log_stamps}
 use Rattle.hs_desk.specs.Turns.{Gives}
 use Rattle.hs_desk.specs.Coordinators.{Coordinating}
@@ -16,7 +17,6 @@ use Rattle.hs_desk.specs.Shut.{Shut, AllSent, PassesShut}
 use Rattle.hs_desk.specs.Work.{Work, with_events, is_of}
 use Rattle.hs_closing.specs.Shutting.{AllSents, IsShutAt, TakesItems, PassedAlone, Tells, MayTell, HasTold, CanPass, HasPassed, Stand, Passing}
 use Rattle.hs_desk.proofs.Lists.{same_or_less, found_in, get_other}
-use Rattle.hs_closing.proofs.Telling.{put_at, put_here, put_there}
 
 -- what a pass of this node led to
 abbrev pub Passed : PlainWorkload → AllSent → Work → Shut → Shut → Type 0
@@ -96,16 +96,16 @@ module _ (W : PlainWorkload) (sents : AllSents) (heard : Messages) (begun : ℕ 
 
     module _ (y : Shut) (c2 : Coordinating) (p : HasPassed W n sents heard h.works x c' y c2) where
       works' : ℕ → Work
-      works' = put_at h.works n p.next
+      works' = put h.works n p.next
 
       stands' : (k : ℕ) (z : Shut) → slice_get (set nodes n y) k ≡ Some z → IsShutAt W k sents (works' k) z
       unfolding works'
       stands' k z found =
           elim (found_in nodes n k x y z at found) [
             | inl e ↦
-                subst (λ (i : ℕ). IsShutAt W i sents (put_at h.works n p.next i) z) e.0
-                (subst (λ (v : Shut). IsShutAt W n sents (put_at h.works n p.next n) v) e.1 (subst (λ (w : Work). IsShutAt W n sents w y) (sym (put_here h.works n p.next)) p.stands))
-            | inr e ↦ subst (λ (w : Work). IsShutAt W k sents w z) (sym (put_there h.works n p.next k (λ f. e.0 (sym f)))) (h.stands.each k z e.1)
+                subst (λ (i : ℕ). IsShutAt W i sents (put h.works n p.next i) z) e.0
+                (subst (λ (v : Shut). IsShutAt W n sents (put h.works n p.next n) v) e.1 (subst (λ (w : Work). IsShutAt W n sents w y) (sym (put_here h.works n p.next)) p.stands))
+            | inr e ↦ subst (λ (w : Work). IsShutAt W k sents w z) (sym (put_else h.works n p.next k (λ f. e.0 (sym f)))) (h.stands.each k z e.1)
           ]
 
       passed' : (k : ℕ) (a b : Shut) → k < n + 1 → slice_get old k ≡ Some a → slice_get (set nodes n y) k ≡ Some b → PassedAlone W k sents (begun k) (works' k) a.giver b.giver × (b.said ≡ [])
@@ -116,16 +116,16 @@ module _ (W : PlainWorkload) (sents : AllSents) (heard : Messages) (begun : ℕ 
                 let first = h.others n (omega arith) in
                 let stood : a ≡ x = same_Some a x (sym was ∙ ap (slice_get old) (sym e.0) ∙ sym first.0 ∙ at) in
                 let alone = subst (λ (w : Work). PassedAlone W n sents w p.next x.giver y.giver) first.1 p.alone in
-                let put = subst (λ (w : Work). PassedAlone W n sents (begun n) w x.giver y.giver) (sym (put_here h.works n p.next)) alone in
-                let moved = subst (λ (i : ℕ). PassedAlone W i sents (begun i) (put_at h.works n p.next i) x.giver y.giver) e.0 put in (
-                  subst (λ (z : Shut). PassedAlone W k sents (begun k) (put_at h.works n p.next k) a.giver z.giver) e.1 (subst (λ (z : Shut). PassedAlone W k sents (begun k) (put_at h.works n p.next k) z.giver y.giver) (sym stood) moved),
+                let done = subst (λ (w : Work). PassedAlone W n sents (begun n) w x.giver y.giver) (sym (put_here h.works n p.next)) alone in
+                let moved = subst (λ (i : ℕ). PassedAlone W i sents (begun i) (put h.works n p.next i) x.giver y.giver) e.0 done in (
+                  subst (λ (z : Shut). PassedAlone W k sents (begun k) (put h.works n p.next k) a.giver z.giver) e.1 (subst (λ (z : Shut). PassedAlone W k sents (begun k) (put h.works n p.next k) z.giver y.giver) (sym stood) moved),
                   subst (λ (z : Shut). z.said ≡ []) e.1 p.said,
                 )
             | inr e ↦
                 elim (same_or_less k n (omega (arith, less))) [
                   | inl lower ↦
                       let before = h.passed k a b lower was e.1 in
-                      (subst (λ (w : Work). PassedAlone W k sents (begun k) w a.giver b.giver) (sym (put_there h.works n p.next k (λ f. e.0 (sym f)))) before.0, before.1)
+                      (subst (λ (w : Work). PassedAlone W k sents (begun k) w a.giver b.giver) (sym (put_else h.works n p.next k (λ f. e.0 (sym f)))) before.0, before.1)
                   | inr same ↦ absurd (e.0 (sym same))
                 ]
           ]
@@ -140,8 +140,8 @@ module _ (W : PlainWorkload) (sents : AllSents) (heard : Messages) (begun : ℕ 
             passed = passed';
             others = λ k high.
                 let o = h.others k (omega (arith, high)) in
-                (get_other nodes n k y (λ e. omega (arith, e, high)) ∙ o.0, put_there h.works n p.next k (λ e. omega (arith, e, high)) ∙ o.1);
-            coordinates = p.brought (put_at h.works n p.next) (put_here h.works n p.next) (λ other ne. put_there h.works n p.next other ne);
+                (get_other nodes n k y (λ e. omega (arith, e, high)) ∙ o.0, put_else h.works n p.next k (λ e. omega (arith, e, high)) ∙ o.1);
+            coordinates = p.brought (put h.works n p.next) (put_here h.works n p.next) (λ other ne. put_else h.works n p.next other ne);
           }
 
 -- all that there are

@@ -1,10 +1,11 @@
 -- Messages go from an agent to the coordinator.
-use Rattle.std.proofs.Common.{◌≡◌, inl, inr, ℕ, List, [], ◌∷◌, ◌++◌, cond, eqb, eq-eqb, Bool, refl, sym, ap, subst, ◌∙◌, arith}
+use Rattle.std.proofs.Common.{◌≡◌, inl, inr, ℕ, List, [], ◌∷◌, ◌++◌, refl, sym, ap, subst, ◌∙◌, arith}
 use Rattle.std.specs.List.{AllByRecursion}
-use Rattle.std.proofs.lemmas.Bool.{ne_eqb, cases_eq}
+use Rattle.std.proofs.lemmas.Bool.{cases_eq}
 use Rattle.std.proofs.lemmas.List.{length-append}
 use Rattle.hs_base.specs.declared.told.Ask.{Ask}
 use Rattle.hs_base.specs.declared.told.Told.{Told}
+use Rattle.hs_base.proofs.Updates.{put, put_here, put_else}
 use Rattle.hs_coord.specs.Messages.{Messages}
 use Rattle.hs_records.specs.Plain.{PlainWorkload}
 use Rattle.hs_desk.specs.Agents.{IsTellable}
@@ -13,16 +14,6 @@ use Rattle.hs_desk.specs.Shut.{Shut, IsShut}
 use Rattle.hs_desk.specs.Work.{Work, with_moved}
 use Rattle.hs_rounds.specs.Standing.{moved_by, asked_by}
 use Rattle.hs_closing.specs.Shutting.{AllSents, Tells, HasTold}
-
--- the sequence with this item at the place n
-abbrev pub put_at : {A : Type 0} → (ℕ → A) → ℕ → A → ℕ → A
-put_at f n x k = cond (eqb k n) x (f k)
-
-pub put_here : {A : Type 0} (f : ℕ → A) (n : ℕ) (x : A) → put_at f n x n ≡ x
-put_here f n x = ap (λ (b : Bool). cond b x (f n)) (eq-eqb n n refl)
-
-pub put_there : {A : Type 0} (f : ℕ → A) (n : ℕ) (x : A) (k : ℕ) → (k ≡ n → ⊥) → put_at f n x k ≡ f k
-put_there f n x k ne = ap (λ (b : Bool). cond b x (f k)) (ne_eqb k n ne)
 
 -- two sequences that agree at one place and at all others
 pub all_same : {A : Type 0} (f g : ℕ → A) (n : ℕ) → f n ≡ g n → ((k : ℕ) → (k ≡ n → ⊥) → f k ≡ g k) → (k : ℕ) → f k ≡ g k
@@ -63,15 +54,15 @@ module _ (W : PlainWorkload) (node : ℕ) (sents : AllSents) (work : Work) (hear
 
   -- the coordinator where this was told
   pub told_coordinates : (new : Shut) (after : Coordinating) → (h : HasTold W node sents work heard works old before new after)
-      → IsCoordinating W heard (moved_by (put_at works node h.next)) (asked_by (put_at works node h.next)) after
-  told_coordinates new after h = h.brought (put_at works node h.next) (put_here works node h.next) (λ other ne. put_there works node h.next other ne)
+      → IsCoordinating W heard (moved_by (put works node h.next)) (asked_by (put works node h.next)) after
+  told_coordinates new after h = h.brought (put works node h.next) (put_here works node h.next) (λ other ne. put_else works node h.next other ne)
 
   with_said : List Told → Shut → Shut
   with_said said a = record a { said = said }
 
   pub told_one : (mid : Shut) (between : Coordinating) (told : Told) (new : Shut) (after : Coordinating) → (h : HasTold W node sents work heard works old before mid between)
       → mid ≡ record new { said = told ∷ new.said } → IsShut W (with_moved told h.next) (sents node) new
-      → ((moved' : ℕ → List Told) → IsMoved node told (moved_by (put_at works node h.next)) moved' → IsCoordinating W heard moved' (asked_by (put_at works node h.next)) after)
+      → ((moved' : ℕ → List Told) → IsMoved node told (moved_by (put works node h.next)) moved' → IsCoordinating W heard moved' (asked_by (put works node h.next)) after)
       → after.asks ≡ between.asks → HasTold W node sents work heard works old before new after
   unfolding with_said
   told_one mid between told new after h out shut heard_it asks =
@@ -88,11 +79,11 @@ module _ (W : PlainWorkload) (node : ℕ) (sents : AllSents) (work : Work) (hear
             heard_it (moved_by works')
             (record {
               here = ap (λ (x : Work). x.moved) at ∙ ap (λ (x : Work). x.moved ++ told ∷ []) (sym here);
-              others = λ other ne. ap (λ (x : Work). x.moved) (there other ne ∙ sym (put_there works node h.next other ne));
+              others = λ other ne. ap (λ (x : Work). x.moved) (there other ne ∙ sym (put_else works node h.next other ne));
             }) in
-            coordinates_same W heard (moved_by works') (moved_by works') (asked_by (put_at works node h.next)) (asked_by works') after (λ n. refl)
-            (all_same (asked_by works') (asked_by (put_at works node h.next)) node (ap (λ (x : Work). x.asked) at ∙ ap (λ (x : Work). x.asked) (sym here))
-            (λ other ne. ap (λ (x : Work). x.asked) (there other ne ∙ sym (put_there works node h.next other ne))))
+            coordinates_same W heard (moved_by works') (moved_by works') (asked_by (put works node h.next)) (asked_by works') after (λ n. refl)
+            (all_same (asked_by works') (asked_by (put works node h.next)) node (ap (λ (x : Work). x.asked) at ∙ ap (λ (x : Work). x.asked) (sym here))
+            (λ other ne. ap (λ (x : Work). x.asked) (there other ne ∙ sym (put_else works node h.next other ne))))
             coordinates;
         asks = asks ∙ h.asks;
       }

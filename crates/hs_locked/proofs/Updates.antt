@@ -1,8 +1,9 @@
--- Lists of views with one changed. A function with one value changed has its lemmas in `hs_ring`.
+-- Lists of views with one changed.
 use Rattle.std.proofs.Common.{◌≡◌, ℕ, zero, suc, ◌+◌, List, [], ◌∷◌, ◌++◌, set, sym, ap, arith}
 use mathlib.Core.Option.{some, some-injective, some-ne-none}
 use lib.ListN.{get_elem?}
-pub use Rattle.hs_ring.proofs.Updates.{put, put_cases, put_here, put_else, ap₃}
+pub use Rattle.hs_base.proofs.Updates.{put, put_cases, put_here, put_else}
+pub use Rattle.hs_ring.proofs.Updates.{ap₃}
 use Rattle.hs_locked.specs.Views.{View, left_in, all_left}
 
 -- one view is another

@@ -6,6 +6,7 @@ use mathlib.Core.Option as maybe
 use lib.ListN.{get_elem?}
 use Rattle.atomic_table.specs.Table.{step, gives, stepped, Allows, Splits}
 use Rattle.atomic_table.proofs.Lists.{set_here, set_else}
+use Rattle.hs_base.proofs.Updates.{put, put_cases, put_here, put_else}
 use Rattle.hs_words.specs.Ends.{got_by}
 use Rattle.hs_words.proofs.Deeds.{draw_is_at}
 use Rattle.hs_words.specs.Plans.{Plan}
@@ -13,7 +14,7 @@ use Rattle.hs_words.specs.Spots.{Spot, in_queue, with_drawer, leased}
 use Rattle.hs_ring.specs.Views.{Desk, Hand, nothing, drew, kept, View, drawing, leasing, Has}
 use Rattle.hs_ring.specs.Rule.{Cell, free, drawn, Facts, CellOk, HandOk, SpotOk, DeskOk, Knows, Kept, Ring}
 use Rattle.hs_ring.specs.Steps.{did_collect}
-use Rattle.hs_ring.proofs.Updates.{put, put_cases, put_here, put_else, left_set, left_and}
+use Rattle.hs_ring.proofs.Updates.{left_set, left_and}
 use Rattle.hs_ring.proofs.Spots.{still_with, with_more, with_last, spot_stays}
 use Rattle.hs_ring.proofs.Stays.{Moves, hand_stays, palm_stays, queued_stays, cell_stays, facts_after, post_stays, knows_stays}
 use Rattle.hs_ring.proofs.Counting.{entry_below, reseated, seated_too}

@@ -9,6 +9,7 @@ use Rattle.std.specs.Prelude.{Option}
 use Rattle.atomic_table.specs.Table.{State, Me, step, Act, keeps, takes, stepped, Allows}
 use Rattle.atomic_table.proofs.Lists.{set_here, set_else}
 use Rattle.hs_ring.specs.declared.board.TheConstants.{PUBLISHED}
+use Rattle.hs_base.proofs.Updates.{put, put_cases, put_here, put_else}
 use Rattle.hs_words.specs.Chunks.{Contents, clear_chunk}
 use Rattle.hs_words.specs.PoolHistory.{Got, Empty, is_missed, is_empty}
 use Rattle.hs_words.specs.Ends.{Deed, Answer, got_by, empty_by, events_of, drawn_in, given_in, answer_to, queue_of}
@@ -20,7 +21,7 @@ use Rattle.hs_words.specs.Spots.{Spot, in_queue, with_drawer}
 use Rattle.hs_ring.specs.Views.{Desk, Hand, nothing, drew, View, drawing, desk_after, InHand, Has}
 use Rattle.hs_ring.specs.Rule.{Cell, free, waits, drawn, Facts, published, IsLaid, CellOk, IsLastOf, HandOk, SpotOk, DeskOk, Knows, Kept, Ring}
 use Rattle.hs_ring.specs.Steps.{drawn_of, did_draw}
-use Rattle.hs_ring.proofs.Updates.{ap₃, put, put_cases, put_here, put_else, left_set}
+use Rattle.hs_ring.proofs.Updates.{ap₃, left_set}
 use Rattle.hs_ring.proofs.Spots.{now_with, still_with, spot_stays}
 use Rattle.hs_ring.proofs.Stays.{Moves, answers_stay, hand_stays, palm_stays, cell_stays, facts_after, post_stays, knows_stays}
 use Rattle.hs_ring.proofs.Counting.{at_length, first_there, none_there, at_rest, front_got, line, lap, found_drawn, found_published, found_stamp, one_more_drawn, entry_below, reseated}

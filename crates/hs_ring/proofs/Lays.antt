@@ -11,6 +11,7 @@ use Rattle.std.specs.Prelude.{Option, ◌==◌}
 use Rattle.std.specs.List.{AllByRecursion}
 use Rattle.atomic_table.specs.Table.{Me, step, keeps, takes, stepped, Allows}
 use Rattle.atomic_table.proofs.Lists.{set_here, set_else, exchanged, one_turn}
+use Rattle.hs_base.proofs.Updates.{put, put_cases, put_here, put_else}
 use Rattle.hs_words.specs.Chunks.{Contents}
 use Rattle.hs_words.specs.Ends.{Answer, got_by, drawn_in, unread, answers_in, told_in, SpendsThe, IsUnread}
 use Rattle.hs_words.proofs.Deeds.{all_of, unspent, draw_is_at}
@@ -19,7 +20,7 @@ use Rattle.hs_words.specs.Spots.{in_queue, with_giver, HasLease}
 use Rattle.hs_ring.specs.Views.{drew, Post, Palm, holds, lays, View, giving, post_after, Has}
 use Rattle.hs_ring.specs.Rule.{Cell, free, waits, drawn, laid, Facts, published, IsLaid, CellOk, HandOk, PalmOk, IsSettled, PostOk, Knows, Kept, Ring}
 use Rattle.hs_ring.specs.Steps.{did_lay}
-use Rattle.hs_ring.proofs.Updates.{put, put_cases, put_here, put_else, left_set}
+use Rattle.hs_ring.proofs.Updates.{left_set}
 use Rattle.hs_ring.proofs.Spots.{still_with, spot_stays}
 use Rattle.hs_ring.proofs.Stays.{Moves, is_last, hand_stays, queued_stays, cell_stays, facts_after, knows_stays}
 use Rattle.hs_ring.proofs.Counting.{lap, entry_below, reseated, Goes}

@@ -10,6 +10,7 @@ use Rattle.std.specs.List.{range_with_len}
 use Rattle.atomic_table.specs.Table.{step, keeps, opening, Allows, Splits, Joins}
 use Rattle.atomic_table.proofs.Lists.{at_set, set_else, at_map}
 use Rattle.hs_ring.specs.declared.board.TheConstants.{PUBLISHED}
+use Rattle.hs_base.proofs.Updates.{put, put_here, put_else}
 use Rattle.hs_words.specs.Chunks.{Contents, clear_chunk}
 use Rattle.hs_words.specs.Ends.{Deed, Answer, AreAnswers}
 use Rattle.hs_words.proofs.Deeds.{all_of, no_answers}
@@ -18,7 +19,7 @@ use Rattle.hs_words.specs.Spots.{in_queue}
 use Rattle.hs_ring.specs.Views.{Desk, nothing, Post, Palm, bare, View, nobody, drawing, leasing, giving, drawer_note, giver_note, with_drawer, new_drawer, having_closed, Has}
 use Rattle.hs_ring.specs.Rule.{Cell, free, waits, Facts, CellOk, DeskOk, PostOk, Knows, Kept, Ring, first_post, first_view}
 use Rattle.hs_ring.specs.Steps.{did_look, Over}
-use Rattle.hs_ring.proofs.Updates.{put, put_here, put_else, left_set, left_and}
+use Rattle.hs_ring.proofs.Updates.{left_set, left_and}
 use Rattle.hs_ring.proofs.Counting.{found_drawn, found_published, reseated, seated_too}
 use Rattle.hs_ring.proofs.Spots.{still_with, with_more, spot_stays}
 use Rattle.hs_ring.proofs.Draws.{St, Held}

@@ -11,6 +11,7 @@ use Rattle.std.specs.List.{AllByRecursion}
 use Rattle.atomic_table.specs.Table.{step, keeps, gives, stepped, Allows}
 use Rattle.atomic_table.proofs.Lists.{set_here, set_else}
 use Rattle.hs_ring.specs.declared.board.TheConstants.{PUBLISHED}
+use Rattle.hs_base.proofs.Updates.{put, put_cases, put_here, put_else}
 use Rattle.hs_words.specs.Chunks.{Contents, clear_chunk}
 use Rattle.hs_words.specs.PoolHistory.{Given, Missed, is_missed, is_empty}
 use Rattle.hs_words.specs.Ends.{Deed, Answer, answered, given_of, missed, events_of, drawn_in, given_in, answer_to, answers_in, told_in, queue_of}
@@ -21,7 +22,7 @@ use Rattle.hs_words.specs.Spots.{Spot, in_queue, with_giver}
 use Rattle.hs_ring.specs.Views.{Post, bare, lays, retakes, View, giving, post_after, Has}
 use Rattle.hs_ring.specs.Rule.{Cell, free, waits, laid, Facts, published, IsLaid, CellOk, PalmOk, SpotOk, PostOk, Knows, Kept, Ring}
 use Rattle.hs_ring.specs.Steps.{published_of, did_publish}
-use Rattle.hs_ring.proofs.Updates.{put, put_cases, put_here, put_else, left_set}
+use Rattle.hs_ring.proofs.Updates.{left_set}
 use Rattle.hs_ring.proofs.Spots.{still_with, spot_stays}
 use Rattle.hs_ring.proofs.Stays.{Moves, lease_stays, hand_stays, queued_stays, all_settled, cell_stays, facts_after, knows_stays}
 use Rattle.hs_ring.proofs.Counting.{at_length, at_end, none_there, line, found_drawn, found_published, found_stamp, one_more_published, entry_below, reseated}

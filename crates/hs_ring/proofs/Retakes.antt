@@ -7,6 +7,7 @@ use lib.ListN.{get_elem?}
 use Rattle.std.specs.Prelude.{Option}
 use Rattle.atomic_table.specs.Table.{step, gives, stepped, Allows}
 use Rattle.atomic_table.proofs.Lists.{set_here, set_else}
+use Rattle.hs_base.proofs.Updates.{put, put_cases, put_else}
 use Rattle.hs_words.specs.Chunks.{Contents}
 use Rattle.hs_words.specs.Ends.{answers_in}
 use Rattle.hs_words.specs.Plans.{Plan}
@@ -14,7 +15,7 @@ use Rattle.hs_words.specs.Spots.{in_queue}
 use Rattle.hs_ring.specs.Views.{Post, holds, retakes, View, giving, Has}
 use Rattle.hs_ring.specs.Rule.{Cell, free, laid, Facts, published, IsLaid, CellOk, PalmOk, PostOk, Knows, Kept, Ring}
 use Rattle.hs_ring.specs.Steps.{did_retake}
-use Rattle.hs_ring.proofs.Updates.{put, put_cases, put_else, left_set}
+use Rattle.hs_ring.proofs.Updates.{left_set}
 use Rattle.hs_ring.proofs.Spots.{still_with, spot_stays}
 use Rattle.hs_ring.proofs.Stays.{Moves, hand_stays, queued_stays, cell_stays, facts_after, knows_stays}
 use Rattle.hs_ring.proofs.Counting.{entry_below, reseated}

@@ -1,24 +1,12 @@
--- A sequence with one item written, and the trace of a round more.
-use Rattle.std.proofs.Common.{◌≡◌, ◌⊎◌, inl, inr, ℕ, zero, suc, ◌<◌, Bool, cond, eqb, eq-eqb, refl, sym, ap, subst, ◌∙◌, arith}
-use Rattle.std.proofs.lemmas.Bool.{ne_eqb}
+-- The trace of a round more.
+use Rattle.std.proofs.Common.{◌≡◌, ◌⊎◌, inl, inr, ℕ, zero, suc, ◌<◌, refl, sym, ap, subst, ◌∙◌, arith}
+use Rattle.hs_base.proofs.Updates.{put, put_here, put_else}
 use Rattle.hs_records.specs.Plain.{PlainWorkload}
 use Rattle.hs_rounds.specs.Standing.{Moment, IsBegun}
 use Rattle.hs_rounds.specs.Acting.{Acts}
 use Rattle.hs_rounds.specs.Meeting.{AllMeet}
 use Rattle.hs_rounds.specs.Moving.{Moves}
 use Rattle.hs_rounds.specs.Coming.{Came, NoRoundsCome, RoundsGoOn, RoundsKeepWhatCame}
-
--- the sequence with this item at the place n
-put_at : {A : Type 0} → (ℕ → A) → ℕ → A → ℕ → A
-put_at f n x k = cond (eqb k n) x (f k)
-
-put_here : {A : Type 0} (f : ℕ → A) (n : ℕ) (x : A) → put_at f n x n ≡ x
-unfolding put_at
-put_here f n x = ap (λ (b : Bool). cond b x (f n)) (eq-eqb n n refl)
-
-put_there : {A : Type 0} (f : ℕ → A) (n : ℕ) (x : A) (k : ℕ) → (k ≡ n → ⊥) → put_at f n x k ≡ f k
-unfolding put_at
-put_there f n x k ne = ap (λ (b : Bool). cond b x (f k)) (ne_eqb k n ne)
 
 same_or_less : (k n : ℕ) → k < suc n → (k < n) ⊎ (k ≡ n)
 same_or_less zero zero low = inr refl
@@ -32,7 +20,7 @@ no_rounds_come W m begun =
 
 module _ (W : PlainWorkload) (rounds : ℕ) (m acted met m' : Moment) (came : Came W rounds m) where
   at : ℕ → Moment
-  at = put_at came.at (suc rounds) m'
+  at = put came.at (suc rounds) m'
 
   at_new : at (suc rounds) ≡ m'
   unfolding at
@@ -40,27 +28,27 @@ module _ (W : PlainWorkload) (rounds : ℕ) (m acted met m' : Moment) (came : Ca
 
   at_old : (k : ℕ) → k < suc rounds → at k ≡ came.at k
   unfolding at
-  at_old k low = put_there came.at (suc rounds) m' k (λ e. omega (arith, e, low))
+  at_old k low = put_else came.at (suc rounds) m' k (λ e. omega (arith, e, low))
 
   at_end : at rounds ≡ m
   at_end = at_old rounds (omega arith) ∙ came.last
 
   acted_at : ℕ → Moment
-  acted_at = put_at came.acted rounds acted
+  acted_at = put came.acted rounds acted
 
   met_at : ℕ → Moment
-  met_at = put_at came.met rounds met
+  met_at = put came.met rounds met
 
   acts : Acts W m acted → (k : ℕ) → k < suc rounds → Acts W (at k) (acted_at k)
   unfolding acted_at
   acts new k low =
       elim (same_or_less k rounds low) [
         | inl less ↦
-            subst (λ (a : Moment). Acts W a (put_at came.acted rounds acted k)) (sym (at_old k low))
-            (subst (Acts W (came.at k)) (sym (put_there came.acted rounds acted k (λ e. omega (arith, e, less)))) (came.acts k less))
+            subst (λ (a : Moment). Acts W a (put came.acted rounds acted k)) (sym (at_old k low))
+            (subst (Acts W (came.at k)) (sym (put_else came.acted rounds acted k (λ e. omega (arith, e, less)))) (came.acts k less))
         | inr same ↦
-            subst (λ (n : ℕ). Acts W (at n) (put_at came.acted rounds acted n)) (sym same)
-            (subst (λ (a : Moment). Acts W a (put_at came.acted rounds acted rounds)) (sym at_end)
+            subst (λ (n : ℕ). Acts W (at n) (put came.acted rounds acted n)) (sym same)
+            (subst (λ (a : Moment). Acts W a (put came.acted rounds acted rounds)) (sym at_end)
             (subst (Acts W m) (sym (put_here came.acted rounds acted)) new))
       ]
 
@@ -69,11 +57,11 @@ module _ (W : PlainWorkload) (rounds : ℕ) (m acted met m' : Moment) (came : Ca
   meets new k low =
       elim (same_or_less k rounds low) [
         | inl less ↦
-            subst (λ (a : Moment). AllMeet W a (put_at came.met rounds met k)) (sym (put_there came.acted rounds acted k (λ e. omega (arith, e, less))))
-            (subst (AllMeet W (came.acted k)) (sym (put_there came.met rounds met k (λ e. omega (arith, e, less)))) (came.meets k less))
+            subst (λ (a : Moment). AllMeet W a (put came.met rounds met k)) (sym (put_else came.acted rounds acted k (λ e. omega (arith, e, less))))
+            (subst (AllMeet W (came.acted k)) (sym (put_else came.met rounds met k (λ e. omega (arith, e, less)))) (came.meets k less))
         | inr same ↦
-            subst (λ (n : ℕ). AllMeet W (put_at came.acted rounds acted n) (put_at came.met rounds met n)) (sym same)
-            (subst (λ (a : Moment). AllMeet W a (put_at came.met rounds met rounds)) (sym (put_here came.acted rounds acted))
+            subst (λ (n : ℕ). AllMeet W (put came.acted rounds acted n) (put came.met rounds met n)) (sym same)
+            (subst (λ (a : Moment). AllMeet W a (put came.met rounds met rounds)) (sym (put_here came.acted rounds acted))
             (subst (AllMeet W acted) (sym (put_here came.met rounds met)) new))
       ]
 
@@ -82,10 +70,10 @@ module _ (W : PlainWorkload) (rounds : ℕ) (m acted met m' : Moment) (came : Ca
   moves new k low =
       elim (same_or_less k rounds low) [
         | inl less ↦
-            subst (λ (a : Moment). Moves W a (at (suc k))) (sym (put_there came.met rounds met k (λ e. omega (arith, e, less))))
+            subst (λ (a : Moment). Moves W a (at (suc k))) (sym (put_else came.met rounds met k (λ e. omega (arith, e, less))))
             (subst (Moves W (came.met k)) (sym (at_old (suc k) (omega (arith, less)))) (came.moves k less))
         | inr same ↦
-            subst (λ (n : ℕ). Moves W (put_at came.met rounds met n) (at (suc n))) (sym same)
+            subst (λ (n : ℕ). Moves W (put came.met rounds met n) (at (suc n))) (sym same)
             (subst (λ (a : Moment). Moves W a (at (suc rounds))) (sym (put_here came.met rounds met))
             (subst (Moves W met) (sym at_new) new))
       ]

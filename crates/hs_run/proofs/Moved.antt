@@ -2,6 +2,7 @@
 use Rattle.std.proofs.Common.{◌≡◌, inl, inr, ℕ, ◌+◌, ◌<◌, ◌≤◌, List, [], set, length, Some, refl, sym, ap, subst, ◌∙◌, arith, slice_get}
 use Rattle.std.proofs.lemmas.Bool.{cases_eq}
 use Rattle.std.proofs.lemmas.List.{length-map}
+use Rattle.hs_base.proofs.Updates.{put, put_here, put_else}
 use Rattle.hs_coord.specs.declared.asks.Asks.{Asks}
 use Rattle.hs_records.specs.Plain.{PlainWorkload}
 use Rattle.hs_desk.specs.Coordinators.{Coordinating, IsCoordinating, asked_all}
@@ -17,7 +18,7 @@ use Rattle.hs_run.specs.Nodes.{sites_of}
 use Rattle.hs_run.proofs.Changed.{first_none, first_more, first_all}
 use Rattle.hs_desk.proofs.Lists.{same_or_less, found_in, got, within}
 use Rattle.hs_run.proofs.Moments.{node_count, node_stands, coordinates, node_there}
-use Rattle.hs_run.proofs.Telling.{put_at, put_here, put_there, told_coordinates, site_with}
+use Rattle.hs_run.proofs.Telling.{told_coordinates, site_with}
 
 -- ---- messages
 
@@ -39,7 +40,7 @@ tells_at W m n before nodes c h x at low = record { low = low; manned = (h.stand
 module _ (W : PlainWorkload) (m : Moment) (n : ℕ) (before nodes : List Node) (c c' : Coordinating) (x y : Node) (h : Telling W m n before nodes c) (at : slice_get nodes n ≡ Some x)
     (told : HasTold W n (h.works n) m.heard h.works x.site.agent c y.site.agent c') (callers : y.site.callers ≡ x.site.callers) (none : y.site.agent.said ≡ []) where
   works : ℕ → Work
-  works = put_at h.works n told.next
+  works = put h.works n told.next
 
   port : y.site.agent.port ≡ x.site.agent.port
   port = ap (λ (a : Manned). a.port) told.only
@@ -51,10 +52,10 @@ module _ (W : PlainWorkload) (m : Moment) (n : ℕ) (before nodes : List Node) (
         | inl e ↦
             let a = h.same n in
             let b = told.same in
-            subst (λ (i : ℕ). IsSameDoing (m.works i) (put_at h.works n told.next i)) (sym e)
+            subst (λ (i : ℕ). IsSameDoing (m.works i) (put h.works n told.next i)) (sym e)
             (subst (IsSameDoing (m.works n)) (sym (put_here h.works n told.next))
             (record { node = b.node ∙ a.node; pool = b.pool ∙ a.pool; events = b.events ∙ a.events; came = b.came ∙ a.came }))
-        | inr ne ↦ subst (IsSameDoing (m.works k)) (sym (put_there h.works n told.next k ne)) (h.same k)
+        | inr ne ↦ subst (IsSameDoing (m.works k)) (sym (put_else h.works n told.next k ne)) (h.same k)
       ]
 
   stands_here : SiteStands W n (works n) y.site
@@ -68,8 +69,8 @@ module _ (W : PlainWorkload) (m : Moment) (n : ℕ) (before nodes : List Node) (
   stands k z found =
       elim (found_in nodes n k x y z at found) [
         | inl e ↦
-            subst (λ (i : ℕ). SiteStands W i (put_at h.works n told.next i) z.site) e.0 (subst (λ (v : Node). SiteStands W n (put_at h.works n told.next n) v.site) e.1 stands_here)
-        | inr e ↦ subst (λ (w : Work). SiteStands W k w z.site) (sym (put_there h.works n told.next k (λ f. e.0 (sym f)))) (h.stands.each k z e.1)
+            subst (λ (i : ℕ). SiteStands W i (put h.works n told.next i) z.site) e.0 (subst (λ (v : Node). SiteStands W n (put h.works n told.next n) v.site) e.1 stands_here)
+        | inr e ↦ subst (λ (w : Work). SiteStands W k w z.site) (sym (put_else h.works n told.next k (λ f. e.0 (sym f)))) (h.stands.each k z e.1)
       ]
 
   pub telling_more : Telling W m (n + 1) before (set nodes n y) c'

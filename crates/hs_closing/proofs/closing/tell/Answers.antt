@@ -1,8 +1,9 @@
 use Rattle.std.proofs.Common.{◌<◌, length, ap, ◌∙◌, sym, subst, arith}
+use Rattle.hs_base.proofs.Updates.{put}
 use Rattle.hs_desk.specs.Shut.{Shut}
 use Rattle.hs_rounds.specs.Standing.{moved_by, asked_by}
 use Rattle.hs_closing.specs.Shutting.{HasTold}
-use Rattle.hs_closing.proofs.Telling.{put_at, told_none, told_one, told_coordinates}
+use Rattle.hs_closing.proofs.Telling.{told_none, told_one, told_coordinates}
 use Rattle.hs_closing.proofs.closing.tell.Goals as goal
 
 pub messages-init : goal.messages-init
@@ -15,7 +16,7 @@ messages-preserved c = λ W sents work heard works t.
     let told = c.in-Some.ensures.shut W h.next (sents n) h.stands.is in
     let before = told_coordinates W n sents work heard works c.args.node.now c.args.coordinator.now c.messages.node c.messages.coordinator h in
     told_one W n sents work heard works c.args.node.now c.args.coordinator.now c.messages.node c.messages.coordinator c.in-Some.told c.tell.new.self c.hear.new.self h c.in-Some.ensures.some told.1
-    (c.in_ok-hear.ensures.stands W heard (moved_by (put_at works n h.next)) (asked_by (put_at works n h.next)) before told.0) c.in_ok-hear.ensures.only.1
+    (c.in_ok-hear.ensures.stands W heard (moved_by (put works n h.next)) (asked_by (put works n h.next)) before told.0) c.in_ok-hear.ensures.only.1
 
 pub messages-smaller : goal.messages-smaller
 messages-smaller c =

@@ -1,8 +1,9 @@
 use Rattle.std.proofs.Common.{◌<◌, length, ap, ◌∙◌, sym, subst, arith}
+use Rattle.hs_base.proofs.Updates.{put}
 use Rattle.hs_desk.specs.Manned.{Manned}
 use Rattle.hs_rounds.specs.Standing.{moved_by, asked_by}
 use Rattle.hs_run.specs.Movings.{HasTold}
-use Rattle.hs_run.proofs.Telling.{put_at, told_none, told_one, told_coordinates}
+use Rattle.hs_run.proofs.Telling.{told_none, told_one, told_coordinates}
 use Rattle.hs_run.proofs.meeting.tell.Goals as goal
 
 pub messages-init : goal.messages-init
@@ -15,7 +16,7 @@ messages-preserved c = λ W work heard works t.
     let told = c.in-Some.ensures.manned W h.next h.manned in
     let before = told_coordinates W n work heard works c.args.agent.now c.args.coordinator.now c.messages.agent c.messages.coordinator h in
     told_one W n work heard works c.args.agent.now c.args.coordinator.now c.messages.agent c.messages.coordinator c.in-Some.told c.tell.new.self c.hear.new.self t.is h c.in-Some.ensures.some told.1
-    (λ moved' here there. c.in_ok-hear.ensures.stands W heard (moved_by (put_at works n h.next)) (asked_by (put_at works n h.next)) before told.0 moved' (record { here = here; others = there }))
+    (λ moved' here there. c.in_ok-hear.ensures.stands W heard (moved_by (put works n h.next)) (asked_by (put works n h.next)) before told.0 moved' (record { here = here; others = there }))
     c.in_ok-hear.ensures.only.0 c.in_ok-hear.ensures.only.1
 
 pub messages-smaller : goal.messages-smaller
