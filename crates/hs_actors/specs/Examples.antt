@@ -3,11 +3,11 @@ use Rattle.std.specs.Prelude.{◌≡◌, ℕ, ◌≤◌, List, [], ◌∷◌, le
 use Rattle.std.specs.List.{AllByRecursion}
 use Rattle.std.proofs.Common.{lit<, lit≤}
 use Rattle.hs_base.specs.declared.limits.TheConstants.{MAX_TAKEN}
+use Rattle.hs_base.specs.Samples.{t}
 use Rattle.hs_journal.specs.declared.journal.Draw.TheVariants.{Got}
 use Rattle.hs_journal.specs.declared.journal.Step.TheVariants as steps
 use Rattle.hs_model.specs.Stepping.{Chunk, Turn, Event, Took}
 use Rattle.hs_sent.specs.Drawn.{DrawnPage}
-use Rattle.hs_sent.specs.Samples.{t}
 use Rattle.hs_words.specs.Pages.{Sheet}
 use Rattle.hs_lawful.specs.Following.{Queue, Chunks, Crumbs, Triggers, Asks, followed}
 use Rattle.hs_lawful.specs.Journals.{of_one_point}

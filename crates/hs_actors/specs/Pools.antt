@@ -12,7 +12,7 @@ use Rattle.hs_model.specs.State.{GivenPlace}
 use Rattle.hs_records.specs.Plain.{PlainWorkload}
 use Rattle.hs_sent.specs.Drawn.{DrawnPage}
 use Rattle.hs_sent.specs.Sending.{client_sends, draws_at, place_of}
-use Rattle.hs_words.specs.Ends.{Deed, Answer, events_of, answers_by, is_any_given, EachSpends, got_by, empty_by, given_of, missed}
+use Rattle.hs_words.specs.Ends.{Deed, Answer, events_of, answers_by, is_any_given, EachSpends, four_deeds}
 use Rattle.hs_words.specs.PoolHistory.{Got, Empty, Given, Missed, is_missed, IsHistoryBack}
 use Rattle.hs_lawful.specs.Following.{NodeRun}
 use Rattle.hs_lawful.specs.Pooled.{given_page}
@@ -74,10 +74,6 @@ nothing_to_give = refl
 
 one_miss : (miss_in (steps.Missed 4) ≡ Some (record { stamp = 4; event = Missed; draw = 0 })) × (miss_in (steps.Given 4) ≡ None) × (miss_in steps.Turn ≡ None)
 one_miss = (refl, refl, refl)
-
--- two drawers and a giver: one buffer is got, is not there, is missed and is given
-abbrev four_deeds : List Deed
-four_deeds = given_of 0 0 ∷ missed ∷ empty_by 2 ∷ got_by 1 0 ∷ []
 
 by_end : (map (λ (a : Answer). a.stamp) (answers_to 0 four_deeds) ≡ 2 ∷ 3 ∷ []) × (map (λ (a : Answer). a.stamp) (answers_to 1 four_deeds) ≡ 0 ∷ []) × (map (λ (a : Answer). a.stamp) (answers_to 2 four_deeds) ≡ 1 ∷ [])
 by_end = (refl, refl, refl)

@@ -1,15 +1,12 @@
 -- The four kinds over short lists of samples, the latest first.
 use Rattle.std.specs.Prelude.{◌≡◌, ℕ, List, [], ◌∷◌, Bool, true, false, refl}
-use Rattle.hs_base.specs.declared.ids.TraceId.{TraceId}
 use Rattle.hs_base.specs.declared.settings.AutoRule.{AutoRule}
 use Rattle.hs_base.specs.declared.settings.AutoRule.TheVariants.{Exception, Percentile, Category, Queue}
+use Rattle.hs_base.specs.Samples.{t as trace}
 use Rattle.hs_auto.specs.declared.sampled.Sampled.TheVariants.{Quiet, Fired}
 use Rattle.hs_auto.specs.Firing.{Sample, fires, laterals_after, distinct, sampled}
 
--- the trace of this id, and a sample of this value and trace
-abbrev trace : ℕ → TraceId
-trace id = record { 0 = id }
-
+-- a sample of this value and trace
 abbrev of : ℕ → ℕ → Sample
 of value id = record { value = value; trace = trace id }
 

@@ -9,3 +9,4 @@ pub mod Ranks
 pub mod Rules
 pub mod Outside
 pub mod InMemory
+pub mod Samples

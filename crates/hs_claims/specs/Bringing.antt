@@ -4,8 +4,9 @@ use Rattle.std.specs.Prelude.{◌≡◌, ℕ, Bool, true, false, ◌==◌, List,
 use Rattle.std.specs.List.{AllByRecursion}
 use Rattle.hs_base.specs.declared.ids.TraceId.{TraceId}
 use Rattle.hs_base.specs.declared.told.Told.{Told}
+use Rattle.hs_base.specs.Samples.{one_rule, t}
 use Rattle.hs_records.specs.Plain.{PlainSettings}
-use Rattle.hs_model.specs.Samples.{settings_with, one_rule, t, chunk, crumb, trigger, asked, group}
+use Rattle.hs_model.specs.Samples.{settings_with, chunk, crumb, trigger, asked, group}
 use Rattle.hs_model.specs.State.{AgentState, ClaimedTrace}
 use Rattle.hs_model.specs.Stepping.{Chunk, Crumbed, Triggered, Asked, Turn, Event, Took, Gave, after_event, after}
 

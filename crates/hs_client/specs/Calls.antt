@@ -6,6 +6,7 @@ use Rattle.std.specs.Option.{option_to_list}
 use Rattle.std.specs.List.{flat_map}
 use Rattle.hs_base.specs.declared.ids.TraceId.{TraceId}
 use Rattle.hs_base.specs.declared.ids.ClientId.{ClientId}
+use Rattle.hs_base.specs.Samples.{owner}
 use Rattle.hs_records.specs.Records.{Piece, Segment}
 use Rattle.hs_records.specs.Pages.{PlainPage, segment_pages, first_record}
 use Rattle.hs_journal.specs.declared.journal.Draw.{Draw}
@@ -150,16 +151,13 @@ pub record IsBook {L : Type 0} (new : Core L) (steps : List (Step L)) : Type 0 w
 
 -- ---- examples, at the least size: a page has room for costs of 40
 
-abbrev t1 : TraceId
+abbrev pub t1 : TraceId
 t1 = record { 0 = 1 }
 
 abbrev t2 : TraceId
 t2 = record { 0 = 2 }
 
-abbrev owner : ClientId
-owner = record { node = 0; number = 0 }
-
-abbrev clear : ℕ → Buffer ℕ
+abbrev pub clear : ℕ → Buffer ℕ
 clear number = record { chunk = clear_chunk 64 number; lease = 7 }
 
 -- A record of 30 bytes, which fills a page, a record of one byte on a null page, which a last record joins; the last
@@ -168,7 +166,7 @@ abbrev three_records : List (Step ℕ)
 three_records =
     Ended_ ∷ Wrote 7 (8 ∷ []) false ∷ Supplied None 1 6 (9 ∷ []) false ∷ Needed 1 ∷ Supplied (Some (clear 0)) 0 5 (replicate 30 9) false ∷ Needed 30 ∷ Began t1 ∷ []
 
-abbrev new_64 : Core ℕ
+abbrev pub new_64 : Core ℕ
 new_64 = new_core owner 64 9
 
 three_are_finished : next_number three_records ≡ 3

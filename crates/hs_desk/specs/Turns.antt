@@ -2,10 +2,11 @@
 -- give answers with the buffer that was first in the hand, and with the draw that made its lease.
 use Rattle.std.specs.Prelude.{◌≡◌, ℕ, ◌≤◌, Bool, true, false, List, [], ◌∷◌, ◌++◌, map, slice_get, Some, refl}
 use Rattle.std.specs.List.{AllByRecursion}
+use Rattle.hs_base.specs.Samples.{one_rule}
 use Rattle.hs_model.specs.State.{AgentState}
 use Rattle.hs_model.specs.Stepping as model
 use Rattle.hs_model.specs.Stepping.{Input, Answered, Event, Took, Gave, after}
-use Rattle.hs_model.specs.Samples.{settings_with, one_rule}
+use Rattle.hs_model.specs.Samples.{settings_with}
 use Rattle.hs_records.specs.Plain.{PlainSettings}
 use Rattle.hs_ring.specs.Parts.{Leased, Giving}
 use Rattle.hs_words.specs.Buffers.{Buffer}

@@ -1,8 +1,9 @@
 -- A giver's turns beside the events of its agent: each offer is one turn that is no meeting, in the same order, and meetings stand
 -- anywhere among them. What is given is the buffer in which the first chunk of the hand came, for the draw that its lease names.
 use Rattle.std.specs.Prelude.{◌≡◌, ℕ, List, [], ◌∷◌, ◌++◌, slice_get, Some, refl}
+use Rattle.hs_base.specs.Samples.{one_rule}
 use Rattle.hs_model.specs.State.{AgentState}
-use Rattle.hs_model.specs.Samples.{settings_with, one_rule}
+use Rattle.hs_model.specs.Samples.{settings_with}
 use Rattle.hs_model.specs.Stepping.{Input, Answered, Given, Missed, Unread, Event, Took, Gave, after}
 use Rattle.hs_model.specs.Stepping as model
 use Rattle.hs_records.specs.Plain.{PlainSettings}

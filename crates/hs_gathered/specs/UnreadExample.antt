@@ -8,10 +8,11 @@ use Rattle.hs_journal.specs.declared.journal.Step.TheVariants as steps
 use Rattle.hs_journal.specs.Views.{PlainJournal}
 use Rattle.hs_model.specs.Stepping.{Chunk, Turn as Turned, Given, Missed, Unread, Event, Took, Gave}
 use Rattle.hs_records.specs.Plain.{Point, End, PlainWorkload}
-use Rattle.hs_sent.specs.Samples.{t, settings, on_nodes, workload, begin, segment}
+use Rattle.hs_sent.specs.Samples.{settings, on_nodes, workload, begin, segment}
 use Rattle.hs_words.specs.Pages.{Sheet}
 use Rattle.hs_lawful.specs.Lawful.{first_unlawful}
 use Rattle.hs_actors.specs.Doings.{NodeDoings, Doings, journal_of}
+use Rattle.hs_base.specs.Samples.{t}
 
 abbrev W : PlainWorkload
 W =

@@ -6,6 +6,7 @@ use Rattle.std.specs.Prelude.{◌≡◌, ◌⊎◌, ℕ, suc, ◌≤◌, List, [
 use Rattle.std.specs.List.{AllByRecursion}
 use Rattle.std.specs.Option.{option_and_then}
 use Rattle.hs_base.specs.declared.told.Group.{Group}
+use Rattle.hs_base.specs.Samples.{twice}
 use Rattle.hs_journal.specs.Views.{PlainJournal}
 use Rattle.hs_model.specs.Abandoning.{pinned_groups, next_to_go, abandon_group}
 use Rattle.hs_model.specs.Laws.{Abandons, Remains, Leaves}
@@ -16,7 +17,7 @@ use Rattle.hs_records.specs.Plain.{PlainSettings, PlainWorkload}
 use Rattle.hs_lawful.specs.Following.{NodeRun, followed}
 use Rattle.hs_lawful.specs.Journals.{of_short_of_pins}
 use Rattle.hs_lawful.specs.Played.{state_behind}
-use Rattle.hs_lawful.specs.Workloads.{short_of_pins, twice}
+use Rattle.hs_lawful.specs.Workloads.{short_of_pins}
 
 -- One event, from the state before it to the state behind it.
 pub record AbandonsTheLeast (settings : PlainSettings) (node : ℕ) (before : AgentState) (event : Event) (behind : AgentState) : Type 0 where

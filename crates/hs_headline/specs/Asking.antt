@@ -4,9 +4,8 @@ use Rattle.std.specs.Prelude.{◌≡◌, ℕ, count_by, if◌then◌else◌, ref
 use Rattle.hs_base.specs.declared.ids.GroupId.{GroupId}
 use Rattle.hs_base.specs.declared.told.Ask.{Ask}
 use Rattle.hs_coord.specs.Following.{Messages, same_group, has_ask}
-use Rattle.hs_lawful.specs.Following.{asks_to, followed}
-use Rattle.hs_lawful.specs.Journals.{of_four_nodes}
-use Rattle.hs_lawful.specs.Workloads.{four_nodes}
+use Rattle.hs_lawful.specs.Following.{asks_to}
+use Rattle.hs_orderly.specs.Speaking.{first_group, four_heard}
 
 -- how many asks for the group were sent to a node
 abbrev pub asks_for : GroupId → ℕ → Messages → ℕ
@@ -18,12 +17,5 @@ NobodyIsAskedTwice = (heard : Messages) (group : GroupId) (node : ℕ) → asks_
 
 -- ---- examples
 
--- the first group of node 0, whose crumbs lead to node 1 and from there to node 2 and back
-abbrev first_group : GroupId
-first_group = record { node = 0; number = 0 }
-
-abbrev heard : Messages
-heard = (followed four_nodes of_four_nodes).heard
-
-two_are_asked_once : (asks_for first_group 1 heard ≡ 1) × (asks_for first_group 2 heard ≡ 1) × (asks_for first_group 0 heard ≡ 0) × (asks_for first_group 3 heard ≡ 0)
+two_are_asked_once : (asks_for first_group 1 four_heard ≡ 1) × (asks_for first_group 2 four_heard ≡ 1) × (asks_for first_group 0 four_heard ≡ 0) × (asks_for first_group 3 four_heard ≡ 0)
 two_are_asked_once = (refl, refl, refl, refl)

@@ -6,6 +6,7 @@ use Rattle.std.specs.List.{AllByRecursion, list_any, range_with_len}
 use Rattle.hs_base.specs.declared.ids.GroupId.{GroupId}
 use Rattle.hs_base.specs.declared.ids.TraceId.{TraceId}
 use Rattle.hs_base.specs.Ids.{same_trace}
+use Rattle.hs_base.specs.Samples.{golden, twice}
 use Rattle.hs_collect.specs.Collected.{Placed, pieces_of, AreWholes, KeepsRuns}
 use Rattle.hs_coord.specs.Following.{Messages, is_of, is_asked, is_answer_from, is_answered, has_ask}
 use Rattle.hs_journal.specs.Books.{PlainAgentBook}
@@ -24,7 +25,7 @@ use Rattle.hs_lawful.specs.Following.{NodeRun, log_at, followed}
 use Rattle.hs_lawful.specs.Journals.{of_short_of_pins, of_three_traces}
 use Rattle.hs_lawful.specs.Lawful.{IsLawful}
 use Rattle.hs_lawful.specs.Pooled.{pool_history}
-use Rattle.hs_lawful.specs.Workloads.{short_of_pins, three_traces, golden, twice}
+use Rattle.hs_lawful.specs.Workloads.{short_of_pins, three_traces}
 use Rattle.hs_outcome.specs.Causes.{KeepsItsModel, GaveWhatWasLetGo, KeepsItsClaims}
 use Rattle.hs_outcome.specs.ClientBooks.{ClientBooksFit}
 use Rattle.hs_outcome.specs.CollectedReports.{HasAllItsPages, IsClientsPage, reported_wholes}

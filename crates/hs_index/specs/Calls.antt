@@ -6,6 +6,7 @@ use Rattle.hs_base.specs.declared.ids.TraceId.{TraceId}
 use Rattle.hs_base.specs.declared.ids.NodeId.{NodeId}
 use Rattle.hs_base.specs.NodeSets.{has_node}
 use Rattle.hs_base.specs.Ids.{same_trace}
+use Rattle.hs_base.specs.Samples.{t}
 use Rattle.hs_words.specs.Chunks.{clear_chunk, with_page}
 use Rattle.hs_index.specs.Index.{Indexed, Index, new_index, is_of, noted_of, is_over, trace_of, arrived, crumbed, claimed, settled, going, leaving}
 use Rattle.hs_words.specs.Buffers.{Buffer}
@@ -96,9 +97,6 @@ pub record IsLongestEnd {L : Type 0} (threshold most : ℕ) (touched stay : List
   pub longest : (front back : List (Indexed L)) → touched ≡ front ++ back → is_over threshold most back ≡ false → length back ≤ length stay
 
 -- ---- examples
-
-abbrev t : ℕ → TraceId
-t n = record { 0 = n }
 
 -- a chunk with a page of the trace
 abbrev b : ℕ → ℕ → Buffer ℕ

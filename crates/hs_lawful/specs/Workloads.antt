@@ -1,12 +1,8 @@
 -- For the worked examples: small workloads. Pages have 64 bytes, and a page with one point of one byte has 35 used bytes.
 use Rattle.std.specs.Prelude.{ℕ, List, [], ◌∷◌, ◌++◌, replicate}
-use Rattle.hs_base.specs.declared.settings.TriggerRule.{TriggerRule}
+use Rattle.hs_base.specs.Samples.{rule, one_rule, golden, twice}
 use Rattle.hs_records.specs.Plain.{Operation, Point, End, PlainWorkload}
-use Rattle.hs_sent.specs.Samples.{rule, settings, on_nodes, workload, begin, point, crumb, fire, segment}
-
--- the id 1, of which ten triggers are admitted
-abbrev pub one_rule : List TriggerRule
-one_rule = rule 1 10 0 ∷ []
+use Rattle.hs_sent.specs.Samples.{settings, on_nodes, workload, begin, point, crumb, fire, segment}
 
 -- nothing to do
 abbrev pub nothing : PlainWorkload
@@ -45,12 +41,6 @@ abbrev pub one_token : PlainWorkload
 one_token = workload (settings 4 4 8 4 16 (rule 1 1 1 ∷ [])) ((segment 1 1 ++ segment 2 2 ++ segment 3 3 ++ fire 0 1 1 ∷ fire 999999 1 2 ∷ fire 1000000 1 3 ∷ []) ∷ [])
 
 -- two nodes that may pin two chunks each; each has three traces and triggers them, in opposite orders
-abbrev pub golden : ℕ
-golden = 0x9e3779b97f4a7c15
-
-abbrev pub twice : ℕ
-twice = 0x3c6ef372fe94f82a
-
 abbrev three_segments : List Operation
 three_segments = segment 0 1 ++ segment golden 2 ++ segment twice 3
 

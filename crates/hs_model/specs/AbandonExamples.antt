@@ -3,6 +3,7 @@ use Rattle.std.specs.Prelude.{◌≡◌, ℕ, List, [], ◌∷◌, map, Some, No
 use Rattle.hs_base.specs.declared.told.Fate.TheVariants as fates
 use Rattle.hs_base.specs.declared.told.Told.{Told}
 use Rattle.hs_base.specs.declared.told.Why.TheVariants.{Fired}
+use Rattle.hs_base.specs.Samples.{one_rule, t, golden as g, twice as g2}
 use Rattle.hs_journal.specs.declared.books.Standing.{Standing}
 use Rattle.hs_journal.specs.declared.journal.Step.TheVariants as steps
 use Rattle.hs_model.specs.Standings.{Pinned, Reported, Abandoned}
@@ -10,16 +11,10 @@ use Rattle.hs_model.specs.State.{AgentState}
 use Rattle.hs_model.specs.Stepping.{Event, after}
 use Rattle.hs_model.specs.Abandoning.{fullest_id, next_to_go}
 use Rattle.hs_model.specs.Books.{book_of}
-use Rattle.hs_model.specs.Samples.{settings_with, one_rule, t, chunk, trigger, group, turned, given, standings, deficits}
+use Rattle.hs_model.specs.Samples.{settings_with, chunk, trigger, group, turned, given, standings, deficits}
 
 abbrev run : ℕ → List Event → AgentState
 run pins events = after (settings_with 4 8 pins one_rule) 0 events
-
-abbrev g : ℕ
-g = 0x9e3779b97f4a7c15
-
-abbrev g2 : ℕ
-g2 = 0x3c6ef372fe94f82a
 
 three_chunks : List Event
 three_chunks = chunk 0 0 ∷ chunk g 1 ∷ chunk g2 2 ∷ trigger 1 1 0 [] ∷ trigger 2 1 g [] ∷ trigger 3 1 g2 [] ∷ []

@@ -1,12 +1,13 @@
 -- Whole books of short runs.
 use Rattle.std.specs.Prelude.{◌≡◌, [], ◌∷◌, refl}
 use Rattle.hs_base.specs.declared.told.Fate.TheVariants as fates
+use Rattle.hs_base.specs.Samples.{one_rule, t}
 use Rattle.hs_journal.specs.declared.journal.Step.TheVariants as steps
 use Rattle.hs_words.specs.Pages.{Sheet, page_bytes}
 use Rattle.hs_model.specs.Standings.{sample_sheet}
 use Rattle.hs_model.specs.Stepping.{Took, Chunk, after}
 use Rattle.hs_model.specs.Books.{book_of}
-use Rattle.hs_model.specs.Samples.{settings_with, one_rule, t, chunk, trigger, group, turned, given}
+use Rattle.hs_model.specs.Samples.{settings_with, chunk, trigger, group, turned, given}
 
 -- a page with two records, at the threshold
 two_records : Sheet

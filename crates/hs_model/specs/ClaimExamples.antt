@@ -2,11 +2,12 @@
 use Rattle.std.specs.Prelude.{◌≡◌, List, [], ◌∷◌, map, refl}
 use Rattle.hs_base.specs.declared.told.Told.{Told}
 use Rattle.hs_base.specs.declared.told.Why.TheVariants.{Fired, Answer, Late}
+use Rattle.hs_base.specs.Samples.{rule, one_rule, t}
 use Rattle.hs_journal.specs.declared.journal.Step.TheVariants as steps
 use Rattle.hs_model.specs.Standings.{Indexed, Pinned, Reported, Evicted}
 use Rattle.hs_model.specs.State.{AgentState, ClaimedTrace}
 use Rattle.hs_model.specs.Stepping.{Event, after}
-use Rattle.hs_model.specs.Samples.{settings_with, rule, one_rule, t, chunk, crumb, trigger, group, asked, turned, given, standings}
+use Rattle.hs_model.specs.Samples.{settings_with, chunk, crumb, trigger, group, asked, turned, given, standings}
 
 abbrev run : List Event → AgentState
 run events = after (settings_with 4 8 4 one_rule) 0 events

@@ -1,9 +1,10 @@
 -- Evictions of small indexes: at a limit, above it, and above both; and traces with crumbs alone.
 use Rattle.std.specs.Prelude.{◌≡◌, ℕ, List, [], ◌∷◌, refl}
+use Rattle.hs_base.specs.Samples.{t}
 use Rattle.hs_model.specs.Standings.{Indexed, Evicted}
 use Rattle.hs_model.specs.State.{AgentState}
 use Rattle.hs_model.specs.Stepping.{Event, after}
-use Rattle.hs_model.specs.Samples.{settings_with, t, chunk, crumb, turned, given, missed, unread, standings}
+use Rattle.hs_model.specs.Samples.{settings_with, chunk, crumb, turned, given, missed, unread, standings}
 
 abbrev run : (threshold traces : ℕ) → List Event → AgentState
 run threshold traces events = after (settings_with threshold traces 4 []) 0 events

@@ -5,8 +5,9 @@ use Rattle.std.specs.List.{AllByRecursion, range_with_len}
 use Rattle.hs_base.specs.NodeSets.{has_node}
 use Rattle.hs_base.specs.declared.told.Crumb.{Crumb}
 use Rattle.hs_base.specs.declared.told.Told.{Told}
+use Rattle.hs_base.specs.Samples.{one_rule, t}
 use Rattle.hs_records.specs.Plain.{PlainSettings}
-use Rattle.hs_model.specs.Samples.{settings_with, one_rule, t, chunk, crumb, trigger}
+use Rattle.hs_model.specs.Samples.{settings_with, chunk, crumb, trigger}
 use Rattle.hs_model.specs.State.{AgentState}
 use Rattle.hs_model.specs.Stepping.{Chunk, Crumbed, Triggered, Asked, Turn, Event, Took, Gave, after_event, after}
 

@@ -1,8 +1,9 @@
 -- For the worked examples: settings with pages of 64 bytes, inputs of one client each, and what shows of a state.
-use Rattle.std.specs.Prelude.{ℕ, List, [], ◌∷◌, map}
+use Rattle.std.specs.Prelude.{ℕ, List, [], map}
 use Rattle.hs_base.specs.declared.ids.TraceId.{TraceId}
 use Rattle.hs_base.specs.declared.settings.TriggerRule.{TriggerRule}
 use Rattle.hs_base.specs.declared.told.Group.{Group}
+use Rattle.hs_base.specs.Samples.{t}
 use Rattle.hs_records.specs.Plain.{PlainSettings}
 use Rattle.hs_sched.specs.declared.share.Share.{Share}
 use Rattle.hs_model.specs.Standings.{ChunkStanding, Taken, sample_sheet}
@@ -12,16 +13,6 @@ use Rattle.hs_model.specs.Stepping.{Event, Took, Gave, Chunk, Crumbed, Triggered
 abbrev pub settings_with : (threshold traces pins : ℕ) → List TriggerRule → PlainSettings
 settings_with threshold traces pins rules =
     record { nodes = 4; clients = 2; buffers = 4; size = 64; threshold = threshold; traces = traces; pins = pins; stride = 16; triggers = rules; autos = [] }
-
-abbrev pub rule : (id burst rate : ℕ) → TriggerRule
-rule id burst rate = record { id = record { 0 = id }; weight = 1; burst = burst; rate = rate }
-
--- the id 1, of which ten triggers are admitted
-abbrev pub one_rule : List TriggerRule
-one_rule = rule 1 10 0 ∷ []
-
-abbrev pub t : ℕ → TraceId
-t trace = record { 0 = trace }
 
 -- client 0's page of this number, with one piece of 35 used bytes, comes
 abbrev pub chunk : (trace page : ℕ) → Event

@@ -2,10 +2,11 @@
 -- pages of 64 bytes.
 use Rattle.std.specs.Prelude.{◌≡◌, ℕ, List, [], ◌∷◌, refl}
 use Rattle.hs_base.specs.declared.settings.TriggerRule.{TriggerRule}
+use Rattle.hs_base.specs.Samples.{t}
 use Rattle.hs_model.specs.State.{AgentState}
 use Rattle.hs_model.specs.Turning.{order_of}
 use Rattle.hs_model.specs.Stepping.{Event, after}
-use Rattle.hs_model.specs.Samples.{settings_with, t, chunk, trigger, turned, deficits}
+use Rattle.hs_model.specs.Samples.{settings_with, chunk, trigger, turned, deficits}
 
 -- id 1 with weight 2 and id 2 with weight 1
 abbrev two_rules : List TriggerRule

@@ -46,15 +46,15 @@ AnswersAreToAsks =
 -- ---- examples
 
 -- the first group of node 0, whose crumbs lead to node 1 and from there to node 2
-abbrev first_group : GroupId
+abbrev pub first_group : GroupId
 first_group = record { node = 0; number = 0 }
 
-abbrev heard : Messages
-heard = (followed four_nodes of_four_nodes).heard
+abbrev pub four_heard : Messages
+four_heard = (followed four_nodes of_four_nodes).heard
 
-three_of_four : (nodes_where (is_asked first_group heard) ≡ 0 ∷ 1 ∷ 2 ∷ []) × (nodes_where (is_answered first_group heard) ≡ 1 ∷ 2 ∷ [])
+three_of_four : (nodes_where (is_asked first_group four_heard) ≡ 0 ∷ 1 ∷ 2 ∷ []) × (nodes_where (is_answered first_group four_heard) ≡ 1 ∷ 2 ∷ [])
 three_of_four = (refl, refl)
 
 -- of a group that was never admitted nothing was heard, and nobody was asked
-nobody_else : (list_any (is_of (record { node = 0; number = 1 })) heard ≡ false) × (nodes_where (is_asked (record { node = 0; number = 1 }) heard) ≡ [])
+nobody_else : (list_any (is_of (record { node = 0; number = 1 })) four_heard ≡ false) × (nodes_where (is_asked (record { node = 0; number = 1 }) four_heard) ≡ [])
 nobody_else = (refl, refl)

@@ -7,6 +7,7 @@ use Rattle.std.specs.List.{AllByRecursion, list_any}
 use Rattle.hs_base.specs.declared.ids.RecordId.{RecordId}
 use Rattle.hs_base.specs.declared.ids.TraceId.{TraceId}
 use Rattle.hs_base.specs.declared.told.Fate.TheVariants.{Null}
+use Rattle.hs_base.specs.Samples.{t, one_rule}
 use Rattle.hs_client.specs.Calls.{sheet_for}
 use Rattle.hs_collect.specs.Collected.{Placed, is_same, pieces_of, IsWhole, AreWholes, CanBeAdded, KeepsRuns}
 use Rattle.hs_journal.specs.declared.journal.Draw.TheVariants.{Got, Empty}
@@ -16,14 +17,14 @@ use Rattle.hs_ledger.specs.Totals.{is_reported}
 use Rattle.hs_model.specs.Standings.{Taken}
 use Rattle.hs_records.specs.Pages.{PlainPage, first_record, pages_of}
 use Rattle.hs_records.specs.Plain.{Point, End, PlainWorkload}
-use Rattle.hs_sent.specs.Samples.{t, settings, workload, begin, fire}
+use Rattle.hs_sent.specs.Samples.{settings, workload, begin, fire}
 use Rattle.hs_sent.specs.Sending.{operations_at, place_of}
 use Rattle.hs_words.specs.Pages.{Sheet}
 use Rattle.hs_lawful.specs.Following.{NodeRun, followed}
 use Rattle.hs_lawful.specs.Journals.{of_evicted_then_claimed}
 use Rattle.hs_lawful.specs.Lawful.{IsLawful, first_unlawful}
 use Rattle.hs_lawful.specs.Samples.{alone, chunk, trigger, turn, given}
-use Rattle.hs_lawful.specs.Workloads.{evicted_then_claimed, one_rule}
+use Rattle.hs_lawful.specs.Workloads.{evicted_then_claimed}
 use Rattle.hs_outcome.specs.Origins.{HasItsClients}
 use Rattle.hs_outcome.specs.Outcomes.{outcome_of}
 use Rattle.hs_outcome.specs.Records.{EndsItsTraces, all_records}

@@ -2,18 +2,19 @@
 use Rattle.std.specs.Prelude.{◌≡◌, ℕ, List, [], ◌∷◌, ◌++◌, map, length, None, refl}
 use Rattle.hs_base.specs.declared.told.Fate.{Fate}
 use Rattle.hs_base.specs.declared.told.Fate.TheVariants.{Null, Live, Reported, Evicted, Abandoned}
+use Rattle.hs_base.specs.Samples.{t, one_rule, golden, twice}
 use Rattle.hs_collect.specs.Collected.{Placed}
 use Rattle.hs_journal.specs.declared.journal.Draw.TheVariants.{Got}
 use Rattle.hs_journal.specs.Views.{PlainJournal}
 use Rattle.hs_ledger.specs.declared.ledger.Entry.{Entry}
 use Rattle.hs_records.specs.Plain.{PlainWorkload}
-use Rattle.hs_sent.specs.Samples.{t, settings, workload, fire, segment}
+use Rattle.hs_sent.specs.Samples.{settings, workload, fire, segment}
 use Rattle.hs_outcome.specs.Outcomes.{outcome_of, rising_traces}
 use Rattle.hs_outcome.specs.Reports.{Report, reports_of}
 use Rattle.hs_lawful.specs.Journals
 use Rattle.hs_lawful.specs.Lawful.{first_unlawful}
 use Rattle.hs_lawful.specs.Samples.{alone, chunk, trigger, turn}
-use Rattle.hs_lawful.specs.Workloads.{nothing, one_rule, one_point, three_points, three_traces, touched_again, trigger_first, evicted_then_claimed, two_ids, one_token, short_of_pins, four_nodes, no_pins, refused_trigger, golden, twice}
+use Rattle.hs_lawful.specs.Workloads.{nothing, one_point, three_points, three_traces, touched_again, trigger_first, evicted_then_claimed, two_ids, one_token, short_of_pins, four_nodes, no_pins, refused_trigger}
 
 abbrev fates : PlainWorkload → PlainJournal → List Fate
 fates W J = map (λ (entry : Entry). entry.fate) (outcome_of W J).entries

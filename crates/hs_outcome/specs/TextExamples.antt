@@ -4,6 +4,7 @@ use Rattle.std.specs.Fmt.{digits}
 use Rattle.hex.specs.Hex.{encode_with}
 use Rattle.hs_base.specs.declared.told.Fate.{Fate}
 use Rattle.hs_base.specs.declared.told.Fate.TheVariants.{Null, Live, Reported, Evicted, Abandoned}
+use Rattle.hs_base.specs.Samples.{one_rule}
 use Rattle.hs_ledger.specs.declared.ledger.Entry.{Entry}
 use Rattle.hs_ledger.specs.Totals.{totals_of}
 use Rattle.hs_records.specs.Plain.{Point, End, PlainWorkload}
@@ -14,7 +15,7 @@ use Rattle.hs_outcome.specs.OutcomeText.{entry_line, gap_line, total_line, repor
 use Rattle.hs_outcome.specs.Outcomes.{outcome_of}
 use Rattle.hs_outcome.specs.Reports.{reports_of}
 use Rattle.hs_lawful.specs.Journals
-use Rattle.hs_lawful.specs.Workloads.{nothing, three_points, one_rule, short_of_pins, four_nodes}
+use Rattle.hs_lawful.specs.Workloads.{nothing, three_points, short_of_pins, four_nodes}
 
 no_operations : outcome_text nothing Journals.of_nothing Text
     ≡ text_of (

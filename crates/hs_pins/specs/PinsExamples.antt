@@ -1,20 +1,17 @@
 -- What a node remembers after some calls. The trigger ids 1 and 2 are declared, with a bucket of one token at one token a
 -- second each, and two chunks may stay pinned. The leads 0, g and 2g have ranks that rise otherwise than they do.
 use Rattle.std.specs.Prelude.{◌≡◌, ℕ, true, false, List, [], ◌∷◌, map, Some, None, refl}
-use Rattle.hs_base.specs.declared.ids.TraceId.{TraceId}
 use Rattle.hs_base.specs.declared.ids.TriggerId.{TriggerId}
 use Rattle.hs_base.specs.declared.settings.TriggerRule.{TriggerRule}
 use Rattle.hs_base.specs.declared.told.Group.{Group}
 use Rattle.hs_base.specs.NodeSets.{no_nodes}
+use Rattle.hs_base.specs.Samples.{golden as g, twice as g2, t}
 use Rattle.hs_words.specs.Buffers.{Buffer}
 use Rattle.hs_words.specs.Chunks.{clear_chunk, with_page}
 use Rattle.hs_pins.specs.declared.claim.Admitted.TheVariants.{Admitted, Limited}
 use Rattle.hs_pins.specs.Remembered.{Pin, Remembered, fresh, has_crumb, pin_for, answered, tried_at, claimed, comes_back, handed_back, arrived, crumbed}
 use Rattle.hs_pins.specs.Abandoning.{fullest_id, next_to_go, leaving, going, staying, drops, relieved}
 use Rattle.hs_pins.specs.Waiting.{order_of, taken}
-
-abbrev t : ℕ → TraceId
-t lead = record { 0 = lead }
 
 abbrev id : ℕ → TriggerId
 id number = record { 0 = number }
@@ -36,12 +33,6 @@ chunk trace number =
       chunk = with_page (clear_chunk 64 number) (Some (record { header = record { trace = t trace; client = record { node = 0; number = 0 }; page = 0; first = 0 }; pieces = [] }));
       lease = 7;
     }
-
-abbrev g : ℕ
-g = 0x9e3779b97f4a7c15
-
-abbrev g2 : ℕ
-g2 = 0x3c6ef372fe94f82a
 
 -- the numbers of the chunks
 abbrev numbers : List (Pin ℕ) → List ℕ

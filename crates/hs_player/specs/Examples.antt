@@ -1,15 +1,15 @@
 -- A client whose points each fill a page of 64 bytes, on a pool with two buffers and on one with none left.
 use Rattle.std.specs.Prelude.{◌≡◌, ℕ, List, [], ◌∷◌, length, map, replicate, Some, None, refl}
 use Rattle.std.proofs.Common.{lit<, lit≤, arith}
-use Rattle.hs_base.specs.declared.ids.ClientId.{ClientId}
 use Rattle.hs_base.specs.declared.settings.AutoRule.TheVariants.{Exception}
+use Rattle.hs_base.specs.Samples.{t, owner}
 use Rattle.hs_client.specs.Core.{new_core}
 use Rattle.hs_client.specs.Calls.{with_all}
 use Rattle.hs_journal.specs.declared.journal.Draw.{Draw}
 use Rattle.hs_journal.specs.declared.journal.Draw.TheVariants.{Got, Empty}
-use Rattle.hs_records.specs.Plain.{Operation, Point, End, PlainSettings}
+use Rattle.hs_records.specs.Plain.{Point, End}
 use Rattle.hs_records.specs.Records.{Piece, Segment, coming}
-use Rattle.hs_sent.specs.Samples.{t, settings, begin, crumb, fire}
+use Rattle.hs_sent.specs.Samples.{begin, fire, plain, two_fills}
 use Rattle.hs_sent.specs.Sending.{sends_of}
 use Rattle.hs_sent.specs.SoFar.{done_behind}
 use Rattle.hs_words.specs.Chunks.{clear_chunk}
@@ -19,33 +19,23 @@ use Rattle.hs_player.specs.Writing.{buffer_got}
 use Rattle.hs_player.specs.Doing.{HasNothing, MayDo}
 use Rattle.hs_player.specs.Places.{IsPlayable, Waits, chunk_by, chunks_within, gone_of, made_for, draws_going}
 
-abbrev owner : ClientId
-owner = record { node = 0; number = 0 }
-
-abbrev plain : PlainSettings
-plain = settings 2 4 8 4 16 []
-
--- two pages: the second point starts the second and sends the first, and the end sends the second
-abbrev ops : List Operation
-ops = begin 1 ∷ Point 6 (replicate 30 0) ∷ crumb 0 ∷ Point 7 (replicate 30 0) ∷ End ∷ []
-
 abbrev sent_buffers : ℕ → List Draw → List ℕ
-sent_buffers done drawn = map (λ (b : Unleased). b.chunk.number) (chunks_within 64 done (sends_of plain owner ops drawn).drawn)
+sent_buffers done drawn = map (λ (b : Unleased). b.chunk.number) (chunks_within 64 done (sends_of plain owner two_fills drawn).drawn)
 
 -- the chunks that the first operations send, by the buffers that their pages drew
 chunks_so_far : (sent_buffers 3 (Got 5 0 ∷ []) ≡ []) × (sent_buffers 4 (Got 5 0 ∷ Got 7 1 ∷ []) ≡ 5 ∷ []) × (sent_buffers 5 (Got 5 0 ∷ Got 7 1 ∷ []) ≡ 5 ∷ 7 ∷ []) × (sent_buffers 5 (Empty 0 ∷ Got 7 1 ∷ []) ≡ 7 ∷ [])
 chunks_so_far = (refl, refl, refl, refl)
 
 -- the draws of the pages that operations start: two on a new pool, the second alone behind three operations, and none between the points
-draws_of_pages : (draws_going plain ops 0 5 2 [] ≡ Got 0 0 ∷ Got 1 1 ∷ []) × (draws_going plain ops 3 4 2 (pool.Got 0 ∷ []) ≡ Got 1 1 ∷ []) × (draws_going plain ops 2 3 2 (pool.Got 0 ∷ []) ≡ [])
+draws_of_pages : (draws_going plain two_fills 0 5 2 [] ≡ Got 0 0 ∷ Got 1 1 ∷ []) × (draws_going plain two_fills 3 4 2 (pool.Got 0 ∷ []) ≡ Got 1 1 ∷ []) × (draws_going plain two_fills 2 3 2 (pool.Got 0 ∷ []) ≡ [])
 draws_of_pages = (refl, refl, refl)
 
 -- of a pool with one buffer the second page gets none
-second_is_null : draws_going plain ops 0 5 1 [] ≡ Got 0 0 ∷ Empty 1 ∷ []
+second_is_null : draws_going plain two_fills 0 5 1 [] ≡ Got 0 0 ∷ Empty 1 ∷ []
 second_is_null = refl
 
 -- a stride of two from the third operation, and no further than the last
-strides : (done_behind 2 1 ops ≡ 3) × (done_behind 16 3 ops ≡ 5) × (done_behind 16 5 ops ≡ 5)
+strides : (done_behind 2 1 two_fills ≡ 3) × (done_behind 16 3 two_fills ≡ 5) × (done_behind 16 5 two_fills ≡ 5)
 strides = (refl, refl, refl)
 
 -- one of two that were sent is taken, so the other waits
@@ -57,11 +47,11 @@ none_waits : Waits {A = ℕ} 2 (5 ∷ 7 ∷ []) []
 none_waits = (lit≤ tt, refl)
 
 -- a crumb is taken, and no chunk
-crumb_is_gone : (length (gone_of 64 (sends_of plain owner ops (Got 5 0 ∷ Got 7 1 ∷ [])) 4 0 1 0).crumbs ≡ 1) × (length (gone_of 64 (sends_of plain owner ops (Got 5 0 ∷ Got 7 1 ∷ [])) 4 0 1 0).chunks ≡ 0)
+crumb_is_gone : (length (gone_of 64 (sends_of plain owner two_fills (Got 5 0 ∷ Got 7 1 ∷ [])) 4 0 1 0).crumbs ≡ 1) × (length (gone_of 64 (sends_of plain owner two_fills (Got 5 0 ∷ Got 7 1 ∷ [])) 4 0 1 0).chunks ≡ 0)
 crumb_is_gone = (refl, refl)
 
 -- a point counts once for each of its pieces
-calls_of_ops : ((made_for plain owner ops).calls ≡ 5) × ((made_for plain owner (begin 1 ∷ Point 6 (replicate 70 0) ∷ End ∷ [])).calls ≡ 5)
+calls_of_ops : ((made_for plain owner two_fills).calls ≡ 5) × ((made_for plain owner (begin 1 ∷ Point 6 (replicate 70 0) ∷ End ∷ [])).calls ≡ 5)
 calls_of_ops = (refl, refl)
 
 -- a trace that is begun and ended is a client's

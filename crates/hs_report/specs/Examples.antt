@@ -8,6 +8,7 @@ use Rattle.hs_base.specs.Listing.{listing}
 use Rattle.hs_base.specs.declared.ids.RecordId.{RecordId}
 use Rattle.hs_base.specs.declared.ids.TraceId.{TraceId}
 use Rattle.hs_base.specs.declared.told.Fate.TheVariants.{Reported}
+use Rattle.hs_base.specs.Samples.{t, one_rule}
 use Rattle.hs_collect.specs.Collected.{Placed, AreCollected, AreWholes, IsWhole, pieces_of}
 use Rattle.hs_collect.specs.Views.{Collection}
 use Rattle.hs_journal.specs.declared.journal.Draw.TheVariants.{Got}
@@ -16,11 +17,11 @@ use Rattle.hs_journal.specs.Views.{PlainJournal}
 use Rattle.hs_lawful.specs.Journals.{of_trigger_first, of_short_of_pins}
 use Rattle.hs_lawful.specs.Lawful.{first_unlawful}
 use Rattle.hs_lawful.specs.Samples.{journal, chunk, trigger, turn, given}
-use Rattle.hs_lawful.specs.Workloads.{one_rule, trigger_first, short_of_pins}
+use Rattle.hs_lawful.specs.Workloads.{trigger_first, short_of_pins}
 use Rattle.hs_outcome.specs.Outcomes.{outcome_of}
 use Rattle.hs_outcome.specs.Records.{all_records}
 use Rattle.hs_records.specs.Plain.{PlainWorkload}
-use Rattle.hs_sent.specs.Samples.{t, settings, on_nodes, workload, fire, segment}
+use Rattle.hs_sent.specs.Samples.{settings, on_nodes, workload, fire, segment}
 use Rattle.hs_words.specs.Pages.{Sheet}
 use Rattle.hs_report.specs.declared.outcome.Outcome.{Outcome}
 use Rattle.hs_report.specs.Outcomes.{IsOutcome}

@@ -4,6 +4,7 @@ use Rattle.std.specs.Prelude.{◌≡◌, ℕ, ◌-◌, ◌%◌, ◌==◌, Bool, 
 use Rattle.std.specs.List.{list_any}
 use Rattle.hs_base.specs.declared.ids.TraceId.{TraceId}
 use Rattle.hs_base.specs.Ranks.{word_of}
+use Rattle.hs_base.specs.Samples.{t}
 use Rattle.hs_ledger.specs.declared.ledger.Entry.{Entry}
 use Rattle.hs_ledger.specs.Totals.{is_reported}
 use Rattle.hs_records.specs.Plain.{PlainWorkload}
@@ -64,9 +65,6 @@ abbrev pub hindsight_keeps : PlainWorkload → List Entry → List Coming
 hindsight_keeps W entries = chosen (λ (e : Entry). is_reported e.fate) (all_comings W) entries
 
 -- ---- examples
-
-abbrev t : ℕ → TraceId
-t trace = record { 0 = trace }
 
 -- the record of this number, of one client
 abbrev of_trace : (trace number : ℕ) → Coming

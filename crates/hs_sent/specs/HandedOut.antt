@@ -2,15 +2,13 @@
 -- and the chunks that it handed out are those of the pages that they send: only the page that may take more is still with it.
 use Rattle.std.specs.Prelude.{◌≡◌, ℕ, ◌≤◌, false, List, [], ◌∷◌, ◌++◌, length, map, reverse, replicate, Option, Some, is_some, refl}
 use Rattle.hs_base.specs.declared.ids.ClientId.{ClientId}
-use Rattle.hs_base.specs.declared.ids.TraceId.{TraceId}
 use Rattle.hs_base.specs.declared.limits.TheConstants.{MIN_SIZE}
-use Rattle.hs_client.specs.Calls.{AreSteps, after, segments_of_steps, draws_supplied, chunks_supplied, handed_out, filled_chunks}
+use Rattle.hs_client.specs.Calls.{AreSteps, after, segments_of_steps, draws_supplied, chunks_supplied, handed_out, filled_chunks, t1, clear, new_64}
 use Rattle.hs_client.specs.Core.{Core, Step, Began, Needed, Supplied, Ended_, new_core}
 use Rattle.hs_journal.specs.declared.journal.Draw.{Draw}
 use Rattle.hs_records.specs.Plain.{Operation, Point, End}
 use Rattle.hs_records.specs.Records.{AreBracketed, segments_of}
 use Rattle.hs_words.specs.Buffers.{Buffer}
-use Rattle.hs_words.specs.Chunks.{clear_chunk}
 use Rattle.hs_words.specs.Pages.{Sheet}
 use Rattle.hs_sent.specs.Drawn.{drawn_pages}
 use Rattle.hs_sent.specs.Samples.{begin}
@@ -51,24 +49,12 @@ CoresHandOutSoFar L =
 
 -- ---- examples, with pages of 64 bytes, which a record of 30 bytes fills
 
-abbrev owner : ClientId
-owner = record { node = 0; number = 0 }
-
-abbrev t1 : TraceId
-t1 = record { 0 = 1 }
-
-abbrev clear : ℕ → Buffer ℕ
-clear number = record { chunk = clear_chunk 64 number; lease = 7 }
-
 abbrev full : Operation
 full = Point 5 (replicate 30 9)
 
 -- two records of 30 bytes: the second needs the next page, and so hands out the first
 abbrev two_pages : List (Step ℕ)
 two_pages = Supplied (Some (clear 3)) 1 5 (replicate 30 9) false ∷ Needed 30 ∷ Supplied (Some (clear 2)) 0 5 (replicate 30 9) false ∷ Needed 30 ∷ Began t1 ∷ []
-
-abbrev new_64 : Core ℕ
-new_64 = new_core owner 64 9
 
 abbrev numbers_of : List (Buffer ℕ) → List ℕ
 numbers_of chunks = map (λ (b : Buffer ℕ). b.chunk.number) chunks

@@ -1,21 +1,14 @@
 -- For the worked examples: settings with pages of 64 bytes, whose page with one piece of one byte has 35 used bytes,
 -- operations and workloads, with traces as small numbers.
-use Rattle.std.specs.Prelude.{ℕ, List, [], ◌∷◌}
-use Rattle.hs_base.specs.declared.ids.TraceId.{TraceId}
+use Rattle.std.specs.Prelude.{ℕ, List, [], ◌∷◌, replicate}
 use Rattle.hs_base.specs.declared.ids.NodeId.{NodeId}
 use Rattle.hs_base.specs.declared.settings.AutoRule.{AutoRule}
 use Rattle.hs_base.specs.declared.settings.TriggerRule.{TriggerRule}
+use Rattle.hs_base.specs.Samples.{t}
 use Rattle.hs_records.specs.Plain.{Operation, Begin, Point, Crumb, End, Fire, PlainSettings, PlainWorkload}
-
-abbrev pub t : ℕ → TraceId
-t trace = record { 0 = trace }
 
 abbrev pub node : ℕ → NodeId
 node number = record { 0 = number }
-
--- a trigger id of this burst and rate
-abbrev pub rule : (id burst rate : ℕ) → TriggerRule
-rule id burst rate = record { id = record { 0 = id }; weight = 1; burst = burst; rate = rate }
 
 -- one node with one client
 abbrev pub settings : (buffers threshold traces pins stride : ℕ) → List TriggerRule → PlainSettings
@@ -58,3 +51,10 @@ fire moment id lead = Fire (record { moment = moment; trigger = record { 0 = id 
 -- a segment of one point
 abbrev pub segment : (trace moment : ℕ) → List Operation
 segment trace moment = begin trace ∷ point moment ∷ End ∷ []
+
+abbrev pub plain : PlainSettings
+plain = settings 2 4 8 4 16 []
+
+-- two pages of 64 bytes: the second point starts the second and sends the first, and the end sends the second
+abbrev pub two_fills : List Operation
+two_fills = begin 1 ∷ Point 6 (replicate 30 0) ∷ crumb 0 ∷ Point 7 (replicate 30 0) ∷ End ∷ []

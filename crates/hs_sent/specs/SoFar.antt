@@ -5,6 +5,7 @@ use Rattle.std.specs.Prelude.{◌≡◌, ℕ, ◌≤◌, nat_lt, Bool, true, fal
 use Rattle.hs_base.specs.declared.ids.ClientId.{ClientId}
 use Rattle.hs_base.specs.declared.limits.TheConstants.{MIN_SIZE}
 use Rattle.hs_base.specs.declared.settings.AutoRule.{AutoRule}
+use Rattle.hs_base.specs.Samples.{owner}
 use Rattle.hs_journal.specs.declared.journal.Draw.{Draw}
 use Rattle.hs_journal.specs.declared.journal.Draw.TheVariants.{Got}
 use Rattle.hs_records.specs.Pages.{PlainPage, pages_of}
@@ -100,9 +101,6 @@ crumb_so_far = refl
 
 trigger_so_far : sent_within 1 (sent_triggers [] (fire 3 1 1 ∷ begin 1 ∷ fire 4 1 9 ∷ End ∷ [])) ≡ sent_triggers [] (fire 3 1 1 ∷ [])
 trigger_so_far = refl
-
-abbrev owner : ClientId
-owner = record { node = 0; number = 0 }
 
 -- a draw that is made later changes nothing of what was sent
 later_draws : sent_within 4 (sent_chunks (drawn_pages 64 owner (three ++ End ∷ []) (Got 3 0 ∷ Got 4 1 ∷ [])))

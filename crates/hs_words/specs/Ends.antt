@@ -217,7 +217,7 @@ pub record IsTogether (n : ℕ) (turns : List Turn) (drawers : List (List Answer
 -- ---- examples
 
 -- two drawers and a giver: one buffer is got, is not there, is missed and is given
-abbrev four_deeds : List Deed
+abbrev pub four_deeds : List Deed
 four_deeds = given_of 0 0 ∷ missed ∷ empty_by 2 ∷ got_by 1 0 ∷ []
 
 first_drawer : answers_by 1 four_deeds ≡ record { stamp = 0; event = Got 0; draw = 0 } ∷ []
