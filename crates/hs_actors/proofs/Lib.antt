@@ -11,3 +11,4 @@ pub mod Spent
 pub mod DrawPlaces
 pub mod Unread
 pub mod Counted
+pub mod Lents

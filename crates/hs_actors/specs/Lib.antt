@@ -4,3 +4,4 @@ pub mod Playing
 pub mod Pools
 pub mod Examples
 pub mod Unread
+pub mod Turns

@@ -1,19 +1,20 @@
 -- A client meets the port of its node's agent: nothing is received, and the giver has one turn more.
-use Rattle.std.proofs.Common.{◌≡◌, ℕ, List, length, inl, inr, refl, sym, ap, subst, ◌∙◌, length-set}
+use Rattle.std.proofs.Common.{◌≡◌, ℕ, List, length, inl, inr, refl, sym, ap, subst, ◌∙◌, length-set, map}
 use Rattle.std.proofs.lemmas.List.{length-map}
 use Rattle.std.specs.Prelude.{slice_get}
 use Rattle.hs_actors.specs.Doings.{crumbs_in, triggers_in}
+use Rattle.hs_actors.specs.Turns.{AreTurns, Meets}
 use Rattle.hs_link.specs.Contents.{Incoming, Outgoing}
 use Rattle.hs_live.specs.Calls.{MeetsAt}
 use Rattle.hs_live.specs.Keys.{Key}
 use Rattle.hs_live.specs.Live.{Live, Port, IsEnd, MeetAt, is_told}
 use Rattle.hs_records.specs.Plain.{PlainWorkload}
 use Rattle.hs_ring.specs.Parts.{Giving}
-use Rattle.hs_words.specs.Ends.{Turn}
+use Rattle.hs_words.specs.Ends.{Turn, stamps_in}
 use Rattle.hs_words.specs.Pools.{PoolName}
 use Rattle.hs_desk.specs.Lines.{linked, AreLinesFor, key_of}
 use Rattle.hs_desk.specs.Manned.{Manned, IsManned}
-use Rattle.hs_desk.specs.Turns.{AreTurns}
+use Rattle.hs_desk.specs.Turns.{lent_of}
 use Rattle.hs_desk.specs.Work.{Work, came_of}
 use Rattle.hs_desk.proofs.Hearing.{found_set}
 use Rattle.hs_desk.proofs.Ports.{lined, line_at, end_at}
@@ -58,7 +59,9 @@ met_manned W work number old client client' port' met manned =
                   crumbs = still_lines number old.port.crumbs port'.crumbs client.crumbs client'.crumbs met.crumbs W work.node work.pool lines.crumbs;
                   triggers = still_lines number old.port.triggers port'.triggers client.triggers client'.triggers met.triggers W work.node work.pool lines.triggers;
                 };
-            turns = subst (λ (turns : List Turn). AreTurns W.settings work.node work.came work.events turns) (sym (ap (λ (g : Giving). g.turns) giver)) manned.stands.turns;
+            turns =
+                subst (λ (turns : List Turn). AreTurns W.settings work.node (map lent_of work.came) work.events turns) (sym (ap (λ (g : Giving). g.turns) giver))
+                (Meets work.events old.port.giver.turns (stamps_in client.drawer.answers) manned.stands.turns);
           };
       received =
           record {

@@ -1,12 +1,13 @@
 -- The agent offers the first of its hand to the pool.
 use Rattle.std.proofs.Common.{◌≡◌, inl, inr, ℕ, zero, suc, ◌≤◌, true, false, List, [], ◌∷◌, ◌++◌, length, map, Option, Some, None, refl, sym, ap, ap₂, subst, ◌∙◌, arith, append-nil}
-use Rattle.std.proofs.lemmas.Option.{same_Some}
+use Rattle.std.proofs.lemmas.Option.{same_Some, slice_get-map}
 use Rattle.std.specs.Prelude.{slice_get, slice_set, IsSome}
 use Rattle.std.specs.List.{AllByRecursion, flat_map}
-use Rattle.std.specs.Option.{option_and_then, option_map_or}
+use Rattle.std.specs.Option.{option_and_then, option_map_or, option_map}
 use Rattle.hs_words.specs.declared.token.TheConstants.{MAX_PUBLISHED}
 use Rattle.hs_actors.specs.Doings.{asks_in}
 use Rattle.hs_actors.specs.Facts.{IsStamped}
+use Rattle.hs_actors.specs.Turns.{AreTurns, IsOffered, Offers}
 use Rattle.hs_agent.specs.Keeping.{Keeping}
 use Rattle.hs_agent.specs.Points.{sheet_in}
 use Rattle.hs_agent.specs.Runs.{Run, Follows, Knows, after_offer, after_answer, first_place, offered_next, state_of}
@@ -16,7 +17,7 @@ use Rattle.hs_base.specs.declared.told.Trigger.{Trigger}
 use Rattle.hs_model.specs.Laws.{EventsGoOn, StepsSayWhatTheyTell, brought_by}
 use Rattle.hs_model.specs.State.{AgentState, start}
 use Rattle.hs_model.specs.Stepping as model
-use Rattle.hs_model.specs.Stepping.{Answered, Event, Gave, after, step_of_answer}
+use Rattle.hs_model.specs.Stepping.{Answered, Gave}
 use Rattle.hs_records.specs.Plain.{PlainWorkload}
 use Rattle.hs_ring.specs.Parts.{Leased, Giving, after_turn}
 use Rattle.hs_ring.specs.Parts as rings
@@ -30,7 +31,7 @@ use Rattle.hs_words.specs.declared.token.Given.TheVariants as given
 use Rattle.hs_desk.specs.Agents.{AgentIs, IsPooled, IsPageThere, IsWithin, Label, label_of, run_at, state_at}
 use Rattle.hs_desk.specs.Lines.{Line, Lines, AreLinesFor}
 use Rattle.hs_desk.specs.Stages.{Desking, Stands, OffersNext, stamps_of}
-use Rattle.hs_desk.specs.Turns.{AreTurns, LastOffer, Gives, GivesFirst, IsAnswered, IsOffer, was_read}
+use Rattle.hs_desk.specs.Turns.{Gives, IsOffer, lent_of, was_read}
 use Rattle.hs_desk.specs.Work.{Work, with_events}
 use Rattle.hs_desk.proofs.Lists.{all_at, all_more}
 use Rattle.hs_desk.proofs.Stages.{with_none, asks_more, turns_came}
@@ -155,7 +156,7 @@ module _ (W : PlainWorkload) (work : Work) (desk : Desking) (lines : Lines) (sta
 
     answered_stands : EventsGoOn → StepsSayWhatTheyTell → (answer : Answered) (buffers : List (Buffer Leased)) (agent' : Keeping Leased) (lines' : Lines) → Follows agent' (run_at W (behind answer) buffers None)
         → map label_of buffers ≡ map label_of stands.works.is.buffers → AllByRecursion (IsPooled W work.pool) buffers → lines'.giver.pool ≡ lines.giver.pool → lines'.giver.size ≡ lines.giver.size → lines' ≡ record lines { giver = lines'.giver }
-        → AreTurns W.settings work.node (work.came ++ []) (work.events ++ Gave answer ∷ []) lines'.giver.turns → Stands W (behind answer) (record desk { agent = agent' }) lines'
+        → AreTurns W.settings work.node (map lent_of (work.came ++ [])) (work.events ++ Gave answer ∷ []) lines'.giver.turns → Stands W (behind answer) (record desk { agent = agent' }) lines'
     answered_stands go_on says answer buffers agent' lines' follows labels pooled pool size only turns =
         let chunks : lines'.chunks ≡ lines.chunks = ap (λ (l : Lines). l.chunks) only in
         let crumbs : lines'.crumbs ≡ lines.crumbs = ap (λ (l : Lines). l.crumbs) only in
@@ -179,24 +180,17 @@ module _ (W : PlainWorkload) (work : Work) (desk : Desking) (lines : Lines) (sta
           turns = turns;
         }
 
-    -- the offer stands last
-    last_offer : (answer : Answered) → LastOffer (work.events ++ Gave answer ∷ []) work.events answer
-    last_offer answer = record { behind = []; are = refl; inputs = record { inputs = []; are = refl } }
-
-    turns_before : AreTurns W.settings work.node (work.came ++ []) work.events lines.giver.turns
+    turns_before : AreTurns W.settings work.node (map lent_of (work.came ++ [])) work.events lines.giver.turns
     turns_before = turns_came W.settings work.node work.came [] work.events lines.giver.turns stands.turns
 
-    given_first : (stamp : ℕ) → GivesFirst (work.came ++ []) (state_at W work) stamp (record { stamp = stamp; event = pools.Given buffer.chunk.number; draw = buffer.lease.draw })
+    given_first : (stamp : ℕ) → IsOffered (map lent_of (work.came ++ [])) (state_at W work) (model.Given stamp) (answered (record { stamp = stamp; event = pools.Given buffer.chunk.number; draw = buffer.lease.draw }))
     given_first stamp =
         let labels = stands.works.is.labels ∙ ap (map label_of) (sym (append-nil work.came)) in
-        let (b, at, same) = labelled_at label_of stands.works.is.buffers (work.came ++ []) first.place buffer labels first.at in
-        record {
-          place = first.place;
-          buffer = b;
-          first = first.first;
-          came_in = at;
-          answer = ap (λ (l : Label). record { stamp = stamp; event = pools.Given l.number; draw = l.lease.draw }) (sym same);
-        }
+        let (b, at, same) = labelled_at label_of stands.works.is.buffers (work.came ++ []) first.place buffer labels first.at in (
+          lent_of b,
+          record { place = first.place; first = first.first; came = slice_get-map lent_of (work.came ++ []) first.place ∙ ap (option_map lent_of) at },
+          ap (λ (l : Label). answered (record { stamp = stamp; event = pools.Given l.number; draw = l.lease.draw })) (sym same),
+        )
 
     -- a giver behind a turn
     turned : (turn : Turn) (floor : ℕ) (giver : Giving) (stamps : List ℕ) → giver ≡ after_turn lines.giver turn floor → lines.giver.floor ≤ floor → IsOffer turn → AllByRecursion (λ (stamp : ℕ). lines.giver.floor ≤ stamp) stamps → Gives lines.giver giver stamps
@@ -226,7 +220,7 @@ module _ (W : PlainWorkload) (work : Work) (desk : Desking) (lines : Lines) (sta
     module _ (go_on : EventsGoOn) (says : StepsSayWhatTheyTell) (agent' : Keeping Leased) (lines' : Lines) (few : length (answers_in lines'.giver.turns) ≤ MAX_PUBLISHED) (only : lines' ≡ record lines { giver = lines'.giver }) where
       -- with a turn that has a stamp
       read : (answer : Answered) (a : Answer) (floor : ℕ) (buffers : List (Buffer Leased)) → IsStamped answer → lines'.giver ≡ after_turn lines.giver (answered a) floor → lines.giver.floor ≤ floor
-          → AllByRecursion (λ (stamp : ℕ). lines.giver.floor ≤ stamp) (stamps_of (answer ∷ [])) → IsAnswered (work.came ++ []) (state_at W work) answer a → Follows agent' (run_at W (behind answer) buffers None)
+          → AllByRecursion (λ (stamp : ℕ). lines.giver.floor ≤ stamp) (stamps_of (answer ∷ [])) → IsOffered (map lent_of (work.came ++ [])) (state_at W work) answer (answered a) → Follows agent' (run_at W (behind answer) buffers None)
           → map label_of buffers ≡ map label_of stands.works.is.buffers → AllByRecursion (IsPooled W work.pool) buffers → OffersNext W work lines lines' (record desk { agent = agent' }) true
       read answer a floor buffers stamped is above all answer_is follows labels pooled =
           let turns : lines'.giver.turns ≡ answered a ∷ lines.giver.turns = ap (λ (x : Giving). x.turns) is in (
@@ -237,7 +231,7 @@ module _ (W : PlainWorkload) (work : Work) (desk : Desking) (lines : Lines) (sta
               only = only;
               stands =
                   answered_stands go_on says answer buffers agent' lines' follows labels pooled (ap (λ (x : Giving). x.pool) is) (ap (λ (x : Giving). x.size) is) only
-                  (subst (λ (t : List Turn). AreTurns W.settings work.node (work.came ++ []) (work.events ++ Gave answer ∷ []) t) (sym turns) (work.events, answer, last_offer answer, answer_is, turns_before));
+                  (subst (λ (t : List Turn). AreTurns W.settings work.node (map lent_of (work.came ++ [])) (work.events ++ Gave answer ∷ []) t) (sym turns) (Offers work.events lines.giver.turns answer (answered a) answer_is turns_before));
             },
             ap (λ (t : List Turn). length (answers_in t)) turns,
             few,
@@ -271,5 +265,5 @@ module _ (W : PlainWorkload) (work : Work) (desk : Desking) (lines : Lines) (sta
                 (labels_set label_of stands.works.is.buffers first.place buffer (buffer_of back) first.at (back_label (buffer_of back) number lease))
                 (all_set (IsPooled W work.pool) stands.works.is.buffers first.place (buffer_of back) stands.works.is.pooled (record { size = size ∙ pooled_first.size; pool_is = ap (λ (l : Leased). l.pool) lease ∙ pooled_first.pool_is }))
                 (ap (λ (x : Giving). x.pool) gives.0) (ap (λ (x : Giving). x.size) gives.0) only
-                (subst (λ (t : List Turn). AreTurns W.settings work.node (work.came ++ []) (work.events ++ Gave model.Unread ∷ []) t) (sym turns) (work.events, last_offer model.Unread, turns_before));
+                (subst (λ (t : List Turn). AreTurns W.settings work.node (map lent_of (work.came ++ [])) (work.events ++ Gave model.Unread ∷ []) t) (sym turns) (Offers work.events lines.giver.turns model.Unread unread refl turns_before));
           })

@@ -9,6 +9,7 @@ use Rattle.hs_base.specs.declared.told.Crumb.{Crumb}
 use Rattle.hs_base.specs.declared.told.Told.{Told}
 use Rattle.hs_base.specs.declared.told.Trigger.{Trigger}
 use Rattle.hs_actors.specs.Doings.{crumbs_in, triggers_in}
+use Rattle.hs_actors.specs.Turns.{AreTurns}
 use Rattle.hs_agent.specs.Points.{buffers_left, places_left}
 use Rattle.hs_agent.specs.Runs.{Run, point_of}
 use Rattle.hs_link.specs.Contents.{Incoming, Outgoing, Remaining, AreEnds, sent}
@@ -29,7 +30,7 @@ use Rattle.hs_desk.specs.Passing.{CanPass, MakesPass}
 use Rattle.hs_desk.specs.Resting.{AreEndsOf, AreRests, are_given}
 use Rattle.hs_desk.specs.Shut.{Shut, AllSent, IsShut, IsBare, PassesShut, TakesLeft, AreMatesOf, all_sent, sent_at, shut_desk, shut_lines}
 use Rattle.hs_desk.specs.Stages.{Desking, Helping, Stands}
-use Rattle.hs_desk.specs.Turns.{AreTurns}
+use Rattle.hs_desk.specs.Turns.{lent_of}
 use Rattle.hs_desk.specs.Work.{Work, IsFew, with_events, with_moved, came_of}
 use Rattle.hs_desk.proofs.Handing.{there}
 use Rattle.hs_desk.proofs.Lists.{all_at}
@@ -210,7 +211,7 @@ shut_so W work manned shut chunks crumbs triggers is a b c desk giver clients =
                   crumbs = lines_shut crumbs manned.port.crumbs shut.crumbs b W work.node work.pool lines.crumbs;
                   triggers = lines_shut triggers manned.port.triggers shut.triggers c W work.node work.pool lines.triggers;
                 };
-            turns = subst (λ (g : Giving). AreTurns W.settings work.node work.came work.events g.turns) (sym giver) is.stands.turns;
+            turns = subst (λ (g : Giving). AreTurns W.settings work.node (map lent_of work.came) work.events g.turns) (sym giver) is.stands.turns;
           });
       left =
           record {

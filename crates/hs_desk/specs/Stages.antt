@@ -9,6 +9,7 @@ use Rattle.hs_base.specs.declared.told.Told.{Told}
 use Rattle.hs_base.specs.declared.told.Trigger.{Trigger}
 use Rattle.hs_actors.specs.Doings.{asks_in}
 use Rattle.hs_actors.specs.Facts.{IsStamped}
+use Rattle.hs_actors.specs.Turns.{AreTurns}
 use Rattle.hs_agent.specs.Keeping.{Keeping}
 use Rattle.hs_lawful.specs.Shape.{log_stamps}
 use Rattle.hs_model.specs.Stepping.{Answered, Unread, Event, step_of_answer}
@@ -19,7 +20,7 @@ use Rattle.hs_words.specs.Ends.{answers_in}
 use Rattle.hs_words.specs.declared.token.TheConstants.{MAX_PUBLISHED}
 use Rattle.hs_desk.specs.Agents.{AgentWorks, IsAskable, state_at}
 use Rattle.hs_desk.specs.Lines.{Lines, AreLines, HandsOutAt, HandOutFirst}
-use Rattle.hs_desk.specs.Turns.{AreTurns, Gives}
+use Rattle.hs_desk.specs.Turns.{Gives, lent_of}
 use Rattle.hs_desk.specs.Work.{Work, with_events, chunk_event, crumb_event, trigger_event, ask_event, gave_event, triggered}
 
 -- an agent with the asks that wait for it and the messages that wait to be fetched
@@ -34,7 +35,7 @@ pub record Stands (W : PlainWorkload) (work : Work) (desk : Desking) (lines : Li
   pub asks_are : asks_in work.events ++ desk.asks ≡ work.asked
   pub askable : AllByRecursion (IsAskable W) work.asked
   pub lines_are : AreLines W work.node work.pool lines
-  pub turns : AreTurns W.settings work.node work.came work.events lines.giver.turns
+  pub turns : AreTurns W.settings work.node (map lent_of work.came) work.events lines.giver.turns
 
 -- ---- taking
 

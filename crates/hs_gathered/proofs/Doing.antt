@@ -16,7 +16,7 @@ use Rattle.hs_actors.specs.Pools.{draw_answer}
 use Rattle.hs_workload.specs.Validity.{IsValid}
 use Rattle.hs_actors.specs.Doings.{NodeDoings, all_events, events_in, state_after, last_state, chunks_in, crumbs_in, triggers_in, asks_in, heard_in, all_heard, journal_of}
 use Rattle.hs_actors.specs.Facts.{IsPass, IsOwn, TookAllOf, HandsReady, IsPlayable, EndsPass, EndOffersFrom}
-use Rattle.hs_gathered.specs.Turns.{AreTurns}
+use Rattle.hs_actors.specs.Turns.{AreTurns}
 use Rattle.hs_gathered.specs.Ends.{GoesOn}
 use Rattle.hs_gathered.specs.Stories.{NodeStory, Story, added, node_doings, doings_of, draws_of, sends_at, state_by, IsQueueStory, sent_by, TakesFrom, TalksWith, PoolsWith, IsNodeStory, IsStory}
 use Rattle.hs_gathered.specs.Stories as stories

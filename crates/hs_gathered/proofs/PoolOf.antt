@@ -11,7 +11,7 @@ use Rattle.hs_sent.specs.Sending.{draws_at, place_of, ops_of}
 use Rattle.hs_words.specs.Ends.{Deed, IsTogether}
 use Rattle.hs_actors.specs.Doings.{NodeDoings, events_in, last_state}
 use Rattle.hs_actors.specs.Pools.{draw_answer}
-use Rattle.hs_gathered.specs.Turns.{Lent, AreTurns}
+use Rattle.hs_actors.specs.Turns.{Lent, AreTurns}
 use Rattle.hs_gathered.specs.Ends.{done_by, Ends, GoesOn, HasMet}
 
 -- The lease names the draw that the journal notes for the page.

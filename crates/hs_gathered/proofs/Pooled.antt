@@ -21,7 +21,7 @@ use Rattle.hs_lawful.specs.Following.{NodeRun}
 use Rattle.hs_lawful.specs.Pooled.{page_of}
 use Rattle.hs_actors.specs.Doings.{joined, NodeDoings, all_events, events_in, node_at_end}
 use Rattle.hs_actors.specs.Pools.{draw_answer, give_of, give_at, answers_to, IsPooled}
-use Rattle.hs_gathered.specs.Turns.{Lent, AreTurns}
+use Rattle.hs_actors.specs.Turns.{Lent, AreTurns}
 use Rattle.hs_gathered.specs.Ends.{done_by}
 use Rattle.hs_gathered.proofs.PoolOf.{IsDrawnFor, IsPoolOf}
 use Rattle.hs_gathered.proofs.Lists.{all_get, few_kept, range_at, range_long, take_whole, some_same}

@@ -13,7 +13,7 @@ use Rattle.hs_words.specs.PoolHistory as pool
 use Rattle.hs_lawful.specs.Shape.{step_stamp, log_stamps}
 use Rattle.hs_actors.specs.Doings.{steps_of}
 use Rattle.hs_actors.specs.Pools.{miss_in}
-use Rattle.hs_gathered.specs.Turns.{Lent, IsOffered, AreTurns, Begins, Takes, Offers, Meets}
+use Rattle.hs_actors.specs.Turns.{Lent, IsOffered, AreTurns, Begins, Takes, Offers, Meets}
 use Rattle.hs_gathered.proofs.Lists.{reverse_on, filter_map_last, all_both, last_or_earlier, StandsEarlier}
 
 pub after_last : (settings : PlainSettings) (node : ℕ) (events : List Event) (event : Event) → after settings node (events ++ event ∷ []) ≡ after_event settings node (after settings node events) event

@@ -1,4 +1,3 @@
-pub mod Turns
 pub mod Ends
 pub mod Stories
 pub mod Laws

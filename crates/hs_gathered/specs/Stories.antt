@@ -18,7 +18,7 @@ use Rattle.hs_lawful.specs.Following.{asks_to, is_from}
 use Rattle.hs_actors.specs.Doings.{NodeDoings, Doings, chunks_in, crumbs_in, triggers_in, asks_in}
 use Rattle.hs_actors.specs.Facts.{IsOwn, HandsReady, EndsPass}
 use Rattle.hs_actors.specs.Pools.{draw_answer}
-use Rattle.hs_gathered.specs.Turns.{Lent, AreTurns}
+use Rattle.hs_actors.specs.Turns.{Lent, AreTurns}
 use Rattle.hs_gathered.specs.Ends.{done_by, Ends, GoesOn, HasMet}
 
 -- A node: behind so many passes the events of its agent, and what the ends of its pool know; the chunks as they came to the agent; and all

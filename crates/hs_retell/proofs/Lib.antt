@@ -1,5 +1,4 @@
 pub mod Lists
-pub mod Turning
 pub mod Chunks
 pub mod Drawing
 pub mod Spanning

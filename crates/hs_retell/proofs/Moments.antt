@@ -10,11 +10,12 @@ use Rattle.hs_workload.specs.declared.word.Setting.TheVariants as settings
 use Rattle.hs_lawful.specs.Following.{asks_to}
 use Rattle.hs_actors.specs.Doings.{asks_in}
 use Rattle.hs_actors.specs.Facts.{HandsReady}
+use Rattle.hs_actors.specs.Turns.{AreTurns}
 use Rattle.hs_caller.specs.Calling.{Calling}
 use Rattle.hs_coord.specs.declared.asks.Asks.{Asks}
 use Rattle.hs_desk.specs.Agents.{IsPageThere, IsWithin}
 use Rattle.hs_desk.specs.Coordinators.{heard_of, asks_for}
-use Rattle.hs_desk.specs.Turns.{AreTurns}
+use Rattle.hs_desk.specs.Turns.{lent_of}
 use Rattle.hs_desk.specs.Work.{Work}
 use Rattle.hs_rounds.specs.Standing.{Site, Moment, SiteStands, Stands}
 use Rattle.hs_rounds.specs.Acting.{SiteActs}
@@ -96,7 +97,7 @@ module _ (W : PlainWorkload) (valid : IsValid W) (rounds : ℕ) (m : Moment) (ca
       let both = length-append (heard_of node (came.at k).heard) told.item in
       record {
         node_is = s.node_is;
-        turns = subst (λ m. AreTurns W.settings m work.came work.events (site_of (came.at k) node).agent.port.giver.turns) s.node_is s.agent.stands.turns;
+        turns = subst (λ m. AreTurns W.settings m (map lent_of work.came) work.events (site_of (came.at k) node).agent.port.giver.turns) s.node_is s.agent.stands.turns;
         pages = subst (λ m. AllByRecursion (IsPageThere W m work.pool) work.came) s.node_is is.pages;
         sheets = is.sheets;
         within = subst (λ m. AllByRecursion (IsWithin W m) work.events) s.node_is is.within;

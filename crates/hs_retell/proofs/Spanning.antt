@@ -1,6 +1,6 @@
 -- What a node's passes make of its story.
 use Rattle.std.proofs.Common.{◌≡◌, ℕ, zero, suc, ◌+◌, ◌-◌, ◌<◌, ◌≤◌, min, Bool, true, false, cond, List, [], ◌∷◌, ◌++◌, length, refl, sym, ap, subst, ◌∙◌, arith, map, filter, drop, count_by, eqb-true, append-nil, append_assoc}
-use Rattle.std.proofs.lemmas.List.{length-map}
+use Rattle.std.proofs.lemmas.List.{length-map, map-append}
 use Rattle.std.proofs.lemmas.List.Sums.{length-filter}
 use Rattle.std.proofs.lemmas.Simd.{map-map}
 use Rattle.hs_base.specs.declared.limits.TheConstants.{MAX_TAKEN}
@@ -15,12 +15,13 @@ use Rattle.hs_lawful.specs.Following.{is_from, asks_to}
 use Rattle.hs_actors.specs.Doings.{asks_in}
 use Rattle.hs_actors.specs.Facts.{EndsPass}
 use Rattle.hs_desk.specs.Coordinators.{heard_of}
+use Rattle.hs_desk.specs.Turns.{lent_of}
 use Rattle.hs_gathered.specs.Stories.{added}
-use Rattle.hs_gathered.specs.Turns.{Lent, AreTurns}
+use Rattle.hs_actors.specs.Turns.{Lent, AreTurns}
+use Rattle.hs_actors.proofs.Lents.{turns_more}
 use Rattle.hs_retell.specs.Spans.{Post, IsPost, IsStep}
 use Rattle.hs_retell.proofs.Chunks.{sheets_taken}
 use Rattle.hs_retell.proofs.Lists.{drop_front}
-use Rattle.hs_retell.proofs.Turning.{lent_of, turns_forward}
 
 -- ---- messages
 
@@ -82,8 +83,8 @@ module _ (W : PlainWorkload) (node passes : ℕ) (heard : ℕ → Messages) (pos
     pub turns_by : (k : ℕ) → k ≤ passes → AreTurns W.settings node (map lent_of (post passes).work.came) (events_by k) (post k).giver.turns
     turns_by k low =
         let c = came_from (passes - k) k (omega (arith, low)) in
-        subst (λ (came : List (Buffer Leased)). AreTurns W.settings node (map lent_of came) (events_by k) (post k).giver.turns) (sym c.came)
-        (turns_forward W.settings node (post k).work.came c.more (events_by k) (post k).giver.turns (posts k low).turns)
+        subst (λ (lents : List Lent). AreTurns W.settings node lents (events_by k) (post k).giver.turns) (sym (map-append lent_of (post k).work.came c.more) ∙ ap (map lent_of) (sym c.came))
+        (turns_more W.settings node (map lent_of (post k).work.came) (map lent_of c.more) (events_by k) (post k).giver.turns (posts k low).turns)
 
     pub lents_are : EventsAddThis → map (λ (lent : Lent). lent.sheet) (map lent_of (post passes).work.came) ≡ sheets_of (after W.settings node (events_by passes)).taken
     lents_are adds = map-map (λ (lent : Lent). lent.sheet) lent_of (post passes).work.came ∙ (posts passes (omega arith)).sheets ∙ sym (sheets_taken adds W.settings node (events_by passes))

@@ -28,6 +28,7 @@ use Rattle.hs_caller.specs.Calling.{Calling}
 use Rattle.hs_caller.specs.Standing.{IsAt, IsLeasedTo, HasSentAll}
 use Rattle.hs_desk.specs.Agents.{IsPageThere}
 use Rattle.hs_desk.specs.Work.{Work, is_of, came_of}
+use Rattle.hs_desk.specs.Turns.{lent_of}
 use Rattle.hs_rounds.specs.Standing.{Site, Moment}
 use Rattle.hs_rounds.specs.Coming.{Came}
 use Rattle.hs_gathered.specs.Ends.{done_by, Ends}
@@ -45,7 +46,6 @@ use Rattle.hs_retell.proofs.Moments.{site_of, site_stands}
 use Rattle.hs_retell.proofs.Meetings.{HaveSent, caller_at, acted_at, here_at, is_at, done_at, sent_at, started_at, none_drawn}
 use Rattle.hs_retell.proofs.Sending.{last_draws, sends_last, chunks_sent, crumbs_sent, triggers_sent}
 use Rattle.hs_retell.proofs.Spanning.{added_is, grows, ends_pass, turns_by, lents_are, asked_before, asks_taken, said_before, hears_said, heard_messages}
-use Rattle.hs_retell.proofs.Turning.{lent_of}
 
 abbrev pub HaveSentAll : Type 0
 HaveSentAll = (settings : PlainSettings) (client : ClientId) (ops : List Operation) (caller : Calling) → IsAt settings client ops caller → caller.done ≡ length ops → HasSentAll settings client ops caller

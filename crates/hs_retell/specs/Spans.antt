@@ -16,9 +16,10 @@ use Rattle.hs_lawful.specs.Following.{asks_to}
 use Rattle.hs_lawful.specs.Shape.{log_stamps}
 use Rattle.hs_actors.specs.Doings.{asks_in, steps_of}
 use Rattle.hs_actors.specs.Facts.{HandsReady, EndsPass}
+use Rattle.hs_actors.specs.Turns.{AreTurns}
 use Rattle.hs_desk.specs.Agents.{IsPageThere, IsWithin, state_at}
 use Rattle.hs_desk.specs.Coordinators.{heard_of}
-use Rattle.hs_desk.specs.Turns.{AreTurns}
+use Rattle.hs_desk.specs.Turns.{lent_of}
 use Rattle.hs_desk.specs.Work.{Work, with_events}
 
 -- what was done at a node, and the giver of its pool
@@ -29,7 +30,7 @@ pub record Post : Type 0 where
 -- The node stands so when these messages were heard.
 pub record IsPost (W : PlainWorkload) (node : ℕ) (heard : Messages) (post : Post) : Type 0 where
   pub node_is : post.work.node ≡ node
-  pub turns : AreTurns W.settings node post.work.came post.work.events post.giver.turns
+  pub turns : AreTurns W.settings node (map lent_of post.work.came) post.work.events post.giver.turns
   pub pages : AllByRecursion (IsPageThere W node post.work.pool) post.work.came
   pub sheets : map sheet_in post.work.came ≡ flat_map brought_by post.work.events
   pub within : AllByRecursion (IsWithin W node) post.work.events

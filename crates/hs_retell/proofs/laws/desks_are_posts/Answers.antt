@@ -1,8 +1,9 @@
-use Rattle.std.proofs.Common.{◌++◌, sym, ap, subst, ◌∙◌, append-nil}
+use Rattle.std.proofs.Common.{◌++◌, sym, ap, subst, ◌∙◌, append-nil, map}
 use Rattle.std.specs.List.{AllByRecursion}
 use Rattle.hs_actors.specs.Facts.{HandsReady}
+use Rattle.hs_actors.specs.Turns.{AreTurns}
 use Rattle.hs_desk.specs.Agents.{IsPageThere, IsWithin}
-use Rattle.hs_desk.specs.Turns.{AreTurns}
+use Rattle.hs_desk.specs.Turns.{lent_of}
 use Rattle.hs_model.specs.State.{start}
 use Rattle.hs_model.specs.Stepping.{after}
 use Rattle.hs_retell.proofs.laws.desks_are_posts.Goals as goal
@@ -12,7 +13,7 @@ returns c W node heard work desk lines node_is stands none asked few =
     let is = stands.works.is in
     record {
       node_is = node_is;
-      turns = subst (λ m. AreTurns W.settings m work.came work.events lines.giver.turns) node_is stands.turns;
+      turns = subst (λ m. AreTurns W.settings m (map lent_of work.came) work.events lines.giver.turns) node_is stands.turns;
       pages = subst (λ m. AllByRecursion (IsPageThere W m work.pool) work.came) node_is is.pages;
       sheets = is.sheets;
       within = subst (λ m. AllByRecursion (IsWithin W m) work.events) node_is is.within;

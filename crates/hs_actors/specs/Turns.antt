@@ -48,6 +48,10 @@ one_missed =
     Meets (Took model.Turn ∷ Gave (Missed 4) ∷ []) (answered (record { stamp = 4; event = pool.Missed; draw = 0 }) ∷ []) (3 ∷ [])
     (Offers (Took model.Turn ∷ []) [] (Missed 4) (answered (record { stamp = 4; event = pool.Missed; draw = 0 })) refl (Takes [] [] model.Turn Begins))
 
+-- it met a client, took a turn, and its offer was not read
+one_unread : AreTurns any_settings 0 [] (Took model.Turn ∷ Gave Unread ∷ []) (unread ∷ met (3 ∷ []) ∷ [])
+one_unread = Offers (Took model.Turn ∷ []) (met (3 ∷ []) ∷ []) Unread unread refl (Meets (Took model.Turn ∷ []) [] (3 ∷ []) (Takes [] [] model.Turn Begins))
+
 -- the lease of the chunk names the buffer and the draw of its give
 one_given : (lents : List Lent) (state : AgentState) (lent : Lent) → IsFirst lents state lent → IsOffered lents state (Given 7) (answered (record { stamp = 7; event = pool.Given lent.buffer; draw = lent.draw }))
 one_given lents state lent first = (lent, first, refl)
