@@ -1,9 +1,7 @@
 -- The bucket of a trigger's id admits what the model admits, and the trigger is noted.
-use Rattle.std.specs.Prelude.{◌==◌}
-use Rattle.std.proofs.Common.{◌≡◌, ℕ, ◌+◌, Bool, true, false, cond, List, [], ◌∷◌, map, filter, Option, Some, None, nat_le, nat_eq, refl, sym, ap, subst, ◌∙◌, true≢false}
+use Rattle.std.proofs.Common.{◌≡◌, ℕ, ◌+◌, Bool, true, false, cond, ◌∷◌, Option, Some, None, nat_le, refl, sym, ap, subst, ◌∙◌, true≢false}
 use Rattle.std.specs.Option.{option_map, option_map_or}
 use Rattle.hs_base.specs.declared.limits.TheConstants.{TOKEN}
-use Rattle.hs_base.specs.declared.ids.TriggerId.{TriggerId}
 use Rattle.hs_base.specs.declared.settings.TriggerRule.{TriggerRule}
 use Rattle.hs_base.specs.declared.told.Trigger.{Trigger}
 use Rattle.hs_records.specs.Plain.{PlainSettings}
@@ -11,24 +9,13 @@ use Rattle.hs_pins.specs.declared.claim.Admitted.{Admitted}
 use Rattle.hs_pins.specs.declared.claim.Admitted.TheVariants as admissions
 use Rattle.hs_pins.specs.declared.bucket.Attempt.TheVariants as attempts
 use Rattle.hs_pins.specs.Buckets.{level_found, attempted}
-use Rattle.hs_pins.specs.Remembered.{Remembered, Tried, admission, answered, tried_at, admitted_after}
+use Rattle.hs_pins.specs.Remembered.{Remembered, admission, answered, tried_at, admitted_after}
 use Rattle.hs_pins.specs.Remembered as pins
 use Rattle.hs_pins.specs.PinsLayout.{Pinning, Remembers}
-use Rattle.hs_model.specs.State.{AgentState, TriedTrigger}
-use Rattle.hs_model.specs.Stepping.{moments_of, rule_of, admits, note_trigger, count_admitted}
+use Rattle.hs_model.specs.State.{AgentState}
+use Rattle.hs_model.specs.Stepping.{rule_of, admits, note_trigger, count_admitted}
 use Rattle.hs_agent.specs.declared.placed.Place.{Place}
-use Rattle.hs_agent.specs.Keeping.{Kept, Holds, Point, RemembersAs, with_state, plain_trigger}
-
--- the moments of an id are the same
-same_moments : (id : TriggerId) (tried : List Tried) → moments_of id (map plain_trigger tried) ≡ pins.moments_of id tried
-same_moments id [] = refl
-same_moments id (t ∷ ts) = by (nat_eq t.trigger.0 id.0) (same_moments id ts)
-  where
-    by : (b : Bool) → moments_of id (map plain_trigger ts) ≡ pins.moments_of id ts
-        → map (λ (u : TriedTrigger). u.moment) (cond b (plain_trigger t ∷ filter (λ (u : TriedTrigger). u.trigger.0 == id.0) (map plain_trigger ts)) (filter (λ (u : TriedTrigger). u.trigger.0 == id.0) (map plain_trigger ts)))
-        ≡ map (λ (u : Tried). u.moment) (cond b (t ∷ filter (λ (u : Tried). u.trigger.0 == id.0) ts) (filter (λ (u : Tried). u.trigger.0 == id.0) ts))
-    by true rest = ap (λ l. t.moment ∷ l) rest
-    by false rest = rest
+use Rattle.hs_agent.specs.Keeping.{Kept, Holds, Point, RemembersAs, with_state}
 
 -- whether the bucket admitted
 abbrev pub is_admitted : Admitted → Bool
@@ -41,8 +28,7 @@ module _ (settings : PlainSettings) (node : ℕ) (state : AgentState) (memory : 
 
   admits-is : admits settings state.tried trigger ≡ option_map_or (λ (rule : TriggerRule). nat_le TOKEN (level rule)) (pins.rule_of memory.rules trigger.trigger) false
   admits-is =
-      (λ i. option_map_or (λ (rule : TriggerRule). nat_le TOKEN (level_found rule.burst rule.rate (moments_of trigger.trigger (sym same.tried i)) trigger.moment)) (pins.rule_of (sym same.rules i) trigger.trigger) false)
-      ∙ ap (λ moments. option_map_or (λ (rule : TriggerRule). nat_le TOKEN (level_found rule.burst rule.rate moments trigger.moment)) (pins.rule_of memory.rules trigger.trigger) false) (same_moments trigger.trigger memory.tried)
+      λ i. option_map_or (λ (rule : TriggerRule). nat_le TOKEN (level_found rule.burst rule.rate (pins.moments_of trigger.trigger (sym same.tried i)) trigger.moment)) (pins.rule_of (sym same.rules i) trigger.trigger) false
 
   -- the answer says whether the model admits the trigger, and with which number
   pub as_answered : (answer : Admitted) → answered memory trigger.trigger trigger.moment ≡ Some answer → admits settings state.tried trigger ≡ is_admitted answer

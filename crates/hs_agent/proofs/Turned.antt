@@ -27,7 +27,7 @@ use Rattle.hs_model.specs.Turning as model
 use Rattle.hs_model.specs.Laws.{PlacesMatch, count_of}
 use Rattle.hs_agent.specs.declared.placed.Place.{Place}
 use Rattle.hs_agent.specs.Placing.{Placed, place_of}
-use Rattle.hs_agent.specs.Keeping.{Kept, Point, Holds, IsKept, HasPage, IsIndexed, RemembersAs, with_state, pinned_place, plain_claim, plain_trigger, waiting_chunks, all_held}
+use Rattle.hs_agent.specs.Keeping.{Kept, Point, Holds, IsKept, HasPage, IsIndexed, RemembersAs, with_state, pinned_place, plain_claim, waiting_chunks, all_held}
 use Rattle.hs_agent.specs.LettingGo.{Going, let_go_all, reported, reported_going, page_in}
 use Rattle.hs_agent.specs.Reporting.{SendsNext, costs_of, id_of}
 use Rattle.hs_agent.proofs.Alls.{all-append, all-left, all-right, all-map, all-unmap, all-weaker}
@@ -145,7 +145,7 @@ module _ {L : Type 0} (first : Kept L) (point : Point L) (h : Holds first point)
       pinned = sym m.pinned;
       groups = m.groups;
       abandoned = ap (λ (x : Remembered Place). x.abandoned) m.memory_is ∙ h.pins.abandoned ∙ sym (ap (λ (s : AgentState). s.abandoned) m.others);
-      tried = ap (λ (x : Remembered Place). map plain_trigger x.tried) m.memory_is ∙ h.pins.tried ∙ sym (ap (λ (s : AgentState). s.tried) m.others);
+      tried = ap (λ (x : Remembered Place). x.tried) m.memory_is ∙ h.pins.tried ∙ sym (ap (λ (s : AgentState). s.tried) m.others);
       admitted = ap (λ (x : Remembered Place). x.admitted) m.memory_is ∙ h.pins.admitted ∙ sym (ap (λ (s : AgentState). s.admitted) m.others);
     }
 

@@ -15,11 +15,11 @@ use Rattle.hs_records.specs.Plain.{PlainSettings}
 use Rattle.hs_words.specs.Buffers.{Buffer}
 use Rattle.hs_words.specs.Chunks.{used_of}
 use Rattle.hs_index.specs.Index.{Index, Indexed, noted_of, count_chunks, chunks_left}
-use Rattle.hs_pins.specs.Remembered.{Claim, Pin, Tried, Remembered, claim_of}
+use Rattle.hs_pins.specs.Remembered.{Claim, Pin, Remembered, claim_of}
 use Rattle.hs_pins.specs.PinsLayout.{Pinning, Remembers}
 use Rattle.hs_sched.specs.Turns.{Schedule}
 use Rattle.hs_model.specs.Standings.{Taken, indexed_places, indexed_count, pinned_for}
-use Rattle.hs_model.specs.State.{AgentState, ClaimedTrace, TriedTrigger}
+use Rattle.hs_model.specs.State.{AgentState, ClaimedTrace}
 use Rattle.hs_model.specs.Messages.{has_crumb}
 use Rattle.hs_model.specs.Books.{page_standing, claim_note, bytes_at}
 use Rattle.hs_agent.specs.declared.placed.Place.{Place}
@@ -67,9 +67,6 @@ pub record HasPage (settings : PlainSettings) (taken : List Taken) (placed : Pla
 abbrev pub plain_claim : Claim → ClaimedTrace
 plain_claim claim = record { trace = claim.trace; group = claim.group; laterals = claim.laterals }
 
-abbrev pub plain_trigger : Tried → TriedTrigger
-plain_trigger tried = record { trigger = tried.trigger; moment = tried.moment }
-
 abbrev pub pinned_place : Pin Place → ℕ
 pinned_place pin = place_of pin.chunk
 
@@ -86,7 +83,7 @@ pub record RemembersAs (settings : PlainSettings) (node : ℕ) (state : AgentSta
   pub pinned : map pinned_place memory.pinned ≡ state.pinned
   pub groups : AllByRecursion (λ (pin : Pin Place). pinned_for state.taken (pinned_place pin) ≡ Some pin.group) memory.pinned
   pub abandoned : memory.abandoned ≡ state.abandoned
-  pub tried : map plain_trigger memory.tried ≡ state.tried
+  pub tried : memory.tried ≡ state.tried
   pub admitted : memory.admitted ≡ state.admitted
 
 -- each trace stands once

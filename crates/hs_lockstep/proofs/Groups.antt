@@ -23,8 +23,9 @@ use Rattle.hs_model.specs.Messages.{has_crumb, told_of, late_of}
 use Rattle.hs_base.specs.declared.limits.TheConstants.{TOKEN}
 use Rattle.hs_base.specs.Ids.{same_trace}
 use Rattle.hs_pins.specs.Buckets.{level_found}
-use Rattle.hs_model.specs.State.{AgentState, ClaimedTrace, TriedTrigger, claim_of}
-use Rattle.hs_model.specs.Stepping.{Input, Chunk, Crumbed, Triggered, Asked, Turn, Given, Missed, Unread, Event, Took, Gave, moments_of, rule_of, admits, group_of, told_by, after_event}
+use Rattle.hs_pins.specs.Remembered.{Tried, moments_of}
+use Rattle.hs_model.specs.State.{AgentState, ClaimedTrace, claim_of}
+use Rattle.hs_model.specs.Stepping.{Input, Chunk, Crumbed, Triggered, Asked, Turn, Given, Missed, Unread, Event, Took, Gave, rule_of, admits, group_of, told_by, after_event}
 use Rattle.hs_model.specs.Turning.{costs_of, shares_after}
 use Rattle.hs_records.specs.Plain.{PlainSettings, PlainWorkload}
 use Rattle.hs_sched.specs.declared.share.Share.{Share}
@@ -243,7 +244,7 @@ module _ (add : EventsAddFew) (this : EventsAddThis) (says : StepsSayWhatTheyTel
       either true h on = refl
       either false h on = on h
 
-  admits_declared : (tried : List TriedTrigger) (trigger : Trigger) → admits settings tried trigger ≡ true → is_declared settings.triggers trigger.trigger ≡ true
+  admits_declared : (tried : List Tried) (trigger : Trigger) → admits settings tried trigger ≡ true → is_declared settings.triggers trigger.trigger ≡ true
   admits_declared tried trigger h = either (rule_of settings trigger.trigger) refl h
     where
       either : (o : Option TriggerRule) → rule_of settings trigger.trigger ≡ o

@@ -3,12 +3,12 @@
 use Rattle.std.specs.Prelude.{ℕ, Bool, List, [], filter, find, not, Option}
 use Rattle.std.specs.List.{list_any}
 use Rattle.hs_base.specs.declared.ids.TraceId.{TraceId}
-use Rattle.hs_base.specs.declared.ids.TriggerId.{TriggerId}
 use Rattle.hs_base.specs.declared.told.Group.{Group}
 use Rattle.hs_base.specs.declared.told.Crumb.{Crumb}
 use Rattle.hs_base.specs.declared.told.Told.{Told}
 use Rattle.hs_base.specs.Ids.{same_trace}
 use Rattle.hs_journal.specs.declared.journal.Step.{Step}
+use Rattle.hs_pins.specs.Remembered.{Tried}
 use Rattle.hs_records.specs.Plain.{PlainSettings}
 use Rattle.hs_sched.specs.declared.share.Share.{Share}
 use Rattle.hs_sched.specs.Turns.{shares_of}
@@ -19,11 +19,6 @@ pub record ClaimedTrace : Type 0 where
   pub trace : TraceId
   pub group : Group
   pub laterals : List TraceId
-
--- a trigger that was taken, admitted or not
-pub record TriedTrigger : Type 0 where
-  pub trigger : TriggerId
-  pub moment : ℕ
 
 -- a buffer that was given back: the place of the chunk that lay in it, and the stamp
 pub record GivenPlace : Type 0 where
@@ -44,7 +39,7 @@ pub record AgentState : Type 0 where
   -- the abandoned groups
   pub abandoned : List Group
   -- the triggers, the latest first, and how many of them were admitted
-  pub tried : List TriedTrigger
+  pub tried : List Tried
   pub admitted : ℕ
   -- the declared trigger ids, rising, each with its weight and its deficit
   pub shares : List Share

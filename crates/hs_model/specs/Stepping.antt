@@ -1,6 +1,6 @@
 -- One step of an agent: it takes a chunk, a crumb, a trigger or an ask, or makes a turn; or the first buffer of its hand was
 -- offered to the pool. Each step is noted in the log.
-use Rattle.std.specs.Prelude.{ℕ, ◌+◌, ◌==◌, Bool, false, List, [], ◌∷◌, ◌++◌, length, map, filter, find, Option, Some, None, if◌then◌else◌, nat_le}
+use Rattle.std.specs.Prelude.{ℕ, ◌+◌, ◌==◌, Bool, false, List, [], ◌∷◌, ◌++◌, length, find, Option, Some, None, if◌then◌else◌, nat_le}
 use Rattle.std.specs.Option.{option_map_or, option_and_then}
 use Rattle.hs_base.specs.declared.ids.TraceId.{TraceId}
 use Rattle.hs_base.specs.declared.limits.TheConstants.{TOKEN}
@@ -15,10 +15,11 @@ use Rattle.hs_base.specs.declared.told.Why.TheVariants.{Fired, Answer}
 use Rattle.hs_journal.specs.declared.journal.Step.{Step}
 use Rattle.hs_journal.specs.declared.journal.Step.TheVariants as steps
 use Rattle.hs_pins.specs.Buckets.{level_found}
+use Rattle.hs_pins.specs.Remembered.{Tried, moments_of}
 use Rattle.hs_records.specs.Plain.{PlainSettings}
 use Rattle.hs_words.specs.Pages.{Sheet}
 use Rattle.hs_model.specs.Standings.{ChunkStanding, Indexed, Pinned, Abandoned}
-use Rattle.hs_model.specs.State.{AgentState, ClaimedTrace, TriedTrigger, start, claim_of, is_abandoned}
+use Rattle.hs_model.specs.State.{AgentState, ClaimedTrace, start, claim_of, is_abandoned}
 use Rattle.hs_model.specs.Evicting.{touch, evict}
 use Rattle.hs_model.specs.Claiming.{claim_each}
 use Rattle.hs_model.specs.Abandoning.{abandon}
@@ -93,16 +94,12 @@ take_crumb settings crumb state =
 
 -- ---- triggers and asks
 
--- the moments of the earlier triggers of an id, the latest first
-abbrev pub moments_of : TriggerId → List TriedTrigger → List ℕ
-moments_of id tried = map (λ t. t.moment) (filter (λ (t : TriedTrigger). t.trigger.0 == id.0) tried)
-
 -- the rule of a trigger id
 abbrev pub rule_of : PlainSettings → TriggerId → Option TriggerRule
 rule_of settings id = find (λ (rule : TriggerRule). rule.id.0 == id.0) settings.triggers
 
 -- whether the bucket of the trigger's id admits it
-abbrev pub admits : PlainSettings → List TriedTrigger → Trigger → Bool
+abbrev pub admits : PlainSettings → List Tried → Trigger → Bool
 admits settings tried trigger =
     option_map_or (λ (rule : TriggerRule). nat_le TOKEN (level_found rule.burst rule.rate (moments_of trigger.trigger tried) trigger.moment)) (rule_of settings trigger.trigger) false
 
