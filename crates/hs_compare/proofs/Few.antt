@@ -7,6 +7,7 @@ use Rattle.std.proofs.lemmas.List.Sorted.{length_permutation}
 use Rattle.hs_base.specs.declared.ids.ClientId.{ClientId}
 use Rattle.hs_base.specs.declared.ids.TraceId.{TraceId}
 use Rattle.hs_base.specs.declared.limits.TheConstants.{MAX_PAYLOAD, MAX_OPERATIONS}
+use Rattle.hs_base.specs.Ids.{is_among}
 use Rattle.hs_clauses.proofs.Valid.{ops_few}
 use Rattle.hs_outcome.specs.Outcomes.{client_at}
 use Rattle.hs_records.specs.Plain.{Operation, Begin, Point, Crumb, End, Fire, Sample, PlainSettings, PlainWorkload}
@@ -15,7 +16,7 @@ use Rattle.hs_sent.specs.Sending.{operations_at}
 use Rattle.hs_samplers.specs.Coming as samplers
 use Rattle.hs_samplers.specs.Coming.{comings_of, all_comings, named_in}
 use Rattle.hs_samplers.specs.Laws.{RingKeepsEachOnce}
-use Rattle.hs_samplers.specs.Samplers.{is_among, tail_keeps, ring_keeps}
+use Rattle.hs_samplers.specs.Samplers.{tail_keeps, ring_keeps}
 use Rattle.hs_workload.specs.Validity.{IsOperation, IsClient, IsValid, workload_pieces}
 use Rattle.hs_workload.specs.declared.word.Setting.TheVariants as settings
 use Rattle.hs_compare.specs.declared.coming.Coming.{Coming}

@@ -3,12 +3,13 @@ use Rattle.std.proofs.Common.{◌≡◌, ℕ, ◌&&◌, cond, Bool, true, false,
 use Rattle.std.specs.Prelude.{not, count_by, sum_by, zip}
 use Rattle.std.proofs.lemmas.List.Sums.{sum_by-cons}
 use Rattle.hs_base.specs.declared.ids.TraceId.{TraceId}
+use Rattle.hs_base.specs.Ids.{is_among}
 use Rattle.hs_ledger.specs.declared.ledger.Entry.{Entry}
 use Rattle.hs_ledger.specs.Totals.{is_reported}
 use Rattle.hs_records.specs.Plain.{PlainWorkload}
 use Rattle.hs_samplers.specs.Coming as samplers
 use Rattle.hs_samplers.specs.Coming.{all_comings, named_in}
-use Rattle.hs_samplers.specs.Samplers.{is_among, kept_by_rank, chosen, head_keeps, tail_keeps, ring_keeps, hindsight_keeps}
+use Rattle.hs_samplers.specs.Samplers.{kept_by_rank, chosen, head_keeps, tail_keeps, ring_keeps, hindsight_keeps}
 use Rattle.hs_samplers.specs.Lines as lines
 use Rattle.hs_samplers.specs.Lines.{PlainLine, PlainComparison, line_of, is_gap, is_limited, comparison_of}
 use Rattle.hs_compare.specs.declared.coming.Coming.{Coming}

@@ -5,9 +5,10 @@ use Rattle.std.specs.List.{flat_map}
 use Rattle.std.proofs.lemmas.List.{map-append, append-nil}
 use Rattle.std.proofs.lemmas.List.Sums.{sum_by_push}
 use Rattle.hs_base.specs.declared.ids.TraceId.{TraceId}
+use Rattle.hs_base.specs.Ids.{is_among}
 use Rattle.hs_samplers.specs.Coming.{Coming}
 use Rattle.hs_samplers.specs.Coming as samplers
-use Rattle.hs_samplers.specs.Samplers.{Ring, is_of, is_among, last_ones, ring_step}
+use Rattle.hs_samplers.specs.Samplers.{Ring, is_of, last_ones, ring_step}
 use Rattle.hs_samplers.specs.Samplers as rings
 use Rattle.hs_samplers.specs.Lines.{each_once}
 use Rattle.hs_compare.specs.Ringing.{is_noted_of, ids_in, traces_in, last_noted}

@@ -7,7 +7,7 @@ use Rattle.std.proofs.lemmas.Bool.Decides.{nat_tests}
 use Rattle.std.proofs.lemmas.Map.Views.{any-filter_same}
 use Rattle.hs_base.specs.declared.ids.TraceId.{TraceId}
 use Rattle.hs_base.specs.declared.ids.RecordId.{RecordId}
-use Rattle.hs_base.specs.Ids.{same_trace}
+use Rattle.hs_base.specs.Ids.{same_trace, is_among}
 use Rattle.hs_collect.specs.Collected.{Placed, is_same}
 use Rattle.hs_journal.specs.Views.{PlainJournal}
 use Rattle.hs_lawful.specs.Lawful.{IsLawful}

@@ -1,17 +1,12 @@
 -- The entries of a ledger that its reports are written from: those of the claimed traces. An entry that says reported stays whatever
 -- its trace, so that what stays says of each record whether it was reported.
 use Rattle.std.specs.Prelude.{◌≡◌, ◌||◌, Bool, List, [], ◌∷◌, map, filter, refl}
-use Rattle.std.specs.List.{list_any}
 use Rattle.hs_base.specs.declared.ids.TraceId.{TraceId}
-use Rattle.hs_base.specs.Ids.{same_trace}
+use Rattle.hs_base.specs.Ids.{is_among}
 use Rattle.hs_ledger.specs.declared.ledger.Entry.{Entry}
 use Rattle.hs_ledger.specs.Totals.{is_reported}
 use Rattle.hs_report.specs.declared.outcome.Outcome.{Outcome}
 use Rattle.hs_report.specs.Fates.{two_traces}
-
--- whether a trace is among these
-abbrev pub is_among : List TraceId → TraceId → Bool
-is_among traces trace = list_any (λ t. same_trace t trace) traces
 
 -- whether an entry stays, where these traces were claimed
 abbrev pub is_kept : List TraceId → Entry → Bool

@@ -4,8 +4,8 @@ ghost use Rattle.std.specs.Prelude.{◌≡◌, ◌||◌, [], ◌∷◌, ◌++◌
 ghost use Rattle.std.specs.HashSet.{contains};
 ghost use Rattle.hs_base.specs.declared.ids.TraceId.{TraceId};
 ghost use Rattle.hs_ledger.specs.Totals.{is_reported as reported_by};
-ghost use Rattle.hs_base.specs.Ids.{same_trace};
-ghost use Rattle.hs_report.specs.Kept.{is_among, is_kept};
+ghost use Rattle.hs_base.specs.Ids.{same_trace, is_among};
+ghost use Rattle.hs_report.specs.Kept.{is_kept};
 
 use crate::fates::is_reported;
 use hs_base::{Memory, TraceId};

@@ -2,9 +2,9 @@
 use Rattle.std.proofs.Common.{◌≡◌, ℕ, Bool, true, false, ◌||◌, cond, List, [], ◌∷◌, refl, sym, ap, ◌∙◌, slice_get, Some, eqb, eqb-true, ltb}
 use Rattle.std.specs.List.{AllByRecursion, flat_map}
 use Rattle.hs_base.specs.declared.ids.TraceId.{TraceId}
+use Rattle.hs_base.specs.Ids.{is_among}
 use Rattle.hs_lawful.specs.Following.{NodeRun}
 use Rattle.hs_outcome.specs.Outcomes.{put_trace, rising_traces, claimed_at}
-use Rattle.hs_samplers.specs.Samplers.{is_among}
 use Rattle.hs_samplers.proofs.Lists.{IsIn, all_each, all_themselves, in_flat}
 use Rattle.hs_samplers.proofs.Naming.{Among, among_all, among_in}
 

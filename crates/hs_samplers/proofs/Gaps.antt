@@ -5,6 +5,7 @@ use Rattle.std.specs.List.{AllByRecursion, flat_map, list_any}
 use Rattle.std.proofs.lemmas.Bool.{eqb-false}
 use Rattle.std.proofs.lemmas.List.Sums.{sum_by-cons}
 use Rattle.hs_base.specs.declared.ids.TraceId.{TraceId}
+use Rattle.hs_base.specs.Ids.{is_among}
 use Rattle.hs_ledger.specs.declared.ledger.Entry.{Entry}
 use Rattle.hs_ledger.specs.Totals.{is_reported}
 use Rattle.hs_records.specs.Plain.{PlainWorkload}
@@ -13,7 +14,6 @@ use Rattle.hs_outcome.specs.Outcomes.{put_trace, rising_traces, claimed_at, outc
 use Rattle.hs_outcome.specs.Reports.{Report, is_of, report_of}
 use Rattle.hs_samplers.specs.Laws.{GapsAreInGapLines}
 use Rattle.hs_samplers.specs.Lines.{is_gap}
-use Rattle.hs_samplers.specs.Samplers.{is_among}
 use Rattle.hs_samplers.proofs.Claimed.{put_all}
 use Rattle.hs_samplers.proofs.Lists.{all_each}
 

@@ -7,7 +7,7 @@ use Rattle.hs_base.specs.declared.ids.ClientId.{ClientId}
 use Rattle.hs_base.specs.declared.ids.TraceId.{TraceId}
 use Rattle.hs_base.specs.declared.limits.TheConstants.{MIN_SIZE}
 use Rattle.hs_base.specs.declared.told.Group.{Group}
-use Rattle.hs_base.specs.Ids.{same_trace}
+use Rattle.hs_base.specs.Ids.{same_trace, is_among}
 use Rattle.hs_journal.specs.declared.journal.Draw.{Draw}
 use Rattle.hs_journal.specs.declared.journal.Draw.TheVariants.{Got, Empty}
 use Rattle.hs_journal.specs.Views.{PlainJournal}
@@ -31,7 +31,6 @@ use Rattle.hs_outcome.specs.Outcomes.{claimed_at, outcome_of}
 use Rattle.hs_outcome.specs.Records.{EachRecordHasOneEntry, name_of}
 use Rattle.hs_samplers.specs.Coming.{named_in}
 use Rattle.hs_samplers.specs.Laws.{CanBeCompared, ClaimedTracesAreNamed, IsParted, KeptIsParted}
-use Rattle.hs_samplers.specs.Samplers.{is_among}
 use Rattle.hs_samplers.proofs.Lists.{some_same, all_at, is_first}
 use Rattle.hs_samplers.proofs.Naming.{Among, among_same, among_all, among_in}
 use Rattle.hs_samplers.proofs.Claimed.{claimed_somewhere}

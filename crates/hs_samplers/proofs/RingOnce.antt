@@ -5,9 +5,10 @@ use Rattle.std.specs.List.{AllByRecursion, flat_map}
 use Rattle.std.proofs.lemmas.List.{take-append-drop}
 use Rattle.std.proofs.lemmas.List.Elements.{filter-append}
 use Rattle.hs_base.specs.declared.ids.TraceId.{TraceId}
+use Rattle.hs_base.specs.Ids.{is_among}
 use Rattle.hs_samplers.specs.Coming.{Coming, Event, Comes, Names, events_in_order, all_comings, named_in}
 use Rattle.hs_samplers.specs.Laws.{brought_by, RingKeepsEachOnce}
-use Rattle.hs_samplers.specs.Samplers.{is_among, is_of, tail_keeps, Ring, empty_ring, last_ones, ring_step}
+use Rattle.hs_samplers.specs.Samplers.{is_of, tail_keeps, Ring, empty_ring, last_ones, ring_step}
 use Rattle.hs_samplers.proofs.Order.{all_in_order}
 use Rattle.hs_samplers.proofs.Ringing.{IsNamed, ring_holds}
 use Rattle.hs_samplers.proofs.Same.{Same, Joins, same_from, behind, before, into, crossed, filtered, in_parts, to_permutation}

@@ -6,6 +6,7 @@ use Rattle.std.proofs.lemmas.Option.{get_or_from_slice_get}
 use Rattle.hs_base.specs.declared.ids.ClientId.{ClientId}
 use Rattle.hs_base.specs.declared.ids.TraceId.{TraceId}
 use Rattle.hs_base.specs.declared.settings.AutoRule.{AutoRule}
+use Rattle.hs_base.specs.Ids.{is_among}
 use Rattle.hs_records.specs.Plain.{Operation, PlainWorkload}
 use Rattle.hs_sent.specs.Sending.{Sent, operations_at, sent_triggers}
 use Rattle.hs_sent.specs.Timing.{point_numbers}
@@ -13,7 +14,7 @@ use Rattle.hs_lawful.specs.Ends.{rounds_of}
 use Rattle.hs_outcome.specs.Outcomes.{client_at}
 use Rattle.hs_samplers.specs.Coming.{Coming, Event, Comes, Names, comings_of, sent_comings, items_at, names_in, events_at, events_of, events_in_order, all_comings, named_in}
 use Rattle.hs_samplers.specs.Laws.{RingKeepsLess}
-use Rattle.hs_samplers.specs.Samplers.{is_among, is_of, tail_keeps, Ring, empty_ring, last_ones, ring_step, ring_keeps}
+use Rattle.hs_samplers.specs.Samplers.{is_of, tail_keeps, Ring, empty_ring, last_ones, ring_step, ring_keeps}
 use Rattle.hs_samplers.proofs.Lists.{IsIn, all_each, all_append, all_drop, all_filtered, all_flat, all_range, all_map, all_themselves, in_flat, in_range, in_filter, within}
 use Rattle.hs_samplers.proofs.Naming.{Among, among_same, among_all, among_in, NamesOnly, all_named}
 

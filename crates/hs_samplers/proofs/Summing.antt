@@ -4,6 +4,7 @@ use Rattle.std.specs.List.{AllByRecursion}
 use Rattle.std.proofs.lemmas.List.{length-map}
 use Rattle.std.proofs.lemmas.List.Sums.{sum_by-cons}
 use Rattle.hs_base.specs.declared.ids.TraceId.{TraceId}
+use Rattle.hs_base.specs.Ids.{is_among}
 use Rattle.hs_ledger.specs.declared.ledger.Entry.{Entry}
 use Rattle.hs_ledger.specs.Totals.{is_reported}
 use Rattle.hs_records.specs.Plain.{PlainWorkload}
@@ -12,7 +13,6 @@ use Rattle.hs_outcome.specs.Records.{Named, name_of}
 use Rattle.hs_samplers.specs.Coming.{Coming, all_comings, named_in}
 use Rattle.hs_samplers.specs.Laws.{name_of_coming, EntriesStandByTheRecords, IsParted, KeptIsParted, TailIsTheSum}
 use Rattle.hs_samplers.specs.Lines.{is_gap, is_limited}
-use Rattle.hs_samplers.specs.Samplers.{is_among}
 
 abbrev one : Bool → ℕ
 one b = cond b 1 0

@@ -7,6 +7,7 @@ use Rattle.std.proofs.Common.{lit≤}
 use Rattle.std.specs.List.{AllByRecursion, flat_map, range_with_len}
 use Rattle.hs_base.specs.declared.ids.TraceId.{TraceId}
 use Rattle.hs_base.specs.declared.told.Trigger.{Trigger}
+use Rattle.hs_base.specs.Ids.{is_among}
 use Rattle.hs_journal.specs.Views.{PlainJournal}
 use Rattle.hs_ledger.specs.declared.ledger.Entry.{Entry}
 use Rattle.hs_ledger.specs.Totals.{is_reported}
@@ -21,7 +22,7 @@ use Rattle.hs_outcome.specs.Records.{EndsItsTraces, Named, name_of}
 use Rattle.hs_outcome.specs.Reports.{Report, reports_of}
 use Rattle.hs_samplers.specs.Coming.{Coming, Event, Comes, Names, names_in, events_in_order, all_comings, named_in}
 use Rattle.hs_samplers.specs.Lines.{PlainComparison, is_gap, is_limited, comparison_of}
-use Rattle.hs_samplers.specs.Samplers.{is_among, tail_keeps, ring_keeps}
+use Rattle.hs_samplers.specs.Samplers.{tail_keeps, ring_keeps}
 
 -- Each record that a ring keeps is one that tail keeps.
 abbrev pub RingKeepsLess : Type 0

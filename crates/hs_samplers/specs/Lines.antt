@@ -1,11 +1,12 @@
 -- What a comparison says of each sampler, and of the records that tail keeps and Hindsight does not.
 use Rattle.std.specs.Prelude.{ℕ, ◌==◌, nat_lt, Bool, not, ◌&&◌, List, [], ◌∷◌, length, count_by, sum_by, if◌then◌else◌}
 use Rattle.hs_base.specs.declared.ids.TraceId.{TraceId}
+use Rattle.hs_base.specs.Ids.{is_among}
 use Rattle.hs_ledger.specs.declared.ledger.Entry.{Entry}
 use Rattle.hs_ledger.specs.Totals.{is_reported}
 use Rattle.hs_records.specs.Plain.{PlainWorkload}
 use Rattle.hs_samplers.specs.Coming.{Coming, all_comings, named_in}
-use Rattle.hs_samplers.specs.Samplers.{is_among, is_of, head_keeps, tail_keeps, ring_keeps, hindsight_keeps}
+use Rattle.hs_samplers.specs.Samplers.{is_of, head_keeps, tail_keeps, ring_keeps, hindsight_keeps}
 
 pub record PlainLine : Type 0 where
   pub records : ℕ

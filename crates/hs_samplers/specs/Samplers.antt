@@ -1,18 +1,14 @@
 -- What each sampler keeps. Head keeps a trace by its rank alone, tail keeps the traces that are named somewhere. A ring keeps what waits in
 -- it when its trace is first named, and what comes behind that. Hindsight keeps what was reported.
 use Rattle.std.specs.Prelude.{◌≡◌, ℕ, ◌-◌, ◌%◌, ◌==◌, Bool, true, false, not, List, [], ◌∷◌, ◌++◌, length, map, filter, drop, fold, zip, if◌then◌else◌, refl}
-use Rattle.std.specs.List.{list_any}
 use Rattle.hs_base.specs.declared.ids.TraceId.{TraceId}
 use Rattle.hs_base.specs.Ranks.{word_of}
 use Rattle.hs_base.specs.Samples.{t}
+use Rattle.hs_base.specs.Ids.{is_among}
 use Rattle.hs_ledger.specs.declared.ledger.Entry.{Entry}
 use Rattle.hs_ledger.specs.Totals.{is_reported}
 use Rattle.hs_records.specs.Plain.{PlainWorkload}
 use Rattle.hs_samplers.specs.Coming.{Coming, Event, Comes, Names, all_comings, events_in_order, named_in}
-
--- whether the trace is one of these
-abbrev pub is_among : List TraceId → TraceId → Bool
-is_among traces trace = list_any (λ (other : TraceId). other.0 == trace.0) traces
 
 abbrev pub is_of : TraceId → Coming → Bool
 is_of trace coming = coming.trace.0 == trace.0

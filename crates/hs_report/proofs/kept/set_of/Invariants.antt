@@ -1,8 +1,7 @@
 use Rattle.std.proofs.Common.{◌≡◌, take}
 use Rattle.std.specs.HashSet.{contains}
 use Rattle.hs_base.specs.declared.ids.TraceId.{TraceId}
-use Rattle.hs_base.specs.Ids.{same_trace}
-use Rattle.hs_report.specs.Kept.{is_among}
+use Rattle.hs_base.specs.Ids.{same_trace, is_among}
 use Rattle.hs_report.proofs.kept.set_of.Given as goal
 
 abbrev pub invariant-loop-trace : goal.invariant-loop-trace
