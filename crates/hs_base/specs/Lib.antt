@@ -10,3 +10,4 @@ pub mod Rules
 pub mod Outside
 pub mod InMemory
 pub mod Samples
+pub mod Ranges

@@ -7,6 +7,7 @@ use Rattle.hs_text.specs.Opening.{line_reasons}
 use Rattle.hs_text.specs.Judging.{Judging, first_fault_in}
 use Rattle.hs_text.specs.Text.{numbers_of}
 use Rattle.hs_base.specs.declared.limits.TheConstants.{MAX_NODES, MAX_CLIENTS, MAX_BUFFERS}
+use Rattle.hs_base.specs.Ranges.{is_out}
 use Rattle.hs_journal.specs.declared.refusal.JournalReason.{JournalReason}
 use Rattle.hs_journal.specs.declared.refusal.JournalReason.TheVariants as reasons
 use Rattle.hs_journal.specs.declared.refusal.JournalRefusal.{JournalRefusal}
@@ -75,9 +76,6 @@ may_stand past _ = is_in_logs past.place
 -- the numbers of a line by their places, 0 where it has none
 abbrev pub numbers_at : List ℕ → Numbers
 numbers_at ns = record { first = slice_index ns 0; second = slice_index ns 1; third = slice_index ns 2 }
-
-abbrev pub is_out : ℕ → ℕ → ℕ → Bool
-is_out least most number = nat_lt number least || nat_lt most number
 
 -- the version is 1, and the numbers of nodes and clients, of buffers, clients and nodes have their limits
 abbrev pub is_out_of_range : Past → Keyword → Numbers → Bool

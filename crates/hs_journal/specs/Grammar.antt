@@ -1,12 +1,13 @@
 -- The text of a journal: the first line with the numbers of nodes and clients, the draws of each client in the order of
 -- node and number, the log of each node, the coordinator's order, and the line `end`. A text reads as a journal that has a
 -- text where it is that text.
-use Rattle.std.specs.Prelude.{◌≡◌, ℕ, ◌+◌, ◌*◌, ◌/◌, ◌%◌, ◌^◌, ◌<◌, ◌≤◌, List, [], ◌∷◌, ◌++◌, length, map, codes, ⊤, refl}
+use Rattle.std.specs.Prelude.{◌≡◌, ℕ, ◌+◌, ◌*◌, ◌/◌, ◌%◌, ◌^◌, ◌<◌, List, [], ◌∷◌, ◌++◌, length, map, codes, ⊤, refl}
 use Rattle.std.specs.List.{AllByRecursion}
 use Rattle.std.specs.Fmt.{digits}
 use Rattle.hs_text.specs.Text.{text_of}
 use Rattle.hs_base.specs.declared.limits.TheConstants.{MAX_NODES, MAX_CLIENTS, MAX_BUFFERS}
 use Rattle.hs_base.specs.declared.ids.NodeId.{NodeId}
+use Rattle.hs_base.specs.Ranges.{Within}
 use Rattle.hs_journal.specs.declared.journal.Draw.{Draw}
 use Rattle.hs_journal.specs.declared.journal.Draw.TheVariants as draws
 use Rattle.hs_journal.specs.declared.journal.Step.{Step}
@@ -55,9 +56,6 @@ abbrev pub journal_text : PlainJournal → List ℕ
 journal_text J = statements_text (journal_statements J)
 
 -- ---- which journals have a text
-
-abbrev pub Within : ℕ → ℕ → ℕ → Type 0
-Within least most number = (least ≤ number) × (number ≤ most)
 
 abbrev pub IsDraw : Draw → Type 0
 IsDraw (draws.Got buffer stamp) = (buffer < MAX_BUFFERS) × (stamp < 2 ^ 64)

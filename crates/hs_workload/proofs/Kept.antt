@@ -12,6 +12,7 @@ use Rattle.hs_base.specs.declared.settings.TriggerRule.{TriggerRule}
 use Rattle.hs_base.specs.declared.settings.AutoRule.{AutoRule}
 use Rattle.hs_base.specs.declared.settings.AutoRule.TheVariants.{Exception, Percentile, Category, Queue}
 use Rattle.hs_base.specs.Rules.{IsRule, IsAutoRule, AreAutoRules, is_declared, fired_by}
+use Rattle.hs_base.specs.Ranges.{is_out}
 use Rattle.hs_records.specs.Plain.{Operation, Begin, Point, Crumb, End, Fire, Sample}
 use Rattle.hs_records.specs.Records.{AreBracketed}
 use Rattle.hs_workload.specs.declared.word.Setting.{Setting}
@@ -20,7 +21,7 @@ use Rattle.hs_workload.specs.Settings.{setting_place, setting_in, least, most}
 use Rattle.hs_workload.specs.Statements.{Statement, Put, Declare, Watch, Start, Operate, Finish}
 use Rattle.hs_workload.specs.Grammar.{auto_statements, client_statements}
 use Rattle.hs_workload.specs.Validity.{IsOperation, IsClient, client_pieces, workload_pieces}
-use Rattle.hs_workload.specs.Faults.{is_out, is_rule_out, is_window_out, is_auto_out}
+use Rattle.hs_workload.specs.Faults.{is_rule_out, is_window_out, is_auto_out}
 use Rattle.hs_workload.specs.LookBack.{operation_pieces}
 use Rattle.hs_workload.specs.Forward.{Draft, past_of, closed, open_after, after}
 use Rattle.hs_workload.proofs.Exact.{count_is}

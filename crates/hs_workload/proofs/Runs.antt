@@ -11,6 +11,7 @@ use Rattle.hs_base.specs.declared.settings.TriggerRule.{TriggerRule}
 use Rattle.hs_base.specs.declared.settings.AutoRule.{AutoRule}
 use Rattle.hs_base.specs.declared.settings.AutoRule.TheVariants.{Exception, Percentile, Category, Queue}
 use Rattle.hs_base.specs.Rules.{IsRule, IsAutoRule, AreRules, AreAutoRules, is_declared, fired_by}
+use Rattle.hs_base.specs.Ranges.{Within, is_out}
 use Rattle.hs_text.specs.Steps.{◌>>=◌}
 use Rattle.hs_text.specs.JudgingLaws.{run}
 use Rattle.hs_records.specs.Plain.{PlainWorkload}
@@ -19,9 +20,9 @@ use Rattle.hs_workload.specs.declared.word.Setting.TheVariants as settings
 use Rattle.hs_workload.specs.Settings.{setting_place, least, most}
 use Rattle.hs_workload.specs.Statements.{Statement, Put, Declare, Watch, auto_numbers, statement_line}
 use Rattle.hs_workload.specs.Grammar.{head_statements, auto_statements}
-use Rattle.hs_workload.specs.Validity.{Within, IsValid}
+use Rattle.hs_workload.specs.Validity.{IsValid}
 use Rattle.hs_workload.specs.LookBack.{Past}
-use Rattle.hs_workload.specs.Faults.{is_out, is_rule_out, is_window_out, is_auto_out}
+use Rattle.hs_workload.specs.Faults.{is_rule_out, is_window_out, is_auto_out}
 use Rattle.hs_workload.specs.Forward.{Draft, fresh, past_of, after, line_step}
 use Rattle.hs_workload.proofs.Spelled.{IsSmall, Form}
 use Rattle.hs_workload.proofs.Clear.{Allowed, statement_taken}

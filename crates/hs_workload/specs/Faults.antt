@@ -14,6 +14,7 @@ use Rattle.hs_text.specs.Opening.{line_reasons}
 use Rattle.hs_text.specs.Judging.{Judging, first_fault_in}
 use Rattle.hs_records.specs.Plain.{Begin, Point, Crumb, Fire, Sample}
 use Rattle.hs_base.specs.declared.limits.TheConstants.{MAX_TRIGGER, MAX_WEIGHT, MAX_BURST, MAX_RATE, MAX_AUTOS, MIN_WINDOW, MAX_WINDOW, WHOLE_SHARE, MAX_LATERALS, MAX_PAYLOAD, MAX_OPERATIONS}
+use Rattle.hs_base.specs.Ranges.{is_out}
 use Rattle.hs_workload.specs.declared.refusal.Reason.{Reason}
 use Rattle.hs_workload.specs.declared.refusal.Reason.TheVariants as reasons
 use Rattle.hs_workload.specs.declared.refusal.Refusal.{Refusal}
@@ -89,9 +90,6 @@ abbrev pub has_wrong_hex : ℕ → Keyword → List (List ℕ) → Bool
 has_wrong_hex version keyword words = is_none (traces_of version (trace_words keyword words)) || has_wrong_payload keyword words
 
 -- ---- what a line says, after the lines before it
-
-abbrev pub is_out : ℕ → ℕ → ℕ → Bool
-is_out least most number = nat_lt number least || nat_lt most number
 
 abbrev pub is_rule_out : TriggerRule → Bool
 is_rule_out rule =

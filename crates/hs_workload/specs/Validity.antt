@@ -4,6 +4,7 @@ use Rattle.std.specs.List.{All, AllByRecursion}
 use Rattle.hs_base.specs.declared.ids.TraceId.{TraceId}
 use Rattle.hs_base.specs.Rules.{is_declared, AreRules, AreAutoRules}
 use Rattle.hs_base.specs.declared.limits.TheConstants.{MAX_LATERALS, MAX_PAYLOAD, MAX_OPERATIONS}
+use Rattle.hs_base.specs.Ranges.{Within}
 use Rattle.hs_text.specs.Text.{trace_digits}
 use Rattle.hs_records.specs.Plain.{Operation, Begin, Point, Crumb, End, Fire, Sample, PlainSettings, PlainWorkload}
 use Rattle.hs_records.specs.Records.{AreBracketed}
@@ -11,9 +12,6 @@ use Rattle.hs_workload.specs.declared.word.Setting.{Setting}
 use Rattle.hs_workload.specs.Settings.{least, most, setting_of}
 use Rattle.hs_workload.specs.Grammar.{workload_text}
 use Rattle.hs_workload.specs.LookBack.{operation_pieces}
-
-abbrev pub Within : ℕ → ℕ → ℕ → Type 0
-Within least most number = (least ≤ number) × (number ≤ most)
 
 -- a trace that has digits in a text of this version
 abbrev pub HasDigits : ℕ → TraceId → Type 0

@@ -4,6 +4,7 @@ ghost use Rattle.std.specs.Prelude.{◌≡◌, ◌+◌, ◌≢◌, ◌==◌, nat
 ghost use Rattle.std.specs.List.{All, list_any};
 ghost use Rattle.hs_base.specs.Rules.{is_declared};
 ghost use Rattle.hs_text.specs.LineFaults.{line_fault_of};
+ghost use Rattle.hs_base.specs.Ranges.{is_out};
 ghost use Rattle.hs_text.specs.Text.{trace_digits};
 ghost use Rattle.hs_text.specs.Steps.{Gives, value_or};
 ghost use Rattle.hs_text.specs.WordsLeft.{words_in};
@@ -14,7 +15,7 @@ ghost use Rattle.hs_workload.specs.declared.word.Setting.TheVariants.{Version, N
 ghost use Rattle.hs_workload.specs.declared.word.Keyword.TheVariants.{TriggerId as TriggerIdWord};
 ghost use Rattle.hs_workload.specs.Settings.{setting_in};
 ghost use Rattle.hs_workload.specs.Statements.{Put, Watch, Start, Operate, Finish, auto_rule, fire, numbers_say, trace_of, traces_of};
-ghost use Rattle.hs_workload.specs.Faults.{all_clients, may_stand, is_rule_out, is_auto_out, is_out, version_of};
+ghost use Rattle.hs_workload.specs.Faults.{all_clients, may_stand, is_rule_out, is_auto_out, version_of};
 ghost use Rattle.hs_workload.specs.Forward.{fresh, IsSound, draft_of, past_of, closed, after, with_operation, counted, counted_once, statement_step, numbers_step, begin_step, point_step, trigger_step, auto_step, keyword_step, line_step, open_after, workload_drafted};
 
 use crate::line::{Numbers, numbers_in};

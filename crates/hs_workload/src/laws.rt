@@ -2,7 +2,8 @@
 
 ghost use Rattle.std.specs.Prelude.{◌≡◌, ℕ, List, None};
 ghost use Rattle.hs_records.specs.Plain.{PlainWorkload};
-ghost use Rattle.hs_workload.specs.Validity.{IsValid, Reads, Within};
+ghost use Rattle.hs_base.specs.Ranges.{Within};
+ghost use Rattle.hs_workload.specs.Validity.{IsValid, Reads};
 ghost use Rattle.hs_workload.specs.Versions.{FitsVersion};
 ghost use Rattle.hs_workload.specs.Grammar.{workload_text};
 ghost use Rattle.hs_workload.specs.Faults.{first_fault};

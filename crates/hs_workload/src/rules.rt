@@ -2,7 +2,8 @@
 
 ghost use Rattle.std.specs.Prelude.{◌≡◌, false};
 ghost use Rattle.hs_workload.specs.Statements.{auto_rule};
-ghost use Rattle.hs_workload.specs.Faults.{is_rule_out, is_auto_out, is_out};
+ghost use Rattle.hs_base.specs.Ranges.{is_out};
+ghost use Rattle.hs_workload.specs.Faults.{is_rule_out, is_auto_out};
 
 use crate::line::Numbers;
 use crate::word::Kind;
