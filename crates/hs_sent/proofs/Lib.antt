@@ -7,3 +7,4 @@ pub mod Within
 pub mod Handing
 pub mod OneMore
 pub mod Order
+pub mod Sampling

@@ -4,12 +4,13 @@ use Rattle.hs_records.specs.Plain.{Sample}
 use Rattle.hs_auto.specs.Watching.{Watch}
 use Rattle.hs_auto.specs.declared.sampled.Sampled.TheVariants.{Quiet, Fired}
 use Rattle.hs_link.specs.Contents.{sent}
+use Rattle.hs_sent.proofs.Sampling.{rules_set}
 use Rattle.hs_live.specs.declared.called.Called.TheVariants.{Done}
 use Rattle.hs_live.specs.Live.{Live}
 use Rattle.hs_live.specs.Done.{Does}
 use Rattle.hs_live.specs.Calls.{IsAutoOf}
 use Rattle.hs_live.specs.ClientInside.{live_of}
-use Rattle.hs_live.proofs.Samples.{rules_set, is_found, sample_done}
+use Rattle.hs_live.proofs.Samples.{is_found, sample_done}
 use Rattle.hs_live.proofs.Lists.{lent, lent_is}
 use Rattle.hs_live.proofs.client.Client.sample.Goals as goal
 
