@@ -1,5 +1,5 @@
 -- A client that has done some operations does one more.
-use Rattle.std.proofs.Common.{◌≡◌, ℕ, zero, suc, ◌+◌, Bool, true, false, List, [], ◌∷◌, ◌++◌, length, reverse, Option, Some, None, IsSome, refl, sym, ap, ap₂, ◌∙◌, subst, append_assoc}
+use Rattle.std.proofs.Common.{◌≡◌, ℕ, zero, suc, ◌+◌, Bool, true, false, List, [], ◌∷◌, ◌++◌, reverse, Option, Some, None, IsSome, refl, sym, ap, ap₂, ◌∙◌, subst, append_assoc}
 use Rattle.std.proofs.lemmas.List.{append-nil, reverse-append}
 use Rattle.std.proofs.lemmas.Option.{same_Some}
 use Rattle.std.specs.Prelude.{slice_get, is_some}
@@ -8,23 +8,22 @@ use Rattle.hs_base.specs.declared.ids.TraceId.{TraceId}
 use Rattle.hs_base.specs.declared.ids.NodeId.{NodeId}
 use Rattle.hs_base.specs.declared.told.Crumb.{Crumb}
 use Rattle.hs_base.specs.declared.told.Trigger.{Trigger}
-use Rattle.hs_base.specs.declared.settings.AutoRule.{AutoRule}
-use Rattle.hs_records.specs.Plain.{Operation, Begin, Point, End, Fire, Sample}
+use Rattle.hs_records.specs.Plain.{Operation, Begin, Point, End, Fire}
 use Rattle.hs_records.specs.Plain as plain
 use Rattle.hs_records.specs.Records.{NumberedOperation, Piece, Segment, numbered_of, open_behind, pieces_until_end, record_pieces, segments_from, segments_of, coming}
-use Rattle.hs_auto.specs.Firing as firing
 use Rattle.hs_auto.specs.Watching.{Watch, HasSampled}
 use Rattle.hs_client.specs.Core.{Core, Current, Step, Began, after_step, new_core}
 use Rattle.hs_client.specs.Calls.{AreSteps, IsBook, May, with_all}
 use Rattle.hs_link.specs.Contents.{Outgoing, sent}
 use Rattle.hs_ring.specs.Parts.{Leased}
 use Rattle.hs_sent.specs.SoFar.{has_open_page}
-use Rattle.hs_sent.specs.Sending.{crumb_in, sample_in, samples_of, trigger_in}
+use Rattle.hs_sent.specs.Sending.{crumb_in, trigger_in}
 use Rattle.hs_live.specs.Keys.{Key}
 use Rattle.hs_live.specs.Live.{Live}
 use Rattle.hs_live.specs.Writing.{Made, Writing, IsWriting, WritesPieces, WritesEnd, writing_of}
 use Rattle.hs_live.specs.Done.{HasDone}
-use Rattle.hs_sent.specs.OneMore.{open_after, next_behind, AreWatching, OneMoreOperation, OneMoreCrumb, OneMoreTrigger}
+use Rattle.hs_sent.specs.OneMore.{next_behind, AreWatching}
+use Rattle.hs_sent.proofs.Adding.{OneMore, open_more, page_more, at, unseen, begin_unseen, point_unseen, end_unseen, crumb_unseen, fire_unseen, begin_no_crumb, begin_no_trigger, some_trace, point_no_crumb, point_no_trigger, end_no_crumb, end_no_trigger, coming_crumb, crumb_no_trigger, coming_fire, fire_no_crumb, trigger_of_fire}
 use Rattle.std.specs.List.{AllByRecursion}
 use Rattle.hs_live.specs.declared.called.Called.{Called}
 use Rattle.hs_live.specs.declared.called.Called.TheVariants as called
@@ -32,32 +31,9 @@ use Rattle.hs_live.specs.Done.{Does, DoesNothing}
 use Rattle.hs_live.specs.Calls.{IsNew, made_of, BeginsBy, EndsBy, WritesOnly, begun}
 use Rattle.hs_live.proofs.Steps.{began_trace, writing_kept, made_size}
 
--- what is known of one operation more
-pub record OneMore : Type 0 where
-  pub numbered : OneMoreOperation
-  pub crumbs : OneMoreCrumb
-  pub triggers : OneMoreTrigger
-
-open_more : (trace : Option TraceId) (ops : List Operation) (op : Operation) → open_after trace (ops ++ op ∷ []) ≡ open_behind (open_after trace ops) op
-open_more trace [] op = refl
-open_more trace (first ∷ ops) op = open_more (open_behind trace first) ops op
-
--- the operation behind these, where this trace is open
-abbrev at : List Operation → Option TraceId → Operation → NumberedOperation
-at ops trace op = record { number = length ops; trace = trace; operation = op }
-
 abbrev Writes : Made → List Operation → List Operation → Live → Type 0
 Writes made all rest client =
     IsWriting made (coming made.size client.core.number client.core.trace rest) (segments_from made.size client.core.number rest) (segments_of made.size all) (writing_of client)
-
-page_more : (page : Bool) (ops : List Operation) (op : Operation) → has_open_page page (ops ++ op ∷ []) ≡ has_open_page (has_open_page page ops) (op ∷ [])
-page_more page [] op = refl
-page_more page (Begin trace ∷ ops) op = page_more false ops op
-page_more page (Point moment payload ∷ ops) op = page_more true ops op
-page_more page (plain.Crumb node ∷ ops) op = page_more page ops op
-page_more page (End ∷ ops) op = page_more false ops op
-page_more page (Fire trigger ∷ ops) op = page_more page ops op
-page_more page (Sample moment auto value ∷ ops) op = page_more page ops op
 
 pub record DoesNow (made : Made) (ops : List Operation) (op : Operation) (old new : Live) : Type 0 where
   pub writes : (rest : List Operation) → Writes made (ops ++ op ∷ rest) rest new
@@ -81,27 +57,7 @@ done_now laws made ops op old new h d =
           (subst (λ (trace : Option TraceId). AreWatching made.autos (at ops trace op ∷ reverse (numbered_of ops)) new.autos) h.trace d.autos);
     }
 
--- ---- operations that no autotrigger sees
-
-pub record IsUnseen (op : Operation) : Type 0 where
-  pub samples : (auto : ℕ) (trace : Option TraceId) → sample_in auto trace op ≡ []
-
-unseen : (made : Made) (ops : List Operation) (op : Operation) (trace : Option TraceId) (autos : List Watch) → IsUnseen op → AreWatching made.autos (reverse (numbered_of ops)) autos → AreWatching made.autos (at ops trace op ∷ reverse (numbered_of ops)) autos
-unseen made ops op trace autos hidden w =
-    record {
-      rules_are = w.rules_are;
-      each = λ auto watch found.
-          subst (λ (l : List firing.Sample). HasSampled watch (l ++ samples_of auto (reverse (numbered_of ops)))) (sym (hidden.samples auto trace)) (w.each auto watch found);
-    }
-
 -- ---- begin
-
-begin_no_sample : (trace : TraceId) (auto : ℕ) (found : Option TraceId) → sample_in auto found (Begin trace) ≡ []
-begin_no_sample trace auto None = refl
-begin_no_sample trace auto (Some other) = refl
-
-begin_unseen : (trace : TraceId) → IsUnseen (Begin trace)
-begin_unseen trace = record { samples = begin_no_sample trace }
 
 -- what is known of the steps of a core
 abbrev pub Books : Type 0
@@ -130,19 +86,11 @@ begin_done laws books made ops trace old new may is h =
           began_trace made (pieces_until_end size number rest) (segments_from size number rest) (segments_of size (ops ++ Begin trace ∷ rest)) (writing_of old) (writing_of begun) trace may refl refl refl first;
       trace = refl;
       page = ap (λ (current : Option (Current Leased)). is_some current) bare;
-      crumbs = sym (ap (λ (l : List Crumb). sent old.crumbs ++ l) (no_crumb old.core.trace) ∙ append-nil (sent old.crumbs));
-      triggers = sym (ap (λ (l : List Trigger). sent old.triggers ++ l) (no_trigger old.core.trace) ∙ append-nil (sent old.triggers));
-      autos = unseen made ops (Begin trace) old.core.trace old.autos (begin_unseen trace) h.autos;
+      crumbs = sym (ap (λ (l : List Crumb). sent old.crumbs ++ l) (begin_no_crumb trace old.core.trace) ∙ append-nil (sent old.crumbs));
+      triggers = sym (ap (λ (l : List Trigger). sent old.triggers ++ l) (begin_no_trigger made.autos (reverse (numbered_of ops)) trace old.core.trace) ∙ append-nil (sent old.triggers));
+      autos = unseen made.autos ops (Begin trace) old.core.trace old.autos (begin_unseen trace) h.autos;
     } in
     subst (λ (client : Live). HasDone made (ops ++ Begin trace ∷ []) client) (sym is) (done_now laws made ops (Begin trace) old begun h now)
-  where
-    no_crumb : (found : Option TraceId) → crumb_in found (Begin trace) ≡ []
-    no_crumb None = refl
-    no_crumb (Some other) = refl
-
-    no_trigger : (found : Option TraceId) → trigger_in made.autos (reverse (numbered_of ops)) found (Begin trace) ≡ []
-    no_trigger None = refl
-    no_trigger (Some other) = refl
 
 pub begins : OneMore → Books → (trace : TraceId) (answer : Called) (old new : Live) → BeginsBy old.core answer → new ≡ record old { core = begun trace answer old.core } → Does (Begin trace) answer old new
 begins laws books trace called.Done old new may is = λ made ops h. begin_done laws books made ops trace old new may is h
@@ -156,25 +104,6 @@ begins laws books trace called.TooWide old new may is = is
 pub is_some_true : {A : Type 0} (o : Option A) → IsSome o → is_some o ≡ true
 is_some_true None some = absurd cc
 is_some_true (Some x) some = refl
-
-pub some_trace : (trace : Option TraceId) → IsSome trace → (t : TraceId) × (trace ≡ Some t)
-some_trace None some = absurd cc
-some_trace (Some t) some = (t, refl)
-
-no_crumb_of_point : (moment : ℕ) (payload : List ℕ) (found : Option TraceId) → crumb_in found (Point moment payload) ≡ []
-no_crumb_of_point moment payload None = refl
-no_crumb_of_point moment payload (Some trace) = refl
-
-no_trigger_of_point : (autos : List AutoRule) (earlier : List NumberedOperation) (moment : ℕ) (payload : List ℕ) (found : Option TraceId) → trigger_in autos earlier found (Point moment payload) ≡ []
-no_trigger_of_point autos earlier moment payload None = refl
-no_trigger_of_point autos earlier moment payload (Some trace) = refl
-
-point_no_sample : (moment : ℕ) (payload : List ℕ) (auto : ℕ) (found : Option TraceId) → sample_in auto found (Point moment payload) ≡ []
-point_no_sample moment payload auto None = refl
-point_no_sample moment payload auto (Some other) = refl
-
-point_unseen : (moment : ℕ) (payload : List ℕ) → IsUnseen (Point moment payload)
-point_unseen moment payload = record { samples = point_no_sample moment payload }
 
 pub point_done : OneMore → (moment : ℕ) (payload : List ℕ) (old new : Live) → IsSome old.core.trace → new.core.trace ≡ old.core.trace → new.core.number ≡ old.core.number + 1 → IsSome new.core.current
     → WritesPieces (record_pieces old.core.size old.core.number moment payload) (writing_of old) (writing_of new) → WritesOnly old new → Does (Point moment payload) called.Done old new
@@ -198,29 +127,14 @@ point_done laws moment payload old new some trace number page written only = λ 
           subst (λ (found : Option TraceId). IsWriting made (coming size new.core.number found rest) (segments_from size new.core.number rest) all (writing_of new)) (sym (trace ∙ t.1)) numbered;
       trace = trace;
       page = is_some_true new.core.current page;
-      crumbs = ap (λ (s : Outgoing Crumb _). sent s) only.crumbs ∙ sym (ap (λ (l : List Crumb). sent old.crumbs ++ l) (no_crumb_of_point moment payload old.core.trace) ∙ append-nil (sent old.crumbs));
-      triggers = ap (λ (s : Outgoing Trigger _). sent s) only.triggers ∙ sym (ap (λ (l : List Trigger). sent old.triggers ++ l) (no_trigger_of_point made.autos (reverse (numbered_of ops)) moment payload old.core.trace) ∙ append-nil (sent old.triggers));
+      crumbs = ap (λ (s : Outgoing Crumb _). sent s) only.crumbs ∙ sym (ap (λ (l : List Crumb). sent old.crumbs ++ l) (point_no_crumb moment payload old.core.trace) ∙ append-nil (sent old.crumbs));
+      triggers = ap (λ (s : Outgoing Trigger _). sent s) only.triggers ∙ sym (ap (λ (l : List Trigger). sent old.triggers ++ l) (point_no_trigger made.autos (reverse (numbered_of ops)) moment payload old.core.trace) ∙ append-nil (sent old.triggers));
       autos =
           subst (λ (autos : List Watch). AreWatching made.autos (at ops old.core.trace op ∷ reverse (numbered_of ops)) autos) (sym only.autos)
-          (unseen made ops op old.core.trace old.autos (point_unseen moment payload) h.autos);
+          (unseen made.autos ops op old.core.trace old.autos (point_unseen moment payload) h.autos);
     })
 
 -- ---- end
-
-no_crumb_of_end : (found : Option TraceId) → crumb_in found End ≡ []
-no_crumb_of_end None = refl
-no_crumb_of_end (Some trace) = refl
-
-no_trigger_of_end : (autos : List AutoRule) (earlier : List NumberedOperation) (found : Option TraceId) → trigger_in autos earlier found End ≡ []
-no_trigger_of_end autos earlier None = refl
-no_trigger_of_end autos earlier (Some trace) = refl
-
-end_no_sample : (auto : ℕ) (found : Option TraceId) → sample_in auto found (End) ≡ []
-end_no_sample auto None = refl
-end_no_sample auto (Some other) = refl
-
-end_unseen : IsUnseen (End)
-end_unseen = record { samples = end_no_sample }
 
 pub end_done : OneMore → (old new : Live) → IsSome old.core.trace → new.core.trace ≡ None → new.core.current ≡ None → new.core.number ≡ old.core.number → WritesEnd (writing_of old) (writing_of new) → WritesOnly old new → Does End called.Done old new
 end_done laws old new some trace page number written only = λ made ops h.
@@ -238,11 +152,11 @@ end_done laws old new some trace page number written only = λ made ops h.
           subst (λ (found : Option TraceId). IsWriting made (coming size new.core.number found rest) (segments_from size new.core.number rest) all (writing_of new)) (sym trace) numbered;
       trace = trace;
       page = ap (λ (current : Option (Current Leased)). is_some current) page;
-      crumbs = ap (λ (s : Outgoing Crumb _). sent s) only.crumbs ∙ sym (ap (λ (l : List Crumb). sent old.crumbs ++ l) (no_crumb_of_end old.core.trace) ∙ append-nil (sent old.crumbs));
-      triggers = ap (λ (s : Outgoing Trigger _). sent s) only.triggers ∙ sym (ap (λ (l : List Trigger). sent old.triggers ++ l) (no_trigger_of_end made.autos (reverse (numbered_of ops)) old.core.trace) ∙ append-nil (sent old.triggers));
+      crumbs = ap (λ (s : Outgoing Crumb _). sent s) only.crumbs ∙ sym (ap (λ (l : List Crumb). sent old.crumbs ++ l) (end_no_crumb old.core.trace) ∙ append-nil (sent old.crumbs));
+      triggers = ap (λ (s : Outgoing Trigger _). sent s) only.triggers ∙ sym (ap (λ (l : List Trigger). sent old.triggers ++ l) (end_no_trigger made.autos (reverse (numbered_of ops)) old.core.trace) ∙ append-nil (sent old.triggers));
       autos =
           subst (λ (autos : List Watch). AreWatching made.autos (at ops old.core.trace End ∷ reverse (numbered_of ops)) autos) (sym only.autos)
-          (unseen made ops End old.core.trace old.autos end_unseen h.autos);
+          (unseen made.autos ops End old.core.trace old.autos end_unseen h.autos);
     })
 
 pub ends : OneMore → (answer : Called) (old new : Live) → EndsBy old.core answer → ((answer ≡ called.Done → ⊥) → new ≡ old) → (answer ≡ called.Done → new.core.trace ≡ None) → (answer ≡ called.Done → new.core.current ≡ None) → new.core.number ≡ old.core.number
@@ -254,21 +168,6 @@ ends laws called.NoTrace old new by refused trace page number written only = ref
 ends laws called.TooWide old new by refused trace page number written only = absurd by
 
 -- ---- crumb and trigger
-
-coming_crumb : (size number : ℕ) (node : NodeId) (found : Option TraceId) (rest : List Operation) → coming size number found (plain.Crumb node ∷ rest) ≡ coming size number found rest
-coming_crumb size number node None rest = refl
-coming_crumb size number node (Some trace) rest = refl
-
-no_trigger_of_crumb : (autos : List AutoRule) (earlier : List NumberedOperation) (node : NodeId) (found : Option TraceId) → trigger_in autos earlier found (plain.Crumb node) ≡ []
-no_trigger_of_crumb autos earlier node None = refl
-no_trigger_of_crumb autos earlier node (Some trace) = refl
-
-crumb_no_sample : (node : NodeId) (auto : ℕ) (found : Option TraceId) → sample_in auto found (plain.Crumb node) ≡ []
-crumb_no_sample node auto None = refl
-crumb_no_sample node auto (Some other) = refl
-
-crumb_unseen : (node : NodeId) → IsUnseen (plain.Crumb node)
-crumb_unseen node = record { samples = crumb_no_sample node }
 
 pub crumb_done : OneMore → (node : NodeId) (trace : TraceId) (old : Live) (crumbs : Outgoing Crumb Key) → old.core.trace ≡ Some trace → sent crumbs ≡ sent old.crumbs ++ record { trace = trace; node = node } ∷ []
     → Does (plain.Crumb node) called.Done old (record old { crumbs = crumbs })
@@ -282,28 +181,9 @@ crumb_done laws node trace old crumbs some sends = λ made ops h.
       trace = refl;
       page = refl;
       crumbs = sends ∙ ap (λ (found : Option TraceId). sent old.crumbs ++ crumb_in found op) (sym some);
-      triggers = sym (ap (λ (l : List Trigger). sent old.triggers ++ l) (no_trigger_of_crumb made.autos (reverse (numbered_of ops)) node old.core.trace) ∙ append-nil (sent old.triggers));
-      autos = unseen made ops op old.core.trace old.autos (crumb_unseen node) h.autos;
+      triggers = sym (ap (λ (l : List Trigger). sent old.triggers ++ l) (crumb_no_trigger made.autos (reverse (numbered_of ops)) node old.core.trace) ∙ append-nil (sent old.triggers));
+      autos = unseen made.autos ops op old.core.trace old.autos (crumb_unseen node) h.autos;
     })
-
-coming_fire : (size number : ℕ) (trigger : Trigger) (found : Option TraceId) (rest : List Operation) → coming size number found (Fire trigger ∷ rest) ≡ coming size number found rest
-coming_fire size number trigger None rest = refl
-coming_fire size number trigger (Some trace) rest = refl
-
-no_crumb_of_fire : (trigger : Trigger) (found : Option TraceId) → crumb_in found (Fire trigger) ≡ []
-no_crumb_of_fire trigger None = refl
-no_crumb_of_fire trigger (Some trace) = refl
-
-trigger_of_fire : (autos : List AutoRule) (earlier : List NumberedOperation) (trigger : Trigger) (found : Option TraceId) → trigger ∷ [] ≡ trigger_in autos earlier found (Fire trigger)
-trigger_of_fire autos earlier trigger None = refl
-trigger_of_fire autos earlier trigger (Some trace) = refl
-
-fire_no_sample : (trigger : Trigger) (auto : ℕ) (found : Option TraceId) → sample_in auto found (Fire trigger) ≡ []
-fire_no_sample trigger auto None = refl
-fire_no_sample trigger auto (Some other) = refl
-
-fire_unseen : (trigger : Trigger) → IsUnseen (Fire trigger)
-fire_unseen trigger = record { samples = fire_no_sample trigger }
 
 pub trigger_done : OneMore → (trigger : Trigger) (old : Live) (triggers : Outgoing Trigger Key) → sent triggers ≡ sent old.triggers ++ trigger ∷ [] → Does (Fire trigger) called.Done old (record old { triggers = triggers })
 trigger_done laws trigger old triggers sends = λ made ops h.
@@ -315,9 +195,9 @@ trigger_done laws trigger old triggers sends = λ made ops h.
           (coming_fire made.size old.core.number trigger old.core.trace rest) (h.writes (op ∷ rest));
       trace = refl;
       page = refl;
-      crumbs = sym (ap (λ (l : List Crumb). sent old.crumbs ++ l) (no_crumb_of_fire trigger old.core.trace) ∙ append-nil (sent old.crumbs));
+      crumbs = sym (ap (λ (l : List Crumb). sent old.crumbs ++ l) (fire_no_crumb trigger old.core.trace) ∙ append-nil (sent old.crumbs));
       triggers = sends ∙ ap (λ (l : List Trigger). sent old.triggers ++ l) (trigger_of_fire made.autos (reverse (numbered_of ops)) trigger old.core.trace);
-      autos = unseen made ops op old.core.trace old.autos (fire_unseen trigger) h.autos;
+      autos = unseen made.autos ops op old.core.trace old.autos (fire_unseen trigger) h.autos;
     })
 
 -- ---- nothing

@@ -19,14 +19,15 @@ use Rattle.hs_auto.specs.declared.sampled.Sampled.{Sampled}
 use Rattle.hs_link.specs.Contents.{Outgoing, sent}
 use Rattle.hs_sent.specs.OneMore.{AreWatching}
 use Rattle.hs_sent.specs.Sending.{samples_of, trigger_in, trigger_of}
-use Rattle.hs_sent.proofs.Sampling.{sample, fired_trigger, trigger_is, sample_behind, watches, coming_sample, no_crumb_of_sample}
+use Rattle.hs_sent.proofs.Sampling.{sample, fired_trigger, trigger_is, watches, coming_sample, sample_no_crumb}
+use Rattle.hs_sent.proofs.Adding.{OneMore}
 use Rattle.hs_live.specs.declared.called.Called.TheVariants as called
 use Rattle.hs_live.specs.Keys.{Key}
 use Rattle.hs_live.specs.Live.{Live}
 use Rattle.hs_live.specs.Writing.{IsWriting, writing_of}
 use Rattle.hs_live.specs.Done.{Does}
 use Rattle.hs_live.proofs.Lists.{lent_from}
-use Rattle.hs_live.proofs.Doing.{OneMore, done_now}
+use Rattle.hs_live.proofs.Doing.{done_now}
 
 -- ---- the autotriggers
 
@@ -63,10 +64,10 @@ sample_done laws moment place value trigger lead old watch watch' answer autos t
           (coming_sample made.size old.core.number moment place value old.core.trace rest) (h.writes (op ∷ rest));
       trace = refl;
       page = refl;
-      crumbs = sym (ap (λ (l : List Crumb). sent old.crumbs ++ l) (no_crumb_of_sample moment place value old.core.trace) ∙ append-nil (sent old.crumbs));
+      crumbs = sym (ap (λ (l : List Crumb). sent old.crumbs ++ l) (sample_no_crumb moment place value old.core.trace) ∙ append-nil (sent old.crumbs));
       triggers = sends ∙ ap (λ (l : List Trigger). sent old.triggers ++ l) fired ∙ ap (λ (trace : Option TraceId). sent old.triggers ++ trigger_in made.autos earlier trace op) (sym open_is);
       autos =
           let now = watches made.autos ops earlier old.autos moment place value lead watch watch' found after same h.autos in
-          let there = subst (λ (l : List Watch). AreWatching made.autos (sample_behind ops lead op ∷ earlier) l) (sym autos_are) now in
+          let there = subst (λ (l : List Watch). AreWatching made.autos (at ops (Some lead) op ∷ earlier) l) (sym autos_are) now in
           subst (λ (trace : Option TraceId). AreWatching made.autos (record { number = length ops; trace = trace; operation = op } ∷ earlier) autos) (sym open_is) there;
     })

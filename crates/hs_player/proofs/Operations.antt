@@ -1,23 +1,21 @@
 -- A player that has done some operations does one more.
-use Rattle.std.proofs.Common.{◌≡◌, ℕ, ◌+◌, ◌≤◌, Bool, true, false, List, [], ◌∷◌, ◌++◌, length, reverse, Option, Some, None, IsSome, refl, sym, ap, ap₂, ◌∙◌, subst, arith, append_assoc}
+use Rattle.std.proofs.Common.{◌≡◌, ℕ, ◌+◌, ◌≤◌, Bool, false, List, [], ◌∷◌, ◌++◌, length, reverse, Option, Some, None, IsSome, refl, sym, ap, ap₂, ◌∙◌, subst, arith, append_assoc}
 use Rattle.std.proofs.lemmas.List.{append-nil, reverse-append}
 use Rattle.std.specs.Prelude.{is_some}
 use Rattle.hs_base.specs.declared.ids.TraceId.{TraceId}
 use Rattle.hs_base.specs.declared.ids.NodeId.{NodeId}
 use Rattle.hs_base.specs.declared.told.Crumb.{Crumb}
 use Rattle.hs_base.specs.declared.told.Trigger.{Trigger}
-use Rattle.hs_base.specs.declared.settings.AutoRule.{AutoRule}
-use Rattle.hs_records.specs.Plain.{Operation, Begin, Point, End, Fire, Sample}
+use Rattle.hs_records.specs.Plain.{Operation, Begin, Point, End, Fire}
 use Rattle.hs_records.specs.Plain as plain
 use Rattle.hs_records.specs.Records.{NumberedOperation, Piece, Segment, numbered_of, open_behind, pieces_until_end, piece_count, record_pieces, segments_from, segments_of, coming}
-use Rattle.hs_auto.specs.Firing as firing
-use Rattle.hs_auto.specs.Watching.{Watch, HasSampled}
 use Rattle.hs_client.specs.Core.{Core, Began, after_step}
 use Rattle.hs_client.specs.Calls.{May}
 use Rattle.hs_player.specs.Wells.{Way}
-use Rattle.hs_sent.specs.OneMore.{open_after, next_behind, AreWatching, OneMoreOperation, OneMoreCrumb, OneMoreTrigger}
+use Rattle.hs_sent.specs.OneMore.{next_behind, AreWatching}
 use Rattle.hs_sent.specs.SoFar.{has_open_page}
-use Rattle.hs_sent.specs.Sending.{crumb_in, sample_in, samples_of, trigger_in}
+use Rattle.hs_sent.specs.Sending.{crumb_in, trigger_in}
+use Rattle.hs_sent.proofs.Adding.{OneMore, open_more, page_more, at, unseen, begin_unseen, point_unseen, end_unseen, crumb_unseen, fire_unseen, begin_no_crumb, begin_no_trigger, some_trace, point_no_crumb, point_no_trigger, end_no_crumb, end_no_trigger, coming_crumb, crumb_no_trigger, coming_fire, fire_no_crumb, trigger_of_fire}
 use Rattle.hs_workload.specs.LookBack.{operation_pieces}
 use Rattle.hs_workload.specs.Validity.{client_pieces}
 use Rattle.hs_player.specs.Playing.{Unleased, Working}
@@ -26,34 +24,9 @@ use Rattle.hs_player.specs.Doing.{Gone, HasDone, Does, writing_of}
 use Rattle.hs_player.proofs.Sound.{sound_began, is_some_true}
 use Rattle.hs_player.proofs.Steps.{began_trace}
 
--- what is known of one operation more
-pub record OneMore : Type 0 where
-  pub numbered : OneMoreOperation
-  pub crumbs : OneMoreCrumb
-  pub triggers : OneMoreTrigger
-
--- ---- what is read off the operations
-
-open_more : (trace : Option TraceId) (ops : List Operation) (op : Operation) → open_after trace (ops ++ op ∷ []) ≡ open_behind (open_after trace ops) op
-open_more trace [] op = refl
-open_more trace (first ∷ ops) op = open_more (open_behind trace first) ops op
-
-page_more : (page : Bool) (ops : List Operation) (op : Operation) → has_open_page page (ops ++ op ∷ []) ≡ has_open_page (has_open_page page ops) (op ∷ [])
-page_more page [] op = refl
-page_more page (Begin trace ∷ ops) op = page_more false ops op
-page_more page (Point moment payload ∷ ops) op = page_more true ops op
-page_more page (plain.Crumb node ∷ ops) op = page_more page ops op
-page_more page (End ∷ ops) op = page_more false ops op
-page_more page (Fire trigger ∷ ops) op = page_more page ops op
-page_more page (Sample moment auto value ∷ ops) op = page_more page ops op
-
 pub pieces_more : (size : ℕ) (ops : List Operation) (op : Operation) → client_pieces size (ops ++ op ∷ []) ≡ client_pieces size ops + operation_pieces size op
 pieces_more size [] op = omega arith
 pieces_more size (first ∷ ops) op = let rest = pieces_more size ops op in omega (arith, rest)
-
--- the operation behind these, where this trace is open
-abbrev pub at : List Operation → Option TraceId → Operation → NumberedOperation
-at ops trace op = record { number = length ops; trace = trace; operation = op }
 
 -- ---- one more
 
@@ -95,39 +68,10 @@ done_now laws made ops gone op old new h d =
           (subst (λ (trace : Option TraceId). AreWatching made.autos (at ops trace op ∷ reverse (numbered_of ops)) new.autos) h.trace d.autos);
     }
 
--- ---- operations that no autotrigger sees, and that leave no crumb and fire nothing
-
-pub record IsUnseen (op : Operation) : Type 0 where
-  pub samples : (auto : ℕ) (trace : Option TraceId) → sample_in auto trace op ≡ []
-
-pub unseen : (made : Made) (ops : List Operation) (op : Operation) (trace : Option TraceId) (autos : List Watch) → IsUnseen op → AreWatching made.autos (reverse (numbered_of ops)) autos
-    → AreWatching made.autos (at ops trace op ∷ reverse (numbered_of ops)) autos
-unseen made ops op trace autos hidden w =
-    record {
-      rules_are = w.rules_are;
-      each = λ auto watch found.
-          subst (λ (l : List firing.Sample). HasSampled watch (l ++ samples_of auto (reverse (numbered_of ops)))) (sym (hidden.samples auto trace)) (w.each auto watch found);
-    }
-
 pub none_more : {A : Type 0} (l more : List A) → more ≡ [] → l ≡ l ++ more
 none_more l more none = sym (ap (λ m. l ++ m) none ∙ append-nil l)
 
 -- ---- begin
-
-begin_unseen : (trace : TraceId) → IsUnseen (Begin trace)
-begin_unseen trace = record { samples = none }
-  where
-    none : (auto : ℕ) (found : Option TraceId) → sample_in auto found (Begin trace) ≡ []
-    none auto None = refl
-    none auto (Some other) = refl
-
-begin_no_crumb : (trace : TraceId) (found : Option TraceId) → crumb_in found (Begin trace) ≡ []
-begin_no_crumb trace None = refl
-begin_no_crumb trace (Some other) = refl
-
-begin_no_trigger : (autos : List AutoRule) (earlier : List NumberedOperation) (trace : TraceId) (found : Option TraceId) → trigger_in autos earlier found (Begin trace) ≡ []
-begin_no_trigger autos earlier trace None = refl
-begin_no_trigger autos earlier trace (Some other) = refl
 
 pub begin_done : OneMore → (trace : TraceId) (old : Working) (core : Core (Unit {0})) → IsSound old.core → May old.core (Began trace) → core ≡ after_step old.core (Began trace) → Does (Begin trace) old (record old { core = core })
 begin_done laws trace old core sound may is =
@@ -153,29 +97,10 @@ begin_done laws trace old core sound may is =
       sound = sound_began old.core trace sound;
       crumbs = none_more old.crumbs _ (begin_no_crumb trace old.core.trace);
       triggers = none_more old.triggers _ (begin_no_trigger made.autos (reverse (numbered_of ops)) trace old.core.trace);
-      autos = unseen made ops (Begin trace) old.core.trace old.autos (begin_unseen trace) h.autos;
+      autos = unseen made.autos ops (Begin trace) old.core.trace old.autos (begin_unseen trace) h.autos;
     }))
 
 -- ---- point
-
-pub some_trace : (trace : Option TraceId) → IsSome trace → (t : TraceId) × (trace ≡ Some t)
-some_trace None some = absurd cc
-some_trace (Some t) some = (t, refl)
-
-point_no_crumb : (moment : ℕ) (payload : List ℕ) (found : Option TraceId) → crumb_in found (Point moment payload) ≡ []
-point_no_crumb moment payload None = refl
-point_no_crumb moment payload (Some trace) = refl
-
-point_no_trigger : (autos : List AutoRule) (earlier : List NumberedOperation) (moment : ℕ) (payload : List ℕ) (found : Option TraceId) → trigger_in autos earlier found (Point moment payload) ≡ []
-point_no_trigger autos earlier moment payload None = refl
-point_no_trigger autos earlier moment payload (Some trace) = refl
-
-point_unseen : (moment : ℕ) (payload : List ℕ) → IsUnseen (Point moment payload)
-point_unseen moment payload = record { samples = none }
-  where
-    none : (auto : ℕ) (found : Option TraceId) → sample_in auto found (Point moment payload) ≡ []
-    none auto None = refl
-    none auto (Some other) = refl
 
 -- the same client with another core and other chunks
 abbrev pub with_writing : Working → Writing → Working
@@ -210,25 +135,10 @@ point_done laws moment payload old new way well well' some r = λ made ops gone 
       sound = r.sound;
       crumbs = none_more old.crumbs _ (point_no_crumb moment payload old.core.trace);
       triggers = none_more old.triggers _ (point_no_trigger made.autos (reverse (numbered_of ops)) moment payload old.core.trace);
-      autos = unseen made ops op old.core.trace old.autos (point_unseen moment payload) h.autos;
+      autos = unseen made.autos ops op old.core.trace old.autos (point_unseen moment payload) h.autos;
     })
 
 -- ---- end
-
-end_no_crumb : (found : Option TraceId) → crumb_in found End ≡ []
-end_no_crumb None = refl
-end_no_crumb (Some trace) = refl
-
-end_no_trigger : (autos : List AutoRule) (earlier : List NumberedOperation) (found : Option TraceId) → trigger_in autos earlier found End ≡ []
-end_no_trigger autos earlier None = refl
-end_no_trigger autos earlier (Some trace) = refl
-
-end_unseen : IsUnseen End
-end_unseen = record { samples = none }
-  where
-    none : (auto : ℕ) (found : Option TraceId) → sample_in auto found End ≡ []
-    none auto None = refl
-    none auto (Some other) = refl
 
 pub end_done : OneMore → (old : Working) (new : Writing) → IsSome old.core.trace → EndsTrace (writing_of old) new → Does End old (with_writing old new)
 end_done laws old new some e = λ made ops gone h.
@@ -253,7 +163,7 @@ end_done laws old new some e = λ made ops gone h.
       sound = e.sound;
       crumbs = none_more old.crumbs _ (end_no_crumb old.core.trace);
       triggers = none_more old.triggers _ (end_no_trigger made.autos (reverse (numbered_of ops)) old.core.trace);
-      autos = unseen made ops End old.core.trace old.autos end_unseen h.autos;
+      autos = unseen made.autos ops End old.core.trace old.autos end_unseen h.autos;
     })
 
 -- ---- operations that record nothing
@@ -271,22 +181,7 @@ apart_writes made ops gone op old apart h rest =
     subst (λ (later : List Segment). IsWriting made gone.chunks (coming made.size old.core.number old.core.trace rest) later all (writing_of old)) (apart.later made.size old.core.number rest) first
 
 crumb_apart : (node : NodeId) → IsApart (plain.Crumb node)
-crumb_apart node = record { comes = same; later = λ size number rest. refl }
-  where
-    same : (size number : ℕ) (found : Option TraceId) (rest : List Operation) → coming size number found (plain.Crumb node ∷ rest) ≡ coming size number found rest
-    same size number None rest = refl
-    same size number (Some trace) rest = refl
-
-crumb_no_trigger : (autos : List AutoRule) (earlier : List NumberedOperation) (node : NodeId) (found : Option TraceId) → trigger_in autos earlier found (plain.Crumb node) ≡ []
-crumb_no_trigger autos earlier node None = refl
-crumb_no_trigger autos earlier node (Some trace) = refl
-
-crumb_unseen : (node : NodeId) → IsUnseen (plain.Crumb node)
-crumb_unseen node = record { samples = none }
-  where
-    none : (auto : ℕ) (found : Option TraceId) → sample_in auto found (plain.Crumb node) ≡ []
-    none auto None = refl
-    none auto (Some other) = refl
+crumb_apart node = record { comes = λ size number found rest. coming_crumb size number node found rest; later = λ size number rest. refl }
 
 pub crumb_done : OneMore → (node : NodeId) (trace : TraceId) (old : Working) (crumbs : List Crumb) → old.core.trace ≡ Some trace → crumbs ≡ old.crumbs ++ record { trace = trace; node = node } ∷ []
     → Does (plain.Crumb node) old (record old { crumbs = crumbs })
@@ -303,30 +198,11 @@ crumb_done laws node trace old crumbs some sends = λ made ops gone h.
       sound = h.sound;
       crumbs = sends ∙ ap (λ (found : Option TraceId). old.crumbs ++ crumb_in found op) (sym some);
       triggers = none_more old.triggers _ (crumb_no_trigger made.autos (reverse (numbered_of ops)) node old.core.trace);
-      autos = unseen made ops op old.core.trace old.autos (crumb_unseen node) h.autos;
+      autos = unseen made.autos ops op old.core.trace old.autos (crumb_unseen node) h.autos;
     })
 
 fire_apart : (trigger : Trigger) → IsApart (Fire trigger)
-fire_apart trigger = record { comes = same; later = λ size number rest. refl }
-  where
-    same : (size number : ℕ) (found : Option TraceId) (rest : List Operation) → coming size number found (Fire trigger ∷ rest) ≡ coming size number found rest
-    same size number None rest = refl
-    same size number (Some trace) rest = refl
-
-fire_no_crumb : (trigger : Trigger) (found : Option TraceId) → crumb_in found (Fire trigger) ≡ []
-fire_no_crumb trigger None = refl
-fire_no_crumb trigger (Some trace) = refl
-
-trigger_of_fire : (autos : List AutoRule) (earlier : List NumberedOperation) (trigger : Trigger) (found : Option TraceId) → trigger ∷ [] ≡ trigger_in autos earlier found (Fire trigger)
-trigger_of_fire autos earlier trigger None = refl
-trigger_of_fire autos earlier trigger (Some trace) = refl
-
-fire_unseen : (trigger : Trigger) → IsUnseen (Fire trigger)
-fire_unseen trigger = record { samples = none }
-  where
-    none : (auto : ℕ) (found : Option TraceId) → sample_in auto found (Fire trigger) ≡ []
-    none auto None = refl
-    none auto (Some other) = refl
+fire_apart trigger = record { comes = λ size number found rest. coming_fire size number trigger found rest; later = λ size number rest. refl }
 
 pub trigger_done : OneMore → (trigger : Trigger) (old : Working) (triggers : List Trigger) → triggers ≡ old.triggers ++ trigger ∷ [] → Does (Fire trigger) old (record old { triggers = triggers })
 trigger_done laws trigger old triggers sends = λ made ops gone h.
@@ -342,5 +218,5 @@ trigger_done laws trigger old triggers sends = λ made ops gone h.
       sound = h.sound;
       crumbs = none_more old.crumbs _ (fire_no_crumb trigger old.core.trace);
       triggers = sends ∙ ap (λ (l : List Trigger). old.triggers ++ l) (trigger_of_fire made.autos (reverse (numbered_of ops)) trigger old.core.trace);
-      autos = unseen made ops op old.core.trace old.autos (fire_unseen trigger) h.autos;
+      autos = unseen made.autos ops op old.core.trace old.autos (fire_unseen trigger) h.autos;
     })

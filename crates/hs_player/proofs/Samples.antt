@@ -17,10 +17,11 @@ use Rattle.hs_auto.specs.Watching.{Watch, HasSampled}
 use Rattle.hs_auto.specs.declared.sampled.Sampled.{Sampled}
 use Rattle.hs_sent.specs.OneMore.{AreWatching}
 use Rattle.hs_sent.specs.Sending.{samples_of, trigger_in, trigger_of}
-use Rattle.hs_sent.proofs.Sampling.{sample, fired_trigger, trigger_is, watches, coming_sample, no_crumb_of_sample}
+use Rattle.hs_sent.proofs.Sampling.{sample, fired_trigger, trigger_is, watches, coming_sample, sample_no_crumb}
+use Rattle.hs_sent.proofs.Adding.{OneMore, at}
 use Rattle.hs_player.specs.Playing.{Working}
 use Rattle.hs_player.specs.Doing.{Does}
-use Rattle.hs_player.proofs.Operations.{OneMore, IsApart, apart_writes, at, done_now, none_more}
+use Rattle.hs_player.proofs.Operations.{IsApart, apart_writes, done_now, none_more}
 
 -- ---- a list of which an item was lent and written
 
@@ -80,7 +81,7 @@ sample_done laws moment place value trigger lead old watch watch' answer autos t
       trace = refl;
       page = refl;
       sound = h.sound;
-      crumbs = none_more old.crumbs _ (no_crumb_of_sample moment place value old.core.trace);
+      crumbs = none_more old.crumbs _ (sample_no_crumb moment place value old.core.trace);
       triggers = sends ∙ ap (λ (l : List Trigger). old.triggers ++ l) fired ∙ ap (λ (trace : Option TraceId). old.triggers ++ trigger_in made.autos earlier trace op) (sym open_is);
       autos =
           let now = watches made.autos ops earlier old.autos moment place value lead watch watch' found after same h.autos in

@@ -7,4 +7,5 @@ pub mod Within
 pub mod Handing
 pub mod OneMore
 pub mod Order
+pub mod Adding
 pub mod Sampling

@@ -1,5 +1,5 @@
 -- What a sample leaves of the autotriggers that a client has, and what it sends.
-use Rattle.std.proofs.Common.{◌≡◌, ℕ, zero, suc, Bool, List, [], ◌∷◌, ◌++◌, length, map, set, Option, Some, None, ◌⊎◌, inl, inr, eq-eqb, ne_eqb, refl, sym, ap, ◌∙◌, subst, arith}
+use Rattle.std.proofs.Common.{◌≡◌, ℕ, zero, suc, Bool, List, [], ◌∷◌, ◌++◌, map, set, Option, Some, None, ◌⊎◌, inl, inr, eq-eqb, ne_eqb, refl, sym, ap, ◌∙◌, subst, arith}
 use Rattle.std.proofs.lemmas.Option.{same_Some}
 use Rattle.std.specs.Prelude.{slice_get, if◌then◌else◌}
 use Rattle.hs_base.specs.declared.ids.TraceId.{TraceId}
@@ -15,6 +15,7 @@ use Rattle.hs_auto.specs.declared.sampled.Sampled.{Sampled}
 use Rattle.hs_auto.specs.declared.sampled.Sampled.TheVariants as answers
 use Rattle.hs_sent.specs.OneMore.{AreWatching}
 use Rattle.hs_sent.specs.Sending.{crumb_in, samples_of, trigger_of}
+use Rattle.hs_sent.proofs.Adding.{at}
 
 -- what stands at a place after another was written
 found_in : {A : Type 0} (items : List A) (place other : ℕ) (item item' x : A) → slice_get items place ≡ Some item → slice_get (set items place item') other ≡ Some x
@@ -37,13 +38,9 @@ rules_set (first ∷ autos) (suc place) watch watch' found same = ap (λ (rules 
 abbrev pub sample : ℕ → TraceId → firing.Sample
 sample value trace = record { value = value; trace = trace }
 
--- the sample behind these operations, where this trace is open
-abbrev pub sample_behind : List Operation → TraceId → Operation → NumberedOperation
-sample_behind ops lead op = record { number = length ops; trace = Some lead; operation = op }
-
 pub watches : (rules : List AutoRule) (ops : List Operation) (earlier : List NumberedOperation) (autos : List Watch) (moment place value : ℕ) (lead : TraceId) (watch watch' : Watch) → slice_get autos place ≡ Some watch
     → ((samples : List firing.Sample) → HasSampled watch samples → HasSampled watch' (sample value lead ∷ samples)) → watch'.rule ≡ watch.rule
-    → AreWatching rules earlier autos → AreWatching rules (sample_behind ops lead (Sample moment place value) ∷ earlier) (set autos place watch')
+    → AreWatching rules earlier autos → AreWatching rules (at ops (Some lead) (Sample moment place value) ∷ earlier) (set autos place watch')
 watches rules ops earlier autos moment place value lead watch watch' found after same w =
     let with : Bool → List firing.Sample → List firing.Sample = λ b samples. (if b then sample value lead ∷ [] else []) ++ samples in
     record {
@@ -73,6 +70,6 @@ pub coming_sample : (size number moment place value : ℕ) (found : Option Trace
 coming_sample size number moment place value None rest = refl
 coming_sample size number moment place value (Some trace) rest = refl
 
-pub no_crumb_of_sample : (moment place value : ℕ) (found : Option TraceId) → crumb_in found (Sample moment place value) ≡ []
-no_crumb_of_sample moment place value None = refl
-no_crumb_of_sample moment place value (Some trace) = refl
+pub sample_no_crumb : (moment place value : ℕ) (found : Option TraceId) → crumb_in found (Sample moment place value) ≡ []
+sample_no_crumb moment place value None = refl
+sample_no_crumb moment place value (Some trace) = refl
