@@ -9,10 +9,11 @@ use Rattle.hs_base.specs.declared.told.Told.{Told}
 use Rattle.hs_base.specs.Ids.{same_trace}
 use Rattle.hs_journal.specs.declared.journal.Step.{Step}
 use Rattle.hs_pins.specs.Remembered.{Tried}
+pub use Rattle.hs_pins.specs.Remembered.{is_abandoned}
 use Rattle.hs_records.specs.Plain.{PlainSettings}
 use Rattle.hs_sched.specs.declared.share.Share.{Share}
 use Rattle.hs_sched.specs.Turns.{shares_of}
-use Rattle.hs_model.specs.Standings.{Taken, same_group}
+use Rattle.hs_model.specs.Standings.{Taken}
 
 -- a trace that is claimed, for a group with these laterals
 pub record ClaimedTrace : Type 0 where
@@ -79,10 +80,6 @@ claim_of claims trace = find (λ claim. same_trace trace claim.trace) claims
 
 abbrev pub is_claimed : List ClaimedTrace → TraceId → Bool
 is_claimed claims trace = list_any (λ claim. same_trace trace claim.trace) claims
-
--- whether a group was abandoned here
-abbrev pub is_abandoned : List Group → Group → Bool
-is_abandoned abandoned group = list_any (same_group group) abandoned
 
 -- the other traces
 abbrev pub without_trace : TraceId → List TraceId → List TraceId
