@@ -16,7 +16,7 @@ use Rattle.hs_sent.specs.Sending.{draws_at, operations_at}
 use Rattle.hs_workload.specs.Validity.{IsValid}
 use Rattle.hs_compare.specs.declared.script.Script.{Script}
 use Rattle.hs_compare.specs.Scripts.{IsClientScript}
-use Rattle.hs_compare.specs.Beginning.{MayBegin, AreFirstScripts, first_comings}
+use Rattle.hs_compare.specs.Beginning.{AreFirstScripts, first_comings}
 use Rattle.hs_compare.proofs.Walked.{range-append}
 
 and_parts : (a b : Bool) → (a && b) ≡ true → (a ≡ true) × (b ≡ true)

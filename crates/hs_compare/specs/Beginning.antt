@@ -1,4 +1,4 @@
--- The scripts of its clients.
+-- The scripts of the clients of a workload, and the records that they have.
 use Rattle.std.specs.Prelude.{◌≡◌, ℕ, List, length, Some, slice_get}
 use Rattle.std.specs.List.{flat_map, range_with_len}
 use Rattle.hs_outcome.specs.Outcomes.{client_at}

@@ -9,7 +9,7 @@ ghost use Rattle.hs_samplers.specs.Laws.{compared_by, SumsToTail};
 ghost use Rattle.hs_samplers.specs.Samplers.{ring_step, empty_ring};
 ghost use Rattle.hs_workload.specs.Validity.{IsValid};
 ghost use Rattle.hs_workload.specs.Views.{workload_of};
-ghost use Rattle.hs_compare.specs.Beginning.{MayBegin};
+ghost use Rattle.hs_clauses.specs.Beginning.{MayBegin};
 ghost use Rattle.hs_compare.specs.Plain.{plain_comparison};
 ghost use Rattle.hs_compare.specs.Whole.{ringing_by};
 

@@ -6,7 +6,7 @@ ghost use Rattle.hs_outcome.specs.Outcomes.{client_at};
 ghost use Rattle.hs_sent.specs.Sending.{operations_at};
 ghost use Rattle.hs_workload.specs.Views.{workload_of};
 ghost use Rattle.hs_compare.specs.Scripts.{IsClientScript};
-ghost use Rattle.hs_compare.specs.Beginning.{MayBegin, AreScripts, AreScriptsOf};
+ghost use Rattle.hs_compare.specs.Beginning.{AreScripts};
 ghost use Rattle.hs_clauses.specs.Beginning.{MayBegin};
 
 use crate::client::client_script;

@@ -6,7 +6,7 @@ use Rattle.hs_base.specs.declared.ids.ClientId.{ClientId}
 use Rattle.hs_base.specs.declared.told.Crumb.{Crumb}
 use Rattle.hs_base.specs.declared.told.Trigger.{Trigger}
 use Rattle.hs_journal.specs.declared.journal.Draw.{Draw}
-use Rattle.hs_player.specs.Places.{IsAt, TellsBare, WentOn, done_behind}
+use Rattle.hs_player.specs.Places.{IsAt, TellsBare, WentOn}
 use Rattle.hs_player.specs.Playing.{Playing}
 use Rattle.hs_records.specs.Pages.{pages_of}
 use Rattle.hs_records.specs.Plain.{Operation, PlainSettings}

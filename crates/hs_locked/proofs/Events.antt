@@ -64,7 +64,7 @@ module _ (plan : Plan) (s : St) (f : Facts) (k : Kept plan s f) (id : ℕ) (v w 
       → ((i buffer : ℕ) → get_elem? (queue_of n log') i ≡ some buffer → spots buffer ≡ in_queue (gots_in log' + i))
       → ((d : ℕ) → HandOk n log' spots d (hands d)) → PalmOk n log' spots palm → ((buffer : ℕ) → buffer < n → SpotOk n log' f.seats f.giver (set s.views id w) buffer (spots buffer)) → left_in w ≤ left_in v → ((j : ℕ) → j ≢ id → leased j ≢ spot) → Knows plan after_leave id w
       → Kept plan (stepped s 1 x id ((0, new) ∷ []) w gives) after_leave
-  leave_kept store_ok spends in_queue in_hand in_palm in_spot fewer apart own =
+  leave_kept store_ok spends queue_ok in_hand in_palm in_spot fewer apart own =
       record {
         within = k.within;
         homes = length-set s.homes 0 (some new) ∙ k.homes;
@@ -76,7 +76,7 @@ module _ (plan : Plan) (s : St) (f : Facts) (k : Kept plan s f) (id : ℕ) (v w 
         slot_ok = set_here s.homes 0 (some new) (let h = k.homes in omega arith);
         out_ok = tt;
         spent = (spends, k.spent);
-        each_queued = in_queue;
+        each_queued = queue_ok;
         each_hand = in_hand;
         in_palm = in_palm;
         each_spot = in_spot;

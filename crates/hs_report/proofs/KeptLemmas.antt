@@ -21,7 +21,7 @@ use Rattle.hs_workload.specs.Validity.{IsValid}
 use Rattle.hs_report.specs.declared.fates.Sorted.{Sorted}
 use Rattle.hs_report.specs.declared.outcome.Outcome.{Outcome}
 use Rattle.hs_report.specs.Fates.{AreFatesOf, has_entry}
-use Rattle.hs_report.specs.Kept.{same_trace, is_among, is_kept, kept_of}
+use Rattle.hs_report.specs.Kept.{is_kept, kept_of}
 use Rattle.hs_report.specs.Outcomes.{IsOutcome}
 use Rattle.hs_report.specs.Sorted.{AreSorted, records_by}
 use Rattle.hs_report.specs.Sources.{report_by, gaps_of}
