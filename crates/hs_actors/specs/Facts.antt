@@ -1,5 +1,5 @@
--- The facts that make what was done lawful. Each is what one part of a run promises by itself: a client, a link, an agent, the
--- coordinator, or the loop of a pass.
+-- The facts about what clients, agents and coordinator did that make the journal of it lawful. Each is what one part of a run
+-- promises by itself: a client, a link, an agent, the coordinator, or the loop of a pass.
 use Rattle.std.specs.Prelude.{◌≡◌, ◌⊎◌, ℕ, suc, ◌+◌, ◌*◌, ◌<◌, ◌≤◌, min, List, [], ◌∷◌, ◌++◌, length, map, filter, replicate, slice_get, count_by, Some, IsSome}
 use Rattle.std.specs.List.{AllByRecursion, flat_map, range_with_len}
 use Rattle.hs_base.specs.declared.limits.TheConstants.{MAX_TAKEN}

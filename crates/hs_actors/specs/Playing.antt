@@ -1,4 +1,5 @@
--- Whatever may be told pass by pass is what the journal of it leads to when it is followed.
+-- That what is told pass by pass is what following its journal leads to, and each clause of the lawful journal, said of what is
+-- told.
 use Rattle.std.specs.Prelude.{◌≡◌, true}
 use Rattle.std.specs.List.{AllByRecursion}
 use Rattle.hs_records.specs.Plain.{PlainWorkload}

@@ -1,5 +1,6 @@
--- What the end of a node's pool tells of it. All that its ends did is one list of deeds, the last first. The draws of each client are
--- the answers of one drawer, and the gives and misses of the agent those of the giver, each in order.
+-- What is known of a node's pool once all its ends are closed, beside the draws of its clients and the log of its agent. All that
+-- its ends did is one list of deeds, the last first. The draws of each client are the answers of one drawer, and the gives and
+-- misses of the agent those of the giver, each in order.
 use Rattle.std.specs.Prelude.{◌≡◌, ◌⊎◌, ℕ, suc, ◌<◌, ◌≤◌, true, List, map, reverse, filter, filter_map, Option, Some, None, [], ◌∷◌, refl}
 use Rattle.std.specs.List.{AllByRecursion}
 use Rattle.std.specs.Option.{option_and_then}

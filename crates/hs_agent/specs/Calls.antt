@@ -1,5 +1,6 @@
--- Any calls of an agent, from its beginning. Each leads the run on as the contract of that call says. What was told in all of
--- them, the steps in the log, and the state that the run has come to, are those of the model after the events among these calls.
+-- What any calls of an agent come to, from its beginning. Each leads the run on as the contract of that call says. What was told
+-- in all of them, the steps in the log, and the state that the run has come to, are those of the model after the events among
+-- these calls.
 use Rattle.std.specs.Prelude.{◌≡◌, ◌≤◌, ℕ, List, [], ◌∷◌, ◌++◌, length, map, fold, flat_map, Option, None, refl}
 use Rattle.std.proofs.Common.{append-nil, ap, sym}
 use Rattle.std.specs.Option.{option_to_list}

@@ -1,4 +1,4 @@
--- Inside an agent a chunk's place in the order of arrival stands for its lease.
+-- How a chunk's place in the order of arrival stands for its lease inside an agent.
 use Rattle.std.specs.Prelude.{◌≡◌, ◌≢◌, ℕ, List, [], ◌∷◌, map, Option, Some, None, option_map, slice_get, slice_set}
 use Rattle.std.specs.List.{AllByRecursion}
 use Rattle.std.specs.Option.{option_and_then}

@@ -1,6 +1,6 @@
--- An autotrigger is given samples, each a value and the trace that it belongs to. These definitions say which samples
--- fire, and with which laterals, over the list of all samples that were given before, the latest first. What the
--- answer looks at are the last few of that list: the window. Examples stand in FiringExamples.
+-- When an autotrigger fires, and with which laterals, over the list of all samples that it was given, the latest first. A sample
+-- is a value and the trace that it belongs to. What the answer looks at are the last few of that list: the window. Examples stand
+-- in FiringExamples.
 use Rattle.std.specs.Prelude.{ℕ, ◌*◌, List, [], ◌∷◌, length, take, map, filter, count_by, Bool, not, ◌&&◌, ◌==◌, nat_lt, nat_le, if◌then◌else◌}
 use Rattle.hs_base.specs.declared.ids.TraceId.{TraceId}
 use Rattle.hs_base.specs.declared.settings.AutoRule.{AutoRule}

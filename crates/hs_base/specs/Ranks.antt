@@ -1,6 +1,6 @@
--- Nodes that are short of room must let the same traces go without asking each other, so a trace's rank comes from
--- its id alone: the id is folded to 64 bits, which seed a generator, and the generator's first word is the rank. Two
--- ids may come to one word, and the smaller id is then the smaller rank.
+-- The rank of a trace, which comes from its id alone: the id is folded to 64 bits, which seed a generator, and the generator's
+-- first word is the rank. So nodes that are short of room let the same traces go without asking each other. Two ids may come to
+-- one word, and the smaller id is then the smaller rank.
 use Rattle.std.specs.Prelude.{◌≡◌, ℕ, ◌*◌, ◌/◌, ◌%◌, ◌^◌, bit_xor, refl}
 use Rattle.std.specs.Int.{w64, to_le_bytes, from_le_bytes}
 use Rattle.rand_xoshiro.specs.SplitMix64.{mix_u64}

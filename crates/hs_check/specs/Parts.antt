@@ -1,6 +1,6 @@
--- An input with two parts. The workload goes up to and with the first line that is exactly `done`, and the journal behind it up to and
--- with the next line that is exactly `end`. A part whose last line is missing goes on to the end of the input. What stands behind the
--- journal belongs to no part.
+-- The two parts of an input that is checked: its workload goes up to and with the first line that is exactly `done`, and the
+-- journal behind it up to and with the next line that is exactly `end`. A part whose last line is missing goes on to the end of
+-- the input. What stands behind the journal belongs to no part.
 use Rattle.std.specs.Prelude.{◌≡◌, ℕ, not, List, [], ◌∷◌, ◌++◌, length, take, drop, codes, refl}
 use Rattle.std.specs.List.{take_while}
 use Rattle.std.specs.Str.{bytes_eq}

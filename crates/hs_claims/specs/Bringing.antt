@@ -1,5 +1,5 @@
--- Which traces an agent claims. It claims the leads and the laterals of the triggers and asks that it takes, and tells of these alone.
--- So where all that it takes is of traces that pass a test, all that it claims and tells is so too.
+-- Which traces an agent claims: the leads and the laterals of the triggers and asks that it takes, and no others. It tells of
+-- these alone. So where all that it takes is of traces that pass a test, all that it claims and tells is so too.
 use Rattle.std.specs.Prelude.{◌≡◌, ℕ, Bool, true, false, ◌==◌, List, [], ◌∷◌, map, refl}
 use Rattle.std.specs.List.{AllByRecursion}
 use Rattle.hs_base.specs.declared.ids.TraceId.{TraceId}

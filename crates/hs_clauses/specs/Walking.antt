@@ -1,6 +1,6 @@
--- A walk over a log, step by step. In a pass the items of each queue stand together, in the order of the queues and at most 64 of
--- each, then one turn, and then offers: so it is enough to know how many items were taken of the queue that the last one is of, or
--- that the turn was made.
+-- Whether a log is whole passes, by a walk over it, step by step. In a pass the items of each queue stand together, in the order
+-- of the queues and at most 64 of each, then one turn, and then offers: so it is enough to know how many items were taken of the
+-- queue that the last one is of, or that the turn was made.
 use Rattle.std.specs.Prelude.{◌≡◌, ℕ, ◌+◌, ◌*◌, Bool, true, false, ◌==◌, nat_lt, List, [], ◌∷◌, Option, Some, None, if◌then◌else◌, refl}
 use Rattle.hs_base.specs.declared.limits.TheConstants.{MAX_TAKEN}
 use Rattle.hs_journal.specs.declared.journal.Step.{Step}

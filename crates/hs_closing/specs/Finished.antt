@@ -1,4 +1,4 @@
--- What the end of a run answers.
+-- What the end of a run answers: books of a lawful journal of its workload.
 use Rattle.std.specs.Prelude.{◌≡◌, ℕ, Result, Ok}
 use Rattle.hs_base.specs.Listing.{Listing}
 use Rattle.hs_base.specs.declared.ids.NodeId.{NodeId}

@@ -1,4 +1,5 @@
--- What the samplers keep of these records, of which one by one the fate stands beside them.
+-- The lines of a comparison, from all records in their order, each beside its fate and with a mark for each sampler that keeps
+-- it.
 use Rattle.std.specs.Prelude.{ℕ, Bool, List, map, count_by}
 use Rattle.hs_base.specs.declared.ids.TraceId.{TraceId}
 use Rattle.hs_ledger.specs.declared.ledger.Entry.{Entry}

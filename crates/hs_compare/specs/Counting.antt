@@ -1,4 +1,4 @@
--- Records that are counted by trace.
+-- How many records each trace has, and the line of a comparison from such counts.
 pub use Rattle.hs_samplers.specs.Lines.{each_once}
 use Rattle.std.specs.Prelude.{◌≡◌, ℕ, ◌==◌, nat_lt, Bool, ◌&&◌, List, length, count_by, Some, None, unwrap_or, is_some, if◌then◌else◌}
 use Rattle.std.specs.Map.{lookup}

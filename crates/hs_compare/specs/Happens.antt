@@ -1,4 +1,4 @@
--- What a client's records and triggers are as happenings.
+-- The records that a client makes and the traces that it names, as what happens at its operations.
 use Rattle.std.specs.Prelude.{ℕ, List, [], ◌∷◌, ◌++◌, map}
 use Rattle.hs_base.specs.declared.ids.ClientId.{ClientId}
 use Rattle.hs_base.specs.declared.ids.TraceId.{TraceId}

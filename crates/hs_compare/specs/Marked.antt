@@ -1,4 +1,4 @@
--- Records that are marked, one mark for each.
+-- Which records a list of marks chooses, one mark for each, with their traces and bytes.
 use Rattle.std.specs.Prelude.{ℕ, Bool, List, [], ◌∷◌, map, sum_by, if◌then◌else◌}
 use Rattle.hs_base.specs.declared.ids.TraceId.{TraceId}
 use Rattle.hs_compare.specs.declared.coming.Coming.{Coming}

@@ -1,4 +1,4 @@
--- A comparison as it stands in memory and as it is defined.
+-- A comparison as its definition has it, read off the one in memory.
 use Rattle.hs_samplers.specs.Lines.{PlainLine, PlainComparison}
 use Rattle.hs_compare.specs.declared.comparison.Comparison.{Comparison}
 use Rattle.hs_compare.specs.declared.lines.Line.{Line}

@@ -1,4 +1,4 @@
--- The queue of a trace has the records of it that wait, in their order.
+-- The records that wait in a ring, trace by trace: the queue of a trace has those of it, in their order.
 use Rattle.std.specs.Prelude.{◌≡◌, ◌==◌, List, [], filter, unwrap_or}
 use Rattle.std.specs.Map.{lookup}
 use Rattle.hs_base.specs.declared.ids.TraceId.{TraceId}

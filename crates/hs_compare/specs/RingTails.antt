@@ -1,4 +1,4 @@
--- How the parts of a ring tail make a ring.
+-- How a ring of records lies in the fields of a ring tail, with records that no longer wait among those that do.
 use Rattle.std.specs.Prelude.{◌≡◌, ◌≤◌, ◌+◌, ◌*◌, length}
 use Rattle.hs_compare.specs.Ringing.{Ringing, alive}
 use Rattle.hs_compare.specs.Queues.{AreQueued}

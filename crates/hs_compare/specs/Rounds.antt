@@ -1,4 +1,4 @@
--- A ring that goes through scripts, round by round.
+-- What a ring meets when the scripts of all clients are gone through round by round.
 use Rattle.std.specs.Prelude.{ℕ, ◌+◌, ◌-◌, ◌*◌, ◌<◌, ◌≤◌, min, List, length, take, drop, get_or}
 use Rattle.std.specs.List.{flat_map, range_with_len}
 use Rattle.hs_compare.specs.declared.happening.Event.{Event}

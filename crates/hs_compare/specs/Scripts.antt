@@ -1,4 +1,4 @@
--- The script of a client.
+-- The script of a client: all that happens in its operations, from their records and from the triggers that they send.
 use Rattle.std.specs.Prelude.{Bool, true, false, List}
 use Rattle.std.specs.List.{flat_map}
 use Rattle.hs_base.specs.declared.ids.ClientId.{ClientId}

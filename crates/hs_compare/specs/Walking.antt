@@ -1,4 +1,5 @@
--- What happens in the operations of a client, in their order. Each thing that happens stands beside the number of its operation.
+-- What happens in the operations of a client, in their order, and the script that has it. Each thing that happens stands beside
+-- the number of its operation.
 use Rattle.std.specs.Prelude.{◌≡◌, ℕ, ◌+◌, ◌<◌, ◌≤◌, ◌==◌, List, [], ◌∷◌, ◌++◌, length, map, filter, fold, get_or, if◌then◌else◌}
 use Rattle.std.specs.List.{flat_map, range_with_len, AllByRecursion}
 use Rattle.hs_compare.specs.Ringing.{Ringing, comes, names}

@@ -1,4 +1,4 @@
--- The ring of a ring tail beside the ring of whole records.
+-- The ring of the definition, whose records are whole, as one of records without their payloads.
 use Rattle.std.specs.Prelude.{ℕ, map}
 use Rattle.hs_samplers.specs.Coming.{Coming}
 use Rattle.hs_samplers.specs.Samplers.{Ring}

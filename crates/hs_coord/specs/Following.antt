@@ -1,7 +1,7 @@
--- The coordinator follows each group over the messages that it has taken, here in the order in which it took them.
--- A group's asked set has the node that told its first message and each node to which a crumb of its messages leads. Each node
--- that joins it by a crumb gets one ask, with the group and the laterals of the first message, and the first `Answer` of the
--- group that this node tells after the ask answers it.
+-- Which nodes a group reaches, and which asks are sent for it, over the messages that the coordinator has taken, here in the
+-- order in which it took them. A group's asked set has the node that told its first message and each node to which a crumb of its
+-- messages leads. Each node that joins it by a crumb gets one ask, with the group and the laterals of the first message, and the
+-- first `Answer` of the group that this node tells after the ask answers it.
 use Rattle.std.specs.Prelude.{◌≡◌, ℕ, Bool, true, false, not, ◌&&◌, ◌||◌, ◌==◌, List, [], ◌∷◌, ◌++◌, find, unwrap_or, refl}
 use Rattle.std.specs.List.{list_any}
 use Rattle.std.specs.Option.{option_map_or}

@@ -1,5 +1,5 @@
--- The coordinator takes messages one at a time. A message is told by a node and speaks of one group, which its id names: the node
--- that admitted the group's trigger, and the trigger's number there.
+-- The messages that nodes tell the coordinator, which takes them one at a time. A message is told by a node and speaks of one
+-- group, which its id names: the node that admitted the group's trigger, and the trigger's number there.
 use Rattle.std.specs.Prelude.{◌≡◌, ℕ, ◌+◌, Bool, true, false, ◌&&◌, ◌==◌, List, [], ◌∷◌, filter, refl}
 use Rattle.hs_base.specs.declared.ids.NodeId.{NodeId}
 use Rattle.hs_base.specs.declared.ids.GroupId.{GroupId}

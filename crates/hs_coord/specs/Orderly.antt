@@ -1,6 +1,7 @@
--- A node has nothing to say of a group until it admits the group's trigger or is asked. If every node keeps to that, the
--- group's messages are orderly. A set of nodes is closed under them where the admitting node is in it, and with a node also
--- the nodes that its messages name: whoever walks along the crumbs never leaves such a set.
+-- When messages are orderly, and which sets of nodes are closed under them. A node has nothing to say of a group until it admits
+-- the group's trigger or is asked. If every node keeps to that, the group's messages are orderly. A set of nodes is closed under
+-- them where the admitting node is in it, and with a node also the nodes that its messages name: whoever walks along the crumbs
+-- never leaves such a set.
 use Rattle.std.specs.Prelude.{◌≡◌, ℕ, Bool, true, false, ◌==◌, [], ◌∷◌, ◌++◌, find, All, refl}
 use Rattle.std.specs.Option.{option_map_or}
 use Rattle.hs_base.specs.declared.ids.GroupId.{GroupId}

@@ -1,4 +1,4 @@
--- What the counts of a run come to.
+-- That what is counted of a run is how far its workload and its journal have come, and when that is all of it.
 use Rattle.std.specs.Prelude.{◌≡◌, ℕ, suc, ◌*◌, ◌<◌, ◌≤◌, List, length, slice_get, Some}
 use Rattle.hs_journal.specs.Views.{PlainJournal}
 use Rattle.hs_lawful.specs.Ends.{rounds_of}

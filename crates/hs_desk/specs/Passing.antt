@@ -1,4 +1,4 @@
--- A pass, as its stages make it.
+-- What an agent of a run needs for a pass, and what all stages of the pass make together.
 use Rattle.std.specs.Prelude.{◌≡◌, ◌⊎◌, ℕ, ◌+◌, ◌≤◌, min, List, [], ◌∷◌, ◌++◌, length, map}
 use Rattle.std.specs.List.{AllByRecursion}
 use Rattle.hs_base.specs.declared.limits.TheConstants.{MAX_TAKEN}

@@ -1,4 +1,4 @@
--- What a story of a run comes to.
+-- That the journal of a run's story is lawful, and where it leads each agent.
 use Rattle.std.specs.Prelude.{◌≡◌, ℕ, ◌<◌, length, map}
 use Rattle.std.specs.List.{range_with_len}
 use Rattle.hs_coord.specs.Messages.{Message}

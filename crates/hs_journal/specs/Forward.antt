@@ -1,5 +1,5 @@
--- A line at a time, forward: what is read so far, and what the next line makes of it or why it is refused. The reader's
--- own functions are stated by these. That they agree with the look back over the earlier lines is proved apart.
+-- What is read so far of a journal's text, a line at a time, and what the next line makes of it or why it is refused. The
+-- reader's own functions are stated by these. That they agree with the look back over the earlier lines is proved apart.
 use Rattle.std.specs.Prelude.{◌≡◌, ℕ, ◌*◌, ◌==◌, ◌<◌, ◌≤◌, Bool, true, false, not, List, [], ◌∷◌, ◌++◌, length, map, Result, Ok, Err, ⊤, codes, refl}
 use Rattle.hs_text.specs.Text.{number_of}
 use Rattle.hs_text.specs.Steps.{◌>>=◌, unless, value_or}

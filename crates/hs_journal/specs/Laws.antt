@@ -1,4 +1,5 @@
--- What holds of journals and their texts as a whole.
+-- That a journal and its text stand for one another: how many texts a journal has and how many journals a text, and that no such
+-- text begins another.
 use Rattle.std.specs.Prelude.{◌≡◌, ℕ, List, [], ◌++◌, None}
 use Rattle.hs_journal.specs.Views.{PlainJournal}
 use Rattle.hs_journal.specs.Grammar.{journal_text, IsJournal, Reads}

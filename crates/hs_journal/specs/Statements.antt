@@ -1,5 +1,5 @@
--- A line of a journal is a word and numbers: it says what that word says of the numbers. Each word has its own count of
--- numbers, and what a line says has one text.
+-- What a line of a journal says: it is a word and numbers, and says what that word says of the numbers. Each word has its own
+-- count of numbers, and what a line says has one text.
 use Rattle.std.specs.Prelude.{◌≡◌, ℕ, ◌==◌, List, [], ◌∷◌, length, map, codes, decimal, Option, Some, None, option_map, if◌then◌else◌, refl}
 use Rattle.hs_text.specs.Text.{words_of, line_of, numbers_of}
 use Rattle.hs_text.specs.Spelling.{spelled}

@@ -1,5 +1,6 @@
--- How a journal ends. All agents made as many passes, at least as many as there are rounds: enough for every client to do all of
--- its operations. Nothing waits any more in a queue of a client, among the asks or among the messages, and nothing is pinned.
+-- The clauses L8, L9 and L10 of the lawful journal: it can be followed to its end, has passes enough, and leaves nothing over.
+-- All agents made as many passes, at least as many as there are rounds: enough for every client to do all of its operations.
+-- Nothing waits any more in a queue of a client, among the asks or among the messages, and nothing is pinned.
 use Rattle.std.specs.Prelude.{◌≡◌, ℕ, ◌+◌, ◌-◌, ◌/◌, Bool, ◌&&◌, ◌==◌, nat_le, max, List, length, map, fold, count_by, zip, refl}
 use Rattle.std.specs.List.{range_with_len, list_all}
 use Rattle.hs_journal.specs.declared.journal.Step.{Step}

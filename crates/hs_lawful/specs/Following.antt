@@ -1,6 +1,7 @@
--- A journal is followed by performing its steps, one after another. A step of an agent takes the next item of its queue, and is
--- ready once that item was sent; an offer is ready while the hand has a buffer; and the coordinator takes a message once it was
--- told. The lowest node that is ready goes first, and the coordinator last. A journal can be followed if no step is left.
+-- What a journal comes to when it is followed, which is to perform its steps one after another. A step of an agent takes the next
+-- item of its queue, and is ready once that item was sent; an offer is ready while the hand has a buffer; and the coordinator
+-- takes a message once it was told. The lowest node that is ready goes first, and the coordinator last. A journal can be followed
+-- if no step is left.
 use Rattle.std.specs.Prelude.{ℕ, zero, suc, ◌+◌, Bool, true, false, ◌&&◌, ◌==◌, List, [], ◌∷◌, ◌++◌, length, map, Option, Some, None, unwrap_or, option_map, slice_get, count_by, sum_by, if◌then◌else◌}
 use Rattle.std.specs.List.{range_with_len, list_all}
 use Rattle.std.specs.Option.{option_and_then}

@@ -1,5 +1,5 @@
--- A journal is lawful for a workload where eleven clauses hold. They are asked in an order in which each can rely on those before
--- it: what a give gives is known once the journal was followed. The first that fails is what is said of a journal.
+-- When a journal is lawful for a workload: where eleven clauses hold. They are asked in an order in which each can rely on those
+-- before it: what a give gives is known once the journal was followed. The first that fails is what is said of a journal.
 use Rattle.std.specs.Prelude.{◌≡◌, ℕ, Bool, true, not, List, [], ◌∷◌, Option, option_map, find}
 use Rattle.std.specs.List.{AllByRecursion}
 use Rattle.hs_journal.specs.Views.{PlainJournal}

@@ -1,6 +1,7 @@
--- Agents and coordinator keep pace with the clients. An operation has a round, by the stride, and a draw that of the operation that
--- starts its page. The gives of a pass come behind the draws of earlier rounds and before those of later rounds. What the
--- rounds up to one send is taken by the pass behind it, or at least 64 items more than by the pass before it; and likewise asks.
+-- The clause L11 of the lawful journal: agents and coordinator keep pace with the clients. An operation has a round, by the
+-- stride, and a draw that of the operation that starts its page. The gives of a pass come behind the draws of earlier rounds and
+-- before those of later rounds. What the rounds up to one send is taken by the pass behind it, or at least 64 items more than by
+-- the pass before it; and likewise asks.
 use Rattle.std.specs.Prelude.{◌≡◌, ℕ, zero, suc, ◌+◌, ◌-◌, ◌*◌, Bool, true, ◌&&◌, nat_lt, nat_le, min, List, length, take, count_by, zip, find, unwrap_or, refl, if◌then◌else◌}
 use Rattle.std.specs.List.{range_with_len, list_all}
 use Rattle.hs_base.specs.declared.limits.TheConstants.{MAX_TAKEN}

@@ -1,6 +1,7 @@
--- A log is a list of passes. In a pass the agent takes from each queue, in order, at most 64 items: for each client its chunks,
--- its crumbs and its triggers, and then the asks. Then it makes one turn, and then it offers the buffers of its hand: until the
--- hand is empty, or until one offer is unread.
+-- The clauses L5 and L6 of the lawful journal: each log is a list of whole passes, and in each pass all offers are made. In a
+-- pass the agent takes from each queue, in order, at most 64 items: for each client its chunks, its crumbs and its triggers, and
+-- then the asks. Then it makes one turn, and then it offers the buffers of its hand: until the hand is empty, or until one offer
+-- is unread.
 use Rattle.std.specs.Prelude.{◌≡◌, ℕ, ◌+◌, ◌-◌, Bool, true, false, not, ◌&&◌, ◌||◌, ◌==◌, nat_le, List, [], ◌∷◌, ◌++◌, length, take, drop, filter, if◌then◌else◌, zip, replicate, refl}
 use Rattle.std.specs.List.{flat_map, range_with_len, list_all, list_any}
 use Rattle.hs_base.specs.declared.limits.TheConstants.{MAX_TAKEN}

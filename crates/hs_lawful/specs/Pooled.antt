@@ -1,6 +1,7 @@
--- What happens at the pool of a node, in the order of stamps: the draws of its clients, and the gives and misses of its agent. A
--- `given` step gives the buffer into which the page of the first chunk of the hand was written: the buffer of that page's draw.
--- The events are a history of the pool. And a chunk is given after its page was drawn, with nothing at its buffer in between.
+-- The clauses L3 and L4 of the lawful journal, on what happens at the pool of a node in the order of stamps: the draws of its
+-- clients, and the gives and misses of its agent. A `given` step gives the buffer into which the page of the first chunk of the
+-- hand was written: the buffer of that page's draw. The events are a history of the pool. And a chunk is given after its page was
+-- drawn, with nothing at its buffer in between.
 use Rattle.std.specs.Prelude.{◌≡◌, ℕ, Bool, true, false, not, ◌&&◌, ◌==◌, nat_lt, List, [], ◌∷◌, ◌++◌, length, map, reverse, filter, filter_map, count_by, Option, Some, None, option_map, slice_get, refl}
 use Rattle.std.specs.List.{flat_map, range_with_len, list_all, list_any}
 use Rattle.std.specs.Option.{option_and_then, option_map_or}

@@ -1,6 +1,6 @@
--- The shape of a journal and its stamps. It has the nodes and clients of the workload, a log for each node, and for each client
--- a draw for each of its pages. The stamps of a node number what happens at its pool, from 0 on, with none left out and none
--- twice; within a client's draws, and within a log, a later one is higher.
+-- The clauses L1 and L2 of the lawful journal: its shape, and its stamps. The journal has the nodes and clients of the workload,
+-- a log for each node, and for each client a draw for each of its pages. The stamps of a node number what happens at its pool,
+-- from 0 on, with none left out and none twice; within a client's draws, and within a log, a later one is higher.
 use Rattle.std.specs.Prelude.{◌≡◌, ℕ, Bool, true, false, ◌&&◌, ◌==◌, nat_lt, List, [], ◌∷◌, ◌++◌, length, map, Option, Some, None, filter_map, count_by, refl}
 use Rattle.std.specs.List.{flat_map, range_with_len, list_all}
 use Rattle.hs_journal.specs.declared.journal.Draw.{Draw}

@@ -1,5 +1,6 @@
--- What there is to take. An agent has taken at most what its clients sent and what it was asked, and the coordinator has heard at
--- most what was said. So no ask and no message is there for its own sake.
+-- What there is to take for the agents and the coordinator of a journal, and that they take nothing else. An agent has taken at
+-- most what its clients sent and what it was asked, and the coordinator has heard at most what was said. So no ask and no message
+-- is there for its own sake.
 use Rattle.std.specs.Prelude.{◌≡◌, ℕ, ◌≤◌, List, length, count_by, slice_get, refl}
 use Rattle.std.specs.List.{AllByRecursion}
 use Rattle.std.specs.Option.{option_map_or}

@@ -1,6 +1,7 @@
--- An offer is unread where the entry of the pool that it would fill still has a draw in it that nobody has collected. A journal
--- shows that this could be: the offer's place is that of an earlier draw, which got a buffer whose chunk was not given yet, and
--- whose client has not drawn again as far as the log can tell.
+-- The clause L7 of the lawful journal: an offer is unread only where it could be. An offer is unread where the entry of the pool
+-- that it would fill still has a draw in it that nobody has collected. A journal shows that this could be: the offer's place is
+-- that of an earlier draw, which got a buffer whose chunk was not given yet, and whose client has not drawn again as far as the
+-- log can tell.
 use Rattle.std.specs.Prelude.{◌≡◌, ℕ, ◌+◌, ◌-◌, ◌*◌, ◌/◌, Bool, false, not, ◌&&◌, ◌==◌, nat_lt, nat_le, List, length, map, take, filter, zip, count_by, slice_get, refl}
 use Rattle.std.specs.List.{range_with_len, list_all, list_any}
 use Rattle.std.specs.Option.{option_map_or}

@@ -1,6 +1,7 @@
--- The rule of the table, and what each step tells.
--- Item p of all that was put belongs to entry p % n of the n entries. Word 16 * e is 1 while the item of entry e was put and not taken. Its slot e is at home with that item, or empty where the entry is free.
--- The sender has the slot of the next free entry in hand between its look and its put, and the receiver that of the next item between its look and the taking.
+-- The rule of the table that the two ends of a link share, and what each step at it tells. Item p of all that was put belongs to
+-- entry p % n of the n entries. Word 16 * e is 1 while the item of entry e was put and not taken. Its slot e is at home with that
+-- item, or empty where the entry is free. The sender has the slot of the next free entry in hand between its look and its put,
+-- and the receiver that of the next item between its look and the taking.
 use Rattle.std.specs.Prelude.{◌≡◌, ◌≢◌, ℕ, ◌+◌, ◌*◌, ◌%◌, ◌^◌, ◌<◌, ◌≤◌, List, [], ◌∷◌, ◌++◌, length, slice_index, Option, Some, None}
 use mathlib.Core.Option.{some}
 use mathlib.Core.Option as maybe

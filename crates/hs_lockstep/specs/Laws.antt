@@ -1,4 +1,4 @@
--- What holds of the lockstep schedule.
+-- That a workload has one lockstep schedule in both versions.
 use Rattle.std.specs.Prelude.{◌≡◌, ℕ}
 use Rattle.hs_records.specs.Plain.{PlainWorkload}
 use Rattle.hs_lockstep.specs.Lockstep.{lockstep}

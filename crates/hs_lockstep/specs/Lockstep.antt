@@ -1,6 +1,7 @@
--- The lockstep schedule. In a round each client in turn does its next operations, as many as the stride, and then the agents make
--- a pass each, and then the coordinator. Behind the last round only passes are made, while anything waits. A machine keeps how
--- far each client is, and the journal up to now; whatever else it needs is read off these two.
+-- The lockstep schedule of a workload: the journal that one thread makes. In a round each client in turn does its next
+-- operations, as many as the stride, and then the agents make a pass each, and then the coordinator. Behind the last round only
+-- passes are made, while anything waits. A machine keeps how far each client is, and the journal up to now; whatever else it
+-- needs is read off these two.
 use Rattle.std.specs.Prelude.{ℕ, zero, suc, ◌+◌, ◌-◌, ◌*◌, ◌/◌, true, false, min, List, [], ◌∷◌, ◌++◌, length, map, set, replicate, fold, count_by, zip, unwrap_or, slice_get, sum_by}
 use Rattle.std.specs.List.{flat_map, range_with_len}
 use Rattle.std.specs.Option.{option_map_or}

@@ -1,6 +1,6 @@
--- With too much pinned, one trigger id has to give: the one that holds most, and where several hold as many, the smallest.
--- It gives up, whole, the group that matters least among those that still hold a chunk: the lowest rank of a lead, then the
--- lowest node, then the lowest number. This is repeated until no more is pinned than may be.
+-- Who gives way at an agent that has too much pinned: one trigger id, the one that holds most, and where several hold as many,
+-- the smallest. It gives up, whole, the group that matters least among those that still hold a chunk: the lowest rank of a lead,
+-- then the lowest node, then the lowest number. This is repeated until no more is pinned than may be.
 use Rattle.std.specs.Prelude.{ℕ, nat_lt, List, [], ◌∷◌, ◌++◌, length, filter, filter_map, if◌then◌else◌, not}
 use Rattle.std.specs.Option.{option_map_or}
 use Rattle.hs_base.specs.declared.told.Group.{Group}

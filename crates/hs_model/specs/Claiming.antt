@@ -1,5 +1,5 @@
--- A group takes its lead, and then its laterals one by one, leaving out what is claimed at this node already. What the
--- index has of a trace that is taken is pinned for the group from then on, oldest first, and the index drops the trace,
+-- Which traces a group takes at a node: its lead, and then its laterals one by one, leaving out what is claimed there already.
+-- What the index has of a trace that is taken is pinned for the group from then on, oldest first, and the index drops the trace,
 -- while its crumbs stay known.
 use Rattle.std.specs.Prelude.{List, [], ◌∷◌, ◌++◌, fold, if◌then◌else◌}
 use Rattle.hs_base.specs.declared.ids.TraceId.{TraceId}

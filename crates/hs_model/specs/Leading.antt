@@ -1,4 +1,4 @@
--- Where crumbs lead. An agent tells of no node but those to which crumbs led that it took.
+-- That an agent tells of no nodes but those to which crumbs led that it took.
 use Rattle.std.specs.Prelude.{◌≡◌, ℕ, ◌<◌, true, List, [], ◌∷◌, map, filter, refl}
 use Rattle.std.proofs.Common.{arith}
 use Rattle.std.specs.List.{AllByRecursion, range_with_len}

@@ -1,6 +1,6 @@
--- A turn reports what the trigger ids may send, each in its place in the rising order of ids. Of what is pinned for an id
--- the group that matters most comes first, and within a group what was pinned first. A visit reports as many of these, from
--- the front, as the id's deficit and its weight in pages pay for.
+-- What a turn reports: what the trigger ids may send, each in its place in the rising order of ids. Of what is pinned for an id
+-- the group that matters most comes first, and within a group what was pinned first. A visit reports as many of these, from the
+-- front, as the id's deficit and its weight in pages pay for.
 use Rattle.std.specs.Prelude.{ℕ, Bool, false, not, ◌==◌, List, ◌++◌, map, filter, take, fold, slice_get}
 use Rattle.std.specs.Option.{option_map_or}
 use Rattle.hs_words.specs.Chunks.{used_of}

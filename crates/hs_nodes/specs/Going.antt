@@ -1,4 +1,4 @@
--- The clients of a node go one after another.
+-- What is asked of the clients of a node, which go one after another, and what they come to.
 use Rattle.std.specs.Prelude.{◌≡◌, ℕ, ◌*◌, ◌<◌, List, map, length, fold, slice_get, Some}
 use Rattle.std.specs.List.{range_with_len}
 use Rattle.hs_base.specs.Listing.{Listing}

@@ -1,7 +1,7 @@
--- An agent speaks of a group when it admits the group's trigger, when it is asked, and later of crumbs of traces that the group
--- holds there. So in a journal that is followed no node speaks out of turn, and what holds of orderly messages holds of those that
--- the coordinator hears: the asked set of a group that was heard of is the least that no crumb leads out of. And an agent answers
--- only an ask that it took, so a node's ask was answered exactly where it told an `Answer`.
+-- When an agent speaks of a group: when it admits the group's trigger, when it is asked, and later of crumbs of traces that the
+-- group holds there. So in a journal that is followed no node speaks out of turn, and what holds of orderly messages holds of
+-- those that the coordinator hears: the asked set of a group that was heard of is the least that no crumb leads out of. And an
+-- agent answers only an ask that it took, so a node's ask was answered exactly where it told an `Answer`.
 use Rattle.std.specs.Prelude.{◌≡◌, ℕ, Bool, true, false, [], ◌∷◌, refl}
 use Rattle.std.specs.List.{list_any}
 use Rattle.hs_base.specs.declared.ids.GroupId.{GroupId}

@@ -1,5 +1,6 @@
--- A lawful journal has a text that reads as it. It has as many lists as its first line says; the clients, nodes and buffers that it
--- names are there; and a stamp is below the count of what happened at its pool, where each give and each miss answers a draw.
+-- That a lawful journal has a text that reads as it. It has as many lists as its first line says; the clients, nodes and buffers
+-- that it names are there; and a stamp is below the count of what happened at its pool, where each give and each miss answers a
+-- draw.
 use Rattle.std.specs.Prelude.{◌≡◌, ◌≤◌, ◌^◌, true, List, length, map, refl}
 use Rattle.std.specs.List.{AllByRecursion}
 use Rattle.hs_base.specs.declared.limits.TheConstants.{MAX_NODES, MAX_CLIENTS, MAX_BUFFERS}

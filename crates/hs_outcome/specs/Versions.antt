@@ -1,4 +1,4 @@
--- A workload in either version comes to the same: the version only says how wide traces are written.
+-- That a workload comes to the same in either version, which only says how wide traces are written.
 use Rattle.std.specs.Prelude.{◌≡◌, ℕ}
 use Rattle.hs_journal.specs.Views.{PlainJournal}
 use Rattle.hs_records.specs.Plain.{PlainWorkload}

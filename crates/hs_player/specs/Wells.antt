@@ -1,5 +1,5 @@
--- Where a client draws from. A well is seen by two things: for how many draws of buffers of a size it is ready, and what one draw
--- does to it. What many draws do follows from these.
+-- What a client of a replay draws from: a well. A well is seen by two things: for how many draws of buffers of a size it is
+-- ready, and what one draw does to it. What many draws do follows from these.
 use Rattle.std.specs.Prelude.{◌≡◌, ℕ, ◌≤◌, List, [], ◌∷◌, None}
 use Rattle.hs_journal.specs.declared.journal.Draw.{Draw}
 use Rattle.hs_journal.specs.declared.journal.Draw.TheVariants as draws

@@ -1,6 +1,5 @@
--- A segment is cut into pages from its front: the next page takes the longest front of the pieces that are left for
--- whose costs it has room. A client's pages, one segment's behind the other's, have the
--- numbers 0, 1, 2 and on.
+-- How a segment is cut into pages, from its front: the next page takes the longest front of the pieces that are left for whose
+-- costs it has room. A client's pages, one segment's behind the other's, have the numbers 0, 1, 2 and on.
 use Rattle.std.specs.Prelude.{◌≡◌, ℕ, zero, suc, ◌+◌, ◌-◌, List, [], ◌∷◌, length, take, drop, map, replicate, refl}
 use Rattle.std.specs.List.{flat_map}
 use Rattle.hs_base.specs.declared.ids.TraceId.{TraceId}

@@ -1,6 +1,6 @@
--- Each point of a client is a record of the trace that it has open; the first one has the number 0. A payload that fits a page of
--- its own is one piece; a longer one gives its front as a piece, and what is left of it is cut again. A segment is the
--- pieces between a begin and its end.
+-- The records of a client and the pieces of their payloads: each point is a record of the trace that is open, and the first one
+-- has the number 0. A payload that fits a page of its own is one piece; a longer one gives its front as a piece, and what is left
+-- of it is cut again. A segment is the pieces between a begin and its end.
 use Rattle.std.specs.Prelude.{◌≡◌, ℕ, zero, suc, ◌+◌, ◌-◌, nat_le, Bool, true, false, List, [], ◌∷◌, ◌++◌, length, take, drop, map, replicate, Option, Some, None, refl}
 use Rattle.std.specs.List.{flat_map}
 use Rattle.hs_base.specs.declared.ids.TraceId.{TraceId}

@@ -1,4 +1,4 @@
--- The books that a replay leaves are those of the schedule's journal.
+-- That the books that a replay leaves are those of the schedule's journal.
 use Rattle.std.specs.Prelude.{◌≡◌, [], ◌∷◌, map, refl}
 use Rattle.hs_base.specs.Listing.{listing}
 use Rattle.hs_base.specs.declared.told.Fate.TheVariants.{Live}

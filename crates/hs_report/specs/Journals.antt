@@ -1,4 +1,4 @@
--- The journal that books have.
+-- The journal that books have: their draws, their logs, and the order of the messages that were heard.
 use Rattle.std.specs.Prelude.{map}
 use Rattle.hs_journal.specs.declared.books.AgentBook.{AgentBook}
 use Rattle.hs_journal.specs.declared.books.ClientBook.{ClientBook}

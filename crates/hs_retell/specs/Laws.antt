@@ -1,4 +1,4 @@
--- What rounds, and the passes behind them, come to.
+-- That rounds, and the passes behind them, make a lawful journal, and what is noted of them.
 use Rattle.std.specs.Prelude.{◌≡◌, ℕ, suc, ◌<◌, ◌≤◌, List, [], ◌++◌, length, map, slice_get, take, Some}
 use Rattle.std.specs.List.{range_with_len, flat_map}
 use Rattle.hs_actors.specs.Doings.{steps_of}

@@ -1,4 +1,4 @@
--- The clients of a node go at once, each in its own operations.
+-- What is asked of the clients of a node, which go at once, each in its own operations, and what each comes to.
 use Rattle.std.specs.Prelude.{◌≡◌, ℕ, List, length, slice_get, Some}
 use Rattle.hs_base.specs.Listing.{Listing}
 use Rattle.hs_base.specs.declared.ids.ClientId.{ClientId}

@@ -1,4 +1,4 @@
--- The nodes of a run, as they act at once.
+-- What is asked of the nodes of a run, which act at once, and what each comes to.
 use Rattle.std.specs.Prelude.{◌≡◌, ℕ, ◌<◌, ◌≤◌, Bool, true, false, List, length, map, slice_get, Some}
 use Rattle.hs_coord.specs.Messages.{Messages}
 use Rattle.hs_records.specs.Plain.{PlainWorkload}

@@ -1,6 +1,6 @@
--- What a visit sends is the longest prefix within its budget, and its bytes and the new deficit make up the budget
--- where an item is left. So over many visits that each leave an item, an id gets its weight in pages a visit, but
--- for less than one page.
+-- How fair visits are: over many visits that each leave an item, an id gets its weight in pages a visit, but for less than one
+-- page. What one visit sends is the longest prefix within its budget, and its bytes and the new deficit make up the budget where
+-- an item is left.
 use Rattle.std.specs.Prelude.{◌≡◌, ℕ, ◌+◌, ◌*◌, ◌<◌, ◌≤◌, List, [], ◌∷◌, length, take, sum, All}
 use Rattle.hs_sched.specs.declared.share.Share.{Share}
 use Rattle.hs_sched.specs.Visits.{budget_of, count_sent, bytes_sent, visited}

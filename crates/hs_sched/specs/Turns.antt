@@ -1,6 +1,6 @@
--- A turn visits each declared trigger id once, in rising order. What waits for an id is a list of costs, the next one
--- first; a turn sends the front of it and leaves the rest, and the lists of ids that are not declared. Examples stand
--- in TurnExamples.
+-- What a turn sends: it visits each declared trigger id once, in rising order. What waits for an id is a list of costs, the next
+-- one first; a turn sends the front of it and leaves the rest, and the lists of ids that are not declared. Examples stand in
+-- TurnExamples.
 use Rattle.std.specs.Prelude.{ℕ, ◌<◌, ◌≤◌, List, map, drop, replicate, find, flat_map, All, AllPairs, Option, option_map, ◌==◌}
 use Rattle.std.specs.Option.{option_map_or}
 use Rattle.hs_base.specs.declared.settings.TriggerRule.{TriggerRule}

@@ -1,4 +1,4 @@
--- Where a client ends each trace that it begins, its pages beside their operations are all its pages, in order.
+-- That a client's pages beside their operations are all its pages, in order, where it ends each trace that it begins.
 use Rattle.std.specs.Prelude.{◌≡◌, ℕ, ◌<◌, ◌≤◌, false, List, [], ◌∷◌, length, map}
 use Rattle.std.specs.List.{AllByRecursion}
 use Rattle.hs_base.specs.declared.ids.ClientId.{ClientId}

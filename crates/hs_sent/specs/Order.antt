@@ -1,4 +1,4 @@
--- What a client sends stands in the order of the operations that send it: the numbers do not fall.
+-- That what a client sends stands in the order of the operations that send it: the numbers do not fall.
 use Rattle.std.specs.Prelude.{ℕ, ◌≤◌, false, List, [], ◌∷◌}
 use Rattle.std.proofs.Common.{lit≤}
 use Rattle.hs_base.specs.declared.ids.ClientId.{ClientId}

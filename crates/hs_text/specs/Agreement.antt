@@ -1,5 +1,5 @@
--- A step of a reader agrees with the reasons of a line: it refuses the line for the first that holds, and where none does, it
--- takes the line for what the line says. Steps that agree are put together as the lists of reasons are.
+-- When a step of a reader agrees with the reasons of a line: it refuses the line for the first that holds, and where none does,
+-- it takes the line for what the line says. Steps that agree are put together as the lists of reasons are.
 use Rattle.std.proofs.Common.{◌≡◌, ◌||◌, ℕ, Bool, true, false, List, [], ◌∷◌, Option, Some, None, Result, Ok, Err, refl, sym, ap, ◌∙◌}
 use Rattle.std.specs.Prelude.{is_none, option_and_then, if◌then◌else◌}
 use Rattle.std.specs.List.{list_all}

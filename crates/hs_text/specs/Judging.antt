@@ -1,6 +1,6 @@
--- A text of lines that are judged in their order: what is wrong with a line is said by looking back over the lines before
--- it. The first line with a fault is the text's. A text that ends before it is whole is cut off in the line that is missing.
--- Lists of earlier lines have the newest first.
+-- The first fault of a text whose lines are judged in their order: what is wrong with a line is said by looking back over the
+-- lines before it. The first line with a fault is the text's. A text that ends before it is whole is cut off in the line that is
+-- missing. Lists of earlier lines have the newest first.
 use Rattle.std.specs.Prelude.{◌≡◌, ℕ, ◌+◌, ◌==◌, Bool, ◌&&◌, nat_lt, List, [], ◌∷◌, ◌++◌, length, codes, Option, Some, None, option_map, if◌then◌else◌, refl}
 use Rattle.std.specs.List.{slice_split}
 use Rattle.std.specs.Option.{option_or}

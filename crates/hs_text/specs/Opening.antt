@@ -1,4 +1,4 @@
--- A line is opened by its first word, which says what the others have to be. Before that its bytes and its spaces are looked
+-- How a line is opened by its first word, which says what the others have to be. Before that its bytes and its spaces are looked
 -- at. What is asked then is put together from the reasons of each first word.
 use Rattle.std.specs.Prelude.{◌≡◌, ℕ, Bool, true, List, [], ◌∷◌, codes, Option, Some, None, option_and_then, Result, Ok, Err, if◌then◌else◌, ◌==◌, length, refl}
 use Rattle.hs_text.specs.Text.{words_of, has_bad_byte, has_bad_spaces}

@@ -1,4 +1,4 @@
--- A text is lines, each ended by one newline byte, and a line is words with one space between two. What a word
+-- The lines and the words of a text: each line is ended by one newline byte, and between two words stands one space. What a word
 -- says is a number, a trace or a payload; each of these has one text, and what is no text of any is refused.
 use Rattle.std.specs.Prelude.{◌≡◌, ℕ, zero, suc, ◌+◌, ◌-◌, ◌*◌, ◌/◌, ◌%◌, ◌^◌, Bool, true, false, not, ◌||◌, ◌&&◌, ◌==◌, nat_lt, nat_le, if◌then◌else◌, List, [], ◌∷◌, ◌++◌, length, slice_index, codes, Option, Some, None, refl, option_and_then, option_map}
 use Rattle.std.specs.List.{slice_split, join_with_byte, flat_map, list_any, list_all}

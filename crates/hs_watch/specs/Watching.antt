@@ -1,5 +1,5 @@
--- Watchers of a board. A watcher has a reader. It notes its first look, and each later look that finds that more rounds are over.
--- What it noted it saw on the board, or was told of.
+-- What contracts see of a board's watchers, and of two of them beside the board's writer. A watcher has a reader. It notes its
+-- first look, and each later look that finds that more rounds are over. What it noted it saw on the board, or was told of.
 use Rattle.std.specs.Prelude.{◌≡◌, ◌⊎◌, ℕ, ◌+◌, ◌<◌, ◌≤◌, List, [], ◌∷◌, length}
 use Rattle.std.specs.List.{AllByRecursion}
 use Rattle.hs_board.specs.declared.progress.Progress.{Progress}

@@ -1,5 +1,5 @@
--- A chunk travels with its lease, and contracts see the two together as a buffer. A lease may name the pool that it is
--- from; the empty lease names none.
+-- A chunk with its lease, which contracts see together as a buffer. A lease may name the pool that it is from; the empty lease
+-- names none.
 use Rattle.std.specs.Prelude.{◌≡◌, Option, Some}
 use Rattle.std.specs.Option.{option_map}
 use Rattle.hs_words.specs.declared.token.Held.{Held}

@@ -1,6 +1,6 @@
--- The ends of a pool that threads share: one end gives, the others draw. What all of them did is one list of deeds, the
--- last first, and each deed is an event of the pool's history. An answer is what one end was told of a deed of its own,
--- with the stamp; a giver's turns are its answers, the gives that were unread, and the meetings at which it was told of draws.
+-- What the ends of a pool did that threads share: one end gives, the others draw. What all of them did is one list of deeds, the
+-- last first, and each deed is an event of the pool's history. An answer is what one end was told of a deed of its own, with the
+-- stamp; a giver's turns are its answers, the gives that were unread, and the meetings at which it was told of draws.
 use Rattle.std.specs.Prelude.{◌≡◌, ◌⊎◌, ℕ, zero, suc, ◌+◌, ◌*◌, ◌<◌, ◌≤◌, Bool, true, false, ◌==◌, List, [], ◌∷◌, ◌++◌, length, map, count_by, refl}
 use Rattle.std.specs.List.{AllByRecursion}
 use Rattle.std.proofs.Common.{lit<, lit≤, arith, ap, ◌∙◌, inl, inr}

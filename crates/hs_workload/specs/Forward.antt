@@ -1,5 +1,5 @@
--- A line at a time, forward: what is read so far, and what the next line makes of it or why it is refused. The reader's
--- own functions are stated by these. That they agree with the look back over the earlier lines is proved apart.
+-- What is read so far of a workload's text, a line at a time, and what the next line makes of it or why it is refused. The
+-- reader's own functions are stated by these. That they agree with the look back over the earlier lines is proved apart.
 use Rattle.std.specs.Prelude.{◌≡◌, ℕ, ◌+◌, ◌*◌, ◌==◌, ◌<◌, ◌≤◌, nat_lt, Bool, true, false, not, List, [], ◌∷◌, ◌++◌, length, map, Option, Some, None, Result, Ok, Err, if◌then◌else◌}
 use Rattle.hs_text.specs.Text.{number_of, payload_of}
 use Rattle.hs_base.specs.declared.settings.TriggerRule.{TriggerRule}

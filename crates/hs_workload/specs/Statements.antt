@@ -1,5 +1,5 @@
--- A line of a workload says one of six things: it sets a number of the head, declares a trigger id or an autotrigger, begins
--- a client, is an operation of that client, or ends the text. What it says has one list of words. The version changes only
+-- What a line of a workload says, one of six things: it sets a number of the head, declares a trigger id or an autotrigger,
+-- begins a client, is an operation of that client, or ends the text. What it says has one list of words. The version changes only
 -- how many digits a trace has.
 use Rattle.std.specs.Prelude.{◌≡◌, ℕ, ◌==◌, nat_le, List, [], ◌∷◌, map, length, codes, decimal, slice_index, Option, Some, None, option_and_then, option_map, if◌then◌else◌, refl}
 use Rattle.hs_base.specs.declared.ids.TraceId.{TraceId}

@@ -1,4 +1,4 @@
--- A workload without where it lies in memory.
+-- A workload as plain data, read off the one in memory.
 use Rattle.std.specs.Prelude.{List, map}
 use Rattle.hs_base.specs.Listing.{Listing}
 use Rattle.hs_records.specs.Plain.{Operation, PlainWorkload, settings_of}

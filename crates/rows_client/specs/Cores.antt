@@ -1,4 +1,4 @@
--- What the tests say of their steps.
+-- What the tests of a client's core say of their steps: whether one may come, and which chunk a draw got.
 use Rattle.std.specs.Prelude.{◌≡◌, ℕ, Option, Some, None}
 use Rattle.hs_words.specs.Chunks.{Contents}
 use Rattle.hs_words.specs.declared.token.Drawn.{Drawn}
