@@ -1,12 +1,14 @@
 -- The answers of a pool's ends, the first one first. At each place of the list of deeds stands one answer of one end.
 use Rattle.std.proofs.Common.{◌≡◌, ◌⊎◌, inl, inr, ℕ, zero, suc, ◌+◌, ◌<◌, ◌≤◌, Bool, true, false, ◌&&◌, ◌==◌, cond, List, [], ◌∷◌, ◌++◌, length, reverse, refl, sym, ap, subst, ◌∙◌, arith, map, filter, eq-eqb, nat_eq, append-nil, ltb, lt-ltb, eq-or-lt_of_le}
 use Rattle.std.specs.List.{AllByRecursion, flat_map, range_with_len}
-use Rattle.std.proofs.lemmas.Bool.Decides.{nat_tests}
-use Rattle.std.proofs.lemmas.List.{length-append, map-append, reverse-append}
+use Rattle.std.proofs.lemmas.Bool.{and_from}
+use Rattle.std.proofs.lemmas.List.{length-append, map-append}
 use Rattle.std.proofs.lemmas.List.Elements.{filter-append}
+use Rattle.hs_lists.proofs.Parts.{reverse_cons}
+use Rattle.hs_lists.proofs.Numbers.{nat_eq_below, nat_eq_above}
+use Rattle.hs_lists.proofs.Ranges.{flat_range_alike}
 use Rattle.hs_words.specs.Ends.{Deed, Answer, answer_to, answers_by, put_if}
 use Rattle.hs_lawful.specs.Shape.{rise, rise_above}
-use Rattle.hs_actors.proofs.Passes.{and_true}
 
 -- ---- one answer, or none
 
@@ -17,15 +19,12 @@ abbrev pub answers : ℕ → List Deed → List Answer
 answers end [] = []
 answers end (deed ∷ earlier) = answers end earlier ++ own (deed.by == end) (answer_to deed (length earlier))
 
-pub reverse_on : {X : Type 0} (x : X) (xs : List X) → reverse (x ∷ xs) ≡ reverse xs ++ x ∷ []
-reverse_on x xs = reverse-append (x ∷ []) xs
-
 pub answers_are : (end : ℕ) (log : List Deed) → reverse (answers_by end log) ≡ answers end log
 answers_are end [] = refl
 answers_are end (deed ∷ earlier) = either (deed.by == end) (answers_are end earlier)
   where
     either : (b : Bool) → reverse (answers_by end earlier) ≡ answers end earlier → reverse (put_if b (answer_to deed (length earlier)) (answers_by end earlier)) ≡ answers end earlier ++ own b (answer_to deed (length earlier))
-    either true h = reverse_on (answer_to deed (length earlier)) (answers_by end earlier) ∙ ap (λ front. front ++ answer_to deed (length earlier) ∷ []) h
+    either true h = reverse_cons (answer_to deed (length earlier)) (answers_by end earlier) ∙ ap (λ front. front ++ answer_to deed (length earlier) ∷ []) h
     either false h = h ∙ sym (append-nil (answers end earlier))
 
 -- ---- stamps
@@ -54,15 +53,9 @@ all_below end (deed ∷ earlier) =
     one true = (omega arith, tt)
     one false = tt
 
-less_differs : (a b : ℕ) → a < b → nat_eq a b ≡ false
-less_differs a b less = grind (arith, nat_tests)
-
-more_differs : (a b : ℕ) → b < a → nat_eq a b ≡ false
-more_differs a b less = grind (arith, nat_tests)
-
 none_at : (bound : ℕ) (list : List Answer) → Below bound list → at_stamp bound list ≡ []
 none_at bound [] h = refl
-none_at bound (a ∷ list) h = ap (λ b. cond b (a ∷ at_stamp bound list) (at_stamp bound list)) (less_differs a.stamp bound h.0) ∙ none_at bound list h.1
+none_at bound (a ∷ list) h = ap (λ b. cond b (a ∷ at_stamp bound list) (at_stamp bound list)) (nat_eq_below a.stamp bound h.0) ∙ none_at bound list h.1
 
 -- the answer at the last place
 pub at_last : (end : ℕ) (deed : Deed) (earlier : List Deed) → at_stamp (length earlier) (answers end (deed ∷ earlier)) ≡ own (deed.by == end) (answer_to deed (length earlier))
@@ -83,7 +76,7 @@ at_earlier end s deed earlier less =
     ∙ append-nil (at_stamp s (answers end earlier))
   where
     either : (b : Bool) → at_stamp s (own b (answer_to deed (length earlier))) ≡ []
-    either true = ap (λ b. cond b (answer_to deed (length earlier) ∷ []) []) (more_differs (length earlier) s less)
+    either true = ap (λ b. cond b (answer_to deed (length earlier) ∷ []) []) (nat_eq_above (length earlier) s less)
     either false = refl
 
 -- stamps of one end rise
@@ -92,9 +85,9 @@ rise_on [] last h below = refl
 rise_on (s ∷ list) last h below = above s list h below.0 below.1
   where
     above : (before : ℕ) (list : List ℕ) → rise_above before list ≡ true → before < last → AllByRecursion (λ s. s < last) list → rise_above before (list ++ last ∷ []) ≡ true
-    above before [] h low below = and_true (ltb before last) true (lt-ltb before last low) refl
+    above before [] h low below = and_from (ltb before last) true (lt-ltb before last low) refl
     above before (s ∷ list) h low below =
-        and_true (ltb before s) (rise_above s (list ++ last ∷ [])) (first (ltb before s) (rise_above s list) h) (above s list (second (ltb before s) (rise_above s list) h) below.0 below.1)
+        and_from (ltb before s) (rise_above s (list ++ last ∷ [])) (first (ltb before s) (rise_above s list) h) (above s list (second (ltb before s) (rise_above s list) h) below.0 below.1)
       where
         first : (a b : Bool) → (a && b) ≡ true → a ≡ true
         first true b h = refl
@@ -148,14 +141,14 @@ one_of_them by a start (suc count) client is low high = either (eq-or-lt_of_le l
         ∙ ap (λ rest. a ∷ rest) (none_ones (λ client. by == suc client) a (start + 1) count (λ other up down. more_or_less by (suc other) (omega (arith, here, up))))
       where
         more_or_less : (x y : ℕ) → x < y → nat_eq x y ≡ false
-        more_or_less x y less = less_differs x y less
+        more_or_less x y less = nat_eq_below x y less
     either (inr less) on =
-        ap (λ b. own b a ++ ones (λ client. by == suc client) a (start + 1) count) (more_differs by (suc start) (omega (arith, is, less))) ∙ on (omega (arith, less))
+        ap (λ b. own b a ++ ones (λ client. by == suc client) a (start + 1) count) (nat_eq_above by (suc start) (omega (arith, is, less))) ∙ on (omega (arith, less))
 
 -- an end that there is: a drawer or the giver
 pub just_one : (by : ℕ) (a : Answer) (count : ℕ) → by ≤ count → ((ones (λ client. by == suc client) a 0 count ≡ a ∷ []) × (nat_eq by 0 ≡ false)) ⊎ ((ones (λ client. by == suc client) a 0 count ≡ []) × (nat_eq by 0 ≡ true))
-just_one zero a count low = inr (none_ones (λ client. 0 == suc client) a 0 count (λ client up down. less_differs 0 (suc client) (omega arith)), refl)
-just_one (suc client) a count low = inl (one_of_them (suc client) a 0 count client refl (omega arith) (omega (arith, low)), more_differs (suc client) 0 (omega arith))
+just_one zero a count low = inr (none_ones (λ client. 0 == suc client) a 0 count (λ client up down. nat_eq_below 0 (suc client) (omega arith)), refl)
+just_one (suc client) a count low = inl (one_of_them (suc client) a 0 count client refl (omega arith) (omega (arith, low)), nat_eq_above (suc client) 0 (omega arith))
 
 -- what the drawers have at a stamp
 pub drawers_at : (s start count : ℕ) (log : List Deed) → at_stamp s (drawers start count log) ≡ flat_map (λ client. at_stamp s (answers (suc client) log)) (range_with_len start count)
@@ -163,21 +156,16 @@ drawers_at s start zero log = refl
 drawers_at s start (suc count) log =
     filter-append (λ (a : Answer). a.stamp == s) (answers (suc start) log) (drawers (start + 1) count log) ∙ ap (λ rest. at_stamp s (answers (suc start) log) ++ rest) (drawers_at s (start + 1) count log)
 
-pub flat_alike : {X : Type 0} (f g : ℕ → List X) (start count : ℕ) → ((k : ℕ) → k < start + count → f k ≡ g k) → flat_map f (range_with_len start count) ≡ flat_map g (range_with_len start count)
-flat_alike f g start zero same = refl
-flat_alike f g start (suc count) same =
-    ap (λ front. front ++ flat_map f (range_with_len (start + 1) count)) (same start (omega arith)) ∙ ap (λ rest. g start ++ rest) (flat_alike f g (start + 1) count (λ k h. same k (omega (arith, h))))
-
 pub drawers_last : (count : ℕ) (deed : Deed) (earlier : List Deed)
     → at_stamp (length earlier) (drawers 0 count (deed ∷ earlier)) ≡ ones (λ client. deed.by == suc client) (answer_to deed (length earlier)) 0 count
 drawers_last count deed earlier =
     drawers_at (length earlier) 0 count (deed ∷ earlier)
-    ∙ flat_alike (λ client. at_stamp (length earlier) (answers (suc client) (deed ∷ earlier))) (λ client. own (deed.by == suc client) (answer_to deed (length earlier))) 0 count (λ client h. at_last (suc client) deed earlier)
+    ∙ flat_range_alike (λ client. at_stamp (length earlier) (answers (suc client) (deed ∷ earlier))) (λ client. own (deed.by == suc client) (answer_to deed (length earlier))) 0 count (λ client h. at_last (suc client) deed earlier)
 
 pub drawers_earlier : (s count : ℕ) (deed : Deed) (earlier : List Deed) → s < length earlier → at_stamp s (drawers 0 count (deed ∷ earlier)) ≡ at_stamp s (drawers 0 count earlier)
 drawers_earlier s count deed earlier less =
     drawers_at s 0 count (deed ∷ earlier)
-    ∙ flat_alike (λ client. at_stamp s (answers (suc client) (deed ∷ earlier))) (λ client. at_stamp s (answers (suc client) earlier)) 0 count (λ client h. at_earlier (suc client) s deed earlier less)
+    ∙ flat_range_alike (λ client. at_stamp s (answers (suc client) (deed ∷ earlier))) (λ client. at_stamp s (answers (suc client) earlier)) 0 count (λ client h. at_earlier (suc client) s deed earlier less)
     ∙ sym (drawers_at s 0 count earlier)
 
 -- how many answers there are

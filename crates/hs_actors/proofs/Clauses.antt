@@ -2,9 +2,12 @@
 -- that nothing is left over.
 use Rattle.std.proofs.Common.{◌≡◌, ℕ, zero, suc, ◌+◌, ◌<◌, ◌≤◌, Bool, true, ◌&&◌, ◌==◌, List, [], ◌∷◌, length, refl, sym, ap, ◌∙◌, Some, arith, map, slice_get, count_by, eq-eqb, nat_eq, nat_le, le-leb, zip}
 use Rattle.std.specs.List.{AllByRecursion, range_with_len, list_all}
+use Rattle.std.proofs.lemmas.Bool.{and_from}
 use Rattle.std.proofs.lemmas.List.{length-map}
 use Rattle.std.proofs.lemmas.List.FromFn.{length-range_with_len}
 use Rattle.std.proofs.lemmas.List.Sums.{length-filter}
+use Rattle.hs_lists.proofs.Ranges.{list_all_range_below}
+use Rattle.hs_lists.proofs.Alls.{all_at, all_each}
 use Rattle.hs_coord.specs.Messages.{message}
 use Rattle.hs_journal.specs.Views.{PlainJournal}
 use Rattle.hs_model.specs.Laws.{EventsAddThis}
@@ -20,20 +23,15 @@ use Rattle.hs_lawful.specs.Shape.{same_counts}
 use Rattle.hs_actors.specs.Doings.{NodeDoings, Doings, all_events, steps_of, last_state, all_heard, journal_of, node_at_end, run_of}
 use Rattle.hs_actors.specs.Facts.{IsPass, IsPlayable, ArePlayable, HavePasses, HaveRounds, HaveNothingPinned}
 use Rattle.hs_actors.specs.Playing.{DoingsAreFollowed, CanBeFollowed, HaveShape, AreWholePasses, AreEnough, AreBare}
-use Rattle.hs_actors.proofs.Following.{all_get, taken_chunks, taken_crumbs, taken_triggers, taken_asks}
+use Rattle.hs_actors.proofs.Following.{taken_chunks, taken_crumbs, taken_triggers, taken_asks}
 use Rattle.hs_actors.proofs.Nodes.{node_there, log_there, own_log}
-use Rattle.hs_actors.proofs.Passes.{and_true, all_each, is_whole, passes_are, turns, turns_are}
+use Rattle.hs_actors.proofs.Passes.{is_whole, passes_are, turns, turns_are}
 
 -- ---- lists
 
-pub range_true : (p : ℕ → Bool) (start count : ℕ) → ((n : ℕ) → n < start + count → p n ≡ true) → list_all p (range_with_len start count) ≡ true
-range_true p start zero each = refl
-range_true p start (suc count) each =
-    and_true (p start) (list_all p (range_with_len (start + 1) count)) (each start (omega arith)) (range_true p (start + 1) count (λ n h. each n (omega (arith, h))))
-
 pub mapped_true : {X Y : Type 0} (p : Y → Bool) (f : X → Y) (xs : List X) → AllByRecursion (λ x. p (f x) ≡ true) xs → list_all p (map f xs) ≡ true
 mapped_true p f [] all = refl
-mapped_true p f (x ∷ xs) all = and_true (p (f x)) (list_all p (map f xs)) all.0 (mapped_true p f xs all.1)
+mapped_true p f (x ∷ xs) all = and_from (p (f x)) (list_all p (map f xs)) all.0 (mapped_true p f xs all.1)
 
 -- ---- L8
 
@@ -48,7 +46,7 @@ can_be_followed follows W d facts = ap is_done (follows W d facts) ∙ ap (λ b.
 
 counts_same : (counts : List ℕ) → same_counts counts counts ≡ true
 counts_same [] = refl
-counts_same (count ∷ counts) = and_true (nat_eq count count) (same_counts counts counts) (eq-eqb count count refl) (counts_same counts)
+counts_same (count ∷ counts) = and_from (nat_eq count count) (same_counts counts counts) (eq-eqb count count refl) (counts_same counts)
 
 pub have_shape : HaveShape
 have_shape W d facts drawn =
@@ -56,9 +54,9 @@ have_shape W d facts drawn =
     length-map d.nodes (λ (n : NodeDoings). steps_of (all_events n)) ∙ sym (length-map d.nodes (λ (n : NodeDoings). n.node)) ∙ ap length facts.numbers ∙ length-range_with_len 0 W.settings.nodes
     in
     let counts = map (λ ops. length (pages_of W.settings.size ops)) W.clients in
-    and_true (nat_eq W.settings.nodes W.settings.nodes && nat_eq W.settings.clients W.settings.clients && nat_eq (length (journal_of W d).logs) W.settings.nodes) (same_counts (map length d.draws) counts)
-    (and_true (nat_eq W.settings.nodes W.settings.nodes && nat_eq W.settings.clients W.settings.clients) (nat_eq (length (journal_of W d).logs) W.settings.nodes)
-    (and_true (nat_eq W.settings.nodes W.settings.nodes) (nat_eq W.settings.clients W.settings.clients) (eq-eqb W.settings.nodes W.settings.nodes refl) (eq-eqb W.settings.clients W.settings.clients refl))
+    and_from (nat_eq W.settings.nodes W.settings.nodes && nat_eq W.settings.clients W.settings.clients && nat_eq (length (journal_of W d).logs) W.settings.nodes) (same_counts (map length d.draws) counts)
+    (and_from (nat_eq W.settings.nodes W.settings.nodes && nat_eq W.settings.clients W.settings.clients) (nat_eq (length (journal_of W d).logs) W.settings.nodes)
+    (and_from (nat_eq W.settings.nodes W.settings.nodes) (nat_eq W.settings.clients W.settings.clients) (eq-eqb W.settings.nodes W.settings.nodes refl) (eq-eqb W.settings.clients W.settings.clients refl))
     (eq-eqb (length (journal_of W d).logs) W.settings.nodes logs))
     (ap (λ all. same_counts all counts) drawn ∙ counts_same counts)
 
@@ -69,7 +67,7 @@ module _ (W : PlainWorkload) (d : Doings) (facts : ArePlayable W d) (passes : Ha
   J = journal_of W d
 
   node_passes : (v : ℕ) (n : NodeDoings) → slice_get d.nodes v ≡ Some n → AllByRecursion (IsPass W) n.passes
-  node_passes v n h = all_get (λ (n : NodeDoings). AllByRecursion (IsPass W) n.passes) d.nodes v n passes h
+  node_passes v n h = all_at (λ (n : NodeDoings). AllByRecursion (IsPass W) n.passes) d.nodes v n passes h
 
   whole_at : (v : ℕ) → v < 0 + W.settings.nodes → list_all (is_whole_pass (queues_of W)) (passes_of (log_at J v)) ≡ true
   whole_at v low =
@@ -81,19 +79,19 @@ module _ (W : PlainWorkload) (d : Doings) (facts : ArePlayable W d) (passes : Ha
       ∙ mapped_true (is_whole_pass (queues_of W)) steps_of n.passes (all_each (IsPass W) (λ pass. is_whole_pass (queues_of W) (steps_of pass) ≡ true) n.passes (is_whole W) each)
 
   all_whole : list_all (λ node. list_all (is_whole_pass (queues_of W)) (passes_of (log_at J node))) (range_with_len 0 W.settings.nodes) ≡ true
-  all_whole = range_true (λ node. list_all (is_whole_pass (queues_of W)) (passes_of (log_at J node))) 0 W.settings.nodes whole_at
+  all_whole = list_all_range_below (λ node. list_all (is_whole_pass (queues_of W)) (passes_of (log_at J node))) 0 W.settings.nodes whole_at
 
   turns_there : (v : ℕ) → v < W.settings.nodes → turns (log_at J v) ≡ length d.heard
   turns_there v low =
       let found = node_there W d facts v low in
       let n = found.0 in
-      ap turns (log_there W d facts v n found.1) ∙ turns_are W n.passes (node_passes v n found.1) ∙ all_get (λ (n : NodeDoings). length n.passes ≡ length d.heard) d.nodes v n facts.passes found.1
+      ap turns (log_there W d facts v n found.1) ∙ turns_are W n.passes (node_passes v n found.1) ∙ all_at (λ (n : NodeDoings). length n.passes ≡ length d.heard) d.nodes v n facts.passes found.1
 
   enough_at : HaveRounds W d → (v : ℕ) → v < 0 + W.settings.nodes → (nat_eq (turns (log_at J v)) (turns (log_at J 0)) && nat_le (rounds_of W) (turns (log_at J v))) ≡ true
   enough_at rounds v low =
       let here = turns_there v (omega (arith, low)) in
       let first = turns_there 0 (omega (arith, low)) in
-      and_true (nat_eq (turns (log_at J v)) (turns (log_at J 0))) (nat_le (rounds_of W) (turns (log_at J v))) (eq-eqb (turns (log_at J v)) (turns (log_at J 0)) (here ∙ sym first))
+      and_from (nat_eq (turns (log_at J v)) (turns (log_at J 0))) (nat_le (rounds_of W) (turns (log_at J v))) (eq-eqb (turns (log_at J v)) (turns (log_at J 0)) (here ∙ sym first))
       (le-leb (rounds_of W) (turns (log_at J v)) (omega (arith, here, rounds)))
 
 pub are_whole_passes : AreWholePasses
@@ -101,7 +99,7 @@ are_whole_passes W d facts passes = all_whole W d facts passes
 
 pub are_enough : AreEnough
 are_enough W d facts passes rounds =
-    range_true (λ node. nat_eq (turns (log_at (journal_of W d) node)) (turns (log_at (journal_of W d) 0)) && nat_le (rounds_of W) (turns (log_at (journal_of W d) node))) 0 W.settings.nodes
+    list_all_range_below (λ node. nat_eq (turns (log_at (journal_of W d) node)) (turns (log_at (journal_of W d) 0)) && nat_le (rounds_of W) (turns (log_at (journal_of W d) node))) 0 W.settings.nodes
     (enough_at W d facts passes rounds)
 
 -- ---- L10
@@ -119,8 +117,8 @@ module _ (adds : EventsAddThis) (W : PlainWorkload) (d : Doings) (facts : ArePla
       let log = steps_of events in
       let s = client_sends W K n.node client in
       let t = p.took client low in
-      and_true (nat_eq (taken (Chunks client) log) (length s.chunks) && nat_eq (taken (Crumbs client) log) (length s.crumbs)) (nat_eq (taken (Triggers client) log) (length s.triggers))
-      (and_true (nat_eq (taken (Chunks client) log) (length s.chunks)) (nat_eq (taken (Crumbs client) log) (length s.crumbs))
+      and_from (nat_eq (taken (Chunks client) log) (length s.chunks) && nat_eq (taken (Crumbs client) log) (length s.crumbs)) (nat_eq (taken (Triggers client) log) (length s.triggers))
+      (and_from (nat_eq (taken (Chunks client) log) (length s.chunks)) (nat_eq (taken (Crumbs client) log) (length s.crumbs))
       (eq-eqb (taken (Chunks client) log) (length s.chunks) (taken_chunks client events ∙ ap length t.chunks ∙ items_long s.chunks))
       (eq-eqb (taken (Crumbs client) log) (length s.crumbs) (taken_crumbs client events ∙ ap length t.crumbs ∙ items_long s.crumbs)))
       (eq-eqb (taken (Triggers client) log) (length s.triggers) (taken_triggers client events ∙ ap length t.triggers ∙ items_long s.triggers))
@@ -129,7 +127,7 @@ module _ (adds : EventsAddThis) (W : PlainWorkload) (d : Doings) (facts : ArePla
       → list_all (λ (c : ℕ × ClientSends). took_all (steps_of (all_events n)) c.0 c.1) (zip (range_with_len start (length (map (client_sends W K n.node) (range_with_len start count)))) (map (client_sends W K n.node) (range_with_len start count))) ≡ true
   clients_bare n p start zero few = refl
   clients_bare n p start (suc count) few =
-      and_true (took_all (steps_of (all_events n)) start (client_sends W K n.node start))
+      and_from (took_all (steps_of (all_events n)) start (client_sends W K n.node start))
       (list_all (λ (c : ℕ × ClientSends). took_all (steps_of (all_events n)) c.0 c.1)
       (zip (range_with_len (start + 1) (length (map (client_sends W K n.node) (range_with_len (start + 1) count)))) (map (client_sends W K n.node) (range_with_len (start + 1) count))))
       (client_bare n p start (omega (arith, few))) (clients_bare n p (start + 1) count (omega (arith, few)))
@@ -144,9 +142,9 @@ module _ (adds : EventsAddThis) (W : PlainWorkload) (d : Doings) (facts : ArePla
       let long : count_by (is_from (record { 0 = n.node })) (all_heard d) ≡ length state.said =
       sym (length-filter (is_from (record { 0 = n.node })) (all_heard d)) ∙ ap length p.heard ∙ length-map state.said (message (record { 0 = n.node }))
       in
-      and_true (clients && asks && heard) (nat_eq (length state.pinned) 0)
-      (and_true (clients && asks) heard
-      (and_true clients asks
+      and_from (clients && asks && heard) (nat_eq (length state.pinned) 0)
+      (and_from (clients && asks) heard
+      (and_from clients asks
       (ap (λ log. list_all (λ (c : ℕ × ClientSends). took_all log c.0 c.1) (zip (range_with_len 0 (length (node_sends W K n.node))) (node_sends W K n.node))) log ∙ clients_bare n p 0 W.settings.clients (omega arith))
       (eq-eqb (taken Asks state.log) (length (asks_to n.node (all_heard d))) (ap (taken Asks) log ∙ taken_asks (all_events n) ∙ ap length p.asked)))
       (eq-eqb (count_by (is_from (record { 0 = n.node })) (all_heard d)) (length state.said) long))
@@ -156,7 +154,7 @@ module _ (adds : EventsAddThis) (W : PlainWorkload) (d : Doings) (facts : ArePla
       → list_all (is_left_bare (run_of W d)) (map (node_at_end W K) ns) ≡ true
   nodes_bare [] each none = refl
   nodes_bare (n ∷ ns) each none =
-      and_true (is_left_bare (run_of W d) (node_at_end W K n)) (list_all (is_left_bare (run_of W d)) (map (node_at_end W K) ns)) (node_bare n each.0 none.0) (nodes_bare ns each.1 none.1)
+      and_from (is_left_bare (run_of W d) (node_at_end W K n)) (list_all (is_left_bare (run_of W d)) (map (node_at_end W K) ns)) (node_bare n each.0 none.0) (nodes_bare ns each.1 none.1)
 
 pub are_bare : DoingsAreFollowed → EventsAddThis → AreBare
 are_bare follows adds W d facts unpinned =

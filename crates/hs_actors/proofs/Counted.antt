@@ -1,13 +1,12 @@
 -- Of the giver's answers no more are below a draw than there are draws before it.
-use Rattle.std.proofs.Common.{◌≡◌, inl, inr, ℕ, ◌+◌, ◌<◌, ◌≤◌, Bool, true, false, ◌==◌, cond, List, [], ◌∷◌, ◌++◌, length, refl, sym, ap, ◌∙◌, arith, count_by, eq-eqb, eqb-true, nat_lt, ltb-true, lt-ltb}
+use Rattle.std.proofs.Common.{◌≡◌, inl, inr, ℕ, ◌+◌, ◌<◌, ◌≤◌, Bool, true, false, ◌==◌, cond, List, [], ◌∷◌, ◌++◌, length, refl, sym, ap, ◌∙◌, arith, eq-eqb, eqb-true, nat_lt, ltb-true, lt-ltb}
 use Rattle.std.specs.List.{AllByRecursion}
 use Rattle.std.proofs.lemmas.List.{length-append, length-map, map-append}
 use Rattle.hs_words.specs.Ends.{Deed, Answer, answer_to, events_of, drawn_in, given_in, is_any_got, is_any_given, IsDraw}
 use Rattle.hs_words.specs.Ends as ends
-use Rattle.hs_words.specs.PoolHistory.{Event, is_empty, is_missed, IsHistoryBack}
-use Rattle.hs_words.specs.PoolHistory as pool
-use Rattle.hs_words.proofs.Deeds.{at_below, draw_is_at}
-use Rattle.hs_words.proofs.Waiting.{counted, few, waiting_length, drawn_kinds, given_kinds}
+use Rattle.hs_words.specs.PoolHistory.{IsHistoryBack}
+use Rattle.hs_words.proofs.Deeds.{at_below, draw_is_at, event_counts}
+use Rattle.hs_words.proofs.Waiting.{few, waiting_length, drawn_kinds, given_kinds, few_missed}
 use Rattle.hs_actors.proofs.Answers.{own, answers, stamps}
 use Rattle.hs_actors.proofs.DrawPlaces.{IsProper}
 
@@ -39,30 +38,17 @@ none_below s t high = either (nat_lt t s) refl
     either true is = let low = ltb-true t s is in absurd (omega (arith, low, high))
     either false is = refl
 
-few_missed : (n : ℕ) (earlier : List Event) → IsHistoryBack n earlier → count_by is_missed earlier ≤ count_by is_empty earlier
-few_missed n [] history = omega arith
-few_missed n (pool.Got b ∷ earlier) history = omega (arith, counted is_missed (pool.Got b) earlier, counted is_empty (pool.Got b) earlier, few_missed n earlier history.0)
-few_missed n (pool.Empty ∷ earlier) history = omega (arith, counted is_missed pool.Empty earlier, counted is_empty pool.Empty earlier, few_missed n earlier history.0)
-few_missed n (pool.Given b ∷ earlier) history = omega (arith, counted is_missed (pool.Given b) earlier, counted is_empty (pool.Given b) earlier, few_missed n earlier history.0)
-few_missed n (pool.Missed ∷ earlier) history = omega (arith, counted is_missed pool.Missed earlier, counted is_empty pool.Missed earlier, history.1.1)
-
 given_few : (n : ℕ) (log : List Deed) → IsHistoryBack n (events_of log) → given_in log ≤ drawn_in log
 given_few n log history =
     omega (arith, few n (events_of log) history, waiting_length n (events_of log) history, few_missed n (events_of log) history, drawn_kinds log, given_kinds log)
 
-one_kind : (e : Event) → ends.draws e + ends.gives e ≡ 1
-one_kind (pool.Got b) = refl
-one_kind pool.Empty = refl
-one_kind (pool.Given b) = refl
-one_kind pool.Missed = refl
-
 own_long : (deed : Deed) (a : Answer) → IsProper deed → length (own (deed.by == 0) a) ≡ ends.gives deed.event
 own_long deed a (inl none) =
-    let kind = one_kind deed.event in
+    let kind = event_counts deed.event in
     let no_draw = none.1 in
     let one : ends.gives deed.event ≡ 1 = omega (arith, kind, no_draw) in ap (λ b. length (own b a)) (eq-eqb deed.by 0 none.0) ∙ sym one
 own_long deed a (inr draw) =
-    let kind = one_kind deed.event in
+    let kind = event_counts deed.event in
     let a_draw = draw.1 in
     let nothing : ends.gives deed.event ≡ 0 = omega (arith, kind, a_draw) in either (deed.by == 0) refl ∙ sym nothing
   where
@@ -84,7 +70,7 @@ few_below n (last ∷ earlier) number stamp deed history proper (inl is) =
     let most = below_most stamp (stamps (answers 0 (last ∷ earlier))) in
     let long = length-map (answers 0 (last ∷ earlier)) (λ (a : Answer). a.stamp) in
     let parts = answers_long (last ∷ earlier) proper in
-    let kind = one_kind last.event in
+    let kind = event_counts last.event in
     let a_draw = is.1 in
     let number_is = is.0 in
     let less = given_few n earlier history.0 in

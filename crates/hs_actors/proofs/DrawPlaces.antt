@@ -1,7 +1,12 @@
 -- The pages of a node by the stamps of their draws are the draws of the pool in order: the draw of each number is that of one page.
-use Rattle.std.proofs.Common.{◌≡◌, ◌⊎◌, inl, inr, ℕ, zero, suc, ◌+◌, ◌<◌, ◌≤◌, Bool, true, false, ◌==◌, cond, List, [], ◌∷◌, ◌++◌, length, refl, sym, ap, subst, ◌∙◌, Some, None, arith, map, filter, slice_get, eq-eqb, eqb-true, nat_eq, append-nil}
+use Rattle.std.proofs.Common.{◌≡◌, ◌⊎◌, inl, inr, ℕ, zero, suc, ◌+◌, ◌<◌, ◌≤◌, Bool, true, false, ◌==◌, cond, List, [], ◌∷◌, ◌++◌, length, refl, sym, ap, subst, ◌∙◌, Some, arith, map, filter, slice_get, eq-eqb, eqb-true, nat_eq, append-nil}
 use Rattle.std.specs.List.{AllByRecursion, flat_map, range_with_len}
+use Rattle.std.proofs.lemmas.Grind.{flat_map-append}
 use Rattle.std.proofs.lemmas.List.{length-append, map-append}
+use Rattle.hs_lists.proofs.Ranges.{flat_range_alike}
+use Rattle.hs_lists.proofs.Alls.{all_front, all_back}
+use Rattle.hs_lists.proofs.Places.{get_last, get_front}
+use Rattle.hs_lists.proofs.Parts.{map_flat}
 use Rattle.hs_journal.specs.declared.journal.Draw.{Draw}
 use Rattle.hs_journal.specs.declared.journal.Draw.TheVariants as draws
 use Rattle.hs_journal.specs.Views.{PlainJournal}
@@ -15,8 +20,8 @@ use Rattle.hs_words.specs.PoolHistory as pool
 use Rattle.hs_lawful.specs.Pooled.{by_stamp}
 use Rattle.hs_actors.specs.Doings.{NodeDoings}
 use Rattle.hs_actors.specs.Pools.{draw_answer, IsPooled}
-use Rattle.hs_actors.proofs.Answers.{own, answers, at_stamp, drawers, drawers_last, drawers_earlier, just_one, flat_alike}
-use Rattle.hs_actors.proofs.Pools.{client_draws, range_last, flat_both, Kinds, kinds_before, kind_of}
+use Rattle.hs_actors.proofs.Answers.{own, answers, at_stamp, drawers, drawers_last, drawers_earlier, just_one}
+use Rattle.hs_actors.proofs.Pools.{client_draws, range_last, Kinds, kinds_before, kind_of, stamp_same}
 
 -- ---- who draws
 
@@ -39,14 +44,6 @@ kind_draws_none pool.Empty (inl h) = let no : false ≡ true = h in absurd cc
 kind_draws_none pool.Empty (inr h) = let no : false ≡ true = h in absurd cc
 kind_draws_none (pool.Given b) h = refl
 kind_draws_none pool.Missed h = refl
-
-pub all_front : {X : Type 0} (P : X → Type 0) (xs ys : List X) → AllByRecursion P (xs ++ ys) → AllByRecursion P xs
-all_front P [] ys all = tt
-all_front P (x ∷ xs) ys all = (all.0, all_front P xs ys all.1)
-
-pub all_back : {X : Type 0} (P : X → Type 0) (xs ys : List X) → AllByRecursion P (xs ++ ys) → AllByRecursion P ys
-all_back P [] ys all = all
-all_back P (x ∷ xs) ys all = all_back P xs ys all.1
 
 proper_all : (count : ℕ) (log : List Deed) → AllByRecursion (λ (deed : Deed). deed.by ≤ count) log → ((client : ℕ) → client < count → AllByRecursion IsADraw (answers (suc client) log)) → Kinds log → AllByRecursion IsProper log
 proper_all count [] ends drawn kinds = tt
@@ -76,9 +73,9 @@ one_more count deed earlier low proper =
     let k = length earlier in
     let zeroth : 0 + k ≡ k = omega arith in
     ap (flat_map (λ s. at_stamp s (drawers 0 count (deed ∷ earlier)))) (range_last 0 k)
-    ∙ flat_both (λ s. at_stamp s (drawers 0 count (deed ∷ earlier))) (range_with_len 0 k) ((0 + k) ∷ [])
+    ∙ flat_map-append (λ s. at_stamp s (drawers 0 count (deed ∷ earlier))) (range_with_len 0 k) ((0 + k) ∷ [])
     ∙ ap (λ front. front ++ flat_map (λ s. at_stamp s (drawers 0 count (deed ∷ earlier))) ((0 + k) ∷ []))
-    (flat_alike (λ s. at_stamp s (drawers 0 count (deed ∷ earlier))) (λ s. at_stamp s (drawers 0 count earlier)) 0 k (λ s less. drawers_earlier s count deed earlier (omega (arith, less))))
+    (flat_range_alike (λ s. at_stamp s (drawers 0 count (deed ∷ earlier))) (λ s. at_stamp s (drawers 0 count earlier)) 0 k (λ s less. drawers_earlier s count deed earlier (omega (arith, less))))
     ∙ ap (λ back. draws_in_order count earlier ++ back)
     (append-nil (at_stamp (0 + k) (drawers 0 count (deed ∷ earlier))) ∙ ap (λ s. at_stamp s (drawers 0 count (deed ∷ earlier))) zeroth ∙ drawers_last count deed earlier
     ∙ either (just_one deed.by (answer_to deed (length earlier)) count low) proper)
@@ -103,15 +100,6 @@ draws_long count (deed ∷ earlier) low proper =
     either (inl none) = ap (λ e. length (cond (nat_eq e 1) (answer_to deed (length earlier) ∷ []) [])) none.1 ∙ sym none.1
     either (inr draw) = ap (λ e. length (cond (nat_eq e 1) (answer_to deed (length earlier) ∷ []) [])) draw.1 ∙ sym draw.1
 
-get_behind : {X : Type 0} (xs : List X) (y : X) → slice_get (xs ++ y ∷ []) (length xs) ≡ Some y
-get_behind [] y = refl
-get_behind (x ∷ xs) y = get_behind xs y
-
-pub get_front : {X : Type 0} (xs ys : List X) (i : ℕ) (x : X) → slice_get xs i ≡ Some x → slice_get (xs ++ ys) i ≡ Some x
-get_front [] ys i x h = let no : None ≡ Some x = h in absurd cc
-get_front (y ∷ xs) ys zero x h = h
-get_front (y ∷ xs) ys (suc i) x h = get_front xs ys i x h
-
 -- the draw of a number
 pub draw_at : (count : ℕ) (log : List Deed) (number stamp : ℕ) (deed : Deed) → AllByRecursion (λ (deed : Deed). deed.by ≤ count) log → AllByRecursion IsProper log → IsDraw log number stamp deed
     → slice_get (draws_in_order count log) number ≡ Some (answer_to deed stamp)
@@ -122,7 +110,7 @@ draw_at count (last ∷ earlier) number stamp deed low proper (inl is) =
     let drawn : if_draw last a ≡ a ∷ [] = ap (λ b. cond b (a ∷ []) []) (eq-eqb (ends.draws last.event) 1 is.1) in
     ap (λ list. slice_get list number) (one_more count last earlier low.0 proper.0 ∙ ap (λ back. draws_in_order count earlier ++ back) drawn)
     ∙ ap (slice_get (draws_in_order count earlier ++ a ∷ [])) (is.0 ∙ sym long)
-    ∙ get_behind (draws_in_order count earlier) a
+    ∙ get_last (draws_in_order count earlier) a
     ∙ ap (λ s. Some (answer_to last s)) (sym is.2)
     ∙ ap (λ (d : Deed). Some (answer_to d stamp)) is.3
 draw_at count (last ∷ earlier) number stamp deed low proper (inr h) =
@@ -133,10 +121,6 @@ draw_at count (last ∷ earlier) number stamp deed low proper (inr h) =
 
 abbrev pub page_answer : DrawnPage → Answer
 page_answer page = draw_answer page.draw
-
-pub stamp_same : (draw : Draw) → (draw_answer draw).stamp ≡ stamp_of draw
-stamp_same (draws.Got buffer stamp) = refl
-stamp_same (draws.Empty stamp) = refl
 
 at_same : (s : ℕ) (pages : List DrawnPage) → map page_answer (filter (λ (page : DrawnPage). stamp_of page.draw == s) pages) ≡ at_stamp s (map page_answer pages)
 at_same s [] = refl
@@ -150,15 +134,11 @@ at_same s (page ∷ pages) =
     either true h = ap (λ rest. page_answer page ∷ rest) h
     either false h = h
 
-map_flat : {X Y Z : Type 0} (f : X → List Y) (g : Y → Z) (xs : List X) → map g (flat_map f xs) ≡ flat_map (λ x. map g (f x)) xs
-map_flat f g [] = refl
-map_flat f g (x ∷ xs) = map-append g (f x) (flat_map f xs) ∙ ap (λ rest. map g (f x) ++ rest) (map_flat f g xs)
-
 pub pages_in_order : (pages : List DrawnPage) (bound : ℕ)
     → map page_answer (by_stamp (λ (page : DrawnPage). stamp_of page.draw) bound pages) ≡ flat_map (λ s. at_stamp s (map page_answer pages)) (range_with_len 0 bound)
 pages_in_order pages bound =
     map_flat (λ s. filter (λ (page : DrawnPage). stamp_of page.draw == s) pages) page_answer (range_with_len 0 bound)
-    ∙ flat_alike (λ s. map page_answer (filter (λ (page : DrawnPage). stamp_of page.draw == s) pages)) (λ s. at_stamp s (map page_answer pages)) 0 bound (λ s low. at_same s pages)
+    ∙ flat_range_alike (λ s. map page_answer (filter (λ (page : DrawnPage). stamp_of page.draw == s) pages)) (λ s. at_stamp s (map page_answer pages)) 0 bound (λ s low. at_same s pages)
 
 module _ (W : PlainWorkload) (J : PlainJournal) (n : NodeDoings) (p : IsPooled W J n) where
   pub proper : AllByRecursion IsProper p.log

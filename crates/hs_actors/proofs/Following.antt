@@ -2,10 +2,15 @@
 use Rattle.std.proofs.Common.{◌≡◌, inl, inr, ℕ, zero, suc, ◌+◌, ◌<◌, ◌≤◌, Bool, true, false, ◌&&◌, cond, List, [], ◌∷◌, ◌++◌, length, set, take, drop, refl, sym, ap, subst, ◌∙◌, Option, Some, None, IsSome, arith, map, filter, option_map, slice_get, unwrap_or, count_by, eq-eqb, nat_eq, append-nil, append_assoc, take_all, ◌==◌}
 use Rattle.std.specs.List.{AllByRecursion, flat_map, range_with_len, list_all}
 use Rattle.std.specs.Option.{option_and_then, option_to_list}
+use Rattle.std.proofs.lemmas.Grind.{flat_map-append}
 use Rattle.std.proofs.lemmas.List.Elements.{filter-append}
 use Rattle.std.proofs.lemmas.List.{length-append, map-append, drop_all}
 use Rattle.std.proofs.lemmas.List.Sums.{sum_by-cons, sum_by-append}
-use Rattle.std.proofs.lemmas.Option.{slice_get-map}
+use Rattle.std.proofs.lemmas.Option.{slice_get-map, same_Some}
+use Rattle.hs_lists.proofs.Places.{get_front_same, get_there}
+use Rattle.hs_lists.proofs.Alls.{all_at, all_back}
+use Rattle.hs_lists.proofs.Counts.{one_if as one}
+use Rattle.hs_lists.proofs.Ranges.{range_at}
 use Rattle.hs_base.specs.declared.ids.NodeId.{NodeId}
 use Rattle.hs_base.specs.declared.told.Told.{Told}
 use Rattle.hs_coord.specs.Messages.{Message, Messages, message}
@@ -19,12 +24,13 @@ use Rattle.hs_model.specs.Stepping.{Chunk, Crumbed, Triggered, Asked, Turn, Answ
 use Rattle.hs_records.specs.Plain.{PlainSettings, PlainWorkload}
 use Rattle.hs_sent.specs.Sending.{Sent, ClientSends, client_sends, node_sends}
 use Rattle.hs_sent.specs.OneMore.{items_of}
-use Rattle.hs_lawful.specs.Following.{Queue, Chunks, Crumbs, Triggers, Asks, takes, taken, ask_by, asks_behind, asks_to, NodeRun, Run, log_at, node_start, run_start, next_of, event_of, perform, step_node, is_from, message_of, is_done}
+use Rattle.hs_lawful.specs.Following.{Queue, Chunks, Crumbs, Triggers, Asks, takes, taken, asks_behind, asks_to, NodeRun, Run, log_at, node_start, run_start, next_of, event_of, perform, step_node, is_from, message_of, is_done}
 use Rattle.hs_lawful.specs.Orders.{Leads, Stays, Goes, OrdersAgree, DoneIsAtRest}
+use Rattle.hs_lawful.proofs.Steps.{asks_more}
 use Rattle.hs_actors.specs.Doings.{joined, NodeDoings, Doings, all_events, events_in, steps_of, state_after, last_state, chunk_in, crumb_in, trigger_in, ask_in, chunks_in, crumbs_in, triggers_in, asks_in, heard_in, all_heard, journal_of, node_at_end, run_of}
 use Rattle.hs_actors.specs.Facts.{IsOwn, HandsReady, IsPlayable, ArePlayable}
 use Rattle.hs_actors.specs.Playing.{DoingsAreFollowed}
-use Rattle.hs_actors.proofs.Nodes.{some_same, range_at, node_there, own_log}
+use Rattle.hs_actors.proofs.Nodes.{node_there, own_log}
 
 -- ---- lists
 
@@ -37,25 +43,19 @@ module _ {X : Type 0} where
   set_behind [] ys y z = refl
   set_behind (x ∷ xs) ys y z = ap (λ rest. x ∷ rest) (set_behind xs ys y z)
 
-  -- an item of a front is one of the whole
-  get_front : (xs ys : List X) (i : ℕ) → i < length xs → slice_get (xs ++ ys) i ≡ slice_get xs i
-  get_front [] ys i low = absurd (omega (arith, low))
-  get_front (x ∷ xs) ys zero low = refl
-  get_front (x ∷ xs) ys (suc i) low = get_front xs ys i (omega (arith, low))
-
   joined_both : (a b : List (List X)) → joined (a ++ b) ≡ joined a ++ joined b
   joined_both [] b = refl
   joined_both (x ∷ a) b = ap (λ rest. x ++ rest) (joined_both a b) ∙ sym (append_assoc x (joined a) (joined b))
 
   -- the first lists and one more
-  take_next : (lists : List (List X)) (k : ℕ) (next : List X) → slice_get lists k ≡ Some next → joined (take (suc k) lists) ≡ joined (take k lists) ++ next
+  pub take_next : (lists : List (List X)) (k : ℕ) (next : List X) → slice_get lists k ≡ Some next → joined (take (suc k) lists) ≡ joined (take k lists) ++ next
   take_next [] k next h = let no : None ≡ Some next = h in absurd cc
-  take_next (x ∷ lists) zero next h = append-nil x ∙ some_same x next h
+  take_next (x ∷ lists) zero next h = append-nil x ∙ same_Some x next h
   take_next (x ∷ lists) (suc k) next h = ap (λ rest. x ++ rest) (take_next lists k next h) ∙ sym (append_assoc x (joined (take k lists)) next)
 
   drop_next : (lists : List (List X)) (k : ℕ) (next : List X) → slice_get lists k ≡ Some next → joined (drop k lists) ≡ next ++ joined (drop (suc k) lists)
   drop_next [] k next h = let no : None ≡ Some next = h in absurd cc
-  drop_next (x ∷ lists) zero next h = ap (λ y. y ++ joined lists) (some_same x next h)
+  drop_next (x ∷ lists) zero next h = ap (λ y. y ++ joined lists) (same_Some x next h)
   drop_next (x ∷ lists) (suc k) next h = drop_next lists k next h
 
   parted : (lists : List (List X)) (k : ℕ) → joined (take k lists) ++ joined (drop k lists) ≡ joined lists
@@ -63,28 +63,7 @@ module _ {X : Type 0} where
   parted [] (suc k) = refl
   parted (x ∷ lists) (suc k) = append_assoc x (joined (take k lists)) (joined (drop k lists)) ∙ ap (λ rest. x ++ rest) (parted lists k)
 
-  pub get_there : (xs : List X) (i : ℕ) → i < length xs → (x : X) × (slice_get xs i ≡ Some x)
-  get_there [] i h = absurd (omega (arith, h))
-  get_there (x ∷ xs) zero h = (x, refl)
-  get_there (x ∷ xs) (suc i) h = get_there xs i (omega (arith, h))
-
-  pub all_get : (P : X → Type 0) (xs : List X) (i : ℕ) (x : X) → AllByRecursion P xs → slice_get xs i ≡ Some x → P x
-  all_get P [] i x all h = let no : None ≡ Some x = h in absurd cc
-  all_get P (y ∷ xs) zero x all h = subst P (some_same y x h) all.0
-  all_get P (y ∷ xs) (suc i) x all h = all_get P xs i x all.1 h
-
-  pub all_back : (P : X → Type 0) (xs ys : List X) → AllByRecursion P (xs ++ ys) → AllByRecursion P ys
-  all_back P [] ys all = all
-  all_back P (x ∷ xs) ys all = all_back P xs ys all.1
-
-flat_both : {X Y : Type 0} (f : X → List Y) (a b : List X) → flat_map f (a ++ b) ≡ flat_map f a ++ flat_map f b
-flat_both f [] b = refl
-flat_both f (x ∷ a) b = ap (λ rest. f x ++ rest) (flat_both f a b) ∙ sym (append_assoc (f x) (flat_map f a) (flat_map f b))
-
 -- ---- how many items were taken
-
-abbrev one : Bool → ℕ
-one b = cond b 1 0
 
 -- as many items as steps
 counts_items : {A : Type 0} (queue : Queue) (f : Event → List A) → ((event : Event) → length (f event) ≡ one (takes queue (noted_as event))) → (events : List Event) → taken queue (steps_of events) ≡ length (flat_map f events)
@@ -168,22 +147,13 @@ taken_triggers client events = counts_items (Triggers client) (trigger_in client
 pub taken_asks : (events : List Event) → taken Asks (steps_of events) ≡ length (asks_in events)
 taken_asks events = counts_items Asks ask_in ask_counts events
 
--- ---- asks
-
-pub asks_on : (node : ℕ) (before a b : Messages) → asks_behind node before (a ++ b) ≡ asks_behind node before a ++ asks_behind node (before ++ a) b
-asks_on node before [] b = ap (λ all. asks_behind node all b) (sym (append-nil before))
-asks_on node before (m ∷ a) b =
-    ap (λ rest. ask_by node before m ++ rest) (asks_on node (before ++ m ∷ []) a b)
-    ∙ ap (λ all. ask_by node before m ++ (asks_behind node (before ++ m ∷ []) a ++ asks_behind node all b)) (append_assoc before (m ∷ []) a)
-    ∙ sym (append_assoc (ask_by node before m) (asks_behind node (before ++ m ∷ []) a) (asks_behind node (before ++ m ∷ a) b))
-
 -- ---- one event
 
 -- the item that comes next is the one at this place
 item_at : {A : Type 0} (f : Event → List A) (before : List Event) (event : Event) (behind : List Event) (x : A) (all : List A) → f event ≡ x ∷ [] → flat_map f (before ++ event ∷ behind) ≡ all
     → slice_get all (length (flat_map f before)) ≡ Some x
 item_at f before event behind x all is same =
-    ap (λ items. slice_get items (length (flat_map f before))) (sym same ∙ flat_both f before (event ∷ behind) ∙ ap (λ own. flat_map f before ++ (own ++ flat_map f behind)) is)
+    ap (λ items. slice_get items (length (flat_map f before))) (sym same ∙ flat_map-append f before (event ∷ behind) ∙ ap (λ own. flat_map f before ++ (own ++ flat_map f behind)) is)
     ∙ get_behind (flat_map f before) (flat_map f behind) x
 
 next_item : {A : Type 0} (queue : Queue) (state : AgentState) (f : Event → List A) (before : List Event) (event : Event) (behind : List Event) (x : A) (items : List (Sent A)) → f event ≡ x ∷ [] → state.log ≡ steps_of before
@@ -247,13 +217,13 @@ module _ (adds : EventsAddThis) (on : EventsGoOn) (W : PlainWorkload) (d : Doing
         (ap (triggers_in client) (sym all) ∙ (p.took client low).triggers))
     step_ready before (Took (Asked ask)) behind left all few =
         let at = item_at ask_in before (Took (Asked ask)) behind ask (asks_to n.node (all_heard d)) refl (ap asks_in (sym all) ∙ p.asked) in
-        let parts : asks_to n.node (all_heard d) ≡ asks_to n.node heard ++ asks_behind n.node heard more = ap (asks_to n.node) whole ∙ asks_on n.node [] heard more in
-        let count = ap length (flat_both ask_in before (Took (Asked ask) ∷ [])) ∙ length-append (asks_in before) (ask ∷ []) in
+        let parts : asks_to n.node (all_heard d) ≡ asks_to n.node heard ++ asks_behind n.node heard more = ap (asks_to n.node) whole ∙ asks_more n.node [] heard more in
+        let count = ap length (flat_map-append ask_in before (Took (Asked ask) ∷ [])) ∙ length-append (asks_in before) (ask ∷ []) in
         let low : length (asks_in before) < length (asks_to n.node heard) = omega (arith, few, count) in
         ap (λ l. option_map (λ ask. Took (Asked ask)) (slice_get (asks_to n.node heard) (taken Asks l))) (own_log adds settings n.node before)
         ∙ ap (λ k. option_map (λ ask. Took (Asked ask)) (slice_get (asks_to n.node heard) k)) (taken_asks before)
         ∙ ap (option_map (λ ask. Took (Asked ask)))
-        (sym (get_front (asks_to n.node heard) (asks_behind n.node heard more) (length (asks_in before)) low) ∙ ap (λ items. slice_get items (length (asks_in before))) (sym parts) ∙ at)
+        (sym (get_front_same (asks_to n.node heard) (asks_behind n.node heard more) (length (asks_in before)) low) ∙ ap (λ items. slice_get items (length (asks_in before))) (sym parts) ∙ at)
     step_ready before (Took Turn) behind left all few = refl
     step_ready before (Gave answer) behind left all few =
         by_hand (slice_get (after settings n.node before).hand 0) refl (hands_at n.node before answer behind (start settings) (subst (HandsReady settings n.node (start settings)) all p.hands)) answer
@@ -289,7 +259,7 @@ module _ (adds : EventsAddThis) (on : EventsGoOn) (W : PlainWorkload) (d : Doing
       let stepped = node_at n (before ++ e ∷ []) (steps_of es ++ left) in
       let next = with_nodes (front ++ stepped ∷ rest) told heard in
       let joins = append_assoc before (e ∷ []) es in
-      let whole_count = ap length (ap asks_in (sym joins) ∙ flat_both ask_in (before ++ e ∷ []) es) ∙ length-append (asks_in (before ++ e ∷ [])) (asks_in es) in
+      let whole_count = ap length (ap asks_in (sym joins) ∙ flat_map-append ask_in (before ++ e ∷ []) es) ∙ length-append (asks_in (before ++ e ∷ [])) (asks_in es) in
       let ready = step_ready n p heard more whole before e (es ++ behind) (noted_as e ∷ steps_of es ++ left) all (omega (arith, few, whole_count)) in
       let later =
       leads_events n p heard more whole told front rest es (before ++ e ∷ []) behind left (all ∙ sym (append_assoc before (e ∷ []) (es ++ behind)))
@@ -406,7 +376,7 @@ module _ (adds : EventsAddThis) (on : EventsGoOn) (W : PlainWorkload) (d : Doing
             let low : node.0 < settings.nodes = (all_back (λ (m : Message). m.node.0 < settings.nodes) (heard_in d k ++ a) (m ∷ (b ++ rest)) (subst (AllByRecursion (λ (m : Message). m.node.0 < settings.nodes)) all facts.from)).0 in
             let found = node_there W d facts node.0 low in
             let n = found.0 in
-            let p = all_get (IsPlayable W d) d.nodes node.0 n facts.each found.1 in
+            let p = all_at (IsPlayable W d) d.nodes node.0 n facts.each found.1 in
             let name : record { 0 = n.node } ≡ node = ap (λ v. record { 0 = v }) found.2 in
             let own : is_from node m ≡ true = eq-eqb node.0 node.0 refl in
             let before = heard_in d k ++ a in
@@ -433,7 +403,7 @@ module _ (adds : EventsAddThis) (on : EventsGoOn) (W : PlainWorkload) (d : Doing
             let within : count_by (is_from node) before < length (state_after settings n (suc k)).said = omega (arith, few, parts, first) in
             ap (λ (o : Option NodeRun). option_and_then (λ (run : NodeRun). option_map (message node) (slice_get run.state.said (count_by (is_from node) before))) o)
             (slice_get-map (behind_passes (suc k)) d.nodes node.0 ∙ ap (option_map (behind_passes (suc k))) found.1)
-            ∙ ap (option_map (message node)) (sym (get_front (state_after settings n (suc k)).said said.0 (count_by (is_from node) before) within) ∙ ap (λ all. slice_get all (count_by (is_from node) before)) (sym said.1))
+            ∙ ap (option_map (message node)) (sym (get_front_same (state_after settings n (suc k)).said said.0 (count_by (is_from node) before) within) ∙ ap (λ all. slice_get all (count_by (is_from node) before)) (sym said.1))
             ∙ ap (λ i. option_map (message node) (slice_get (last_state settings n).said i)) count
             ∙ told_of node (last_state settings n).said (length (filter (is_from node) before)) m at
           where

@@ -1,11 +1,11 @@
 -- The turns of a giver stay as they are when more chunks come.
 use Rattle.std.proofs.Common.{ℕ, List, ◌++◌}
+use Rattle.hs_lists.proofs.Places.{get_front}
 use Rattle.hs_model.specs.State.{AgentState}
 use Rattle.hs_model.specs.Stepping.{Answered, Given, Missed, Unread, Event, after}
 use Rattle.hs_records.specs.Plain.{PlainSettings}
 use Rattle.hs_words.specs.Ends.{Turn}
 use Rattle.hs_actors.specs.Turns.{Lent, IsOffered, AreTurns, Begins, Takes, Offers, Meets}
-use Rattle.hs_actors.proofs.DrawPlaces.{get_front}
 
 module _ (settings : PlainSettings) (node : ℕ) (lents more : List Lent) where
   offered_more : (state : AgentState) (answer : Answered) (turn : Turn) → IsOffered lents state answer turn → IsOffered (lents ++ more) state answer turn

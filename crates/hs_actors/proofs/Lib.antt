@@ -12,3 +12,4 @@ pub mod DrawPlaces
 pub mod Unread
 pub mod Counted
 pub mod Lents
+pub mod Joined

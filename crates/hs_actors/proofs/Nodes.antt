@@ -1,7 +1,7 @@
 -- The nodes of what was done stand by their numbers, and their logs in the journal.
-use Rattle.std.proofs.Common.{◌≡◌, ℕ, zero, suc, ◌+◌, ◌<◌, List, [], ◌∷◌, ◌++◌, append-nil, append_assoc, refl, sym, ap, ◌∙◌, Option, Some, None, arith, map, option_map, slice_get, unwrap_or}
-use Rattle.std.specs.List.{range_with_len}
-use Rattle.std.proofs.lemmas.Option.{slice_get-map}
+use Rattle.std.proofs.Common.{◌≡◌, ℕ, ◌+◌, ◌<◌, List, [], ◌∷◌, ◌++◌, append-nil, append_assoc, refl, sym, ap, ◌∙◌, Option, Some, None, arith, map, option_map, slice_get, unwrap_or}
+use Rattle.std.proofs.lemmas.Option.{slice_get-map, same_Some}
+use Rattle.hs_lists.proofs.Ranges.{range_at}
 use Rattle.hs_journal.specs.declared.journal.Step.{Step}
 use Rattle.hs_model.specs.Laws.{noted_as, EventsAddThis}
 use Rattle.hs_model.specs.State.{AgentState, start}
@@ -10,14 +10,6 @@ use Rattle.hs_records.specs.Plain.{PlainSettings, PlainWorkload}
 use Rattle.hs_lawful.specs.Following.{log_at}
 use Rattle.hs_actors.specs.Doings.{NodeDoings, Doings, all_events, steps_of, journal_of}
 use Rattle.hs_actors.specs.Facts.{ArePlayable}
-
-pub some_same : {X : Type 0} (a b : X) → Some a ≡ Some b → a ≡ b
-some_same a b h = cc
-
-pub range_at : (start count i : ℕ) → i < count → slice_get (range_with_len start count) i ≡ Some (start + i)
-range_at start zero i h = absurd (omega (arith, h))
-range_at start (suc count) zero h = let same : start ≡ start + 0 = omega arith in ap Some same
-range_at start (suc count) (suc i) h = let more : start + 1 + i ≡ start + suc i = omega arith in range_at (start + 1) count i (omega (arith, h)) ∙ ap Some more
 
 module _ (W : PlainWorkload) (d : Doings) (facts : ArePlayable W d) where
   pub node_there : (v : ℕ) → v < W.settings.nodes → (n : NodeDoings) × (slice_get d.nodes v ≡ Some n) × (n.node ≡ v)
@@ -28,7 +20,7 @@ module _ (W : PlainWorkload) (d : Doings) (facts : ArePlayable W d) where
     where
       unmapped : (o : Option NodeDoings) (y : ℕ) → option_map (λ (n : NodeDoings). n.node) o ≡ Some y → (n : NodeDoings) × (o ≡ Some n) × (n.node ≡ y)
       unmapped None y h = let no : None ≡ Some y = h in absurd cc
-      unmapped (Some n) y h = (n, refl, some_same n.node y h)
+      unmapped (Some n) y h = (n, refl, same_Some n.node y h)
 
   pub log_there : (v : ℕ) (n : NodeDoings) → slice_get d.nodes v ≡ Some n → log_at (journal_of W d) v ≡ steps_of (all_events n)
   log_there v n h =

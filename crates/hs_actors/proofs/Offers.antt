@@ -1,7 +1,9 @@
 -- A pass that offers until its hand is empty, or until an offer is unread, makes all its offers.
-use Rattle.std.proofs.Common.{◌≡◌, ◌⊎◌, inl, inr, ℕ, zero, suc, ◌+◌, ◌-◌, Bool, true, false, ◌||◌, ◌==◌, not, List, [], ◌∷◌, ◌++◌, length, take, drop, refl, sym, ap, subst, ◌∙◌, arith, map, zip, append_assoc, eq-eqb}
+use Rattle.std.proofs.Common.{◌≡◌, ◌⊎◌, inl, inr, ℕ, zero, suc, ◌+◌, ◌-◌, true, false, ◌||◌, ◌==◌, not, List, [], ◌∷◌, ◌++◌, length, take, drop, refl, sym, ap, subst, ◌∙◌, arith, map, zip, append_assoc, eq-eqb}
 use Rattle.std.specs.List.{AllByRecursion, range_with_len, list_all, list_any}
+use Rattle.std.proofs.lemmas.Bool.{or_right, and_from}
 use Rattle.std.proofs.lemmas.List.{length-append, map-append}
+use Rattle.hs_lists.proofs.Alls.{all_append}
 use Rattle.hs_journal.specs.declared.journal.Step.{Step}
 use Rattle.hs_journal.specs.declared.journal.Step.TheVariants as steps
 use Rattle.hs_journal.specs.Views.{PlainJournal}
@@ -12,12 +14,13 @@ use Rattle.hs_records.specs.Plain.{PlainWorkload}
 use Rattle.hs_lawful.specs.Following.{NodeRun, Run}
 use Rattle.hs_lawful.specs.Passes.{queues_of, is_offer, is_unread, but_last, last_of, steps_in, pass_ends, offers_end}
 use Rattle.hs_lawful.specs.Played.{state_behind}
+use Rattle.hs_lawful.proofs.Logs.{IsTake}
 use Rattle.hs_actors.specs.Doings.{NodeDoings, steps_of, state_after, journal_of, node_at_end}
 use Rattle.hs_actors.specs.Facts.{IsPass, IsStamped, EndsPass, EndOffersFrom}
 use Rattle.hs_actors.specs.Playing.{DoingsAreFollowed, MakeTheirOffers}
 use Rattle.hs_actors.proofs.Behind.{log_passes, state_there}
 use Rattle.hs_actors.proofs.Clauses.{mapped_true}
-use Rattle.hs_actors.proofs.Passes.{and_true, all_both, items, offers_of, IsTake, all_takes}
+use Rattle.hs_actors.proofs.Passes.{items, offers_of, all_takes}
 
 -- ---- none is unread
 
@@ -69,10 +72,6 @@ last_is log last = let long = length-append log (last ∷ []) in let less : leng
     back [] = refl
     back (step ∷ log) = back log
 
-or_second : (a b : Bool) → b ≡ true → (a || b) ≡ true
-or_second true b h = refl
-or_second false b h = h
-
 module _ (adds : EventsAddThis) (W : PlainWorkload) (J : PlainJournal) (n : NodeDoings) where
   all_passes : (place : ℕ) (passes : List (List Event)) → EndOffersFrom W n place passes → AllByRecursion (IsPass W) passes
   all_passes place [] all = tt
@@ -92,16 +91,16 @@ module _ (adds : EventsAddThis) (W : PlainWorkload) (J : PlainJournal) (n : Node
         quiet = no_take (items W pass e.is_pass) (all_takes e.is_pass.counts (queues_of W))
 
         front : NoUnread (items W pass e.is_pass ++ steps.Turn ∷ offers_of e.before)
-        front = all_both (λ s. is_unread s ≡ false) (items W pass e.is_pass) (steps.Turn ∷ offers_of e.before) quiet (refl, no_stamped e.before e.stamped)
+        front = all_append (λ s. is_unread s ≡ false) (items W pass e.is_pass) (steps.Turn ∷ offers_of e.before) quiet (refl, no_stamped e.before e.stamped)
 
         either : ((e.is_pass.offers ≡ e.before) × ((state_after W.settings n (suc place)).hand ≡ [])) ⊎ (e.is_pass.offers ≡ e.before ++ Unread ∷ []) → pass_ends W.settings run cut (suc place) (steps_of pass) ≡ true
         either (inl both) =
             let is : steps_of pass ≡ items W pass e.is_pass ++ steps.Turn ∷ offers_of e.before = e.is_pass.steps_are ∙ ap (λ offers. items W pass e.is_pass ++ steps.Turn ∷ offers_of offers) both.0 in
             let none : NoUnread (steps_of pass) = subst NoUnread (sym is) front in
             let hand : length (state_behind W.settings run (steps_in cut (suc place))).hand ≡ 0 = ap (λ (s : AgentState). length s.hand) (state_there adds W J n (all_passes 0 n.passes all) (suc place)) ∙ ap length both.1 in
-            and_true (not (list_any is_unread (but_last (steps_of pass)))) _
+            and_from (not (list_any is_unread (but_last (steps_of pass)))) _
             (ap not (none_any (but_last (steps_of pass)) (none_taken (length (steps_of pass) - 1) (steps_of pass) none)))
-            (or_second (list_any is_unread (last_of (steps_of pass))) _ (eq-eqb (length (state_behind W.settings run (steps_in cut (suc place))).hand) 0 hand))
+            (or_right (list_any is_unread (last_of (steps_of pass))) _ (eq-eqb (length (state_behind W.settings run (steps_in cut (suc place))).hand) 0 hand))
         either (inr unread) =
             let log = items W pass e.is_pass ++ steps.Turn ∷ offers_of e.before in
             let is : steps_of pass ≡ log ++ steps.Unread ∷ [] =
@@ -110,7 +109,7 @@ module _ (adds : EventsAddThis) (W : PlainWorkload) (J : PlainJournal) (n : Node
             ∙ ap (λ offers. items W pass e.is_pass ++ steps.Turn ∷ offers) (map-append step_of_answer e.before (Unread ∷ []))
             ∙ sym (append_assoc (items W pass e.is_pass) (steps.Turn ∷ offers_of e.before) (steps.Unread ∷ []))
             in
-            and_true (not (list_any is_unread (but_last (steps_of pass)))) _
+            and_from (not (list_any is_unread (but_last (steps_of pass)))) _
             (ap (λ log. not (list_any is_unread (but_last log))) is ∙ ap (λ log. not (list_any is_unread log)) (but_last_is log steps.Unread) ∙ ap not (none_any log front))
             (ap (λ found. found || (length (state_behind W.settings run (steps_in cut (suc place))).hand == 0)) (ap (λ log. list_any is_unread (last_of log)) is ∙ ap (list_any is_unread) (last_is log steps.Unread)))
 
@@ -119,7 +118,7 @@ module _ (adds : EventsAddThis) (W : PlainWorkload) (J : PlainJournal) (n : Node
     ends_from place [] all = refl
     ends_from place (pass ∷ passes) all =
         let more : suc place + 1 ≡ suc (suc place) = omega arith in
-        and_true (pass_ends W.settings run cut (suc place) (steps_of pass)) (list_all (λ (pass : ℕ × List Step). pass_ends W.settings run cut pass.0 pass.1) (zip (range_with_len (suc place + 1) (length (map steps_of passes))) (map steps_of passes)))
+        and_from (pass_ends W.settings run cut (suc place) (steps_of pass)) (list_all (λ (pass : ℕ × List Step). pass_ends W.settings run cut pass.0 pass.1) (zip (range_with_len (suc place + 1) (length (map steps_of passes))) (map steps_of passes)))
         (ends_at place pass all.0)
         (ap (λ start. list_all (λ (pass : ℕ × List Step). pass_ends W.settings run cut pass.0 pass.1) (zip (range_with_len start (length (map steps_of passes))) (map steps_of passes))) more ∙ ends_from (suc place) passes all.1)
 

@@ -2,7 +2,11 @@
 -- messages and asks that are moved between rounds.
 use Rattle.std.proofs.Common.{◌≡◌, ◌⊎◌, inl, inr, ℕ, zero, suc, ◌+◌, ◌-◌, ◌*◌, ◌<◌, ◌≤◌, min, Bool, true, false, ◌&&◌, cond, List, [], ◌∷◌, ◌++◌, length, take, refl, sym, ap, subst, ◌∙◌, Some, arith, map, slice_get, unwrap_or, count_by, find, nat_lt, nat_le, ltb-true, lt-ltb, le-leb, zip, append_assoc, eq-or-lt_of_le}
 use Rattle.std.specs.List.{AllByRecursion, flat_map, range_with_len, list_all}
+use Rattle.std.proofs.lemmas.Bool.{and_from}
 use Rattle.std.proofs.lemmas.List.{length-append, length-map, take-map}
+use Rattle.hs_lists.proofs.Alls.{all_at, all_by_place}
+use Rattle.hs_lists.proofs.Ranges.{list_all_range}
+use Rattle.hs_lists.proofs.Tests.{list_all_from}
 use Rattle.hs_base.specs.declared.limits.TheConstants.{MAX_TAKEN}
 use Rattle.hs_base.specs.declared.ids.NodeId.{NodeId}
 use Rattle.hs_coord.specs.Messages.{Messages}
@@ -20,25 +24,13 @@ use Rattle.hs_lawful.specs.Passes.{steps_in, taken_in}
 use Rattle.hs_lawful.specs.Played.{state_behind}
 use Rattle.hs_lawful.specs.Shape.{log_stamps}
 use Rattle.hs_lawful.specs.Unreads.{round_of}
+use Rattle.hs_lawful.proofs.Steps.{asks_more}
 use Rattle.hs_actors.specs.Doings.{joined, NodeDoings, Doings, events_in, steps_of, state_after, chunk_in, crumb_in, trigger_in, chunks_in, crumbs_in, triggers_in, asks_in, heard_in, all_heard, journal_of, node_at_end, run_of}
 use Rattle.hs_actors.specs.Facts.{IsPass, ArePlayable, pages_at, MeetsInRounds, IsToldInRounds, TakesInPace, AsksInPace, KeepsPace}
 use Rattle.hs_actors.specs.Playing.{DoingsAreFollowed, AreInPace}
 use Rattle.hs_actors.proofs.Behind.{take_joined, steps_joined, log_passes, state_there}
 use Rattle.hs_actors.proofs.Clauses.{mapped_true}
-use Rattle.hs_actors.proofs.Following.{all_get, asks_on, taken_chunks, taken_crumbs, taken_triggers, taken_asks}
-use Rattle.hs_actors.proofs.Passes.{and_true, all_true}
-
--- ---- lists
-
-each_at : {X : Type 0} (P : X → Type 0) (xs : List X) → ((i : ℕ) (x : X) → slice_get xs i ≡ Some x → P x) → AllByRecursion P xs
-each_at P [] each = tt
-each_at P (x ∷ xs) each = (each 0 x refl, each_at P xs (λ i. each (suc i)))
-
-range_from : (p : ℕ → Bool) (start count : ℕ) → ((k : ℕ) → start ≤ k → k < start + count → p k ≡ true) → list_all p (range_with_len start count) ≡ true
-range_from p start zero each = refl
-range_from p start (suc count) each =
-    and_true (p start) (list_all p (range_with_len (start + 1) count)) (each start (omega arith) (omega arith))
-    (range_from p (start + 1) count (λ k low high. each k (omega (arith, low)) (omega (arith, high))))
+use Rattle.hs_actors.proofs.Following.{taken_chunks, taken_crumbs, taken_triggers, taken_asks}
 
 -- ---- gives beside draws
 
@@ -58,13 +50,13 @@ module _ (W : PlainWorkload) (J : PlainJournal) (n : NodeDoings) (m : MeetsInRou
       either true e b f =
           let r = round_of stride page.started in
           let low : r < suc place = ltb-true r (suc place) e in
-          let below = all_get (λ (page : DrawnPage). round_of W.settings.stride page.started ≤ r → stamp_of page.draw < m.giver r) (pages_at W J n.node) j page (m.drawn_below r) on (omega arith) in
-          let above = all_get (λ stamp. m.giver r ≤ stamp) (log_stamps (steps_of pass)) i stamp (m.given_above r place pass (omega (arith, low)) there) at in
+          let below = all_at (λ (page : DrawnPage). round_of W.settings.stride page.started ≤ r → stamp_of page.draw < m.giver r) (pages_at W J n.node) j page (m.drawn_below r) on (omega arith) in
+          let above = all_at (λ stamp. m.giver r ≤ stamp) (log_stamps (steps_of pass)) i stamp (m.given_above r place pass (omega (arith, low)) there) at in
           lt-ltb (stamp_of page.draw) stamp (omega (arith, below, above))
       either false e true f =
           let high : suc place < round_of stride page.started = ltb-true (suc place) (round_of stride page.started) f in
-          let below = all_get (λ stamp. stamp < m.drawer page.client.number (suc place)) (log_stamps (steps_of pass)) i stamp (m.given_below page.client.number (suc place) place pass (omega arith) there) at in
-          let above = all_get (λ (page : DrawnPage). suc place < round_of W.settings.stride page.started → m.drawer page.client.number (suc place) ≤ stamp_of page.draw) (pages_at W J n.node) j page (m.drawn_above (suc place)) on high in
+          let below = all_at (λ stamp. stamp < m.drawer page.client.number (suc place)) (log_stamps (steps_of pass)) i stamp (m.given_below page.client.number (suc place) place pass (omega arith) there) at in
+          let above = all_at (λ (page : DrawnPage). suc place < round_of W.settings.stride page.started → m.drawer page.client.number (suc place) ≤ stamp_of page.draw) (pages_at W J n.node) j page (m.drawn_above (suc place)) on high in
           lt-ltb stamp (stamp_of page.draw) (omega (arith, below, above))
       either false e false f = refl
 
@@ -73,11 +65,11 @@ module _ (W : PlainWorkload) (J : PlainJournal) (n : NodeDoings) (m : MeetsInRou
 
   pass_true : (place : ℕ) (pass : List Event) → slice_get n.passes place ≡ Some pass → pass_beside (suc place, steps_of pass) ≡ true
   pass_true place pass there =
-      all_true (λ stamp. list_all (is_beside stride (suc place) stamp) (pages_at W J n.node)) (log_stamps (steps_of pass))
-      (each_at (λ stamp. list_all (is_beside stride (suc place) stamp) (pages_at W J n.node) ≡ true) (log_stamps (steps_of pass))
+      list_all_from (λ stamp. list_all (is_beside stride (suc place) stamp) (pages_at W J n.node)) (log_stamps (steps_of pass))
+      (all_by_place (λ stamp. list_all (is_beside stride (suc place) stamp) (pages_at W J n.node) ≡ true) (log_stamps (steps_of pass))
       (λ i stamp at.
-      all_true (is_beside stride (suc place) stamp) (pages_at W J n.node)
-      (each_at (λ page. is_beside stride (suc place) stamp page ≡ true) (pages_at W J n.node) (beside place pass there i stamp at))))
+      list_all_from (is_beside stride (suc place) stamp) (pages_at W J n.node)
+      (all_by_place (λ page. is_beside stride (suc place) stamp page ≡ true) (pages_at W J n.node) (beside place pass there i stamp at))))
 
   passes_true : (place : ℕ) (passes : List (List Event)) → ((i : ℕ) (pass : List Event) → slice_get passes i ≡ Some pass → slice_get n.passes (place + i) ≡ Some pass)
       → list_all pass_beside (zip (range_with_len (suc place) (length (map steps_of passes))) (map steps_of passes)) ≡ true
@@ -85,7 +77,7 @@ module _ (W : PlainWorkload) (J : PlainJournal) (n : NodeDoings) (m : MeetsInRou
   passes_true place (pass ∷ passes) there =
       let more : suc place + 1 ≡ suc (suc place) = omega arith in
       let zeroth : place + 0 ≡ place = omega arith in
-      and_true (pass_beside (suc place, steps_of pass)) (list_all pass_beside (zip (range_with_len (suc place + 1) (length (map steps_of passes))) (map steps_of passes)))
+      and_from (pass_beside (suc place, steps_of pass)) (list_all pass_beside (zip (range_with_len (suc place + 1) (length (map steps_of passes))) (map steps_of passes)))
       (pass_true place pass (ap (slice_get n.passes) (sym zeroth) ∙ there 0 pass refl))
       (ap (λ start. list_all pass_beside (zip (range_with_len start (length (map steps_of passes))) (map steps_of passes))) more
       ∙ passes_true (suc place) passes (λ i p h. let next : suc place + i ≡ place + suc i = omega arith in ap (slice_get n.passes) next ∙ there (suc i) p h))
@@ -142,15 +134,15 @@ module _ (settings : PlainSettings) (passes : List (List Event)) where
           le-leb (min (length (sent_within (suc j * settings.stride) items)) (taken_in cut queue (suc j - 1) + MAX_TAKEN)) (taken_in cut queue (suc j + 1)) (omega (arith, before, behind, first, last, takes))
 
       queue_true : queue_in_pace settings cut queue items ≡ true
-      queue_true = range_from (λ k. takes_enough cut queue (length (sent_within (k * settings.stride) items)) k) 1 (length cut - 1) enough_at
+      queue_true = list_all_range (λ k. takes_enough cut queue (length (sent_within (k * settings.stride) items)) k) 1 (length cut - 1) enough_at
 
 module _ (W : PlainWorkload) (J : PlainJournal) (n : NodeDoings) where
   client_true : (client : ℕ) → TakesInPace W J n client → client_in_pace W.settings (map steps_of n.passes) client (client_sends W J n.node client) ≡ true
   client_true client t =
       let s = client_sends W J n.node client in
       let passes = map steps_of n.passes in
-      and_true (queue_in_pace W.settings passes (Chunks client) s.chunks && queue_in_pace W.settings passes (Crumbs client) s.crumbs) (queue_in_pace W.settings passes (Triggers client) s.triggers)
-      (and_true (queue_in_pace W.settings passes (Chunks client) s.chunks) (queue_in_pace W.settings passes (Crumbs client) s.crumbs)
+      and_from (queue_in_pace W.settings passes (Chunks client) s.chunks && queue_in_pace W.settings passes (Crumbs client) s.crumbs) (queue_in_pace W.settings passes (Triggers client) s.triggers)
+      (and_from (queue_in_pace W.settings passes (Chunks client) s.chunks) (queue_in_pace W.settings passes (Crumbs client) s.crumbs)
       (queue_true W.settings n.passes (Chunks client) s.chunks (λ k. length (chunks_in client (events_in n k))) (λ k. taken_cut W.settings n.passes (Chunks client) k ∙ taken_chunks client (events_in n k)) (grows (chunk_in client) n.passes) t.chunks)
       (queue_true W.settings n.passes (Crumbs client) s.crumbs (λ k. length (crumbs_in client (events_in n k))) (λ k. taken_cut W.settings n.passes (Crumbs client) k ∙ taken_crumbs client (events_in n k)) (grows (crumb_in client) n.passes) t.crumbs))
       (queue_true W.settings n.passes (Triggers client) s.triggers (λ k. length (triggers_in client (events_in n k))) (λ k. taken_cut W.settings n.passes (Triggers client) k ∙ taken_triggers client (events_in n k)) (grows (trigger_in client) n.passes) t.triggers)
@@ -160,7 +152,7 @@ module _ (W : PlainWorkload) (J : PlainJournal) (n : NodeDoings) where
       ≡ true
   clients_true each start zero few = refl
   clients_true each start (suc count) few =
-      and_true (client_in_pace W.settings (map steps_of n.passes) start (client_sends W J n.node start))
+      and_from (client_in_pace W.settings (map steps_of n.passes) start (client_sends W J n.node start))
       (list_all (λ (c : ℕ × ClientSends). client_in_pace W.settings (map steps_of n.passes) c.0 c.1)
       (zip (range_with_len (start + 1) (length (map (client_sends W J n.node) (range_with_len (start + 1) count)))) (map (client_sends W J n.node) (range_with_len (start + 1) count))))
       (client_true start (each start (omega (arith, few)))) (clients_true each (start + 1) count (omega (arith, few)))
@@ -252,7 +244,7 @@ module _ (adds : EventsAddThis) (W : PlainWorkload) (d : Doings) (facts : ArePla
   all_due k low high [] all = refl
   all_due k low high (n ∷ ns) all =
       let long = all.0.long in
-      and_true (nat_le (due_by W.settings k (end_of n)) (heard_of n k)) (list_all (λ (node : NodeRun). nat_le (due_by W.settings k node) (count_by (is_from (record { 0 = node.node })) (heard_in d k))) (map end_of ns))
+      and_from (nat_le (due_by W.settings k (end_of n)) (heard_of n k)) (list_all (λ (node : NodeRun). nat_le (due_by W.settings k node) (count_by (is_from (record { 0 = node.node })) (heard_in d k))) (map end_of ns))
       (has_due_at n all.0.each all.0.asks k low (omega (arith, high, long))) (all_due k low high ns all.1)
 
   module _ (paced : AllByRecursion IsPaced d.nodes) where
@@ -314,7 +306,7 @@ module _ (adds : EventsAddThis) (W : PlainWorkload) (d : Doings) (facts : ArePla
           let next : k + 1 ≡ suc k = omega arith in
           let behind = ap (taken_in passes_cut Asks) next ∙ asks_taken (suc k) in
           let h = heard_before k low (omega (arith, high, long, same)) in
-          let whole = ap length (ap (asks_to n.node) h.1 ∙ asks_on n.node [] (heard_by W.settings run k) h.0) ∙ length-append (asks_to n.node (heard_by W.settings run k)) (asks_behind n.node (heard_by W.settings run k) h.0) in
+          let whole = ap length (ap (asks_to n.node) h.1 ∙ asks_more n.node [] (heard_by W.settings run k) h.0) ∙ length-append (asks_to n.node (heard_by W.settings run k)) (asks_behind n.node (heard_by W.settings run k) h.0) in
           let takes = p.asks.asks k (omega (arith, high, long)) in
           le-leb (min MAX_TAKEN (length (asks_to n.node (heard_by W.settings run k)) - taken_in passes_cut Asks k)) (taken_in passes_cut Asks (k + 1) - taken_in passes_cut Asks k)
           (omega (arith, before, behind, whole, takes))
@@ -322,7 +314,7 @@ module _ (adds : EventsAddThis) (W : PlainWorkload) (d : Doings) (facts : ArePla
       asks_true : asks_in_pace W.settings run (end_of n) ≡ true
       asks_true =
           ap (λ passes. list_all (asks_enough W.settings run (end_of n) passes) (inner_passes passes)) (log_passes adds W J n p.each)
-          ∙ range_from (asks_enough W.settings run (end_of n) passes_cut) 1 (length passes_cut - 1) enough_asks
+          ∙ list_all_range (asks_enough W.settings run (end_of n) passes_cut) 1 (length passes_cut - 1) enough_asks
 
     abbrev node_pace : NodeRun → Bool
     node_pace node = gives_in_pace W.settings node && items_in_pace W.settings node && asks_in_pace W.settings run node
@@ -330,8 +322,8 @@ module _ (adds : EventsAddThis) (W : PlainWorkload) (d : Doings) (facts : ArePla
     nodes_true : (ns : List NodeDoings) → AllByRecursion IsPaced ns → AllByRecursion (KeepsPace W d) ns → AllByRecursion (λ (n : NodeDoings). node_pace (end_of n) ≡ true) ns
     nodes_true [] all pace = tt
     nodes_true (n ∷ ns) all pace = (
-      and_true (gives_in_pace W.settings (end_of n) && items_in_pace W.settings (end_of n)) (asks_in_pace W.settings run (end_of n))
-          (and_true (gives_in_pace W.settings (end_of n)) (items_in_pace W.settings (end_of n)) (gives_true adds W J n all.0.each pace.0.gives) (items_true adds W J n all.0.each pace.0.items))
+      and_from (gives_in_pace W.settings (end_of n) && items_in_pace W.settings (end_of n)) (asks_in_pace W.settings run (end_of n))
+          (and_from (gives_in_pace W.settings (end_of n)) (items_in_pace W.settings (end_of n)) (gives_true adds W J n all.0.each pace.0.gives) (items_true adds W J n all.0.each pace.0.items))
           (asks_true n all.0),
       nodes_true ns all.1 pace.1,
     )

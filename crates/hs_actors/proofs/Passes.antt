@@ -2,10 +2,17 @@
 -- they end.
 use Rattle.std.proofs.Common.{◌≡◌, ℕ, zero, suc, ◌+◌, ◌<◌, ◌≤◌, Bool, true, false, ◌&&◌, ◌||◌, not, cond, List, [], ◌∷◌, ◌++◌, length, replicate, refl, sym, ap, subst, ◌∙◌, arith, map, filter, count_by, eq-eqb, nat_eq, nat_le, le-leb, append-nil, append_assoc}
 use Rattle.std.specs.List.{AllByRecursion, flat_map, range_with_len, list_all}
+use Rattle.std.proofs.Math.Bool.{and-false}
+use Rattle.std.proofs.lemmas.Bool.{and_from}
 use Rattle.std.proofs.lemmas.Bool.Decides.{nat_tests}
 use Rattle.std.proofs.lemmas.List.{length-replicate, map-append}
 use Rattle.std.proofs.lemmas.List.Elements.{filter-append}
 use Rattle.std.proofs.lemmas.List.Sums.{sum_by-cons, sum_by-append, length-filter}
+use Rattle.hs_lists.proofs.Tests.{list_all_from}
+use Rattle.hs_lists.proofs.Alls.{all_each, all_append, all_replicate}
+use Rattle.hs_lists.proofs.Counts.{one_if}
+use Rattle.hs_lists.proofs.Filters.{filter_all, filter_none}
+use Rattle.hs_lists.proofs.Numbers.{nat_eq_below}
 use Rattle.hs_base.specs.declared.limits.TheConstants.{MAX_TAKEN}
 use Rattle.hs_journal.specs.declared.journal.Step.{Step}
 use Rattle.hs_journal.specs.declared.journal.Step.TheVariants as steps
@@ -13,69 +20,25 @@ use Rattle.hs_model.specs.Laws.{noted_as}
 use Rattle.hs_model.specs.Stepping.{Answered, Given, Missed, Unread, Event, step_of_answer}
 use Rattle.hs_records.specs.Plain.{PlainWorkload}
 use Rattle.hs_lawful.specs.Following.{Queue, Chunks, Crumbs, Triggers, Asks, takes, taken}
-use Rattle.hs_lawful.specs.Passes.{is_turn, is_offer, ends_between, put_step, passes_of, client_queues, queues_of, same_step, same_steps, arranged, is_whole_pass}
+use Rattle.hs_lawful.specs.Passes.{is_turn, is_offer, ends_between, put_step, passes_of, client_queues, queues_of, same_steps, arranged, is_whole_pass}
+use Rattle.hs_lawful.proofs.Logs.{same_steps_refl, IsTake}
 use Rattle.hs_actors.specs.Doings.{joined, steps_of}
 use Rattle.hs_actors.specs.Facts.{step_from, IsPass}
 
 -- ---- tests
 
-pub and_true : (a b : Bool) → a ≡ true → b ≡ true → (a && b) ≡ true
-and_true true b e f = f
-and_true false b e f = e
-
-same_step_refl : (step : Step) → same_step step step ≡ true
-same_step_refl (steps.Chunk client) = eq-eqb client client refl
-same_step_refl (steps.Crumb client) = eq-eqb client client refl
-same_step_refl (steps.Trigger client) = eq-eqb client client refl
-same_step_refl steps.Ask = refl
-same_step_refl steps.Turn = refl
-same_step_refl (steps.Given stamp) = eq-eqb stamp stamp refl
-same_step_refl (steps.Missed stamp) = eq-eqb stamp stamp refl
-same_step_refl steps.Unread = refl
-
-same_refl : (log : List Step) → same_steps log log ≡ true
-same_refl [] = refl
-same_refl (step ∷ log) = and_true (same_step step step) (same_steps log log) (same_step_refl step) (same_refl log)
-
-pub all_true : {X : Type 0} (p : X → Bool) (xs : List X) → AllByRecursion (λ x. p x ≡ true) xs → list_all p xs ≡ true
-all_true p [] all = refl
-all_true p (x ∷ xs) all = and_true (p x) (list_all p xs) all.0 (all_true p xs all.1)
-
-pub all_each : {X : Type 0} (P Q : X → Type 0) (xs : List X) → ((x : X) → P x → Q x) → AllByRecursion P xs → AllByRecursion Q xs
-all_each P Q [] on all = tt
-all_each P Q (x ∷ xs) on all = (on x all.0, all_each P Q xs on all.1)
-
-pub all_both : {X : Type 0} (P : X → Type 0) (xs ys : List X) → AllByRecursion P xs → AllByRecursion P ys → AllByRecursion P (xs ++ ys)
-all_both P [] ys a b = b
-all_both P (x ∷ xs) ys a b = (a.0, all_both P xs ys a.1 b)
-
-all_replicated : {X : Type 0} (P : X → Type 0) (n : ℕ) (x : X) → P x → AllByRecursion P (replicate n x)
-all_replicated P zero x h = tt
-all_replicated P (suc n) x h = (h, all_replicated P n x h)
-
 -- how many turns
 abbrev pub turns : List Step → ℕ
 turns log = count_by is_turn log
 
-abbrev one : Bool → ℕ
-one b = cond b 1 0
-
 -- ---- filters
 
 module _ (p : Step → Bool) where
-  keeps_all : (xs : List Step) → AllByRecursion (λ x. p x ≡ true) xs → filter p xs ≡ xs
-  keeps_all [] all = refl
-  keeps_all (x ∷ xs) all = ap (λ b. cond b (x ∷ filter p xs) (filter p xs)) all.0 ∙ ap (λ rest. x ∷ rest) (keeps_all xs all.1)
-
-  keeps_none : (xs : List Step) → AllByRecursion (λ x. p x ≡ false) xs → filter p xs ≡ []
-  keeps_none [] all = refl
-  keeps_none (x ∷ xs) all = ap (λ b. cond b (x ∷ filter p xs) (filter p xs)) all.0 ∙ keeps_none xs all.1
-
   keeps_some : (n : ℕ) (x : Step) → p x ≡ true → filter p (replicate n x) ≡ replicate n x
-  keeps_some n x h = keeps_all (replicate n x) (all_replicated (λ y. p y ≡ true) n x h)
+  keeps_some n x h = filter_all p (replicate n x) (all_replicate (λ y. p y ≡ true) n x h)
 
   keeps_no_one : (n : ℕ) (x : Step) → p x ≡ false → filter p (replicate n x) ≡ []
-  keeps_no_one n x h = keeps_none (replicate n x) (all_replicated (λ y. p y ≡ false) n x h)
+  keeps_no_one n x h = filter_none p (replicate n x) (all_replicate (λ y. p y ≡ false) n x h)
 
 -- ---- queues are apart
 
@@ -100,28 +63,25 @@ IsFrom least (Crumbs client) = least ≤ client
 IsFrom least (Triggers client) = least ≤ client
 IsFrom least Asks = Unit {0}
 
-differs : (a b : ℕ) → a < b → nat_eq a b ≡ false
-differs a b less = grind (arith, nat_tests)
-
 exceeds : (a b : ℕ) → a < b → nat_eq b a ≡ false
 exceeds a b less = grind (arith, nat_tests)
 
 chunks_apart : (client : ℕ) (q : Queue) → IsFrom (client + 1) q → AreApart (Chunks client) q
-chunks_apart client (Chunks other) low = record { first = exceeds client other (omega (arith, low)); second = differs client other (omega (arith, low)) }
+chunks_apart client (Chunks other) low = record { first = exceeds client other (omega (arith, low)); second = nat_eq_below client other (omega (arith, low)) }
 chunks_apart client (Crumbs other) low = record { first = refl; second = refl }
 chunks_apart client (Triggers other) low = record { first = refl; second = refl }
 chunks_apart client Asks low = record { first = refl; second = refl }
 
 crumbs_apart : (client : ℕ) (q : Queue) → IsFrom (client + 1) q → AreApart (Crumbs client) q
 crumbs_apart client (Chunks other) low = record { first = refl; second = refl }
-crumbs_apart client (Crumbs other) low = record { first = exceeds client other (omega (arith, low)); second = differs client other (omega (arith, low)) }
+crumbs_apart client (Crumbs other) low = record { first = exceeds client other (omega (arith, low)); second = nat_eq_below client other (omega (arith, low)) }
 crumbs_apart client (Triggers other) low = record { first = refl; second = refl }
 crumbs_apart client Asks low = record { first = refl; second = refl }
 
 triggers_apart : (client : ℕ) (q : Queue) → IsFrom (client + 1) q → AreApart (Triggers client) q
 triggers_apart client (Chunks other) low = record { first = refl; second = refl }
 triggers_apart client (Crumbs other) low = record { first = refl; second = refl }
-triggers_apart client (Triggers other) low = record { first = exceeds client other (omega (arith, low)); second = differs client other (omega (arith, low)) }
+triggers_apart client (Triggers other) low = record { first = exceeds client other (omega (arith, low)); second = nat_eq_below client other (omega (arith, low)) }
 triggers_apart client Asks low = record { first = refl; second = refl }
 
 lower : (least other : ℕ) (q : Queue) → least ≤ other → IsFrom other q → IsFrom least q
@@ -229,11 +189,6 @@ is_no_turn (Given stamp) = refl
 is_no_turn (Missed stamp) = refl
 is_no_turn Unread = refl
 
--- what comes before a turn
-pub record IsTake (step : Step) : Type 0 where
-  pub turn : is_turn step ≡ false
-  pub offer : is_offer step ≡ false
-
 pub take_from : (queue : Queue) → IsTake (step_from queue)
 take_from (Chunks c) = record { turn = refl; offer = refl }
 take_from (Crumbs c) = record { turn = refl; offer = refl }
@@ -249,7 +204,7 @@ each_answer P (answer ∷ offers) each = (each answer, each_answer P offers each
 
 pub all_takes : (counts : Queue → ℕ) (queues : List Queue) → AllByRecursion IsTake (blocks counts queues)
 all_takes counts [] = tt
-all_takes counts (queue ∷ queues) = all_both IsTake (block counts queue) (blocks counts queues) (all_replicated IsTake (counts queue) (step_from queue) (take_from queue)) (all_takes counts queues)
+all_takes counts (queue ∷ queues) = all_append IsTake (block counts queue) (blocks counts queues) (all_replicate IsTake (counts queue) (step_from queue) (take_from queue)) (all_takes counts queues)
 
 module _ (W : PlainWorkload) (pass : List Event) (p : IsPass W pass) where
   abbrev pub items : List Step
@@ -260,7 +215,7 @@ module _ (W : PlainWorkload) (pass : List Event) (p : IsPass W pass) where
 
   none_after : (queues : List Queue) → AllByRecursion (λ q. filter (takes q) turn_on ≡ []) queues
   none_after [] = tt
-  none_after (queue ∷ queues) = (keeps_none (takes queue) turn_on (no_turn queue, each_answer (λ s. takes queue s ≡ false) p.offers (no_offer queue)), none_after queues)
+  none_after (queue ∷ queues) = (filter_none (takes queue) turn_on (no_turn queue, each_answer (λ s. takes queue s ≡ false) p.offers (no_offer queue)), none_after queues)
 
   nothing_before : (queues : List Queue) → AllByRecursion (λ q. filter (takes q) [] ≡ []) queues
   nothing_before [] = tt
@@ -275,8 +230,8 @@ module _ (W : PlainWorkload) (pass : List Event) (p : IsPass W pass) where
   offers_kept =
       ap (filter is_offer) p.steps_are
       ∙ filter-append is_offer items turn_on
-      ∙ ap (λ front. front ++ filter is_offer turn_on) (keeps_none is_offer items (all_each IsTake (λ s. is_offer s ≡ false) items (λ s t. t.offer) (all_takes p.counts (queues_of W))))
-      ∙ keeps_all is_offer (offers_of p.offers) (each_answer (λ s. is_offer s ≡ true) p.offers is_an_offer)
+      ∙ ap (λ front. front ++ filter is_offer turn_on) (filter_none is_offer items (all_each IsTake (λ s. is_offer s ≡ false) items (λ s t. t.offer) (all_takes p.counts (queues_of W))))
+      ∙ filter_all is_offer (offers_of p.offers) (each_answer (λ s. is_offer s ≡ true) p.offers is_an_offer)
 
   is_arranged : steps_of pass ≡ arranged (queues_of W) (steps_of pass)
   is_arranged =
@@ -295,8 +250,8 @@ module _ (W : PlainWorkload) (pass : List Event) (p : IsPass W pass) where
 
   pub is_whole : is_whole_pass (queues_of W) (steps_of pass) ≡ true
   is_whole =
-      and_true (same_steps (steps_of pass) (arranged (queues_of W) (steps_of pass))) (list_all (λ queue. nat_le (taken queue (steps_of pass)) MAX_TAKEN) (queues_of W))
-      (ap (same_steps (steps_of pass)) (sym is_arranged) ∙ same_refl (steps_of pass)) (all_true (λ queue. nat_le (taken queue (steps_of pass)) MAX_TAKEN) (queues_of W) (few (queues_of W) queue_kept))
+      and_from (same_steps (steps_of pass) (arranged (queues_of W) (steps_of pass))) (list_all (λ queue. nat_le (taken queue (steps_of pass)) MAX_TAKEN) (queues_of W))
+      (ap (same_steps (steps_of pass)) (sym is_arranged) ∙ same_steps_refl (steps_of pass)) (list_all_from (λ queue. nat_le (taken queue (steps_of pass)) MAX_TAKEN) (queues_of W) (few (queues_of W) queue_kept))
 
   -- it has one turn
   pub one_turn : turns (steps_of pass) ≡ 1
@@ -312,7 +267,7 @@ module _ (W : PlainWorkload) (pass : List Event) (p : IsPass W pass) where
       none_counted [] all = refl
       none_counted (s ∷ steps) all =
           let first = sum_by-cons (λ (s : Step). cond (is_turn s) 1 0) s steps in
-          let none : one (is_turn s) ≡ 0 = ap one all.0 in
+          let none : one_if (is_turn s) ≡ 0 = ap one_if all.0 in
           let rest = none_counted steps all.1 in
           omega (arith, first, none, rest)
 
@@ -345,21 +300,17 @@ put_apart : (step : Step) (rest : List Step) → (is_turn step || is_offer step)
 put_apart step [] ends begins = refl
 put_apart step (next ∷ rest) ends begins =
     let h = head_is next (passes_of rest) in
-    let between : ends_between step next ≡ true = and_true (is_turn step || is_offer step) (not (is_offer next)) ends (ap not begins) in
+    let between : ends_between step next ≡ true = and_from (is_turn step || is_offer step) (not (is_offer next)) ends (ap not begins) in
     ap (put_step step) h.is
     ∙ ap (λ b. cond b ((step ∷ []) ∷ (next ∷ h.pass) ∷ h.rest) ((step ∷ next ∷ h.pass) ∷ h.rest)) between
     ∙ ap (λ passes. (step ∷ []) ∷ passes) (sym h.is)
-
-and_no : (b : Bool) → (b && false) ≡ false
-and_no true = refl
-and_no false = refl
 
 ending : (step : Step) (offers : List Answered) (rest : List Step) → (is_turn step || is_offer step) ≡ true → Begins rest → passes_of ((step ∷ offers_of offers) ++ rest) ≡ (step ∷ offers_of offers) ∷ passes_of rest
 ending step [] rest ends begins = put_apart step rest ends begins
 ending step (answer ∷ offers) rest ends begins =
     let offer = is_an_offer answer in
     let here : (is_turn (step_of_answer answer) || is_offer (step_of_answer answer)) ≡ true = ap (λ b. is_turn (step_of_answer answer) || b) offer ∙ or_yes (is_turn (step_of_answer answer)) in
-    let between : ends_between step (step_of_answer answer) ≡ false = ap (λ b. (is_turn step || is_offer step) && not b) offer ∙ and_no (is_turn step || is_offer step) in
+    let between : ends_between step (step_of_answer answer) ≡ false = ap (λ b. (is_turn step || is_offer step) && not b) offer ∙ and-false (is_turn step || is_offer step) in
     ap (put_step step) (ending (step_of_answer answer) offers rest here begins) ∙ put_joined step (step_of_answer answer) (offers_of offers) (passes_of rest) between
   where
     or_yes : (b : Bool) → (b || true) ≡ true

@@ -1,10 +1,15 @@
 -- What closing a pool tells makes its stamps number the events of the node, and these a history.
-use Rattle.std.proofs.Common.{◌≡◌, ◌⊎◌, inl, inr, ℕ, zero, suc, ◌+◌, ◌<◌, ◌≤◌, Bool, true, false, ◌&&◌, ◌==◌, cond, List, [], ◌∷◌, ◌++◌, length, reverse, refl, sym, ap, subst, ◌∙◌, Option, Some, None, arith, map, filter, filter_map, option_map, count_by, eq-eqb, nat_eq, append-nil, append_assoc}
+use Rattle.std.proofs.Common.{◌≡◌, ◌⊎◌, inl, inr, ℕ, zero, suc, ◌+◌, ◌<◌, ◌≤◌, Bool, true, false, ◌&&◌, ◌==◌, cond, List, [], ◌∷◌, ◌++◌, length, reverse, refl, sym, ap, subst, ◌∙◌, Option, Some, None, arith, map, filter, filter_map, option_map, count_by, eq-eqb, nat_eq, append-nil}
 use Rattle.std.specs.List.{AllByRecursion, cons_option, flat_map, range_with_len, list_all}
 use Rattle.std.specs.Option.{option_and_then}
+use Rattle.std.proofs.lemmas.Bool.{and_from}
+use Rattle.std.proofs.lemmas.Grind.{flat_map-append}
 use Rattle.std.proofs.lemmas.List.{length-append, length-map, map-append, reverse-append, reverse-reverse}
 use Rattle.std.proofs.lemmas.List.Elements.{filter-append}
 use Rattle.std.proofs.lemmas.List.Sums.{length-filter}
+use Rattle.hs_lists.proofs.Ranges.{flat_range_alike, list_all_range_below}
+use Rattle.hs_lists.proofs.Alls.{all_at}
+use Rattle.hs_lists.proofs.Parts.{map_flat}
 use Rattle.hs_journal.specs.declared.journal.Draw.{Draw}
 use Rattle.hs_journal.specs.declared.journal.Draw.TheVariants as draws
 use Rattle.hs_journal.specs.declared.journal.Step.{Step}
@@ -24,15 +29,12 @@ use Rattle.hs_lawful.specs.Shape.{rise, log_stamps, node_draws, draw_stamps, nod
 use Rattle.hs_actors.specs.Doings.{NodeDoings, all_events, steps_of, journal_of, node_at_end}
 use Rattle.hs_actors.specs.Playing.{DoingsAreFollowed, AreStamped, AreHistories}
 use Rattle.hs_actors.specs.Pools.{draw_answer, give_of, give_at, miss_in, IsPooled}
-use Rattle.hs_actors.proofs.Answers.{own as own_of, answers, answers_are, at_stamp, stamps, stamps_rise, drawers, everyone, as_many, one_at, just_one, drawers_last, drawers_earlier, at_last, at_earlier, flat_alike}
-use Rattle.hs_actors.proofs.Clauses.{range_true}
-use Rattle.hs_actors.proofs.Following.{all_get}
+use Rattle.hs_actors.proofs.Answers.{own as own_of, answers, answers_are, at_stamp, stamps, stamps_rise, drawers, everyone, as_many, one_at, just_one, drawers_last, drawers_earlier, at_last, at_earlier}
 use Rattle.hs_actors.proofs.Nodes.{node_there, log_there, own_log}
-use Rattle.hs_actors.proofs.Passes.{and_true}
 
 -- ---- stamps
 
-stamp_same : (draw : Draw) → (draw_answer draw).stamp ≡ stamp_of draw
+pub stamp_same : (draw : Draw) → (draw_answer draw).stamp ≡ stamp_of draw
 stamp_same (draws.Got buffer stamp) = refl
 stamp_same (draws.Empty stamp) = refl
 
@@ -82,7 +84,7 @@ module _ (W : PlainWorkload) (J : PlainJournal) (n : NodeDoings) (p : IsPooled W
   numbered : log_at J n.node ≡ steps_of (all_events n) → are_numbered (node_stamps W J n.node) ≡ true
   numbered log =
       ap are_numbered (stamps_are log)
-      ∙ range_true (λ s. nat_eq (count_by (λ t. t == s) (stamps (everyone clients p.log))) 1) 0 (length (stamps (everyone clients p.log)))
+      ∙ list_all_range_below (λ s. nat_eq (count_by (λ t. t == s) (stamps (everyone clients p.log))) 1) 0 (length (stamps (everyone clients p.log)))
       (λ s low.
       let long = length-map (everyone clients p.log) (λ (a : Answer). a.stamp) in
       let many = as_many clients p.log p.nobody_else in
@@ -91,22 +93,22 @@ module _ (W : PlainWorkload) (J : PlainJournal) (n : NodeDoings) (p : IsPooled W
   draws_rise : (start count : ℕ) → start + count ≤ clients → list_all (λ list. rise (draw_stamps list)) (map (λ number. draws_at J (place_of clients n.node number)) (range_with_len start count)) ≡ true
   draws_rise start zero few = refl
   draws_rise start (suc count) few =
-      and_true (rise (draw_stamps (draws_at J (place_of clients n.node start)))) (list_all (λ list. rise (draw_stamps list)) (map (λ number. draws_at J (place_of clients n.node number)) (range_with_len (start + 1) count)))
+      and_from (rise (draw_stamps (draws_at J (place_of clients n.node start)))) (list_all (λ list. rise (draw_stamps list)) (map (λ number. draws_at J (place_of clients n.node number)) (range_with_len (start + 1) count)))
       (ap rise (draw_stamps_are (draws_at J (place_of clients n.node start)) ∙ ap stamps (client_draws start (omega (arith, few)))) ∙ stamps_rise (suc start) p.log) (draws_rise (start + 1) count (omega (arith, few)))
 
   node_stamped : log_at J n.node ≡ steps_of (all_events n) → node_has_stamps W J n.node ≡ true
   node_stamped log =
-      and_true (are_numbered (node_stamps W J n.node) && list_all (λ list. rise (draw_stamps list)) (node_draws W J n.node)) (rise (log_stamps (log_at J n.node)))
-      (and_true (are_numbered (node_stamps W J n.node)) (list_all (λ list. rise (draw_stamps list)) (node_draws W J n.node)) (numbered log) (draws_rise 0 clients (omega arith)))
+      and_from (are_numbered (node_stamps W J n.node) && list_all (λ list. rise (draw_stamps list)) (node_draws W J n.node)) (rise (log_stamps (log_at J n.node)))
+      (and_from (are_numbered (node_stamps W J n.node)) (list_all (λ list. rise (draw_stamps list)) (node_draws W J n.node)) (numbered log) (draws_rise 0 clients (omega arith)))
       (ap (λ l. rise (log_stamps l)) log ∙ ap rise given_stamps ∙ stamps_rise 0 p.log)
 
 pub are_stamped : AreStamped
 are_stamped W d facts pooled =
-    range_true (node_has_stamps W (journal_of W d)) 0 W.settings.nodes
+    list_all_range_below (node_has_stamps W (journal_of W d)) 0 W.settings.nodes
     (λ v low.
     let found = node_there W d facts v (omega (arith, low)) in
     let n = found.0 in
-    let p = all_get (IsPooled W (journal_of W d)) d.nodes v n pooled found.1 in
+    let p = all_at (IsPooled W (journal_of W d)) d.nodes v n pooled found.1 in
     let log : log_at (journal_of W d) n.node ≡ steps_of (all_events n) = ap (log_at (journal_of W d)) found.2 ∙ log_there W d facts v n found.1 in
     ap (node_has_stamps W (journal_of W d)) (sym found.2) ∙ node_stamped W (journal_of W d) n p log)
 
@@ -250,10 +252,6 @@ pub range_last : (start count : ℕ) → range_with_len start (suc count) ≡ ra
 range_last start zero = let here : start ≡ start + 0 = omega arith in ap (λ n. n ∷ []) here
 range_last start (suc count) = let more : start + 1 + count ≡ start + suc count = omega arith in ap (λ rest. start ∷ rest) (range_last (start + 1) count ∙ ap (λ n. range_with_len (start + 1) count ++ n ∷ []) more)
 
-pub flat_both : {X Y : Type 0} (f : X → List Y) (a b : List X) → flat_map f (a ++ b) ≡ flat_map f a ++ flat_map f b
-flat_both f [] b = refl
-flat_both f (x ∷ a) b = ap (λ rest. f x ++ rest) (flat_both f a b) ∙ sym (append_assoc (f x) (flat_map f a) (flat_map f b))
-
 -- by their stamps, these are the events of the log
 history_is : (count : ℕ) (log : List Deed) → AllByRecursion (λ (deed : Deed). deed.by ≤ count) log → Kinds log → flat_map (λ s. events_at s (ordered count log)) (range_with_len 0 (length log)) ≡ reverse (events_of log)
 history_is count [] ends kinds = refl
@@ -261,9 +259,9 @@ history_is count (deed ∷ earlier) ends kinds =
     let k = length earlier in
     let zeroth : 0 + k ≡ k = omega arith in
     ap (flat_map (λ s. events_at s (ordered count (deed ∷ earlier)))) (range_last 0 k)
-    ∙ flat_both (λ s. events_at s (ordered count (deed ∷ earlier))) (range_with_len 0 k) ((0 + k) ∷ [])
+    ∙ flat_map-append (λ s. events_at s (ordered count (deed ∷ earlier))) (range_with_len 0 k) ((0 + k) ∷ [])
     ∙ ap (λ front. front ++ flat_map (λ s. events_at s (ordered count (deed ∷ earlier))) ((0 + k) ∷ []))
-    (flat_alike (λ s. events_at s (ordered count (deed ∷ earlier))) (λ s. events_at s (ordered count earlier)) 0 k
+    (flat_range_alike (λ s. events_at s (ordered count (deed ∷ earlier))) (λ s. events_at s (ordered count earlier)) 0 k
     (λ s low. ap (map (λ (a : Answer). a.event)) (ordered_earlier s count deed earlier (omega (arith, low))))
     ∙ history_is count earlier ends.1 (kinds_before deed earlier kinds))
     ∙ ap (λ back. reverse (events_of earlier) ++ back)
@@ -315,14 +313,10 @@ events_same : (list : List Answer) → map (λ (e : PoolEvent). e.event) (map po
 events_same [] = refl
 events_same (a ∷ list) = ap (λ rest. a.event ∷ rest) (events_same list)
 
-map_flat : {X Y Z : Type 0} (f : X → List Y) (g : Y → Z) (xs : List X) → map g (flat_map f xs) ≡ flat_map (λ x. map g (f x)) xs
-map_flat f g [] = refl
-map_flat f g (x ∷ xs) = map-append g (f x) (flat_map f xs) ∙ ap (λ rest. map g (f x) ++ rest) (map_flat f g xs)
-
 by_stamps : (list : List Answer) (bound : ℕ) → map (λ (e : PoolEvent). e.event) (by_stamp (λ (e : PoolEvent). e.stamp) bound (map pool_event list)) ≡ flat_map (λ s. events_at s list) (range_with_len 0 bound)
 by_stamps list bound =
     map_flat (λ s. filter (λ (e : PoolEvent). e.stamp == s) (map pool_event list)) (λ (e : PoolEvent). e.event) (range_with_len 0 bound)
-    ∙ flat_alike (λ s. map (λ (e : PoolEvent). e.event) (filter (λ (e : PoolEvent). e.stamp == s) (map pool_event list))) (λ s. events_at s list) 0 bound
+    ∙ flat_range_alike (λ s. map (λ (e : PoolEvent). e.event) (filter (λ (e : PoolEvent). e.stamp == s) (map pool_event list))) (λ s. events_at s list) 0 bound
     (λ s low. ap (map (λ (e : PoolEvent). e.event)) (stamped_same s list) ∙ events_same (at_stamp s list))
 
 module _ (adds : EventsAddThis) (W : PlainWorkload) (J : PlainJournal) (n : NodeDoings) (p : IsPooled W J n) where

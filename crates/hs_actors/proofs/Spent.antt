@@ -1,7 +1,11 @@
 -- A give answers the draw of its chunk: it spends the lease of that draw, and nothing happens at the buffer between the two.
-use Rattle.std.proofs.Common.{◌≡◌, inl, inr, ℕ, zero, suc, ◌+◌, ◌<◌, Bool, true, false, ◌&&◌, ◌||◌, ◌==◌, not, cond, List, [], ◌∷◌, ◌++◌, length, refl, sym, ap, subst, ◌∙◌, Option, Some, None, arith, map, filter, filter_map, eqb-true, nat_lt, ltb-true, lt-ltb}
-use Rattle.std.specs.List.{AllByRecursion, cons_option, list_all, list_any}
+use Rattle.std.proofs.Common.{◌≡◌, inl, inr, ℕ, zero, suc, ◌+◌, ◌<◌, Bool, true, false, ◌&&◌, ◌==◌, not, cond, List, [], ◌∷◌, ◌++◌, length, refl, sym, ap, subst, ◌∙◌, Option, Some, None, arith, map, filter, filter_map, eqb-true, nat_lt, ltb-true, lt-ltb}
+use Rattle.std.specs.List.{AllByRecursion, cons_option, list_all}
 use Rattle.std.specs.Option.{option_and_then, option_map_or}
+use Rattle.std.proofs.lemmas.Bool.{and_from, and_parts}
+use Rattle.std.proofs.lemmas.Option.{same_Some}
+use Rattle.hs_lists.proofs.Tests.{list_all_from, list_any_none}
+use Rattle.hs_lists.proofs.Alls.{all_each, all_append, all_map, all_each_both}
 use Rattle.hs_journal.specs.declared.journal.Draw.{Draw}
 use Rattle.hs_journal.specs.declared.journal.Draw.TheVariants as draws
 use Rattle.hs_journal.specs.Views.{PlainJournal}
@@ -12,6 +16,7 @@ use Rattle.hs_sent.specs.Drawn.{DrawnPage}
 use Rattle.hs_words.specs.Ends.{Deed, Answer, answer_to, is_any_given, IsAt, IsGot, Names, NoneSince, Spends, EachSpends}
 use Rattle.hs_words.specs.PoolHistory.{Event, is_missed}
 use Rattle.hs_words.specs.PoolHistory as pool
+use Rattle.hs_words.proofs.Deeds.{at_below}
 use Rattle.hs_lawful.specs.Following.{NodeRun, Run}
 use Rattle.hs_lawful.specs.Pooled.{PoolEvent, given_page, pool_events, has_buffer, is_touched, answers_draw, gives_answer}
 use Rattle.hs_actors.specs.Doings.{NodeDoings, journal_of, node_at_end}
@@ -19,16 +24,9 @@ use Rattle.hs_actors.specs.Playing.{DoingsAreFollowed, GivesAnswer}
 use Rattle.hs_actors.specs.Pools.{give_of, give_at, IsPooled}
 use Rattle.hs_actors.proofs.Answers.{own, answers, answers_are, drawers}
 use Rattle.hs_actors.proofs.Clauses.{mapped_true}
-use Rattle.hs_actors.proofs.Nodes.{some_same}
-use Rattle.hs_actors.proofs.Passes.{and_true, all_true, all_each, all_both}
 use Rattle.hs_actors.proofs.Pools.{pool_is, pool_event, ordered, gives_in, misses_in}
 
 -- ---- deeds and their places
-
-at_below : (log : List Deed) (stamp : ℕ) (deed : Deed) → IsAt log stamp deed → stamp < length log
-at_below [] stamp deed h = absurd h
-at_below (last ∷ earlier) stamp deed (inl both) = let is = both.0 in omega (arith, is)
-at_below (last ∷ earlier) stamp deed (inr at) = let low = at_below earlier stamp deed at in omega (arith, low)
 
 -- an answer is that of the deed at its stamp
 record IsTrue (log : List Deed) (a : Answer) : Type 0 where
@@ -43,7 +41,7 @@ still_true last log a t = record { deed = t.deed; at = inr t.at; event = t.event
 answers_true : (end : ℕ) (log : List Deed) → AllByRecursion (IsTrue log) (answers end log)
 answers_true end [] = tt
 answers_true end (deed ∷ earlier) =
-    all_both (IsTrue (deed ∷ earlier)) (answers end earlier) (own (deed.by == end) (answer_to deed (length earlier)))
+    all_append (IsTrue (deed ∷ earlier)) (answers end earlier) (own (deed.by == end) (answer_to deed (length earlier)))
     (all_each (IsTrue earlier) (IsTrue (deed ∷ earlier)) (answers end earlier) (still_true deed earlier) (answers_true end earlier)) (last (deed.by == end))
   where
     last : (b : Bool) → AllByRecursion (IsTrue (deed ∷ earlier)) (own b (answer_to deed (length earlier)))
@@ -60,12 +58,12 @@ kept_true log p (a ∷ list) all = either (p a) (kept_true log p list all.1)
 
 drawers_true : (start count : ℕ) (log : List Deed) → AllByRecursion (IsTrue log) (drawers start count log)
 drawers_true start zero log = tt
-drawers_true start (suc count) log = all_both (IsTrue log) (answers (suc start) log) (drawers (start + 1) count log) (answers_true (suc start) log) (drawers_true (start + 1) count log)
+drawers_true start (suc count) log = all_append (IsTrue log) (answers (suc start) log) (drawers (start + 1) count log) (answers_true (suc start) log) (drawers_true (start + 1) count log)
 
 ordered_true : (count : ℕ) (log : List Deed) → AllByRecursion (IsTrue log) (ordered count log)
 ordered_true count log =
-    all_both (IsTrue log) (drawers 0 count log ++ gives_in (answers 0 log)) (misses_in (answers 0 log))
-    (all_both (IsTrue log) (drawers 0 count log) (gives_in (answers 0 log)) (drawers_true 0 count log) (kept_true log (λ (a : Answer). is_any_given a.event) (answers 0 log) (answers_true 0 log)))
+    all_append (IsTrue log) (drawers 0 count log ++ gives_in (answers 0 log)) (misses_in (answers 0 log))
+    (all_append (IsTrue log) (drawers 0 count log) (gives_in (answers 0 log)) (drawers_true 0 count log) (kept_true log (λ (a : Answer). is_any_given a.event) (answers 0 log) (answers_true 0 log)))
     (kept_true log (λ (a : Answer). is_missed a.event) (answers 0 log) (answers_true 0 log))
 
 -- what the deed at a stamp spent, and the deeds before it
@@ -110,18 +108,6 @@ named buffer pool.Empty h = let no : false ≡ true = h in absurd cc
 named buffer (pool.Given other) h = eqb-true other buffer h
 named buffer pool.Missed h = let no : false ≡ true = h in absurd cc
 
-pub none_any : {X : Type 0} (p : X → Bool) (xs : List X) → AllByRecursion (λ x. p x ≡ false) xs → list_any p xs ≡ false
-none_any p [] all = refl
-none_any p (x ∷ xs) all = ap (λ b. b || list_any p xs) all.0 ∙ none_any p xs all.1
-
-pub mapped : {X Y : Type 0} (P : Y → Type 0) (f : X → Y) (xs : List X) → AllByRecursion (λ x. P (f x)) xs → AllByRecursion P (map f xs)
-mapped P f [] all = tt
-mapped P f (x ∷ xs) all = (all.0, mapped P f xs all.1)
-
-pub and_parts : (a b : Bool) → (a && b) ≡ true → (a ≡ true) × (b ≡ true)
-and_parts true b h = (refl, h)
-and_parts false b h = let no : false ≡ true = h in absurd cc
-
 module _ (log : List Deed) (each : EachSpends log) (stamp : ℕ) (deed : Deed) (at : IsAt log stamp deed) (buffer draw : ℕ) (gives : deed.event ≡ pool.Given buffer) (owed : deed.draw ≡ draw) where
   spent : IsSpent log stamp deed
   spent = spent_at log stamp deed each at
@@ -145,8 +131,8 @@ module _ (log : List Deed) (each : EachSpends log) (stamp : ℕ) (deed : Deed) (
 
   untouched : (list : List Answer) → AllByRecursion (IsTrue log) list → is_touched (map pool_event list) buffer draw stamp ≡ false
   untouched list all =
-      none_any (λ (e : PoolEvent). has_buffer buffer e.event && nat_lt draw e.stamp && nat_lt e.stamp stamp) (map pool_event list)
-      (mapped (λ (e : PoolEvent). (has_buffer buffer e.event && nat_lt draw e.stamp && nat_lt e.stamp stamp) ≡ false) pool_event list
+      list_any_none (λ (e : PoolEvent). has_buffer buffer e.event && nat_lt draw e.stamp && nat_lt e.stamp stamp) (map pool_event list)
+      (all_map (λ (e : PoolEvent). (has_buffer buffer e.event && nat_lt draw e.stamp && nat_lt e.stamp stamp) ≡ false) pool_event list
       (all_each (IsTrue log) (λ a. (has_buffer buffer a.event && nat_lt draw a.stamp && nat_lt a.stamp stamp) ≡ false) list untouched_one all))
 
 -- ---- the gives of a node
@@ -158,15 +144,11 @@ of_kept P f (x ∷ xs) all = (first (f x) all, of_kept P f xs (rest (f x) all))
   where
     first : (o : Option Answer) → AllByRecursion P (cons_option o (filter_map f xs)) → (a : Answer) → o ≡ Some a → P a
     first None all a e = let no : None ≡ Some a = e in absurd cc
-    first (Some b) all a e = subst P (some_same b a e) all.0
+    first (Some b) all a e = subst P (same_Some b a e) all.0
 
     rest : (o : Option Answer) → AllByRecursion P (cons_option o (filter_map f xs)) → AllByRecursion P (filter_map f xs)
     rest None all = all
     rest (Some b) all = all.1
-
-both_each : {X : Type 0} (P Q R : X → Type 0) (xs : List X) → ((x : X) → P x → Q x → R x) → AllByRecursion P xs → AllByRecursion Q xs → AllByRecursion R xs
-both_each P Q R [] on p q = tt
-both_each P Q R (x ∷ xs) on p q = (on x p.0 q.0, both_each P Q R xs on p.1 q.1)
 
 module _ (adds : EventsAddThis) (W : PlainWorkload) (J : PlainJournal) (n : NodeDoings) (p : IsPooled W J n) where
   abbrev run : NodeRun
@@ -184,11 +166,11 @@ module _ (adds : EventsAddThis) (W : PlainWorkload) (J : PlainJournal) (n : Node
       by_draw : (draw : Draw) → give_of given.stamp draw ≡ Some known.0 → IsTrue p.log known.0 → answers_draw (pool_events run) given.stamp draw ≡ true
       by_draw (draws.Empty stamp) e t = let no : None ≡ Some known.0 = e in absurd cc
       by_draw (draws.Got buffer stamp) e t =
-          let same = some_same (record { stamp = given.stamp; event = pool.Given buffer; draw = stamp }) known.0 e in
+          let same = same_Some (record { stamp = given.stamp; event = pool.Given buffer; draw = stamp }) known.0 e in
           let at = subst (λ (a : Answer). IsAt p.log a.stamp t.deed) (sym same) t.at in
           let event : t.deed.event ≡ pool.Given buffer = sym (ap (λ (a : Answer). a.event) same ∙ t.event) in
           let owed : t.deed.draw ≡ stamp = sym (ap (λ (a : Answer). a.draw) same ∙ t.draw) in
-          and_true (nat_lt stamp given.stamp) (not (is_touched (pool_events run) buffer stamp given.stamp))
+          and_from (nat_lt stamp given.stamp) (not (is_touched (pool_events run) buffer stamp given.stamp))
           (lt-ltb stamp given.stamp (draw_low p.log p.spent given.stamp t.deed at buffer stamp event owed))
           (ap (λ events. not (is_touched events buffer stamp given.stamp)) (pool_is adds W J n p)
           ∙ ap not (untouched p.log p.spent given.stamp t.deed at buffer stamp event owed (ordered W.settings.clients p.log) (ordered_true W.settings.clients p.log)))
@@ -200,8 +182,8 @@ module _ (adds : EventsAddThis) (W : PlainWorkload) (J : PlainJournal) (n : Node
 
   node_answers : gives_answer run ≡ true
   node_answers =
-      all_true (λ (given : GivenPlace). option_map_or (λ (d : DrawnPage). answers_draw (pool_events run) given.stamp d.draw) (given_page run run.state given.place) false) run.state.given
-      (both_each (λ (given : GivenPlace). (a : Answer) × (give_at run given ≡ Some a)) (λ (given : GivenPlace). (a : Answer) → give_at run given ≡ Some a → IsTrue p.log a)
+      list_all_from (λ (given : GivenPlace). option_map_or (λ (d : DrawnPage). answers_draw (pool_events run) given.stamp d.draw) (given_page run run.state given.place) false) run.state.given
+      (all_each_both (λ (given : GivenPlace). (a : Answer) × (give_at run given ≡ Some a)) (λ (given : GivenPlace). (a : Answer) → give_at run given ≡ Some a → IsTrue p.log a)
       (λ (given : GivenPlace). option_map_or (λ (d : DrawnPage). answers_draw (pool_events run) given.stamp d.draw) (given_page run run.state given.place) false ≡ true) run.state.given give_answers p.known all_given_true)
 
 nodes_answer : EventsAddThis → (W : PlainWorkload) (J : PlainJournal) (ns : List NodeDoings) → AllByRecursion (IsPooled W J) ns → AllByRecursion (λ (n : NodeDoings). gives_answer (node_at_end W J n) ≡ true) ns

@@ -1,8 +1,9 @@
 -- The draw whose entry an unread offer would fill is that of a page at the offer's place.
 use Rattle.std.proofs.Common.{◌≡◌, inl, inr, ℕ, zero, suc, ◌+◌, ◌-◌, ◌*◌, ◌<◌, ◌≤◌, Bool, true, false, ◌==◌, cond, List, [], ◌∷◌, ◌++◌, length, reverse, refl, sym, ap, subst, ◌∙◌, Option, Some, None, arith, map, filter, option_map, slice_get, take, zip, not, ◌&&◌, nat_lt, nat_le, ltb-true, ltb-false, le-leb, eq-eqb, eqb-true, count_by, append-nil, append_assoc}
-use Rattle.std.specs.List.{AllByRecursion, flat_map, range_with_len, cons_option, list_any, list_all}
+use Rattle.std.specs.List.{AllByRecursion, flat_map, range_with_len, list_any, list_all}
+use Rattle.std.proofs.lemmas.Bool.{and_from, and_parts}
 use Rattle.std.proofs.lemmas.List.{length-map, length-append, length-reverse, take-map, map-append}
-use Rattle.std.proofs.lemmas.Option.{slice_get-map}
+use Rattle.std.proofs.lemmas.Option.{slice_get-map, same_Some}
 use Rattle.hs_journal.specs.declared.journal.Draw.{Draw}
 use Rattle.hs_journal.specs.declared.journal.Draw.TheVariants as draws
 use Rattle.hs_journal.specs.Views.{PlainJournal}
@@ -30,18 +31,21 @@ use Rattle.hs_words.proofs.Deeds.{at_once, draw_is_at}
 use Rattle.hs_actors.specs.Doings.{NodeDoings, all_events, steps_of, journal_of, node_at_end}
 use Rattle.hs_actors.specs.Pools.{draw_answer, give_of, give_at, IsPooled}
 use Rattle.hs_actors.specs.Facts.{pages_at}
-use Rattle.hs_actors.proofs.Answers.{at_stamp, own, answers, answers_are, stamps, stamps_rise, drawers, reverse_on}
-use Rattle.hs_actors.proofs.Passes.{and_true, all_both, all_each}
-use Rattle.hs_actors.proofs.Spent.{none_any, of_kept, and_parts, mapped}
+use Rattle.hs_actors.proofs.Answers.{at_stamp, own, answers, answers_are, stamps, stamps_rise, drawers}
+use Rattle.hs_actors.proofs.Spent.{of_kept}
 use Rattle.hs_base.specs.declared.ids.ClientId.{ClientId}
 use Rattle.hs_sent.specs.Sending.{ClientSends, client_sends, operations_at, draws_at, place_of}
 use Rattle.hs_sent.specs.Timing.{TimedPage, timed_pages}
-use Rattle.hs_lawful.specs.Shape.{step_stamp, log_stamps, rise, rise_above}
+use Rattle.hs_lawful.specs.Shape.{log_stamps, rise, rise_above}
+use Rattle.hs_lawful.proofs.Logs.{above_all, stamps_both}
 use Rattle.std.specs.Option.{option_and_then, option_map_or}
+use Rattle.hs_lists.proofs.Alls.{all_front, all_back, all_each, all_append, all_map, all_at, all_filter, all_flat_map, all_reverse}
+use Rattle.hs_lists.proofs.Places.{get_front}
+use Rattle.hs_lists.proofs.Tests.{list_any_none}
 use Rattle.hs_actors.proofs.Counted.{below, below_both, below_all, few_below}
-use Rattle.hs_actors.proofs.DrawPlaces.{all_front, all_back, get_front, draws_in_order, draw_at, page_answer, stamp_same, client_pages, pages_in_order, proper, all_pages}
-use Rattle.hs_actors.proofs.Nodes.{some_same, own_log}
-use Rattle.hs_actors.proofs.Pools.{pool_is, pool_event, ordered, ordered_long}
+use Rattle.hs_actors.proofs.DrawPlaces.{draws_in_order, draw_at, page_answer, client_pages, pages_in_order, proper, all_pages}
+use Rattle.hs_actors.proofs.Nodes.{own_log}
+use Rattle.hs_actors.proofs.Pools.{pool_is, pool_event, ordered, ordered_long, stamp_same}
 
 abbrev buffer_in : Event → ℕ
 buffer_in (pool.Got buffer) = buffer
@@ -76,33 +80,12 @@ module _ (adds : EventsAddThis) (W : PlainWorkload) (J : PlainJournal) (n : Node
     where
       unmapped : (o : Option DrawnPage) → slice_get (pages_by_stamp run) number ≡ o → option_map page_answer o ≡ Some (answer_to (got_by drawer buffer) stamp) → IsPageOf run number stamp buffer
       unmapped None is h = let no : None ≡ Some (answer_to (got_by drawer buffer) stamp) = h in absurd cc
-      unmapped (Some page) is h = record { page = page; there = is; draw = same_draw page.draw buffer stamp (some_same (page_answer page) (answer_to (got_by drawer buffer) stamp) h) }
+      unmapped (Some page) is h = record { page = page; there = is; draw = same_draw page.draw buffer stamp (same_Some (page_answer page) (answer_to (got_by drawer buffer) stamp) h) }
 
 -- ---- lists
 
-all_at : {X : Type 0} (P : X → Type 0) (xs : List X) (i : ℕ) (x : X) → AllByRecursion P xs → slice_get xs i ≡ Some x → P x
-all_at P [] i x all h = let no : None ≡ Some x = h in absurd cc
-all_at P (y ∷ xs) zero x all h = subst P (some_same y x h) all.0
-all_at P (y ∷ xs) (suc i) x all h = all_at P xs i x all.1 h
-
-all_kept : {X : Type 0} (P : X → Type 0) (q : X → Bool) (xs : List X) → AllByRecursion P xs → AllByRecursion P (filter q xs)
-all_kept P q [] all = tt
-all_kept P q (x ∷ xs) all = either (q x) (all_kept P q xs all.1)
-  where
-    either : (b : Bool) → AllByRecursion P (filter q xs) → AllByRecursion P (cond b (x ∷ filter q xs) (filter q xs))
-    either true rest = (all.0, rest)
-    either false rest = rest
-
-all_flat : {X : Type 0} (P : X → Type 0) (f : ℕ → List X) (ss : List ℕ) → ((s : ℕ) → AllByRecursion P (f s)) → AllByRecursion P (flat_map f ss)
-all_flat P f [] each = tt
-all_flat P f (s ∷ ss) each = all_both P (f s) (flat_map f ss) (each s) (all_flat P f ss each)
-
-all_back_to_front : {X : Type 0} (P : X → Type 0) (xs : List X) → AllByRecursion P xs → AllByRecursion P (reverse xs)
-all_back_to_front P [] all = tt
-all_back_to_front P (x ∷ xs) all = subst (AllByRecursion P) (sym (reverse_on x xs)) (all_both P (reverse xs) (x ∷ []) (all_back_to_front P xs all.1) (all.0, tt))
-
 all_by_stamp : {X : Type 0} (P : X → Type 0) (stamp : X → ℕ) (bound : ℕ) (xs : List X) → AllByRecursion P xs → AllByRecursion P (by_stamp stamp bound xs)
-all_by_stamp P stamp bound xs all = all_flat P (λ s. filter (λ x. stamp x == s) xs) (range_with_len 0 bound) (λ s. all_kept P (λ x. stamp x == s) xs all)
+all_by_stamp P stamp bound xs all = all_flat_map P (λ s. filter (λ x. stamp x == s) xs) (range_with_len 0 bound) (λ s. all_filter P (λ x. stamp x == s) xs all)
 
 record Met {X Y : Type 0} (f : X → Option Y) (o : Option X) (y : Y) : Type 0 where
   met : X
@@ -113,12 +96,6 @@ and_then_met : {X Y : Type 0} (f : X → Option Y) (o : Option X) (y : Y) → op
 and_then_met f None y h = let no : None ≡ Some y = h in absurd cc
 and_then_met f (Some x) y h = record { met = x; first = refl; second = h }
 
-above_all : (before : ℕ) (list : List ℕ) → rise_above before list ≡ true → AllByRecursion (λ s. before < s) list
-above_all before [] h = tt
-above_all before (s ∷ list) h =
-    let parts = and_parts (nat_lt before s) (rise_above s list) h in
-    let low = ltb-true before s parts.0 in (low, all_each (λ t. s < t) (λ t. before < t) list (λ t more. omega (arith, low, more)) (above_all s list parts.1))
-
 rise_tail : (before : ℕ) (list : List ℕ) → rise_above before list ≡ true → rise list ≡ true
 rise_tail before [] h = refl
 rise_tail before (s ∷ list) h = (and_parts (nat_lt before s) (rise_above s list) h).1
@@ -126,11 +103,11 @@ rise_tail before (s ∷ list) h = (and_parts (nat_lt before s) (rise_above s lis
 rising : (list : List ℕ) (i j x y : ℕ) → rise list ≡ true → slice_get list i ≡ Some x → slice_get list j ≡ Some y → i < j → x < y
 rising [] i j x y r hx hy low = let no : None ≡ Some x = hx in absurd cc
 rising (z ∷ list) i zero x y r hx hy low = absurd (omega (arith, low))
-rising (z ∷ list) zero (suc j) x y r hx hy low = subst (λ t. t < y) (some_same z x hx) (all_at (λ s. z < s) list j y (above_all z list r) hy)
+rising (z ∷ list) zero (suc j) x y r hx hy low = subst (λ t. t < y) (same_Some z x hx) (all_at (λ s. z < s) list j y (above_all z list r) hy)
 rising (z ∷ list) (suc i) (suc j) x y r hx hy low = rising list i j x y (rise_tail z list r) hx hy (omega (arith, low))
 
 none_above : (bound : ℕ) (list : List ℕ) → AllByRecursion (λ s. s < bound) list → list_any (λ s. nat_lt bound s) list ≡ false
-none_above bound list all = none_any (λ s. nat_lt bound s) list (all_each (λ s. s < bound) (λ s. nat_lt bound s ≡ false) list (λ s low. either s low (nat_lt bound s) refl) all)
+none_above bound list all = list_any_none (λ s. nat_lt bound s) list (all_each (λ s. s < bound) (λ s. nat_lt bound s ≡ false) list (λ s low. either s low (nat_lt bound s) refl) all)
   where
     either : (s : ℕ) → s < bound → (b : Bool) → nat_lt bound s ≡ b → b ≡ false
     either s low false h = refl
@@ -171,7 +148,7 @@ clients_there : (W : PlainWorkload) (J : PlainJournal) (node start count : ℕ) 
     → AllByRecursion (IsThere W J node) (flat_map (λ (sends : ClientSends). sends.drawn) (map (client_sends W J node) (range_with_len start count)))
 clients_there W J node start zero few = tt
 clients_there W J node start (suc count) few =
-    all_both (IsThere W J node) (client_sends W J node start).drawn (flat_map (λ (sends : ClientSends). sends.drawn) (map (client_sends W J node) (range_with_len (start + 1) count)))
+    all_append (IsThere W J node) (client_sends W J node start).drawn (flat_map (λ (sends : ClientSends). sends.drawn) (map (client_sends W J node) (range_with_len (start + 1) count)))
     (client_there W J node start (omega (arith, few))) (clients_there W J node (start + 1) count (omega (arith, few)))
 
 pub all_there : (W : PlainWorkload) (J : PlainJournal) (node : ℕ) → AllByRecursion (IsThere W J node) (pages_at W J node)
@@ -179,7 +156,7 @@ all_there W J node = clients_there W J node 0 W.settings.clients (omega arith)
 
 in_flat : (P : DrawnPage → Type 0) (list : List ClientSends) (c k : ℕ) (sends : ClientSends) (d : DrawnPage) → AllByRecursion P (flat_map (λ (sends : ClientSends). sends.drawn) list) → slice_get list c ≡ Some sends → slice_get sends.drawn k ≡ Some d → P d
 in_flat P [] c k sends d all h g = let no : None ≡ Some sends = h in absurd cc
-in_flat P (s ∷ list) zero k sends d all h g = all_at P s.drawn k d (all_front P s.drawn (flat_map (λ (sends : ClientSends). sends.drawn) list) all) (ap (λ (t : ClientSends). slice_get t.drawn k) (some_same s sends h) ∙ g)
+in_flat P (s ∷ list) zero k sends d all h g = all_at P s.drawn k d (all_front P s.drawn (flat_map (λ (sends : ClientSends). sends.drawn) list) all) (ap (λ (t : ClientSends). slice_get t.drawn k) (same_Some s sends h) ∙ g)
 in_flat P (s ∷ list) (suc c) k sends d all h g = in_flat P list c k sends d (all_back P s.drawn (flat_map (λ (sends : ClientSends). sends.drawn) list) all) h g
 
 -- ---- the agent behind the first events
@@ -206,7 +183,7 @@ by_sheet run state place = either (slice_get state.taken place) ∙ ap (option_a
     either (Some chunk) = refl
 
 none_equal : (stamp : ℕ) (list : List ℕ) → AllByRecursion (λ told. told ≡ stamp → ⊥) list → list_any (λ told. told == stamp) list ≡ false
-none_equal stamp list all = none_any (λ told. told == stamp) list (all_each (λ told. told ≡ stamp → ⊥) (λ told. (told == stamp) ≡ false) list (λ told differs. either told differs (told == stamp) refl) all)
+none_equal stamp list all = list_any_none (λ told. told == stamp) list (all_each (λ told. told ≡ stamp → ⊥) (λ told. (told == stamp) ≡ false) list (λ told differs. either told differs (told == stamp) refl) all)
   where
     either : (told : ℕ) → (told ≡ stamp → ⊥) → (b : Bool) → (told == stamp) ≡ b → b ≡ false
     either told differs false h = refl
@@ -221,20 +198,12 @@ record IsOwned (log : List Deed) (end : ℕ) (a : Answer) : Type 0 where
 owned : (end : ℕ) (log : List Deed) → AllByRecursion (IsOwned log end) (answers end log)
 owned end [] = tt
 owned end (deed ∷ earlier) =
-    all_both (IsOwned (deed ∷ earlier) end) (answers end earlier) (own (deed.by == end) (answer_to deed (length earlier)))
+    all_append (IsOwned (deed ∷ earlier) end) (answers end earlier) (own (deed.by == end) (answer_to deed (length earlier)))
     (all_each (IsOwned earlier end) (IsOwned (deed ∷ earlier) end) (answers end earlier) (λ a o. record { deed = o.deed; at = inr o.at; by = o.by }) (owned end earlier)) (last (deed.by == end) refl)
   where
     last : (b : Bool) → (deed.by == end) ≡ b → AllByRecursion (IsOwned (deed ∷ earlier) end) (own b (answer_to deed (length earlier)))
     last true is = (record { deed = deed; at = inl (refl, refl); by = eqb-true deed.by end is }, tt)
     last false is = tt
-
-stamps_both : (a b : List Step) → log_stamps (a ++ b) ≡ log_stamps a ++ log_stamps b
-stamps_both [] b = refl
-stamps_both (step ∷ a) b = either (step_stamp step) (stamps_both a b)
-  where
-    either : (o : Option ℕ) → log_stamps (a ++ b) ≡ log_stamps a ++ log_stamps b → cons_option o (log_stamps (a ++ b)) ≡ cons_option o (log_stamps a) ++ log_stamps b
-    either None h = h
-    either (Some stamp) h = ap (λ rest. stamp ∷ rest) h
 
 -- ---- one offer that is unread
 
@@ -279,7 +248,7 @@ module _ (adds : EventsAddThis) (W : PlainWorkload) (J : PlainJournal) (n : Node
       let parts = and_parts (page.client.number == other.client.number) (page.number == other.number) same in
       let client = eqb-true page.client.number other.client.number parts.0 in
       let number = eqb-true page.number other.number parts.1 in
-      some_same other page
+      same_Some other page
       (sym o.1
       ∙ ap (λ c. slice_get (client_sends W J n.node c).drawn other.number) (sym client)
       ∙ ap (λ k. slice_get (client_sends W J n.node page.client.number).drawn k) (sym number)
@@ -297,11 +266,11 @@ module _ (adds : EventsAddThis) (W : PlainWorkload) (J : PlainJournal) (n : Node
 
   not_given : is_given_in at_end then page ≡ false
   not_given =
-      none_any (λ (given : GivenPlace). option_map_or (same_page page) (given_page at_end then given.place) false) then.given
+      list_any_none (λ (given : GivenPlace). option_map_or (same_page page) (given_page at_end then given.place) false) then.given
       (all_each (λ (given : GivenPlace). (a : Answer) → give_at at_end given ≡ Some a → IsUnspent a) (λ (given : GivenPlace). option_map_or (same_page page) (given_page at_end then given.place) false ≡ false) then.given
       (λ given none. either given none (given_page at_end then given.place) refl)
       (of_kept IsUnspent (give_at at_end) then.given
-      (subst (AllByRecursion IsUnspent) (sym u.gives) (all_kept IsUnspent (λ (a : Answer). is_any_given a.event) (reverse (answers_in u.turns)) (all_back_to_front IsUnspent (answers_in u.turns) u.unread.unspent)))))
+      (subst (AllByRecursion IsUnspent) (sym u.gives) (all_filter IsUnspent (λ (a : Answer). is_any_given a.event) (reverse (answers_in u.turns)) (all_reverse IsUnspent (answers_in u.turns) u.unread.unspent)))))
     where
       either : (given : GivenPlace) → ((a : Answer) → give_at at_end given ≡ Some a → IsUnspent a) → (o : Option DrawnPage) → given_page at_end then given.place ≡ o → option_map_or (same_page page) o false ≡ false
       either given none None is = refl
@@ -350,7 +319,7 @@ module _ (adds : EventsAddThis) (W : PlainWorkload) (J : PlainJournal) (n : Node
 
   not_past : is_drawn_past at_end offered_by page ≡ false
   not_past =
-      none_any (λ (d : DrawnPage). d.client.number == page.client.number && nat_lt page.number d.number && list_any (λ s. nat_lt (stamp_of d.draw) s) offered_by) (pages_at W J n.node)
+      list_any_none (λ (d : DrawnPage). d.client.number == page.client.number && nat_lt page.number d.number && list_any (λ s. nat_lt (stamp_of d.draw) s) offered_by) (pages_at W J n.node)
       (all_each (IsThere W J n.node) (λ (d : DrawnPage). (d.client.number == page.client.number && nat_lt page.number d.number && list_any (λ s. nat_lt (stamp_of d.draw) s) offered_by) ≡ false) (pages_at W J n.node)
       (λ d o. either d o (d.client.number == page.client.number && nat_lt page.number d.number && list_any (λ s. nat_lt (stamp_of d.draw) s) offered_by) refl) (all_there W J n.node))
     where
@@ -361,7 +330,7 @@ module _ (adds : EventsAddThis) (W : PlainWorkload) (J : PlainJournal) (n : Node
           let inner = and_parts (d.client.number == page.client.number) (nat_lt page.number d.number) outer.0 in
           let next = later d o (eqb-true d.client.number page.client.number inner.0) (ltb-true page.number d.number inner.1) in
           let below = u.unread.last (stamp_of d.draw) next.deed next.at next.by next.above in
-          let each = subst (AllByRecursion (λ s. s < stamp_of d.draw)) (sym u.stamps) (mapped (λ s. s < stamp_of d.draw) (λ (a : Answer). a.stamp) (reverse (answers_in u.turns)) (all_back_to_front (λ (a : Answer). a.stamp < stamp_of d.draw) (answers_in u.turns) below)) in
+          let each = subst (AllByRecursion (λ s. s < stamp_of d.draw)) (sym u.stamps) (all_map (λ s. s < stamp_of d.draw) (λ (a : Answer). a.stamp) (reverse (answers_in u.turns)) (all_reverse (λ (a : Answer). a.stamp < stamp_of d.draw) (answers_in u.turns) below)) in
           let no : false ≡ true = sym (none_above (stamp_of d.draw) offered_by each) ∙ outer.1 in absurd cc
 
   in_round : (round_of W.settings.stride page.started == count_by is_turn (steps_of before)) ≡ true
@@ -404,9 +373,9 @@ module _ (adds : EventsAddThis) (W : PlainWorkload) (J : PlainJournal) (n : Node
   uncollected =
       let given = ap (λ (state : AgentState). not (is_given_in at_end state page)) behind_it ∙ ap not not_given in
       let past = ap not not_past in
-      and_true (has_buffer page.draw && not (is_given_in at_end (state_behind W.settings at_end (length (steps_of before))) page) && not (is_drawn_past at_end offered_by page)) (round_of W.settings.stride page.started == count_by is_turn (steps_of before))
-      (and_true (has_buffer page.draw && not (is_given_in at_end (state_behind W.settings at_end (length (steps_of before))) page)) (not (is_drawn_past at_end offered_by page))
-      (and_true (has_buffer page.draw) (not (is_given_in at_end (state_behind W.settings at_end (length (steps_of before))) page)) (ap has_buffer found.draw) given) past) in_round
+      and_from (has_buffer page.draw && not (is_given_in at_end (state_behind W.settings at_end (length (steps_of before))) page) && not (is_drawn_past at_end offered_by page)) (round_of W.settings.stride page.started == count_by is_turn (steps_of before))
+      (and_from (has_buffer page.draw && not (is_given_in at_end (state_behind W.settings at_end (length (steps_of before))) page)) (not (is_drawn_past at_end offered_by page))
+      (and_from (has_buffer page.draw) (not (is_given_in at_end (state_behind W.settings at_end (length (steps_of before))) page)) (ap has_buffer found.draw) given) past) in_round
 
   pub could_be : may_be_unread W.settings at_end (steps_of before) ≡ true
   could_be =
@@ -414,7 +383,7 @@ module _ (adds : EventsAddThis) (W : PlainWorkload) (J : PlainJournal) (n : Node
       let laps = u.unread.laps in
       let place : offer_place W.settings (steps_of before) ≡ u.unread.number + 2 * W.settings.buffers = omega (arith, long, laps) in
       let number : offer_place W.settings (steps_of before) - 2 * W.settings.buffers ≡ u.unread.number = omega (arith, place) in
-      and_true (nat_le (2 * W.settings.buffers) (offer_place W.settings (steps_of before)))
+      and_from (nat_le (2 * W.settings.buffers) (offer_place W.settings (steps_of before)))
       (option_map_or (may_be_uncollected W.settings at_end (steps_of before)) (slice_get (pages_by_stamp at_end) (offer_place W.settings (steps_of before) - 2 * W.settings.buffers)) false)
       (le-leb (2 * W.settings.buffers) (offer_place W.settings (steps_of before)) (omega (arith, place)))
       (ap (λ k. option_map_or (may_be_uncollected W.settings at_end (steps_of before)) (slice_get (pages_by_stamp at_end) k) false) number
@@ -448,7 +417,7 @@ each_asked P whole (e ∷ events) start front is long each =
         → list_all P (map (λ (at : ℕ × Step). take at.0 (steps_of whole)) (cond b ((start, noted_as e) ∷ (filter (λ (at : ℕ × Step). is_unread at.1) (zip (range_with_len (start + 1) (length (steps_of events))) (steps_of events)))) (filter (λ (at : ℕ × Step). is_unread at.1) (zip (range_with_len (start + 1) (length (steps_of events))) (steps_of events))))) ≡ true
     either false is_no h = h
     either true is_yes h =
-        and_true (P (take start (steps_of whole))) (list_all P (map (λ (at : ℕ × Step). take at.0 (steps_of whole)) (filter (λ (at : ℕ × Step). is_unread at.1) (zip (range_with_len (start + 1) (length (steps_of events))) (steps_of events)))))
+        and_from (P (take start (steps_of whole))) (list_all P (map (λ (at : ℕ × Step). take at.0 (steps_of whole)) (filter (λ (at : ℕ × Step). is_unread at.1) (zip (range_with_len (start + 1) (length (steps_of events))) (steps_of events)))))
         (ap P taken ∙ each front events (is ∙ ap (λ x. front ++ x ∷ events) (is_gave e is_yes))) h
 
 abbrev asked_at : PlainWorkload → NodeRun → Bool

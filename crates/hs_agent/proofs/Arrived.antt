@@ -4,6 +4,8 @@ use Rattle.std.specs.Prelude.{filter_map}
 use Rattle.std.specs.List.{AllByRecursion}
 use Rattle.std.specs.Option.{option_map, option_map_or, option_and_then, option_to_list}
 use Rattle.std.proofs.lemmas.List.{append_assoc, map-append, length-map, length-append}
+use Rattle.hs_lists.proofs.Alls.{all_weaker, all_append, all_front, all_back}
+use Rattle.hs_lists.proofs.Places.{get_last}
 use Rattle.hs_base.specs.declared.ids.TraceId.{TraceId}
 use Rattle.hs_base.specs.declared.told.Group.{Group}
 use Rattle.hs_base.specs.declared.told.Fate.TheVariants as fates
@@ -25,17 +27,16 @@ use Rattle.hs_agent.specs.Placing.{Placed, Pledged, place_of, placed_at}
 use Rattle.hs_agent.specs.Keeping.{Kept, Holds, HasPage, IsKept, IsIndexed, RemembersAs, Point, with_state, pinned_place, waiting_chunks, all_held}
 use Rattle.hs_agent.specs.LettingGo.{let_go, with_fate, abandoned_fate}
 use Rattle.hs_agent.specs.Arriving.{noted}
-use Rattle.hs_agent.proofs.Alls.{all-append, all-left, all-right, all-weaker}
 use Rattle.hs_agent.proofs.Claimed.{all-others, all-noted, all-pins}
-use Rattle.hs_agent.proofs.Growing.{slice_get-front, slice_get-last, is_kept-front, has_page-front, pages-front, pinned_for-front, with_fate-last}
+use Rattle.hs_agent.proofs.Growing.{is_kept-front, has_page-front, pages-front, pinned_for-front, with_fate-last}
 use Rattle.hs_agent.proofs.Indexing.{indexed-more, indexed-arrived, count-touched}
 
 -- ---- the chunks of an index where a trace was touched
 
 module _ (P : Placed → Type 0) (trace : TraceId) (noted : Noted Place) where
   all-pushed : (ts : List (Indexed Place)) → AllByRecursion P (chunks_left ts) → AllByRecursion P noted.chunks → AllByRecursion P (chunks_left (ts ++ record { trace = trace; noted = noted } ∷ []))
-  all-pushed [] h k = all-append P noted.chunks [] k tt
-  all-pushed (t ∷ ts) h k = all-append P t.noted.chunks (chunks_left (ts ++ record { trace = trace; noted = noted } ∷ [])) (all-left P t.noted.chunks (chunks_left ts) h) (all-pushed ts (all-right P t.noted.chunks (chunks_left ts) h) k)
+  all-pushed [] h k = all_append P noted.chunks [] k tt
+  all-pushed (t ∷ ts) h k = all_append P t.noted.chunks (chunks_left (ts ++ record { trace = trace; noted = noted } ∷ [])) (all_front P t.noted.chunks (chunks_left ts) h) (all-pushed ts (all_back P t.noted.chunks (chunks_left ts) h) k)
 
   pub all-touched : (ts : List (Indexed Place)) → AllByRecursion P (chunks_left ts) → AllByRecursion P noted.chunks → AllByRecursion P (chunks_left (touch trace noted ts))
   all-touched ts h k = all-pushed (others trace ts) (all-others P trace ts h) k
@@ -74,15 +75,15 @@ module _ {L : Type 0} (old : Kept L) (point : Point L) (h : Holds old point) (bu
     kept_new : IsKept came.leases (point.buffers ++ buffer ∷ []) placed
     kept_new = record {
       lease = buffer.lease;
-      kept = ap (slice_get came.leases) (sym h.leases) ∙ slice_get-last old.leases (Some (record { lease = buffer.lease; number = buffer.chunk.number }));
-      came = ap (slice_get (point.buffers ++ buffer ∷ [])) (sym h.buffers) ∙ slice_get-last point.buffers buffer;
+      kept = ap (slice_get came.leases) (sym h.leases) ∙ get_last old.leases (Some (record { lease = buffer.lease; number = buffer.chunk.number }));
+      came = ap (slice_get (point.buffers ++ buffer ∷ [])) (sym h.buffers) ∙ get_last point.buffers buffer;
     }
 
     paged_before : (placed' : Placed) → HasPage point.settings taken placed' → HasPage point.settings all placed'
     paged_before placed' k = has_page-front point.settings taken (new ∷ []) placed' k
 
     paged_new : HasPage point.settings all placed
-    paged_new = record { chunk = new; at = slice_get-last taken new; page = page; size = size }
+    paged_new = record { chunk = new; at = get_last taken new; page = page; size = size }
 
     standings_live : old.standings ++ record { client = sheet.header.client; page = sheet.header.page; fate = fates.Live } ∷ [] ≡ map page_standing taken ++ record { client = sheet.header.client; page = sheet.header.page; fate = fates.Live } ∷ []
     standings_live = ap (λ l. l ++ record { client = sheet.header.client; page = sheet.header.page; fate = fates.Live } ∷ []) h.standings
@@ -94,7 +95,7 @@ module _ {L : Type 0} (old : Kept L) (point : Point L) (h : Holds old point) (bu
     pages_same = h.pages ∙ sym (pages-front taken (new ∷ []) point.state.reported h.reported)
 
     reported_within : AllByRecursion (λ (place : ℕ). place < length all) point.state.reported
-    reported_within = all-weaker (λ (place : ℕ). place < length taken) (λ (place : ℕ). place < length all) (λ place within. omega (arith, more, within)) point.state.reported h.reported
+    reported_within = all_weaker (λ (place : ℕ). place < length taken) (λ (place : ℕ). place < length all) (λ place within. omega (arith, more, within)) point.state.reported h.reported
 
     leases_same : length came.leases ≡ length all
     leases_same =
@@ -110,7 +111,7 @@ module _ {L : Type 0} (old : Kept L) (point : Point L) (h : Holds old point) (bu
 
     groups_same : AllByRecursion (λ (pin : Pin Place). pinned_for all (pinned_place pin) ≡ Some pin.group) h.memory.pinned
     groups_same =
-        all-weaker (λ (pin : Pin Place). pinned_for taken (pinned_place pin) ≡ Some pin.group) (λ (pin : Pin Place). pinned_for all (pinned_place pin) ≡ Some pin.group)
+        all_weaker (λ (pin : Pin Place). pinned_for taken (pinned_place pin) ≡ Some pin.group) (λ (pin : Pin Place). pinned_for all (pinned_place pin) ≡ Some pin.group)
         (λ pin e. pinned_for-front taken (new ∷ []) (pinned_place pin) pin.group e) h.memory.pinned h.pins.groups
 
   abbrev pins_chunks : List Placed
@@ -127,10 +128,10 @@ module _ {L : Type 0} (old : Kept L) (point : Point L) (h : Holds old point) (bu
 
     waits_indexed : (P : Placed → Type 0) → AllByRecursion P (waiting_chunks old h.memory.pinned) → P placed → AllByRecursion P (waiting_chunks (left_indexed trace) h.memory.pinned)
     waits_indexed P waits new =
-        let indexed = all-left P (chunks_left old.index.touched) pins_chunks waits in
-        all-append P (chunks_left (touch trace noted_now old.index.touched)) pins_chunks
-        (all-touched P trace noted_now old.index.touched indexed (all-append P (noted_of trace old.index.touched).chunks (placed ∷ []) (all-noted P trace old.index.touched indexed) (new, tt)))
-        (all-right P (chunks_left old.index.touched) pins_chunks waits)
+        let indexed = all_front P (chunks_left old.index.touched) pins_chunks waits in
+        all_append P (chunks_left (touch trace noted_now old.index.touched)) pins_chunks
+        (all-touched P trace noted_now old.index.touched indexed (all_append P (noted_of trace old.index.touched).chunks (placed ∷ []) (all-noted P trace old.index.touched indexed) (new, tt)))
+        (all_back P (chunks_left old.index.touched) pins_chunks waits)
 
     holds_touched : Holds (left_indexed trace) (at (with_indexed sheet point.state))
     holds_touched = record {
@@ -161,13 +162,13 @@ module _ {L : Type 0} (old : Kept L) (point : Point L) (h : Holds old point) (bu
       each =
           let Q = IsKept old.leases point.buffers in
           let P = IsKept came.leases (point.buffers ++ buffer ∷ []) in
-          let weaker = all-weaker Q P (kept_before IsIn) in
-          all-append P (waiting_chunks (left_indexed trace) h.memory.pinned) old.hand
-          (waits_indexed P (weaker (waiting_chunks old h.memory.pinned) (all-left Q (waiting_chunks old h.memory.pinned) old.hand h.each)) (kept_new IsIn))
-          (weaker old.hand (all-right Q (waiting_chunks old h.memory.pinned) old.hand h.each));
+          let weaker = all_weaker Q P (kept_before IsIn) in
+          all_append P (waiting_chunks (left_indexed trace) h.memory.pinned) old.hand
+          (waits_indexed P (weaker (waiting_chunks old h.memory.pinned) (all_front Q (waiting_chunks old h.memory.pinned) old.hand h.each)) (kept_new IsIn))
+          (weaker old.hand (all_back Q (waiting_chunks old h.memory.pinned) old.hand h.each));
       paged =
           let P = HasPage point.settings (all IsIn) in
-          waits_indexed P (all-weaker (HasPage point.settings taken) P (paged_before IsIn) (waiting_chunks old h.memory.pinned) h.paged) (paged_new IsIn);
+          waits_indexed P (all_weaker (HasPage point.settings taken) P (paged_before IsIn) (waiting_chunks old h.memory.pinned) h.paged) (paged_new IsIn);
       few =
           let few = h.few in
           let count = count-touched trace noted_now old.index.touched h.index.touched.apart in
@@ -195,9 +196,9 @@ module _ {L : Type 0} (old : Kept L) (point : Point L) (h : Holds old point) (bu
 
     waits_pinned : (P : Placed → Type 0) → AllByRecursion P (waiting_chunks old h.memory.pinned) → P placed → AllByRecursion P (waiting_chunks left_pinned (with_pin h.memory group placed).pinned)
     waits_pinned P waits new =
-        all-append P (chunks_left old.index.touched) (map (λ (pin : Pin Place). pin.chunk) (with_pin h.memory group placed).pinned)
-        (all-left P (chunks_left old.index.touched) pins_chunks waits)
-        (all-pins P trace group h.memory.pinned (placed ∷ []) (all-right P (chunks_left old.index.touched) pins_chunks waits) (new, tt))
+        all_append P (chunks_left old.index.touched) (map (λ (pin : Pin Place). pin.chunk) (with_pin h.memory group placed).pinned)
+        (all_front P (chunks_left old.index.touched) pins_chunks waits)
+        (all-pins P trace group h.memory.pinned (placed ∷ []) (all_back P (chunks_left old.index.touched) pins_chunks waits) (new, tt))
 
     pinned_now : Remembers pins (with_pin h.memory group placed) → Holds left_pinned (at (with_pinned sheet group point.state))
     pinned_now remembers = record {
@@ -211,8 +212,8 @@ module _ {L : Type 0} (old : Kept L) (point : Point L) (h : Holds old point) (bu
         claims = h.pins.claims;
         pinned = map-append pinned_place h.memory.pinned (pin_for group placed ∷ []) ∙ ap (λ l. l ++ length taken ∷ []) h.pins.pinned;
         groups =
-            all-append (λ (pin : Pin Place). pinned_for (all (Pinned group)) (pinned_place pin) ≡ Some pin.group) h.memory.pinned (pin_for group placed ∷ []) (groups_same (Pinned group))
-            (ap (option_and_then (λ (t : Taken). pinning_group t.standing)) (slice_get-last taken (new (Pinned group))), tt);
+            all_append (λ (pin : Pin Place). pinned_for (all (Pinned group)) (pinned_place pin) ≡ Some pin.group) h.memory.pinned (pin_for group placed ∷ []) (groups_same (Pinned group))
+            (ap (option_and_then (λ (t : Taken). pinning_group t.standing)) (get_last taken (new (Pinned group))), tt);
         abandoned = h.pins.abandoned;
         tried = h.pins.tried;
         admitted = h.pins.admitted;
@@ -230,13 +231,13 @@ module _ {L : Type 0} (old : Kept L) (point : Point L) (h : Holds old point) (bu
       each =
           let Q = IsKept old.leases point.buffers in
           let P = IsKept came.leases (point.buffers ++ buffer ∷ []) in
-          let weaker = all-weaker Q P (kept_before (Pinned group)) in
-          all-append P (waiting_chunks left_pinned (with_pin h.memory group placed).pinned) old.hand
-          (waits_pinned P (weaker (waiting_chunks old h.memory.pinned) (all-left Q (waiting_chunks old h.memory.pinned) old.hand h.each)) (kept_new (Pinned group)))
-          (weaker old.hand (all-right Q (waiting_chunks old h.memory.pinned) old.hand h.each));
+          let weaker = all_weaker Q P (kept_before (Pinned group)) in
+          all_append P (waiting_chunks left_pinned (with_pin h.memory group placed).pinned) old.hand
+          (waits_pinned P (weaker (waiting_chunks old h.memory.pinned) (all_front Q (waiting_chunks old h.memory.pinned) old.hand h.each)) (kept_new (Pinned group)))
+          (weaker old.hand (all_back Q (waiting_chunks old h.memory.pinned) old.hand h.each));
       paged =
           let P = HasPage point.settings (all (Pinned group)) in
-          waits_pinned P (all-weaker (HasPage point.settings taken) P (paged_before (Pinned group)) (waiting_chunks old h.memory.pinned) h.paged) (paged_new (Pinned group));
+          waits_pinned P (all_weaker (HasPage point.settings taken) P (paged_before (Pinned group)) (waiting_chunks old h.memory.pinned) h.paged) (paged_new (Pinned group));
       few =
           let few = h.few in
           let one = length-append h.memory.pinned (pin_for group placed ∷ []) in
@@ -287,11 +288,11 @@ module _ {L : Type 0} (old : Kept L) (point : Point L) (h : Holds old point) (bu
       each =
           let Q = IsKept old.leases point.buffers in
           let P = IsKept came.leases (point.buffers ++ buffer ∷ []) in
-          let weaker = all-weaker Q P (kept_before (Abandoned group)) in
-          all-append P (waiting_chunks old h.memory.pinned) (old.hand ++ placed ∷ [])
-          (weaker (waiting_chunks old h.memory.pinned) (all-left Q (waiting_chunks old h.memory.pinned) old.hand h.each))
-          (all-append P old.hand (placed ∷ []) (weaker old.hand (all-right Q (waiting_chunks old h.memory.pinned) old.hand h.each)) (kept_new (Abandoned group), tt));
-      paged = all-weaker (HasPage point.settings taken) (HasPage point.settings (all (Abandoned group))) (paged_before (Abandoned group)) (waiting_chunks old h.memory.pinned) h.paged;
+          let weaker = all_weaker Q P (kept_before (Abandoned group)) in
+          all_append P (waiting_chunks old h.memory.pinned) (old.hand ++ placed ∷ [])
+          (weaker (waiting_chunks old h.memory.pinned) (all_front Q (waiting_chunks old h.memory.pinned) old.hand h.each))
+          (all_append P old.hand (placed ∷ []) (weaker old.hand (all_back Q (waiting_chunks old h.memory.pinned) old.hand h.each)) (kept_new (Abandoned group), tt));
+      paged = all_weaker (HasPage point.settings taken) (HasPage point.settings (all (Abandoned group))) (paged_before (Abandoned group)) (waiting_chunks old h.memory.pinned) h.paged;
       few =
           let few = h.few in
           let long = more (Abandoned group) in

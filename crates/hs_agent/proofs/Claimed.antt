@@ -5,6 +5,7 @@ use Rattle.std.specs.List.{AllByRecursion}
 use Rattle.std.specs.Option.{option_map_or}
 use Rattle.std.proofs.lemmas.List.{map-append, length-map, length-append}
 use Rattle.std.proofs.lemmas.Simd.{map-map}
+use Rattle.hs_lists.proofs.Alls.{all_weaker, all_append, all_front, all_back, all_map, all_unmap}
 use Rattle.hs_base.specs.declared.ids.TraceId.{TraceId}
 use Rattle.hs_base.specs.declared.told.Ask.{Ask}
 use Rattle.hs_base.specs.declared.told.Group.{Group}
@@ -19,7 +20,6 @@ use Rattle.hs_model.specs.Claiming.{claim_trace, claim_unclaimed}
 use Rattle.hs_agent.specs.declared.placed.Place.{Place}
 use Rattle.hs_agent.specs.Placing.{Placed, place_of}
 use Rattle.hs_agent.specs.Keeping.{Kept, Holds, HasPage, IsKept, RemembersAs, Point, with_state, pinned_place, plain_claim, waiting_chunks, all_held}
-use Rattle.hs_agent.proofs.Alls.{by_answer, all-append, all-left, all-right, all-weaker, all-map, all-unmap}
 use Rattle.hs_agent.proofs.Indexing.{indexed-claimed, count-others}
 use Rattle.hs_agent.proofs.Moved.{sheets, sheets-moved, length-same, pages-same, has_page-same}
 use Rattle.hs_agent.proofs.Moving.{pinned_for-leaving, pinned_for-taken, standings-taken}
@@ -53,18 +53,18 @@ module _ {L : Type 0} (old : Kept L) (point : Point L) (h : Holds old point) (as
 module _ (P : Placed → Type 0) (trace : TraceId) where
   pub all-others : (ts : List (Indexed Place)) → AllByRecursion P (chunks_left ts) → AllByRecursion P (chunks_left (others trace ts))
   all-others [] h = tt
-  all-others (t ∷ ts) h = by (is_of trace t) (all-others ts (all-right P t.noted.chunks (chunks_left ts) h))
+  all-others (t ∷ ts) h = by (is_of trace t) (all-others ts (all_back P t.noted.chunks (chunks_left ts) h))
     where
       by : (b : Bool) → AllByRecursion P (chunks_left (others trace ts)) → AllByRecursion P (chunks_left (cond (not b) (t ∷ others trace ts) (others trace ts)))
       by true rest = rest
-      by false rest = all-append P t.noted.chunks (chunks_left (others trace ts)) (all-left P t.noted.chunks (chunks_left ts) h) rest
+      by false rest = all_append P t.noted.chunks (chunks_left (others trace ts)) (all_front P t.noted.chunks (chunks_left ts) h) rest
 
   pub all-noted : (ts : List (Indexed Place)) → AllByRecursion P (chunks_left ts) → AllByRecursion P (noted_of trace ts).chunks
   all-noted [] h = tt
-  all-noted (t ∷ ts) h = by (is_of trace t) (all-noted ts (all-right P t.noted.chunks (chunks_left ts) h))
+  all-noted (t ∷ ts) h = by (is_of trace t) (all-noted ts (all_back P t.noted.chunks (chunks_left ts) h))
     where
       by : (b : Bool) → AllByRecursion P (noted_of trace ts).chunks → AllByRecursion P (option_map_or (λ (u : Indexed Place). u.noted) (cond b (Some t) (find (is_of trace) ts)) nothing).chunks
-      by true rest = all-left P t.noted.chunks (chunks_left ts) h
+      by true rest = all_front P t.noted.chunks (chunks_left ts) h
       by false rest = rest
 
   -- with chunks that are pinned
@@ -107,11 +107,11 @@ module _ {L : Type 0} (old : Kept L) (point : Point L) (h : Holds old point) (as
         ∙ ap (λ l. l ++ map pinned_place (map (pin_for ask.group) noted.chunks)) h.pins.pinned
         ∙ ap (λ l. point.state.pinned ++ l) (map-map pinned_place (pin_for ask.group) noted.chunks ∙ h.index.touched.places trace);
     groups =
-        all-append (λ (pin : Pin Place). pinned_for after.taken (pinned_place pin) ≡ Some pin.group) h.memory.pinned (map (pin_for ask.group) noted.chunks)
-        (all-weaker (λ (pin : Pin Place). pinned_for point.state.taken (pinned_place pin) ≡ Some pin.group) (λ (pin : Pin Place). pinned_for after.taken (pinned_place pin) ≡ Some pin.group)
+        all_append (λ (pin : Pin Place). pinned_for after.taken (pinned_place pin) ≡ Some pin.group) h.memory.pinned (map (pin_for ask.group) noted.chunks)
+        (all_weaker (λ (pin : Pin Place). pinned_for point.state.taken (pinned_place pin) ≡ Some pin.group) (λ (pin : Pin Place). pinned_for after.taken (pinned_place pin) ≡ Some pin.group)
         (λ pin e. pinned_for-leaving trace (λ _. Pinned ask.group) point.state.taken (pinned_place pin) pin.group e) h.memory.pinned h.pins.groups)
-        (all-map (λ (pin : Pin Place). pinned_for after.taken (pinned_place pin) ≡ Some pin.group) (pin_for ask.group) noted.chunks
-        (all-unmap (λ (place : ℕ). pinned_for after.taken place ≡ Some ask.group) place_of noted.chunks
+        (all_map (λ (pin : Pin Place). pinned_for after.taken (pinned_place pin) ≡ Some pin.group) (pin_for ask.group) noted.chunks
+        (all_unmap (λ (place : ℕ). pinned_for after.taken place ≡ Some ask.group) place_of noted.chunks
         (subst (AllByRecursion (λ (place : ℕ). pinned_for after.taken place ≡ Some ask.group)) (sym (h.index.touched.places trace)) (pinned_for-taken trace ask.group point.state.taken))));
     abandoned = h.pins.abandoned;
     tried = h.pins.tried;
@@ -125,9 +125,9 @@ module _ {L : Type 0} (old : Kept L) (point : Point L) (h : Holds old point) (as
     waits : (P : Placed → Type 0) → AllByRecursion P (waiting_chunks old h.memory.pinned) → AllByRecursion P (waiting_chunks left with_claim.pinned)
     waits P all =
         let chunks = map (λ (pin : Pin Place). pin.chunk) h.memory.pinned in
-        let indexed = all-left P (chunks_left touched) chunks all in
-        let pinned = all-right P (chunks_left touched) chunks all in
-        all-append P (chunks_left (others trace touched)) (map (λ (pin : Pin Place). pin.chunk) with_claim.pinned)
+        let indexed = all_front P (chunks_left touched) chunks all in
+        let pinned = all_back P (chunks_left touched) chunks all in
+        all_append P (chunks_left (others trace touched)) (map (λ (pin : Pin Place). pin.chunk) with_claim.pinned)
         (all-others P trace touched indexed)
         (all-pins P trace ask.group h.memory.pinned noted.chunks pinned (all-noted P trace touched indexed))
 
@@ -149,15 +149,15 @@ module _ {L : Type 0} (old : Kept L) (point : Point L) (h : Holds old point) (as
               ap (λ l. l ++ record { trace = trace; group = ask.group } ∷ []) h.claims
               ∙ sym (map-append claim_note point.state.claims (record { trace = trace; group = ask.group; laterals = ask.laterals } ∷ []));
           pages = h.pages ∙ sym (pages-same point.state.taken after.taken same_sheets point.state.reported);
-          reported = all-weaker (λ (place : ℕ). place < length point.state.taken) (λ (place : ℕ). place < length after.taken) (λ place within. subst (λ n. place < n) (sym long) within) point.state.reported h.reported;
+          reported = all_weaker (λ (place : ℕ). place < length point.state.taken) (λ (place : ℕ). place < length after.taken) (λ place within. subst (λ n. place < n) (sym long) within) point.state.reported h.reported;
           leases = h.leases ∙ sym long;
           buffers = h.buffers ∙ sym long;
           each =
               let P = IsKept old.leases point.buffers in
-              all-append P (waiting_chunks left with_claim.pinned) old.hand (waits P (all-left P (waiting_chunks old h.memory.pinned) old.hand h.each)) (all-right P (waiting_chunks old h.memory.pinned) old.hand h.each);
+              all_append P (waiting_chunks left with_claim.pinned) old.hand (waits P (all_front P (waiting_chunks old h.memory.pinned) old.hand h.each)) (all_back P (waiting_chunks old h.memory.pinned) old.hand h.each);
           paged =
               let P = HasPage point.settings point.state.taken in
-              all-weaker P (HasPage point.settings after.taken) (λ placed page. has_page-same point.state.taken after.taken same_sheets point.settings placed page) (waiting_chunks left with_claim.pinned) (waits P h.paged);
+              all_weaker P (HasPage point.settings after.taken) (λ placed page. has_page-same point.state.taken after.taken same_sheets point.settings placed page) (waiting_chunks left with_claim.pinned) (waits P h.paged);
           few =
               let few = h.few in
               let split = count-others trace touched h.index.touched.apart in

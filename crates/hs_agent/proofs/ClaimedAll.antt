@@ -1,8 +1,11 @@
 -- After a group has claimed, its lead and its laterals are claimed.
-use Rattle.std.proofs.Common.{◌≡◌, ◌≤◌, ℕ, suc, zero, length, take, slice_get, arith, Bool, true, false, cond, ◌||◌, List, [], ◌∷◌, ◌++◌, map, fold, Option, Some, None, IsSome, refl, sym, ap, subst, ◌∙◌}
+use Rattle.std.proofs.Common.{◌≡◌, ◌≤◌, ℕ, suc, zero, length, take, slice_get, Bool, true, false, cond, ◌||◌, List, [], ◌∷◌, map, fold, Option, Some, None, IsSome, refl, sym, ap, subst, ◌∙◌}
 use Rattle.std.specs.Prelude.{find}
 use Rattle.std.specs.List.{AllByRecursion, list_any}
 use Rattle.std.specs.Option.{option_map_or}
+use Rattle.std.proofs.lemmas.List.Folds.{list_any-append}
+use Rattle.hs_lists.proofs.Alls.{all_weaker}
+use Rattle.hs_lists.proofs.Parts.{take_whole}
 use Rattle.hs_base.specs.declared.ids.TraceId.{TraceId}
 use Rattle.hs_base.specs.declared.told.Ask.{Ask}
 use Rattle.hs_base.specs.Ids.{same_trace}
@@ -16,20 +19,11 @@ use Rattle.hs_agent.specs.Points.{claimed_for}
 use Rattle.hs_model.specs.State.{AgentState, ClaimedTrace, is_claimed}
 use Rattle.hs_model.specs.Claiming.{claim_trace, claim_unclaimed, claim_each, traces_of}
 use Rattle.hs_model.specs.Stepping.{claim_for}
+use Rattle.hs_model.proofs.Traces.{same_trace-refl}
 use Rattle.hs_agent.specs.Keeping.{Kept, Holds, Point, with_state, plain_claim}
-use Rattle.hs_agent.proofs.Alls.{all-weaker}
 use Rattle.hs_agent.proofs.Claimed.{claimed-plain}
-use Rattle.hs_agent.proofs.Indexing.{same_itself}
 use Rattle.hs_agent.proofs.Unchanged.{abandon-keeps}
 use Rattle.hs_agent.proofs.Relieving.{holds-abandoned}
-
-any-append : {A : Type 0} (p : A → Bool) (xs ys : List A) → list_any p (xs ++ ys) ≡ (list_any p xs || list_any p ys)
-any-append p [] ys = refl
-any-append p (x ∷ xs) ys = by (p x) (any-append p xs ys)
-  where
-    by : (b : Bool) → list_any p (xs ++ ys) ≡ (list_any p xs || list_any p ys) → (b || list_any p (xs ++ ys)) ≡ ((b || list_any p xs) || list_any p ys)
-    by true rest = refl
-    by false rest = rest
 
 module _ (ask : Ask) where
   -- what is claimed stays so
@@ -39,7 +33,7 @@ module _ (ask : Ask) where
       by : (b : Bool) → is_claimed (cond b state (claim_trace ask trace state)).claims other ≡ true
       by true = e
       by false =
-          any-append (λ (claim : ClaimedTrace). same_trace other claim.trace) state.claims (record { trace = trace; group = ask.group; laterals = ask.laterals } ∷ [])
+          list_any-append (λ (claim : ClaimedTrace). same_trace other claim.trace) state.claims (record { trace = trace; group = ask.group; laterals = ask.laterals } ∷ [])
           ∙ ap (λ b. b || list_any (λ (claim : ClaimedTrace). same_trace other claim.trace) (record { trace = trace; group = ask.group; laterals = ask.laterals } ∷ [])) e
 
   now : (trace : TraceId) (state : AgentState) → is_claimed (claim_unclaimed ask state trace).claims trace ≡ true
@@ -52,8 +46,8 @@ module _ (ask : Ask) where
       by : (b : Bool) → is_claimed state.claims trace ≡ b → is_claimed (cond b state (claim_trace ask trace state)).claims trace ≡ true
       by true e = e
       by false e =
-          any-append (λ (claim : ClaimedTrace). same_trace trace claim.trace) state.claims (record { trace = trace; group = ask.group; laterals = ask.laterals } ∷ [])
-          ∙ ap (λ b. is_claimed state.claims trace || (b || false)) (same_itself trace)
+          list_any-append (λ (claim : ClaimedTrace). same_trace trace claim.trace) state.claims (record { trace = trace; group = ask.group; laterals = ask.laterals } ∷ [])
+          ∙ ap (λ b. is_claimed state.claims trace || (b || false)) (same_trace-refl trace)
           ∙ or-true (is_claimed state.claims trace)
 
   still : (traces : List TraceId) (other : TraceId) (state : AgentState) → is_claimed state.claims other ≡ true → is_claimed (fold (claim_unclaimed ask) state traces).claims other ≡ true
@@ -74,7 +68,7 @@ pub all-known : {L : Type 0} (kept : Kept L) (point : Point L) (ask : Ask) (h : 
 all-known kept point ask h =
     let each : AgentState = claim_each ask point.state in
     let same : (claim_for point.settings ask point.state).claims ≡ each.claims = abandon-keeps (λ (s : AgentState). s.claims) point.settings (λ group s. refl) each.pinned each in
-    all-weaker (λ (trace : TraceId). is_claimed each.claims trace ≡ true) (λ (trace : TraceId). IsSome (claim_of h.memory.claims trace))
+    all_weaker (λ (trace : TraceId). is_claimed each.claims trace ≡ true) (λ (trace : TraceId). IsSome (claim_of h.memory.claims trace))
     (λ trace e. found (claim_of h.memory.claims trace) (sym (claimed-plain h.memory.claims trace) ∙ ap (λ claims. is_claimed claims trace) (h.pins.claims ∙ same) ∙ e)) (traces_of ask) (all_claimed ask (traces_of ask) point.state)
 
 -- ---- the laterals, one after another
@@ -83,12 +77,6 @@ pub fold-more : {A B : Type 0} (f : A → B → A) (s : A) (xs : List B) (n : �
 fold-more f s [] n x e = cc
 fold-more f s (y ∷ ys) zero x e = let same : y ≡ x = cc in ap (f s) same
 fold-more f s (y ∷ ys) (suc n) x e = fold-more f (f s y) ys n x e
-
-take-whole : {A : Type 0} (xs : List A) (n : ℕ) → length xs ≤ n → take n xs ≡ xs
-take-whole [] zero h = refl
-take-whole [] (suc n) h = refl
-take-whole (x ∷ xs) zero h = absurd (omega (arith, h))
-take-whole (x ∷ xs) (suc n) h = ap (λ l. x ∷ l) (take-whole xs n (omega (arith, h)))
 
 module _ {L : Type 0} (ask : Ask) (before middle after : Kept L) (place : ℕ) where
   -- the lead and the laterals below the place are claimed
@@ -101,6 +89,6 @@ module _ {L : Type 0} (ask : Ask) (before middle after : Kept L) (place : ℕ) w
       → (point : Point L) → Holds before point → Holds after (claimed_for ask point)
   holds-claimed_for below all pins gone point h =
       let begun : AgentState = claim_unclaimed ask point.state ask.group.lead in
-      let claimed : Holds middle (with_state (claim_each ask point.state) point) = subst (λ l. Holds middle (with_state (fold (claim_unclaimed ask) begun l) point)) (take-whole ask.laterals place all) (below point h) in
+      let claimed : Holds middle (with_state (claim_each ask point.state) point) = subst (λ l. Holds middle (with_state (fold (claim_unclaimed ask) begun l) point)) (take_whole ask.laterals place all) (below point h) in
       subst (λ k. Holds k (claimed_for ask point)) (sym (gone claimed.memory claimed.remembers))
       (holds-abandoned middle after.pins (with_state (claim_each ask point.state) point) claimed (pins claimed.memory claimed.remembers))

@@ -5,6 +5,7 @@ use Rattle.std.specs.Option.{option_map, option_map_or, IsSome}
 use Rattle.std.proofs.Math.Bool.{or-true, or-false, and-false}
 use Rattle.std.proofs.lemmas.Bool.{eqb-true}
 use borrow.Author.Tests.{ne_eqb}
+use Rattle.hs_lists.proofs.Bools.{or_assoc}
 use Rattle.hs_base.specs.declared.ids.TraceId.{TraceId}
 use Rattle.hs_base.specs.declared.node_set.NodeSet.{NodeSet}
 use Rattle.hs_base.specs.declared.told.Crumb.{Crumb}
@@ -20,10 +21,6 @@ use Rattle.hs_agent.specs.Keeping.{crumbs_known}
 
 abbrev crumb_to : TraceId → ℕ → Crumb
 crumb_to trace node = record { trace = trace; node = record { 0 = node } }
-
-or_assoc : (a b c : Bool) → ((a || b) || c) ≡ (a || (b || c))
-or_assoc true b c = refl
-or_assoc false b c = refl
 
 or_swap : (a b c d : Bool) → ((a || b) || (c || d)) ≡ ((a || c) || (b || d))
 or_swap true b c d = refl

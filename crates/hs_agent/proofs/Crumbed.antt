@@ -3,7 +3,10 @@ use Rattle.std.proofs.Common.{◌≡◌, ℕ, ◌+◌, ◌≤◌, ◌<◌, Bool,
 use Rattle.std.specs.Prelude.{find}
 use Rattle.std.specs.List.{AllByRecursion}
 use Rattle.std.specs.Option.{option_map, option_map_or, option_and_then, is_some}
+use Rattle.std.proofs.Math.Bool.{or-false}
 use Rattle.std.proofs.lemmas.Bool.{true≢false}
+use Rattle.hs_lists.proofs.Bools.{by_answer}
+use Rattle.hs_lists.proofs.Alls.{all_weaker, all_append, all_front, all_back}
 use Rattle.hs_base.specs.declared.ids.TraceId.{TraceId}
 use Rattle.hs_base.specs.declared.ids.NodeId.{NodeId}
 use Rattle.hs_base.specs.declared.node_set.NodeSet.{NodeSet}
@@ -23,15 +26,15 @@ use Rattle.hs_model.specs.Standings.{indexed_places, indexed_count}
 use Rattle.hs_model.specs.Messages.{has_crumb, same_crumb, with_crumb, late_of, say}
 use Rattle.hs_model.specs.Stepping.{with_touched, late_crumb, tell_late, remember, take_crumb}
 use Rattle.hs_model.specs.Evicting.{evict}
+use Rattle.hs_model.proofs.Traces.{same_trace-true, same_trace-refl}
 use Rattle.hs_agent.specs.declared.placed.Place.{Place}
 use Rattle.hs_agent.specs.Placing.{Placed}
 use Rattle.hs_agent.specs.Keeping.{Kept, Holds, IsKept, HasPage, IsIndexed, Point, with_state, plain_claim, waiting_chunks, crumbs_known}
 use Rattle.hs_agent.specs.Points.{crumb_taken}
-use Rattle.hs_agent.proofs.Alls.{by_answer, all-append, all-left, all-right, all-weaker}
 use Rattle.hs_agent.proofs.Arrived.{all-touched}
 use Rattle.hs_agent.proofs.Claimed.{all-noted}
 use Rattle.hs_agent.proofs.CrumbSets.{known-claimed}
-use Rattle.hs_agent.proofs.Indexing.{indexed-crumbed, count-touched, crumbs-remembered, same_from_test, same_itself, same_swap}
+use Rattle.hs_agent.proofs.Indexing.{indexed-crumbed, count-touched, crumbs-remembered, same_swap}
 
 -- ---- the claims, as the model has them
 
@@ -59,11 +62,11 @@ module _ {L : Type 0} (old : Kept L) (point : Point L) (h : Holds old point) (cr
 
   waits_touched : (P : Placed → Type 0) → AllByRecursion P (waiting_chunks old h.memory.pinned) → AllByRecursion P (waiting_chunks left_touched h.memory.pinned)
   waits_touched P waits =
-      let indexed = all-left P (chunks_left old.index.touched) pins_chunks waits in
+      let indexed = all_front P (chunks_left old.index.touched) pins_chunks waits in
       let noted = index.with_crumb (noted_of crumb.trace old.index.touched) crumb.node in
-      all-append P (chunks_left (touch crumb.trace noted old.index.touched)) pins_chunks
+      all_append P (chunks_left (touch crumb.trace noted old.index.touched)) pins_chunks
       (all-touched P crumb.trace noted old.index.touched indexed (all-noted P crumb.trace old.index.touched indexed))
-      (all-right P (chunks_left old.index.touched) pins_chunks waits)
+      (all_back P (chunks_left old.index.touched) pins_chunks waits)
 
   -- what is kept is what the model says, where a trace was touched
   pub holds-touched : Holds left_touched (with_state (with_touched crumb point.state) point)
@@ -94,7 +97,7 @@ module _ {L : Type 0} (old : Kept L) (point : Point L) (h : Holds old point) (cr
     buffers = h.buffers;
     each =
         let P = IsKept old.leases point.buffers in
-        all-append P (waiting_chunks left_touched h.memory.pinned) old.hand (waits_touched P (all-left P (waiting_chunks old h.memory.pinned) old.hand h.each)) (all-right P (waiting_chunks old h.memory.pinned) old.hand h.each);
+        all_append P (waiting_chunks left_touched h.memory.pinned) old.hand (waits_touched P (all_front P (waiting_chunks old h.memory.pinned) old.hand h.each)) (all_back P (waiting_chunks old h.memory.pinned) old.hand h.each);
     paged = waits_touched (HasPage point.settings point.state.taken) h.paged;
     few =
         let few = h.few in
@@ -135,7 +138,7 @@ module _ (trace : TraceId) (node : NodeId) where
   claim-other u apart (claim ∷ claims) =
       by_answer (is_claim_of trace claim)
       (λ y.
-      let out : is_claim_of u claim ≡ false = ap (same_trace u) (sym (same_from_test trace claim.trace y)) ∙ same_swap u trace ∙ apart in
+      let out : is_claim_of u claim ≡ false = ap (same_trace u) (sym (same_trace-true trace claim.trace y)) ∙ same_swap u trace ∙ apart in
       ap (λ b. claim_of (cond b (with_one claim ∷ claims) (claim ∷ pins.with_crumb claims trace node)) u) y
       ∙ ap (λ b. cond b (Some (with_one claim)) (claim_of claims u)) out
       ∙ sym (ap (λ b. cond b (Some claim) (claim_of claims u)) out))
@@ -153,10 +156,6 @@ module _ (trace : TraceId) (node : NodeId) where
 
 -- ---- a crumb of a claimed trace
 
-or-false : (b : Bool) → (b || false) ≡ b
-or-false true = refl
-or-false false = refl
-
 indexed-late : (claims : List Claim) (claim : Claim) (crumb : Crumb) (touched : List (Indexed Place)) (state after : AgentState) → claim_of claims crumb.trace ≡ Some claim
     → after.taken ≡ state.taken → after.touched ≡ state.touched → after.crumbs ≡ with_crumb state.crumbs crumb
     → IsIndexed claims state touched → IsIndexed (pins.with_crumb claims crumb.trace crumb.node) after touched
@@ -167,10 +166,10 @@ indexed-late claims claim crumb touched state after found same_taken same_touche
       traces = same_touched ∙ i.traces;
       apart = i.apart;
       free =
-          all-weaker (λ (t : Indexed Place). claim_of claims t.trace ≡ None) (λ (t : Indexed Place). claim_of more t.trace ≡ None)
+          all_weaker (λ (t : Indexed Place). claim_of claims t.trace ≡ None) (λ (t : Indexed Place). claim_of more t.trace ≡ None)
           (λ t f. by_answer (same_trace trace t.trace)
           (λ y.
-          let e = same_from_test trace t.trace y in
+          let e = same_trace-true trace t.trace y in
           let no : Some claim ≡ None = sym found ∙ ap (claim_of claims) e ∙ f in cc)
           (λ n. claim-other trace crumb.node t.trace n claims ∙ f)) touched i.free;
       places = λ u. i.places u ∙ sym (ap (λ l. indexed_places l u) same_taken);
@@ -182,9 +181,9 @@ indexed-late claims claim crumb touched state after found same_taken same_touche
           ∙ ap (λ b. b || (same_trace u trace && nat_eq n crumb.node.0)) (i.crumbs u n)
           ∙ by_answer (same_trace trace u)
           (λ y.
-          let e = same_from_test trace u y in
+          let e = same_trace-true trace u y in
           ap (λ w. has_node (crumbs_known claims touched w) n || (same_trace w trace && nat_eq n crumb.node.0)) (sym e)
-          ∙ ap (λ b. has_node (crumbs_known claims touched trace) n || (b && nat_eq n crumb.node.0)) (same_itself trace)
+          ∙ ap (λ b. has_node (crumbs_known claims touched trace) n || (b && nat_eq n crumb.node.0)) (same_trace-refl trace)
           ∙ ap (λ o. has_node (option_map_or (λ (c : Claim). c.crumbs) o (noted_of trace touched).crumbs) n || nat_eq n crumb.node.0) found
           ∙ sym (has-with_node claim.crumbs crumb.node n)
           ∙ sym (ap (λ o. has_node (option_map_or (λ (c : Claim). c.crumbs) o (noted_of trace touched).crumbs) n) (claim-crumbed trace crumb.node claims ∙ ap (option_map (with_one trace crumb.node)) found))

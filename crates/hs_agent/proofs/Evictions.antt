@@ -6,6 +6,7 @@ use Rattle.std.specs.Option.{option_map_or}
 use Rattle.std.proofs.lemmas.List.{append_assoc, map-append, length-map}
 use Rattle.std.proofs.lemmas.List.Sums.{fold-append, sum_by-cons}
 use Rattle.std.proofs.lemmas.Simd.{map-map}
+use Rattle.hs_lists.proofs.Alls.{all_append, all_front, all_back}
 use Rattle.hs_base.specs.declared.told.Fate.TheVariants as fates
 use Rattle.hs_base.specs.declared.ids.TraceId.{TraceId}
 use Rattle.hs_base.specs.declared.told.Group.{Group}
@@ -17,12 +18,12 @@ use Rattle.hs_model.specs.Standings.{moved, indexed_places, indexed_count, pinne
 use Rattle.hs_model.specs.State.{AgentState}
 use Rattle.hs_model.specs.Books.{page_standing, fate_of}
 use Rattle.hs_model.specs.Evicting as model
+use Rattle.hs_model.proofs.Traces.{same_trace-refl}
 use Rattle.hs_agent.specs.declared.placed.Place.{Place}
 use Rattle.hs_agent.specs.Placing.{Placed, place_of}
 use Rattle.hs_agent.specs.Keeping.{IsIndexed}
 use Rattle.hs_agent.specs.LettingGo.{with_fate}
-use Rattle.hs_agent.proofs.Alls.{all-append, all-left, all-right}
-use Rattle.hs_agent.proofs.Indexing.{indexed-evicted, same_itself}
+use Rattle.hs_agent.proofs.Indexing.{indexed-evicted}
 use Rattle.hs_agent.proofs.Moved.{sheets, sheets-moved}
 use Rattle.hs_agent.proofs.Moving.{pinned_for-leaving}
 use Rattle.hs_agent.proofs.NotedFates.{fates-moved}
@@ -85,7 +86,7 @@ module _ (settings : PlainSettings) (claims : List Claim) where
       let stays : stay (t ∷ ts) ≡ stay ts = ap (λ b. cond b (stay ts) (t ∷ ts)) o in
       let goes : go (t ∷ ts) ≡ map (leaving n m) t.noted.chunks ++ go ts = ap (λ b. cond b (map (leaving n m) t.noted.chunks ++ go ts) []) o in
       let own : map place_of t.noted.chunks ≡ indexed_places state.taken t.trace =
-      ap (λ b. map place_of (option_map_or (λ (u : Traced). u.noted) (cond b (Some t) (find (is_of t.trace) ts)) nothing).chunks) (sym (same_itself t.trace)) ∙ i.places t.trace in
+      ap (λ b. map place_of (option_map_or (λ (u : Traced). u.noted) (cond b (Some t) (find (is_of t.trace) ts)) nothing).chunks) (sym (same_trace-refl t.trace)) ∙ i.places t.trace in
       let counts : (λ (a b : ℕ). fold (λ ss place. with_fate place (fates.Evicted a b) ss) (map page_standing state.taken) (indexed_places state.taken t.trace)) n m
       ≡ fold (λ ss place. with_fate place (fate_of (Evicted (indexed_count state.taken) (length state.touched))) ss) (map page_standing state.taken) (indexed_places state.taken t.trace) =
       λ k. fold (λ ss place. with_fate place (fates.Evicted (sym i.count k) (sym (ap length i.traces ∙ length-map (t ∷ ts) (λ (u : Traced). u.trace)) k)) ss) (map page_standing state.taken) (indexed_places state.taken t.trace) in
@@ -136,7 +137,7 @@ module _ (settings : PlainSettings) (claims : List Claim) where
 module _ (P : Placed → Type 0) (threshold most : ℕ) where
   pub all-kept : (ts : List Traced) → AllByRecursion P (chunks_left ts) → AllByRecursion P (chunks_left (kept threshold most ts))
   all-kept [] h = tt
-  all-kept (t ∷ ts) h = by (is_over threshold most (t ∷ ts)) (all-kept ts (all-right P t.noted.chunks (chunks_left ts) h))
+  all-kept (t ∷ ts) h = by (is_over threshold most (t ∷ ts)) (all-kept ts (all_back P t.noted.chunks (chunks_left ts) h))
     where
       by : (b : Bool) → AllByRecursion P (chunks_left (kept threshold most ts)) → AllByRecursion P (chunks_left (cond b (kept threshold most ts) (t ∷ ts)))
       by true rest = rest
@@ -148,14 +149,14 @@ module _ (P : Placed → Type 0) (threshold most : ℕ) where
 
   pub all-evicted : (ts : List Traced) → AllByRecursion P (chunks_left ts) → AllByRecursion P (map (λ (l : Leaving Place). l.buffer) (evicted threshold most ts))
   all-evicted [] h = tt
-  all-evicted (t ∷ ts) h = by (is_over threshold most (t ∷ ts)) (all-evicted ts (all-right P t.noted.chunks (chunks_left ts) h))
+  all-evicted (t ∷ ts) h = by (is_over threshold most (t ∷ ts)) (all-evicted ts (all_back P t.noted.chunks (chunks_left ts) h))
     where
       by : (b : Bool) → AllByRecursion P (map (λ (l : Leaving Place). l.buffer) (evicted threshold most ts))
           → AllByRecursion P (map (λ (l : Leaving Place). l.buffer) (cond b (map (leaving (count_chunks (t ∷ ts)) (length (t ∷ ts))) t.noted.chunks ++ evicted threshold most ts) []))
       by true rest =
           subst (AllByRecursion P) (sym (map-append (λ (l : Leaving Place). l.buffer) (map (leaving (count_chunks (t ∷ ts)) (length (t ∷ ts))) t.noted.chunks) (evicted threshold most ts)))
-          (all-append P (map (λ (l : Leaving Place). l.buffer) (map (leaving (count_chunks (t ∷ ts)) (length (t ∷ ts))) t.noted.chunks)) (map (λ (l : Leaving Place). l.buffer) (evicted threshold most ts))
-          (all-leaving (count_chunks (t ∷ ts)) (length (t ∷ ts)) t.noted.chunks (all-left P t.noted.chunks (chunks_left ts) h)) rest)
+          (all_append P (map (λ (l : Leaving Place). l.buffer) (map (leaving (count_chunks (t ∷ ts)) (length (t ∷ ts))) t.noted.chunks)) (map (λ (l : Leaving Place). l.buffer) (evicted threshold most ts))
+          (all-leaving (count_chunks (t ∷ ts)) (length (t ∷ ts)) t.noted.chunks (all_front P t.noted.chunks (chunks_left ts) h)) rest)
       by false rest = tt
 
 pub count-kept : (threshold most : ℕ) (ts : List Traced) → count_chunks (kept threshold most ts) ≤ count_chunks ts

@@ -1,9 +1,9 @@
 -- An agent follows its run from call to call.
-use Rattle.std.proofs.Common.{◌≡◌, ◌<◌, ◌≤◌, append-nil, ℕ, List, [], ◌∷◌, ◌++◌, length, slice_set, Option, Some, None, IsSome, refl, sym, ap, subst, ◌∙◌}
-use Rattle.std.specs.Prelude.{Result, Ok, Err, IfOk, OnOk, IfSome}
+use Rattle.std.proofs.Common.{◌≡◌, ◌<◌, ◌≤◌, append-nil, ℕ, List, [], ◌∷◌, ◌++◌, length, slice_set, Some, None, IsSome, refl, sym, ap, subst, ◌∙◌}
+use Rattle.std.specs.Prelude.{IfOk, IfSome}
 use Rattle.std.specs.Option.{option_map_or}
 use Rattle.hs_journal.specs.declared.journal.Step.{Step}
-use Rattle.std.proofs.lemmas.Bool.{false≢true}
+use Rattle.hs_lists.proofs.Options.{some_item}
 use Rattle.hs_base.specs.declared.limits.TheConstants.{MAX_NODES}
 use Rattle.hs_records.specs.Plain.{PlainSettings}
 use Rattle.hs_sched.specs.Turns.{Schedule, IsSchedule}
@@ -13,20 +13,13 @@ use Rattle.hs_words.specs.declared.token.Given.TheVariants as given
 use Rattle.hs_model.specs.Laws.{IsInOnePlace, EventsGoOn}
 use Rattle.hs_model.specs.State.{AgentState}
 use Rattle.hs_model.specs.Stepping.{Answered, Given, Missed, Unread, Took, Gave, note, step_of, take_input, step_of_answer, give_back, take_answer, after_gave}
+use Rattle.hs_model.proofs.Bearing.{answer_shares}
 use Rattle.hs_agent.specs.Keeping.{Kept, Keeping, Holds, Point}
 use Rattle.hs_agent.specs.Offering.{answered}
 use Rattle.hs_agent.specs.Runs.{Run, input_of, taken_in, after_input, Follows, StandsAt, point_of, state_of, after_offer, answer_of, back_in, with_back, after_answer}
 use Rattle.hs_agent.specs.declared.input.Input.{Input}
 use Rattle.hs_agent.proofs.Unchanged.{input-log}
 use Rattle.hs_agent.proofs.Offered.{below, holds-rest, holds-given, holds-back}
-
-pub on_ok-then : {A E : Type 0} {P Q : Type 0} (r : Result A E) → (P → Q) → OnOk r P → OnOk r Q
-on_ok-then (Ok x) f p = f p
-on_ok-then (Err e) f p = tt
-
-pub some_place : (o : Option ℕ) → IsSome o → (place : ℕ) × (o ≡ Some place)
-some_place None h = absurd (false≢true h)
-some_place (Some place) h = (place, refl)
 
 -- an answer leaves the log and the shares
 given-log : (stamp : ℕ) (hand : List ℕ) (state : AgentState) → (give_back stamp hand state).log ≡ state.log
@@ -42,17 +35,12 @@ answer-log state (Given stamp) = given-log stamp state.hand state
 answer-log state (Missed stamp) = refl
 answer-log state Unread = refl
 
-answer-shares : (state : AgentState) (answer : Answered) → (take_answer state answer).shares ≡ state.shares
-answer-shares state (Given stamp) = given-shares stamp state.hand state
-answer-shares state (Missed stamp) = refl
-answer-shares state Unread = refl
-
 module _ {L : Type 0} where
   -- the offered chunk was taken, so there is a place for its lease
   pub offered-within : (kept : Kept L) (point : Point L) → Holds kept point → ((place : ℕ) → IsInOnePlace point.state place) → IsSome point.offered
       → IfSome kept.offered (λ place. place < length kept.leases) × IsSome kept.offered
   offered-within kept point h one some =
-      let found = some_place point.offered some in
+      let found = some_item point.offered some in
       let within : found.0 < length kept.leases = subst (λ n. found.0 < n) (sym h.leases) (below kept point h one found.0 found.1) in
       subst (λ o. IfSome o (λ place. place < length kept.leases) × IsSome o) (sym (h.offered ∙ found.1)) (within, refl)
 
@@ -66,10 +54,10 @@ module _ {L : Type 0} where
 
     module _ (go_on : EventsGoOn) (one : (place : ℕ) → IsInOnePlace (state_of run) place) (some : IsSome run.offered) where
       abbrev place : ℕ
-      place = (some_place run.offered some).0
+      place = (some_item run.offered some).0
 
       out : run.offered ≡ Some place
-      out = (some_place run.offered some).1
+      out = (some_item run.offered some).1
 
       -- a chunk came back, which leaves the state but for the log
       came : (buffer : Buffer L) (answer : Answered) → take_answer (state_of run) answer ≡ state_of run
@@ -97,7 +85,7 @@ module _ {L : Type 0} where
               chunks =
                   subst (λ (s : AgentState). Holds next.kept (record (point_of run) { state = s; buffers = with_back run (back_in answer); offered = None })) (sym goes)
                   (subst (λ k. Holds k (record (point_of run) { state = state; buffers = with_back run (back_in answer); offered = None })) (sym kept) (holds-answered answer));
-              shares = schedule ∙ follows.stands.shares ∙ ap (λ shares. record { shares = shares; size = run.settings.size }) (sym (answer-shares (state_of run) (answer_of answer)) ∙ ap (λ (s : AgentState). s.shares) (sym goes));
+              shares = schedule ∙ follows.stands.shares ∙ ap (λ shares. record { shares = shares; size = run.settings.size }) (sym (answer_shares (state_of run) (answer_of answer)) ∙ ap (λ (s : AgentState). s.shares) (sym goes));
               is_schedule = subst IsSchedule (sym schedule) follows.stands.is_schedule;
               nodes = follows.stands.nodes;
             };

@@ -1,5 +1,5 @@
 -- That the groups which give way are the model's.
-use Rattle.std.proofs.Common.{◌≡◌, ℕ, Bool, true, false, cond, not, List, [], ◌∷◌, ◌++◌, length, map, filter, Option, Some, None, slice_get, refl, sym, ap, ◌∙◌, true≢false, ◌||◌, ◌&&◌, fold, ◌+◌, suc, zero, nat_eq, subst, nat_lt, append-nil, arith}
+use Rattle.std.proofs.Common.{◌≡◌, ℕ, Bool, true, false, cond, not, List, [], ◌∷◌, ◌++◌, length, map, filter, Option, Some, None, slice_get, refl, sym, ap, ◌∙◌, true≢false, ◌||◌, fold, ◌+◌, suc, zero, nat_eq, subst, nat_lt, append-nil, arith}
 use Rattle.std.specs.Prelude.{filter_map}
 use Rattle.std.specs.List.{AllByRecursion, cons_option, list_any}
 use Rattle.std.specs.Option.{option_and_then, option_map_or}
@@ -7,6 +7,7 @@ use Rattle.hs_base.specs.declared.told.Group.{Group}
 use Rattle.hs_pins.specs.Remembered.{Pin, pins_for, without_group, is_for}
 use Rattle.hs_pins.specs.Abandoning.{groups_of}
 use Rattle.hs_pins.specs.Abandoning as pins
+use Rattle.hs_pins.proofs.Order.{same_group-true}
 use Rattle.std.proofs.lemmas.Bool.{eqb-true}
 use Rattle.std.proofs.lemmas.List.{append_assoc, map-append, length-map}
 use Rattle.hs_records.specs.Plain.{PlainSettings}
@@ -15,6 +16,7 @@ use Rattle.hs_model.specs.Standings.{moved_from, moved, is_among, Taken, ChunkSt
 use Rattle.hs_model.specs.Abandoning as model
 use Rattle.hs_model.specs.Standings.{indexed_places, indexed_count, is_indexed, stands}
 use Rattle.hs_model.specs.Books.{page_standing, fate_of}
+use Rattle.hs_model.proofs.Limits.{pinned_to}
 use Rattle.hs_journal.specs.declared.books.Standing.{Standing}
 use Rattle.hs_base.specs.declared.ids.TraceId.{TraceId}
 use Rattle.std.proofs.lemmas.List.Sums.{fold-append}
@@ -25,14 +27,6 @@ use Rattle.hs_agent.proofs.Moved.{sheets, sheets-moved, MovesUnindexed, indexed-
 -- the same choice
 same_choice : (groups : List Group) → model.next_to_go groups ≡ pins.next_to_go groups
 same_choice groups = refl
-
--- whether a chunk is pinned for a group is told by the group for which it is pinned
-pinned_to : (group other : Group) (standing : ChunkStanding) → pinning_group standing ≡ Some other → is_pinned_to group standing ≡ same_group group other
-pinned_to group other Indexed e = cc
-pinned_to group other (Pinned g) e = let same : g ≡ other = cc in ap (same_group group) same
-pinned_to group other (Reported g) e = cc
-pinned_to group other (Evicted chunks traces) e = cc
-pinned_to group other (Abandoned g) e = cc
 
 pub pinned_for_other : (taken : List Taken) (group other : Group) (place : ℕ) → pinned_for taken place ≡ Some other → is_pinned_for taken group place ≡ same_group group other
 pinned_for_other taken group other place e = by (slice_get taken place) e
@@ -119,29 +113,6 @@ module _ {L : Type 0} (place_of : Pin L → ℕ) (group : Group) (change : Chunk
 
 -- ---- what the chunks of one group are when it goes
 
--- two groups that name the same are one
-pub one_group : (a b : Group) → same_group a b ≡ true → a ≡ b
-one_group a b e =
-    let first = both-left (nat_eq a.id.node b.id.node) _ e in
-    let rest = both-right (nat_eq a.id.node b.id.node) _ e in
-    let second = both-left (nat_eq a.id.number b.id.number) _ rest in
-    let rest = both-right (nat_eq a.id.number b.id.number) _ rest in
-    let third = both-left (nat_eq a.trigger.0 b.trigger.0) _ rest in
-    let fourth = both-right (nat_eq a.trigger.0 b.trigger.0) _ rest in
-    λ i. record {
-      id = record { node = eqb-true a.id.node b.id.node first i; number = eqb-true a.id.number b.id.number second i };
-      trigger = record { 0 = eqb-true a.trigger.0 b.trigger.0 third i };
-      lead = record { 0 = eqb-true a.lead.0 b.lead.0 fourth i };
-    }
-  where
-    both-left : (a b : Bool) → (a && b) ≡ true → a ≡ true
-    both-left true b e = refl
-    both-left false b e = e
-
-    both-right : (a b : Bool) → (a && b) ≡ true → b ≡ true
-    both-right true b e = e
-    both-right false b e = absurd (true≢false (sym e))
-
 -- a chunk that is pinned for a group is not indexed
 unindexed : (group : Group) (standing : ChunkStanding) → is_pinned_to group standing ≡ true → false ≡ is_indexed standing
 unindexed group Indexed e = absurd (true≢false (sym e))
@@ -175,7 +146,7 @@ module _ {L : Type 0} (place_of : Pin L → ℕ) where
           → ((ss : List Standing) → fold note_abandoned ss (pins_for group pinned) ≡ fold (λ ss place. with_fate place (fate_of (Abandoned group)) ss) ss (map place_of (pins_for group pinned)))
           → fold note_abandoned standings (cond b (pin ∷ pins_for group pinned) (pins_for group pinned)) ≡ fold (λ ss place. with_fate place (fate_of (Abandoned group)) ss) standings (map place_of (cond b (pin ∷ pins_for group pinned) (pins_for group pinned)))
       by true e rest =
-          ap (λ g. fold note_abandoned (with_fate (place_of pin) (abandoned_fate g) standings) (pins_for group pinned)) (sym (one_group group pin.group e))
+          ap (λ g. fold note_abandoned (with_fate (place_of pin) (abandoned_fate g) standings) (pins_for group pinned)) (sym (same_group-true group pin.group e))
           ∙ rest (with_fate (place_of pin) (abandoned_fate group) standings)
       by false e rest = rest standings
 

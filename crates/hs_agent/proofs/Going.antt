@@ -1,11 +1,9 @@
 -- One chunk more is let go; and what that leaves as it is.
-use Rattle.std.proofs.Common.{◌≡◌, ℕ, ◌≤◌, List, [], ◌∷◌, ◌++◌, length, map, fold, filter, refl, sym, ap, ◌∙◌, arith, Bool, true, false, cond, not}
+use Rattle.std.proofs.Common.{◌≡◌, ℕ, List, [], ◌∷◌, ◌++◌, map, fold, refl, sym, ap, ◌∙◌}
 use Rattle.std.proofs.lemmas.List.{append_assoc, map-append}
 use Rattle.std.proofs.lemmas.List.Sums.{fold-append}
-use Rattle.hs_base.specs.declared.told.Group.{Group}
-use Rattle.hs_pins.specs.Remembered.{Pin, without_group, is_for}
+use Rattle.hs_pins.specs.Remembered.{Pin}
 use Rattle.hs_pins.specs.PinsLayout.{Pinning}
-use Rattle.hs_pins.specs.Abandoning.{staying}
 use Rattle.hs_agent.specs.declared.placed.Place.{Place}
 use Rattle.hs_agent.specs.Keeping.{Kept}
 use Rattle.hs_agent.specs.LettingGo.{Going, let_go, let_go_all, page_in, reported, reported_going}
@@ -31,19 +29,3 @@ module _ {L : Type 0} where
       ap reported is
       ∙ ap (λ pages. let_go_all (let_go (record kept { sent = []; pages = pages }) (reported_going pin)) (map reported_going rest)) (append_assoc kept.pages (page_in pin ∷ []) (map page_in rest))
       ∙ ap (λ sent. let_go_all (record kept { sent = []; pages = kept.pages ++ map page_in sent }) (map reported_going sent)) (sym was)
-
-length-filter_by : {A : Type 0} (p : A → Bool) (xs : List A) → length (filter p xs) ≤ length xs
-length-filter_by p [] = omega arith
-length-filter_by p (x ∷ xs) = by (p x) (length-filter_by p xs)
-  where
-    by : (b : Bool) → length (filter p xs) ≤ length xs → length (cond b (x ∷ filter p xs) (filter p xs)) ≤ length (x ∷ xs)
-    by true rest = omega (arith, rest)
-    by false rest = omega (arith, rest)
-
--- no more stay pinned than were
-pub length-staying : {L : Type 0} (groups : List Group) (pinned : List (Pin L)) → length (staying groups pinned) ≤ length pinned
-length-staying [] pinned = omega arith
-length-staying (group ∷ groups) pinned =
-    let fewer = length-filter_by (λ pin. not (is_for group pin)) pinned in
-    let rest = length-staying groups (without_group group pinned) in
-    omega (arith, fewer, rest)

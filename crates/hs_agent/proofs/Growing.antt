@@ -1,8 +1,9 @@
 -- What stays where a chunk more was taken.
-use Rattle.std.proofs.Common.{◌≡◌, ℕ, ◌<◌, ◌≤◌, zero, suc, List, [], ◌∷◌, ◌++◌, length, map, Option, Some, None, slice_get, slice_set, refl, sym, ap, ◌∙◌, arith}
+use Rattle.std.proofs.Common.{◌≡◌, ℕ, ◌<◌, ◌≤◌, List, [], ◌∷◌, ◌++◌, length, map, Option, Some, None, slice_get, slice_set, refl, sym, ap, ◌∙◌}
 use Rattle.std.specs.Prelude.{filter_map}
 use Rattle.std.specs.List.{AllByRecursion, cons_option}
 use Rattle.std.specs.Option.{option_map, option_and_then, option_map_or}
+use Rattle.hs_lists.proofs.Places.{get_front, get_front_same}
 use Rattle.hs_base.specs.declared.told.Fate.{Fate}
 use Rattle.hs_base.specs.declared.told.Group.{Group}
 use Rattle.hs_journal.specs.declared.books.Standing.{Standing}
@@ -16,36 +17,21 @@ use Rattle.hs_agent.specs.Keeping.{IsKept, HasPage}
 use Rattle.hs_agent.specs.LettingGo.{with_fate}
 use Rattle.hs_agent.proofs.NotedFates.{with_fate-later}
 
-module _ {X : Type 0} where
-  pub slice_get-front : (xs ys : List X) (i : ℕ) (v : X) → slice_get xs i ≡ Some v → slice_get (xs ++ ys) i ≡ Some v
-  slice_get-front [] ys i v e = cc
-  slice_get-front (x ∷ xs) ys zero v e = e
-  slice_get-front (x ∷ xs) ys (suc i) v e = slice_get-front xs ys i v e
-
-  pub slice_get-last : (xs : List X) (x : X) → slice_get (xs ++ x ∷ []) (length xs) ≡ Some x
-  slice_get-last [] x = refl
-  slice_get-last (y ∷ xs) x = slice_get-last xs x
-
-  pub slice_get-within : (xs ys : List X) (i : ℕ) → i < length xs → slice_get (xs ++ ys) i ≡ slice_get xs i
-  slice_get-within [] ys i within = absurd (omega arith)
-  slice_get-within (x ∷ xs) ys zero within = refl
-  slice_get-within (x ∷ xs) ys (suc i) within = slice_get-within xs ys i (omega arith)
-
 module _ {L : Type 0} where
   pub is_kept-front : (leases more : List (Option (Pledged L))) (buffers others : List (Buffer L)) (placed : Placed) → IsKept leases buffers placed → IsKept (leases ++ more) (buffers ++ others) placed
   is_kept-front leases more buffers others placed h = record {
     lease = h.lease;
-    kept = slice_get-front leases more (place_of placed) _ h.kept;
-    came = slice_get-front buffers others (place_of placed) _ h.came;
+    kept = get_front leases more (place_of placed) _ h.kept;
+    came = get_front buffers others (place_of placed) _ h.came;
   }
 
 pub has_page-front : (settings : PlainSettings) (taken more : List Taken) (placed : Placed) → HasPage settings taken placed → HasPage settings (taken ++ more) placed
-has_page-front settings taken more placed h = record { chunk = h.chunk; at = slice_get-front taken more (place_of placed) h.chunk h.at; page = h.page; size = h.size }
+has_page-front settings taken more placed h = record { chunk = h.chunk; at = get_front taken more (place_of placed) h.chunk h.at; page = h.page; size = h.size }
 
 pub pages-front : (taken more : List Taken) (reported : List ℕ) → AllByRecursion (λ (place : ℕ). place < length taken) reported → filter_map (bytes_at (taken ++ more)) reported ≡ filter_map (bytes_at taken) reported
 pages-front taken more [] h = refl
 pages-front taken more (place ∷ reported) h =
-    ap (λ o. cons_option (option_map (λ (chunk : Taken). page_bytes chunk.sheet) o) (filter_map (bytes_at (taken ++ more)) reported)) (slice_get-within taken more place h.0)
+    ap (λ o. cons_option (option_map (λ (chunk : Taken). page_bytes chunk.sheet) o) (filter_map (bytes_at (taken ++ more)) reported)) (get_front_same taken more place h.0)
     ∙ ap (cons_option (bytes_at taken place)) (pages-front taken more reported h.1)
 
 pub pinned_for-front : (taken more : List Taken) (place : ℕ) (group : Group) → pinned_for taken place ≡ Some group → pinned_for (taken ++ more) place ≡ Some group
@@ -53,7 +39,7 @@ pinned_for-front taken more place group e = by (slice_get taken place) refl e
   where
     by : (o : Option Taken) → slice_get taken place ≡ o → option_and_then (λ (t : Taken). pinning_group t.standing) o ≡ Some group → pinned_for (taken ++ more) place ≡ Some group
     by None at f = cc
-    by (Some t) at f = ap (option_and_then (λ (t : Taken). pinning_group t.standing)) (slice_get-front taken more place t at) ∙ f
+    by (Some t) at f = ap (option_and_then (λ (t : Taken). pinning_group t.standing)) (get_front taken more place t at) ∙ f
 
 -- the fate of the last one is noted
 pub with_fate-last : (fate : Fate) (standings : List Standing) (last : Standing) → with_fate (length standings) fate (standings ++ last ∷ []) ≡ standings ++ record last { fate = fate } ∷ []

@@ -1,14 +1,18 @@
 -- What the index keeps is what the model has indexed: where a trace is touched, where it leaves, and where it is claimed.
-use Rattle.std.proofs.Common.{◌≡◌, ℕ, ◌+◌, ◌<◌, ◌≤◌, zero, suc, Bool, true, false, cond, not, ◌||◌, ◌&&◌, List, [], ◌∷◌, ◌++◌, length, map, filter, Option, Some, None, nat_eq, eq-eqb, refl, sym, ap, subst, ◌∙◌, arith, append-nil}
+use Rattle.std.proofs.Common.{◌≡◌, ℕ, ◌+◌, ◌<◌, ◌≤◌, zero, suc, Bool, true, false, cond, not, ◌||◌, ◌&&◌, List, [], ◌∷◌, ◌++◌, length, map, filter, Some, None, nat_eq, eq-eqb, refl, sym, ap, subst, ◌∙◌, arith, append-nil}
 use Rattle.std.specs.Prelude.{find, sum_by}
 use Rattle.std.specs.List.{AllByRecursion, list_any}
 use Rattle.std.specs.Option.{option_map_or, option_or}
-use Rattle.std.proofs.lemmas.Bool.{eqb-true, true≢false}
+use Rattle.std.proofs.Math.Bool.{or-true}
+use Rattle.std.proofs.lemmas.Bool.{eqb-true, true≢false, not-true}
 use Rattle.std.proofs.lemmas.List.{map-append, length-map, length-append}
 use Rattle.std.proofs.lemmas.List.Elements.{filter-append}
 use Rattle.std.proofs.lemmas.List.Folds.{find-append}
 use Rattle.std.proofs.lemmas.List.Sums.{sum_by-cons, sum_by_push}
 use borrow.Author.Tests.{ne_eqb}
+use Rattle.hs_lists.proofs.Bools.{by_answer}
+use Rattle.hs_lists.proofs.Alls.{all_weaker, all_append}
+use Rattle.hs_lists.proofs.Options.{option_or_none}
 use Rattle.hs_base.specs.declared.ids.TraceId.{TraceId}
 use Rattle.hs_base.specs.declared.ids.NodeId.{NodeId}
 use Rattle.hs_base.specs.declared.node_set.NodeSet.{NodeSet}
@@ -32,32 +36,19 @@ use Rattle.hs_model.specs.Evicting as model
 use Rattle.hs_model.specs.Claiming.{claim_trace}
 use Rattle.hs_model.specs.Messages.{has_crumb, same_crumb, with_crumb}
 use Rattle.hs_model.specs.Stepping.{with_indexed, with_touched, next_place}
+use Rattle.hs_model.proofs.Traces.{same_trace-true, same_trace-refl}
 use Rattle.hs_agent.specs.declared.placed.Place.{Place}
 use Rattle.hs_agent.specs.Placing.{Placed, place_of}
 use Rattle.hs_agent.specs.Keeping.{AreApart, IsIndexed, crumbs_known}
-use Rattle.hs_agent.proofs.Alls.{by_answer, all-weaker, all-append, all-passing, all-filter}
+use Rattle.hs_agent.proofs.Alls.{all-passing, all-filter}
 use Rattle.hs_agent.proofs.Moving.{places-other, places-gone, count-left}
 
 -- ---- traces
-
-pub same_from_test : (a b : TraceId) → same_trace a b ≡ true → a ≡ b
-same_from_test a b e = ap (λ (m : ℕ). record { 0 = m }) (eqb-true a.0 b.0 e)
-
-pub same_itself : (a : TraceId) → same_trace a a ≡ true
-same_itself a = eq-eqb a.0 a.0 refl
 
 pub same_swap : (a b : TraceId) → same_trace a b ≡ same_trace b a
 same_swap a b = by_answer (nat_eq a.0 b.0)
     (λ y. y ∙ sym (eq-eqb b.0 a.0 (sym (eqb-true a.0 b.0 y))))
     (λ n. n ∙ sym (ne_eqb b.0 a.0 (λ e. absurd (true≢false (sym (eq-eqb a.0 b.0 (sym e)) ∙ n)))))
-
-not_true : (b : Bool) → not b ≡ true → b ≡ false
-not_true true e = absurd (true≢false (sym e))
-not_true false e = refl
-
-or_none : {X : Type 0} (o : Option X) → option_or o None ≡ o
-or_none None = refl
-or_none (Some x) = refl
 
 abbrev Traced : Type 0
 Traced = Indexed Place
@@ -74,7 +65,7 @@ module _ (gone : TraceId) where
       by_answer (is_of gone t)
       (λ y. ap (find (is_of u)) (others-cons t ts true y)
       ∙ find-others u apart ts
-      ∙ sym (ap (λ b. cond b (Some t) (find (is_of u) ts)) (ap (same_trace u) (sym (same_from_test gone t.trace y)) ∙ same_swap u gone ∙ apart)))
+      ∙ sym (ap (λ b. cond b (Some t) (find (is_of u) ts)) (ap (same_trace u) (sym (same_trace-true gone t.trace y)) ∙ same_swap u gone ∙ apart)))
       (λ n. ap (find (is_of u)) (others-cons t ts false n) ∙ ap (cond (is_of u t) (Some t)) (find-others u apart ts))
 
   pub find-gone : (ts : List Traced) → find (is_of gone) (others gone ts) ≡ None
@@ -125,7 +116,7 @@ module _ (gone : TraceId) where
   count-others (t ∷ ts) h =
       by_answer (is_of gone t)
       (λ y.
-      let is : others gone (t ∷ ts) ≡ ts = others-cons t ts true y ∙ others-all ts (all-weaker (λ (u : Traced). same_trace t.trace u.trace ≡ false) (λ (u : Traced). same_trace gone u.trace ≡ false) (λ u n. ap (λ w. same_trace w u.trace) (same_from_test gone t.trace y) ∙ n) ts h.0) in
+      let is : others gone (t ∷ ts) ≡ ts = others-cons t ts true y ∙ others-all ts (all_weaker (λ (u : Traced). same_trace t.trace u.trace ≡ false) (λ (u : Traced). same_trace gone u.trace ≡ false) (λ u n. ap (λ w. same_trace w u.trace) (same_trace-true gone t.trace y) ∙ n) ts h.0) in
       let mine : noted_of gone (t ∷ ts) ≡ t.noted = ap (λ b. option_map_or (λ (t : Traced). t.noted) (cond b (Some t) (find (is_of gone) ts)) nothing) y in
       let own = ap (λ (n : Noted Place). length n.chunks) mine in
       let rest = ap count_chunks is in
@@ -148,7 +139,7 @@ module _ (gone : TraceId) where
   places-without stands out taken ts h u =
       by_answer (same_trace gone u)
       (λ y.
-      let e = same_from_test gone u y in
+      let e = same_trace-true gone u y in
       ap (λ w. map place_of (noted_of w (others gone ts)).chunks) (sym e)
       ∙ ap (λ (n : Noted Place). map place_of n.chunks) (noted-gone ts)
       ∙ sym (places-gone gone stands out taken)
@@ -176,19 +167,19 @@ module _ (trace : TraceId) (noted : Noted Place) where
       ap (λ o. option_map_or (λ (t : Traced). t.noted) o nothing)
       (find-append (is_of trace) (others trace ts) (last ∷ [])
       ∙ ap (λ o. option_or o (find (is_of trace) (last ∷ []))) (find-gone trace ts)
-      ∙ ap (λ b. cond b (Some last) None) (same_itself trace))
+      ∙ ap (λ b. cond b (Some last) None) (same_trace-refl trace))
 
   pub noted-untouched : (u : TraceId) → same_trace trace u ≡ false → (ts : List Traced) → noted_of u (touch trace noted ts) ≡ noted_of u ts
   noted-untouched u apart ts =
       ap (λ o. option_map_or (λ (t : Traced). t.noted) o nothing)
       (find-append (is_of u) (others trace ts) (last ∷ [])
       ∙ ap (λ b. option_or (find (is_of u) (others trace ts)) (cond b (Some last) None)) (same_swap u trace ∙ apart)
-      ∙ or_none (find (is_of u) (others trace ts))
+      ∙ option_or_none (find (is_of u) (others trace ts))
       ∙ find-others trace u apart ts)
 
   apart-push : (ts : List Traced) → AllByRecursion (λ (t : Traced). same_trace trace t.trace ≡ false) ts → AreApart ts → AreApart (ts ++ last ∷ [])
   apart-push [] h a = (tt, tt)
-  apart-push (t ∷ ts) h a = (all-append (λ (u : Traced). same_trace t.trace u.trace ≡ false) ts (last ∷ []) a.0 (same_swap t.trace trace ∙ h.0, tt), apart-push ts h.1 a.1)
+  apart-push (t ∷ ts) h a = (all_append (λ (u : Traced). same_trace t.trace u.trace ≡ false) ts (last ∷ []) a.0 (same_swap t.trace trace ∙ h.0, tt), apart-push ts h.1 a.1)
 
   pub apart-touched : (ts : List Traced) → AreApart ts → AreApart (touch trace noted ts)
   apart-touched ts a = apart-push (others trace ts) (others-differ trace ts) (apart-others trace ts a)
@@ -199,7 +190,7 @@ module _ (trace : TraceId) (noted : Noted Place) where
   pub free-touched : (claims : List Claim) (ts : List Traced) → claim_of claims trace ≡ None → AllByRecursion (λ (t : Traced). claim_of claims t.trace ≡ None) ts
       → AllByRecursion (λ (t : Traced). claim_of claims t.trace ≡ None) (touch trace noted ts)
   free-touched claims ts free all =
-      all-append (λ (t : Traced). claim_of claims t.trace ≡ None) (others trace ts) (last ∷ []) (all-filter (is_other trace) (λ (t : Traced). claim_of claims t.trace ≡ None) ts all) (free, tt)
+      all_append (λ (t : Traced). claim_of claims t.trace ≡ None) (others trace ts) (last ∷ []) (all-filter (is_other trace) (λ (t : Traced). claim_of claims t.trace ≡ None) ts all) (free, tt)
 
   pub count-touched : (ts : List Traced) → AreApart ts → count_chunks (touch trace noted ts) + length (noted_of trace ts).chunks ≡ count_chunks ts + length noted.chunks
   count-touched ts a =
@@ -219,7 +210,7 @@ crumbs-other gone u apart n (c ∷ cs) =
     by_answer (same_trace gone c.trace)
     (λ y. ap (λ b. has_crumb (cond (not b) (c ∷ without_crumbs gone cs) (without_crumbs gone cs)) (crumb_to u n)) y
     ∙ crumbs-other gone u apart n cs
-    ∙ sym (ap (λ b. (b && nat_eq n c.node.0) || has_crumb cs (crumb_to u n)) (ap (same_trace u) (sym (same_from_test gone c.trace y)) ∙ same_swap u gone ∙ apart)))
+    ∙ sym (ap (λ b. (b && nat_eq n c.node.0) || has_crumb cs (crumb_to u n)) (ap (same_trace u) (sym (same_trace-true gone c.trace y)) ∙ same_swap u gone ∙ apart)))
     (λ no. ap (λ b. has_crumb (cond (not b) (c ∷ without_crumbs gone cs) (without_crumbs gone cs)) (crumb_to u n)) no
     ∙ ap (λ r. same_crumb (crumb_to u n) c || r) (crumbs-other gone u apart n cs))
 
@@ -244,7 +235,7 @@ known-others claims ts us u e = ap (λ (x : Noted Place). option_map_or (λ (cla
 pub indexed-evicted : (claims : List Claim) (t : Traced) (ts : List Traced) (state : AgentState) → IsIndexed claims state (t ∷ ts)
     → IsIndexed claims (evict_trace t.trace (map (λ (u : Traced). u.trace) ts) state) ts
 indexed-evicted claims t ts state i =
-    let first : others t.trace (t ∷ ts) ≡ ts = others-cons t.trace t ts true (same_itself t.trace) ∙ others-all t.trace ts i.apart.0 in
+    let first : others t.trace (t ∷ ts) ≡ ts = others-cons t.trace t ts true (same_trace-refl t.trace) ∙ others-all t.trace ts i.apart.0 in
     record {
       traces = refl;
       apart = i.apart.1;
@@ -256,7 +247,7 @@ indexed-evicted claims t ts state i =
       crumbs = λ u n.
           by_answer (same_trace t.trace u)
           (λ y.
-          let e = same_from_test t.trace u y in
+          let e = same_trace-true t.trace u y in
           ap (λ w. has_crumb (without_crumbs t.trace state.crumbs) (crumb_to w n)) (sym e)
           ∙ crumbs-gone t.trace n state.crumbs
           ∙ sym (ap (λ (s : NodeSet). has_node s n) (ap (crumbs_known claims ts) (sym e) ∙ known-free claims ts t.trace i.free.0 ∙ ap (λ l. (noted_of t.trace l).crumbs) (sym first) ∙ ap (λ (x : Noted Place). x.crumbs) (noted-gone t.trace (t ∷ ts))) ∙ has-no_nodes n))
@@ -275,12 +266,12 @@ pub indexed-claimed : (claims : List Claim) (ask : Ask) (trace : TraceId) (ts : 
 indexed-claimed claims ask trace ts state free i =
     let new : Claim = record { trace = trace; group = ask.group; laterals = ask.laterals; crumbs = (noted_of trace ts).crumbs } in
     let elsewhere : (u : TraceId) → same_trace trace u ≡ false → claim_of (claims ++ new ∷ []) u ≡ claim_of claims u =
-    λ u n. claim-append claims new u ∙ ap (λ b. option_or (claim_of claims u) (cond b (Some new) None)) (same_swap u trace ∙ n) ∙ or_none (claim_of claims u) in
+    λ u n. claim-append claims new u ∙ ap (λ b. option_or (claim_of claims u) (cond b (Some new) None)) (same_swap u trace ∙ n) ∙ option_or_none (claim_of claims u) in
     record {
       traces = ap (without_trace trace) i.traces ∙ sym (traces-others trace ts);
       apart = apart-others trace ts i.apart;
       free = all-passing (is_other trace) (λ (t : Traced). claim_of claims t.trace ≡ None) (λ (t : Traced). claim_of (claims ++ new ∷ []) t.trace ≡ None)
-          (λ t e f. elsewhere t.trace (not_true (same_trace trace t.trace) e) ∙ f) ts i.free;
+          (λ t e f. elsewhere t.trace (not-true (same_trace trace t.trace) e) ∙ f) ts i.free;
       places = places-without trace (Pinned ask.group) refl state.taken ts i.places;
       count = count-without trace (Pinned ask.group) refl state.taken ts i.apart (i.places trace) i.count;
       crumbs = λ u n.
@@ -288,12 +279,12 @@ indexed-claimed claims ask trace ts state free i =
           ∙ ap (λ (s : NodeSet). has_node s n)
           (by_answer (same_trace trace u)
           (λ y.
-          let e = same_from_test trace u y in
+          let e = same_trace-true trace u y in
           ap (crumbs_known claims ts) (sym e)
           ∙ known-free claims ts trace free
           ∙ sym (ap (crumbs_known (claims ++ new ∷ []) (others trace ts)) (sym e)
           ∙ ap (λ o. option_map_or (λ (claim : Claim). claim.crumbs) o (noted_of trace (others trace ts)).crumbs)
-          (claim-append claims new trace ∙ ap (λ o. option_or o (cond (same_trace trace trace) (Some new) None)) free ∙ ap (λ b. cond b (Some new) None) (same_itself trace))))
+          (claim-append claims new trace ∙ ap (λ o. option_or o (cond (same_trace trace trace) (Some new) None)) free ∙ ap (λ b. cond b (Some new) None) (same_trace-refl trace))))
           (λ no. sym (ap (λ o. option_map_or (λ (claim : Claim). claim.crumbs) o (noted_of u (others trace ts)).crumbs) (elsewhere u no) ∙ known-others claims ts (others trace ts) u (noted-others trace u no ts))));
     }
 
@@ -355,7 +346,7 @@ indexed-arrived claims sheet placed ts state free at i =
       places = λ u.
           by_answer (same_trace trace u)
           (λ y.
-          let e = same_from_test trace u y in
+          let e = same_trace-true trace u y in
           ap (λ w. map place_of (noted_of w (touch trace noted ts)).chunks) (sym e)
           ∙ ap (λ (x : Noted Place). map place_of x.chunks) (noted-touched trace noted ts)
           ∙ map-append place_of (noted_of trace ts).chunks (placed ∷ [])
@@ -363,7 +354,7 @@ indexed-arrived claims sheet placed ts state free at i =
           ∙ ap (λ p. indexed_places state.taken trace ++ p ∷ []) at
           ∙ sym (ap (indexed_places (state.taken ++ new ∷ [])) (sym e)
           ∙ places-more trace state.taken new
-          ∙ ap (λ b. indexed_places state.taken trace ++ cond b (length state.taken ∷ []) []) (same_itself trace)))
+          ∙ ap (λ b. indexed_places state.taken trace ++ cond b (length state.taken ∷ []) []) (same_trace-refl trace)))
           (λ no.
           ap (λ (x : Noted Place). map place_of x.chunks) (noted-untouched trace noted u no ts)
           ∙ i.places u
@@ -381,7 +372,7 @@ indexed-arrived claims sheet placed ts state free at i =
           ∙ ap (λ (s : NodeSet). has_node s n)
           (by_answer (same_trace trace u)
           (λ y.
-          let e = same_from_test trace u y in
+          let e = same_trace-true trace u y in
           ap (crumbs_known claims ts) (sym e)
           ∙ known-free claims ts trace free
           ∙ sym (ap (λ (x : Noted Place). x.crumbs) (noted-touched trace noted ts))
@@ -389,10 +380,6 @@ indexed-arrived claims sheet placed ts state free at i =
           ∙ ap (crumbs_known claims (touch trace noted ts)) e)
           (λ no. sym (known-others claims ts (touch trace noted ts) u (noted-untouched trace noted u no ts))));
     }
-
-or-true : (b : Bool) → (b || true) ≡ true
-or-true true = refl
-or-true false = refl
 
 pub any-append : {X : Type 0} (p : X → Bool) (xs : List X) (x : X) → list_any p (xs ++ x ∷ []) ≡ (list_any p xs || p x)
 any-append p [] x = by (p x)
@@ -445,7 +432,7 @@ indexed-crumbed claims crumb ts state free i =
       places = λ u.
           by_answer (same_trace trace u)
           (λ y.
-          let e = same_from_test trace u y in
+          let e = same_trace-true trace u y in
           ap (λ w. map place_of (noted_of w (touch trace noted ts)).chunks) (sym e)
           ∙ ap (λ (x : Noted Place). map place_of x.chunks) (noted-touched trace noted ts)
           ∙ i.places trace
@@ -460,9 +447,9 @@ indexed-crumbed claims crumb ts state free i =
           ∙ ap (λ b. b || (same_trace u trace && nat_eq n crumb.node.0)) (i.crumbs u n)
           ∙ by_answer (same_trace trace u)
           (λ y.
-          let e = same_from_test trace u y in
+          let e = same_trace-true trace u y in
           ap (λ w. has_node (crumbs_known claims ts w) n || (same_trace w trace && nat_eq n crumb.node.0)) (sym e)
-          ∙ ap (λ b. has_node (crumbs_known claims ts trace) n || (b && nat_eq n crumb.node.0)) (same_itself trace)
+          ∙ ap (λ b. has_node (crumbs_known claims ts trace) n || (b && nat_eq n crumb.node.0)) (same_trace-refl trace)
           ∙ ap (λ (s : NodeSet). has_node s n || nat_eq n crumb.node.0) (known-free claims ts trace free)
           ∙ sym (has-with_node (noted_of trace ts).crumbs crumb.node n)
           ∙ ap (λ (s : NodeSet). has_node s n) (sym (ap (λ (x : Noted Place). x.crumbs) (noted-touched trace noted ts)) ∙ sym (known-free claims (touch trace noted ts) trace free) ∙ ap (crumbs_known claims (touch trace noted ts)) e))

@@ -3,10 +3,10 @@ use Rattle.std.proofs.Common.{◌≡◌, ◌≢◌, ℕ, List, [], ◌∷◌, �
 use Rattle.std.specs.Prelude.{filter_map}
 use Rattle.std.specs.List.{AllByRecursion, cons_option}
 use Rattle.std.specs.Option.{option_and_then}
+use Rattle.hs_lists.proofs.Alls.{all_weaker, all_and}
 use Rattle.hs_words.specs.Buffers.{Buffer}
 use Rattle.hs_agent.specs.Placing.{Placed, Pledged, place_of, leased, lent, HandsOut, HaveOwnPlaces, IsPledged}
-use Rattle.hs_agent.proofs.Alls.{all-weaker}
-use Rattle.hs_agent.proofs.Offered.{get-other, all-both}
+use Rattle.hs_agent.proofs.Offered.{get-other}
 
 module _ {L : Type 0} (old new : List (Option (Pledged L))) (first : Placed) (rest : List Placed) (buffer : Buffer L) (out : HandsOut old first buffer new) (apart : AllByRecursion (λ (other : Placed). place_of first ≢ place_of other) rest) where
   same_slot : (other : Placed) → place_of first ≢ place_of other → slice_get new (place_of other) ≡ slice_get old (place_of other)
@@ -14,8 +14,8 @@ module _ {L : Type 0} (old new : List (Option (Pledged L))) (first : Placed) (re
 
   pub still_pledged : AllByRecursion (IsPledged old) rest → AllByRecursion (IsPledged new) rest
   still_pledged pledged =
-      all-weaker (λ (other : Placed). IsPledged old other × (place_of first ≢ place_of other)) (IsPledged new) (λ other h. record { lease = h.0.lease; is = same_slot other h.1 ∙ h.0.is }) rest
-      (all-both (IsPledged old) (λ (other : Placed). place_of first ≢ place_of other) rest pledged apart)
+      all_weaker (λ (other : Placed). IsPledged old other × (place_of first ≢ place_of other)) (IsPledged new) (λ other h. record { lease = h.0.lease; is = same_slot other h.1 ∙ h.0.is }) rest
+      (all_and (IsPledged old) (λ (other : Placed). place_of first ≢ place_of other) rest pledged apart)
 
   rest_lent : (others : List Placed) → AllByRecursion (λ (other : Placed). place_of first ≢ place_of other) others → filter_map (lent new) others ≡ filter_map (lent old) others
   rest_lent [] differ = refl

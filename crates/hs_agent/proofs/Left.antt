@@ -4,6 +4,7 @@ use Rattle.std.specs.Prelude.{Result, Ok, Err, IfOk, filter_map, flat_map}
 use Rattle.std.specs.List.{AllByRecursion, cons_option}
 use Rattle.std.specs.Option.{option_and_then, option_to_list}
 use Rattle.std.proofs.lemmas.List.{append_assoc, map-append}
+use Rattle.hs_lists.proofs.Alls.{all_weaker, all_append, all_front, all_back}
 use Rattle.hs_index.specs.Index.{chunks_left}
 use Rattle.hs_words.specs.Buffers.{Buffer}
 use Rattle.hs_journal.specs.Books.{PlainAgentBook}
@@ -14,7 +15,6 @@ use Rattle.hs_model.specs.State.{AgentState}
 use Rattle.hs_agent.specs.Placing.{Placed, Pledged, place_of, leased, lent, IsPledged}
 use Rattle.hs_agent.specs.Keeping.{Kept, Holds, Point, IsKept, waiting_chunks}
 use Rattle.hs_agent.specs.Points.{places_left, buffers_left}
-use Rattle.hs_agent.proofs.Alls.{all-weaker, all-append, all-left, all-right}
 use Rattle.hs_agent.proofs.OwnPlaces.{Traced, HasPlaces, have_places}
 
 module _ {L : Type 0} (leases : List (Option (Pledged L))) (buffers : List (Buffer L)) where
@@ -46,12 +46,12 @@ module _ {L : Type 0} (kept : Kept L) (point : Point L) (h : Holds kept point) w
   each_left : AllByRecursion (IsKept kept.leases point.buffers) (chunks_left kept.index.touched ++ kept.hand)
   each_left =
       let P = IsKept kept.leases point.buffers in
-      let wait = all-left P (waiting_chunks kept h.memory.pinned) kept.hand h.each in
-      all-append P (chunks_left kept.index.touched) kept.hand (all-left P (chunks_left kept.index.touched) _ wait) (all-right P (waiting_chunks kept h.memory.pinned) kept.hand h.each)
+      let wait = all_front P (waiting_chunks kept h.memory.pinned) kept.hand h.each in
+      all_append P (chunks_left kept.index.touched) kept.hand (all_front P (chunks_left kept.index.touched) _ wait) (all_back P (waiting_chunks kept h.memory.pinned) kept.hand h.each)
 
   pub pledged_left : AllByRecursion (IsPledged kept.leases) (chunks_left kept.index.touched ++ kept.hand)
   pledged_left =
-      all-weaker (IsKept kept.leases point.buffers) (IsPledged kept.leases) (λ (placed : Placed) (k : IsKept kept.leases point.buffers placed). record { lease = k.lease; is = k.kept })
+      all_weaker (IsKept kept.leases point.buffers) (IsPledged kept.leases) (λ (placed : Placed) (k : IsKept kept.leases point.buffers placed). record { lease = k.lease; is = k.kept })
       (chunks_left kept.index.touched ++ kept.hand) each_left
 
   pub lent_left : point.offered ≡ None → filter_map (lent kept.leases) (chunks_left kept.index.touched ++ kept.hand) ≡ buffers_left point

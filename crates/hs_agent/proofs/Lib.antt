@@ -33,3 +33,4 @@ pub mod ClaimedAll
 pub mod Admitting
 pub mod Meeting
 pub mod Few
+pub mod Brought

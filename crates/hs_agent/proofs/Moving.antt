@@ -4,13 +4,15 @@ use Rattle.std.specs.List.{AllByRecursion}
 use Rattle.std.specs.Option.{option_map, option_map_or, option_and_then}
 use Rattle.std.proofs.lemmas.Bool.{eqb-true, true≢false}
 use borrow.Author.Tests.{ne_eqb}
+use Rattle.hs_lists.proofs.Bools.{by_answer}
+use Rattle.hs_lists.proofs.Alls.{all_weaker}
 use Rattle.hs_base.specs.declared.ids.TraceId.{TraceId}
 use Rattle.hs_model.specs.Standings.{moved_from, moved, is_among, places_from, indexed_places, indexed_count, is_indexed, is_indexed_of, trace_of, pinned_for, pinning_group, Taken, ChunkStanding, Indexed, Pinned, Reported, Evicted, Abandoned}
 use Rattle.hs_base.specs.declared.told.Fate.TheVariants as fates
 use Rattle.hs_base.specs.declared.told.Group.{Group}
 use Rattle.hs_base.specs.Ids.{same_trace}
 use Rattle.hs_model.specs.Books.{page_standing, fate_of}
-use Rattle.hs_agent.proofs.Alls.{by_answer, all-weaker}
+use Rattle.hs_agent.proofs.GivingWay.{unmoved}
 
 -- a chunk that stands anew where it passes a test
 abbrev pub stood : (Taken → Bool) → (ChunkStanding → ChunkStanding) → Taken → Taken
@@ -68,14 +70,6 @@ module _ (places : List ℕ) (change : ChunkStanding → ChunkStanding) where
 
   pub slice_get-moved : (taken : List Taken) (i : ℕ) → slice_get (moved places change taken) i ≡ option_map (moved_chunk i) (slice_get taken i)
   slice_get-moved taken i = at_from 0 taken i ∙ ap (λ p. option_map (moved_chunk p) (slice_get taken i)) (let e : 0 + i ≡ i = omega arith in e)
-
-  -- the group for which a chunk that does not move is pinned
-  pub pinned_for-unmoved : (taken : List Taken) (i : ℕ) → is_among places i ≡ false → pinned_for (moved places change taken) i ≡ pinned_for taken i
-  pinned_for-unmoved taken i out = ap (option_and_then (λ (t : Taken). pinning_group t.standing)) (slice_get-moved taken i) ∙ by (slice_get taken i)
-    where
-      by : (o : Option Taken) → option_and_then (λ (t : Taken). pinning_group t.standing) (option_map (moved_chunk i) o) ≡ option_and_then (λ (t : Taken). pinning_group t.standing) o
-      by None = refl
-      by (Some t) = ap (λ b. pinning_group (cond b (record t { standing = change t.standing }) t).standing) out
 
 -- ---- the indexed chunks of a trace stand anew, and are indexed no more
 
@@ -174,7 +168,7 @@ unindexed group (Abandoned g) b e = refl
 pub pinned_for-leaving : (trace : TraceId) (change : ChunkStanding → ChunkStanding) (taken : List Taken) (place : ℕ) (group : Group) → pinned_for taken place ≡ Some group
     → pinned_for (moved (indexed_places taken trace) change taken) place ≡ Some group
 pinned_for-leaving trace change taken place group e =
-    pinned_for-unmoved (indexed_places taken trace) change taken place (among_passing (is_indexed_of trace) taken place ∙ by (slice_get taken place) e) ∙ e
+    unmoved (indexed_places taken trace) change taken place (among_passing (is_indexed_of trace) taken place ∙ by (slice_get taken place) e) ∙ e
   where
     by : (o : Option Taken) → option_and_then (λ (t : Taken). pinning_group t.standing) o ≡ Some group → option_map_or (is_indexed_of trace) o false ≡ false
     by None h = refl
@@ -184,7 +178,7 @@ all-among : (places : List ℕ) → AllByRecursion (λ (place : ℕ). is_among p
 all-among [] = tt
 all-among (p ∷ places) = (
   ap (λ b. b || is_among places p) (eq-eqb p p refl),
-  all-weaker (λ (place : ℕ). is_among places place ≡ true) (λ (place : ℕ). is_among (p ∷ places) place ≡ true) (λ place e. ap (λ b. nat_eq p place || b) e ∙ or-true (nat_eq p place)) places (all-among places),
+  all_weaker (λ (place : ℕ). is_among places place ≡ true) (λ (place : ℕ). is_among (p ∷ places) place ≡ true) (λ place e. ap (λ b. nat_eq p place || b) e ∙ or-true (nat_eq p place)) places (all-among places),
 )
   where
     or-true : (b : Bool) → (b || true) ≡ true
@@ -196,7 +190,7 @@ pub pinned_for-taken : (trace : TraceId) (group : Group) (taken : List Taken)
     → AllByRecursion (λ (place : ℕ). pinned_for (moved (indexed_places taken trace) (λ _. Pinned group) taken) place ≡ Some group) (indexed_places taken trace)
 pinned_for-taken trace group taken =
     let places = indexed_places taken trace in
-    all-weaker (λ (place : ℕ). is_among places place ≡ true) (λ (place : ℕ). pinned_for (moved places (λ _. Pinned group) taken) place ≡ Some group)
+    all_weaker (λ (place : ℕ). is_among places place ≡ true) (λ (place : ℕ). pinned_for (moved places (λ _. Pinned group) taken) place ≡ Some group)
     (λ place e. ap (option_and_then (λ (t : Taken). pinning_group t.standing)) (slice_get-moved places (λ _. Pinned group) taken place)
     ∙ here place e (slice_get taken place) (sym (among_passing (is_indexed_of trace) taken place) ∙ e))
     places (all-among places)

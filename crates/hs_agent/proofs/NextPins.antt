@@ -1,21 +1,21 @@
 -- Which chunk is the next one to be reported of a trigger id: the first that is pinned for its group.
-use Rattle.std.proofs.Common.{◌≡◌, ℕ, Bool, true, false, cond, not, ◌&&◌, ◌||◌, List, [], ◌∷◌, ◌++◌, map, filter, Option, Some, None, slice_get, nat_eq, ◌+◌, ◌≤◌, eq-eqb, refl, sym, ap, subst, ◌∙◌, arith}
+use Rattle.std.proofs.Common.{◌≡◌, ℕ, Bool, true, false, cond, not, ◌||◌, List, [], ◌∷◌, ◌++◌, map, filter, Option, Some, None, slice_get, nat_eq, ◌+◌, ◌≤◌, eq-eqb, refl, sym, ap, subst, ◌∙◌, arith}
 use Rattle.std.specs.List.{AllByRecursion, list_any}
 use Rattle.std.specs.Option.{option_map_or}
 use Rattle.std.specs.Ordering.{nat_cmp, ordering_then, is_le}
 use Rattle.std.specs.declared.cmp.Ordering.TheVariants.{Equal, Less, Greater}
-use Rattle.std.proofs.lemmas.Bool.{true≢false, le-ltb, eqb-true}
+use Rattle.std.proofs.lemmas.Bool.{true≢false, le-ltb, eqb-true, or_parts}
+use Rattle.hs_lists.proofs.Bools.{by_answer}
 use Rattle.hs_base.specs.declared.ids.TriggerId.{TriggerId}
 use Rattle.hs_base.specs.declared.told.Group.{Group}
 use Rattle.hs_base.specs.Ranks.{trace_rank}
 use Rattle.hs_pins.specs.Choosing.{put_by, ordered_by}
-use Rattle.hs_pins.specs.Priorities.{same_group, is_no_greater}
+use Rattle.hs_pins.specs.Priorities.{is_no_greater}
 use Rattle.hs_pins.specs.Remembered.{Pin, Remembered, is_for, is_under, pins_under, without_first}
 use Rattle.hs_pins.specs.Waiting.{goes_behind, order_of, next_of, without_next}
+use Rattle.hs_pins.proofs.Order.{same_group-true, same_group-refl}
 use Rattle.hs_model.specs.Standings.{is_among}
 use Rattle.hs_model.specs.Laws.{count_of}
-use Rattle.hs_agent.proofs.Alls.{by_answer}
-use Rattle.hs_agent.proofs.GivingWay.{one_group}
 
 -- ---- one group
 
@@ -25,10 +25,6 @@ nat_same n = ap (λ b. cond b Less (cond (nat_eq n n) Equal Greater)) (le-ltb n 
 pub no_greater-itself : (group : Group) → is_no_greater group group ≡ true
 no_greater-itself group =
     (λ i. is_le (ordering_then (nat_same (trace_rank group.lead).word i) (ordering_then (nat_same group.lead.0 i) (ordering_then (nat_same group.id.node i) (nat_same group.id.number i)))))
-
-pub same_group-itself : (group : Group) → same_group group group ≡ true
-same_group-itself group =
-    (λ i. eq-eqb group.id.node group.id.node refl i && (eq-eqb group.id.number group.id.number refl i && (eq-eqb group.trigger.0 group.trigger.0 refl i && eq-eqb group.lead.0 group.lead.0 refl i)))
 
 module _ {L : Type 0} where
   -- a chunk that is pinned, and before it none for its group
@@ -46,7 +42,7 @@ module _ {L : Type 0} where
   later id x item xs out f = record { before = x ∷ f.before; after = f.after; is = ap (λ l. x ∷ l) f.is; none = (out, f.none); under = f.under }
 
   apart_by : (id : TriggerId) (x item : Pin L) → (item.group ≡ x.group → ⊥) → is_for item.group x ≡ false
-  apart_by id x item differ = by_answer (is_for item.group x) (λ y. absurd (differ (one_group item.group x.group y))) (λ n. n)
+  apart_by id x item differ = by_answer (is_for item.group x) (λ y. absurd (differ (same_group-true item.group x.group y))) (λ n. n)
 
   -- the front of what waits is the first for its group
   pub first-waiting : (id : TriggerId) (pinned : List (Pin L)) (item : Pin L) (rest : List (Pin L)) → order_of pinned id ≡ item ∷ rest → FirstFor id pinned item
@@ -73,7 +69,7 @@ module _ {L : Type 0} where
 
   -- without it
   pub without-first : (item : Pin L) (before after : List (Pin L)) → AllByRecursion (λ (pin : Pin L). is_for item.group pin ≡ false) before → without_first item.group (before ++ item ∷ after) ≡ before ++ after
-  without-first item [] after none = ap (λ b. cond b after (item ∷ without_first item.group after)) (same_group-itself item.group)
+  without-first item [] after none = ap (λ b. cond b after (item ∷ without_first item.group after)) (same_group-refl item.group)
   without-first item (b ∷ before) after none =
       ap (λ c. cond c (before ++ item ∷ after) (b ∷ without_first item.group (before ++ item ∷ after))) none.0 ∙ ap (λ l. b ∷ l) (without-first item before after none.1)
 
@@ -105,10 +101,6 @@ module _ {L : Type 0} where
 abbrev pub AreDistinct : List ℕ → Type 0
 AreDistinct [] = Unit {0}
 AreDistinct (p ∷ places) = (is_among places p ≡ false) × AreDistinct places
-
-or_parts : (a b : Bool) → (a || b) ≡ false → (a ≡ false) × (b ≡ false)
-or_parts true b e = absurd (true≢false e)
-or_parts false b e = (refl, e)
 
 eq_swap : (a b : ℕ) → nat_eq a b ≡ false → nat_eq b a ≡ false
 eq_swap a b n = by_answer (nat_eq b a) (λ y. absurd (true≢false (sym (eq-eqb a b (sym (eqb-true b a y))) ∙ n))) (λ no. no)

@@ -7,6 +7,8 @@ use Rattle.std.proofs.lemmas.Option.{slice_get_within}
 use Rattle.hs_base.specs.declared.told.Told.{Told}
 use Rattle.hs_journal.specs.declared.journal.Step.{Step}
 use Rattle.std.specs.Prelude.{Result, Ok, Err, IfOk, OnOk, IfSome, IfNone}
+use Rattle.hs_lists.proofs.Alls.{all_weaker, all_append, all_front, all_back, all_and}
+use Rattle.hs_lists.proofs.Counts.{one_if}
 use Rattle.hs_words.specs.Buffers.{Buffer, buffer_of, buffer_in}
 use Rattle.hs_words.specs.declared.token.Held.{Held}
 use Rattle.hs_sched.specs.declared.share.Share.{Share}
@@ -19,8 +21,7 @@ use Rattle.hs_agent.specs.declared.placed.Place.{Place}
 use Rattle.hs_agent.specs.Placing.{Placed, Pledged, place_of, placed_at, leased, HandsOut}
 use Rattle.hs_agent.specs.Keeping.{Kept, Holds, Point, IsKept, with_state, waiting_chunks, all_held}
 use Rattle.hs_agent.specs.Offering.{Offers, back_at, answered}
-use Rattle.hs_agent.proofs.Alls.{all-weaker, all-append, all-left, all-right}
-use Rattle.hs_agent.proofs.OwnPlaces.{one_if, apart_from_offered, apart_from_first}
+use Rattle.hs_agent.proofs.OwnPlaces.{apart_from_offered, apart_from_first}
 
 -- ---- a write in a list
 
@@ -35,10 +36,6 @@ get-in : {X : Type 0} (xs : List X) (i : ℕ) (x : X) → i < length xs → slic
 get-in [] i x within = absurd (omega (arith, within))
 get-in (z ∷ zs) zero x within = refl
 get-in (z ∷ zs) (suc i) x within = get-in zs i x (omega (arith, within))
-
-pub all-both : {X : Type 0} (P Q : X → Type 0) (xs : List X) → AllByRecursion P xs → AllByRecursion Q xs → AllByRecursion (λ x. P x × Q x) xs
-all-both P Q [] h k = tt
-all-both P Q (x ∷ xs) h k = ((h.0, k.0), all-both P Q xs h.1 k.1)
 
 -- ---- what does not touch the chunks
 
@@ -157,7 +154,7 @@ module _ {L : Type 0} where
       is_first = ap (λ l. slice_get l 0) (sym in_hand) ∙ ap (λ (l : List Placed). slice_get (map place_of l) 0) offers.was
 
       first_kept : IsKept kept.leases point.buffers offers.first
-      first_kept = (all-right (IsKept kept.leases point.buffers) (waiting_chunks kept h.memory.pinned) (offers.first ∷ new.hand) (subst (λ hand. AllByRecursion (IsKept kept.leases point.buffers) (waiting_chunks kept h.memory.pinned ++ hand)) offers.was h.each)).0
+      first_kept = (all_back (IsKept kept.leases point.buffers) (waiting_chunks kept h.memory.pinned) (offers.first ∷ new.hand) (subst (λ hand. AllByRecursion (IsKept kept.leases point.buffers) (waiting_chunks kept h.memory.pinned ++ hand)) offers.was h.each)).0
 
       -- it is handed out as it came last
       pub as_it_came : Some buffer ≡ option_and_then (λ place. slice_get point.buffers place) first_of
@@ -174,13 +171,13 @@ module _ {L : Type 0} where
           let wait : List Placed = waiting_chunks kept h.memory.pinned in
           let each : AllByRecursion (IsKept kept.leases point.buffers) (wait ++ offers.first ∷ new.hand) = subst (λ hand. AllByRecursion (IsKept kept.leases point.buffers) (wait ++ hand)) offers.was h.each in
           let others : AllByRecursion (IsKept kept.leases point.buffers) (wait ++ new.hand) =
-          all-append (IsKept kept.leases point.buffers) wait new.hand (all-left (IsKept kept.leases point.buffers) wait (offers.first ∷ new.hand) each)
-          (all-right (IsKept kept.leases point.buffers) wait (offers.first ∷ new.hand) each).1 in
+          all_append (IsKept kept.leases point.buffers) wait new.hand (all_front (IsKept kept.leases point.buffers) wait (offers.first ∷ new.hand) each)
+          (all_back (IsKept kept.leases point.buffers) wait (offers.first ∷ new.hand) each).1 in
           let apart = apart_from_first kept point h one offers.first new.hand offers.was in
           let still : AllByRecursion (IsKept (slice_set kept.leases p None) point.buffers) (wait ++ new.hand) =
-          all-weaker (λ (placed : Placed). IsKept kept.leases point.buffers placed × (p ≢ place_of placed)) (IsKept (slice_set kept.leases p None) point.buffers)
+          all_weaker (λ (placed : Placed). IsKept kept.leases point.buffers placed × (p ≢ place_of placed)) (IsKept (slice_set kept.leases p None) point.buffers)
           (kept-other kept.leases point.buffers p None) (wait ++ new.hand)
-          (all-both (IsKept kept.leases point.buffers) (λ (placed : Placed). p ≢ place_of placed) (wait ++ new.hand) others apart) in
+          (all_and (IsKept kept.leases point.buffers) (λ (placed : Placed). p ≢ place_of placed) (wait ++ new.hand) others apart) in
           let made : Holds (record kept { hand = new.hand; leases = new.leases; offered = new.offered }) (record point { offered = new.offered }) =
           rehanded kept point h new.hand new.leases new.offered point.buffers point.state.hand
           (ap (λ o. option_to_list o ++ map place_of new.hand) offers.offered ∙ sym (ap (map place_of) offers.was) ∙ in_hand)
@@ -229,14 +226,14 @@ module _ {L : Type 0} where
         let P = λ (placed : Placed). IsKept kept.leases point.buffers placed × (place ≢ place_of placed) in
         let Q = IsKept (slice_set kept.leases place slot) (slice_set point.buffers place buffer) in
         let apart = apart_from_offered kept point h one place out in
-        let both : AllByRecursion P (wait ++ kept.hand) = all-both (IsKept kept.leases point.buffers) (λ (placed : Placed). place ≢ place_of placed) (wait ++ kept.hand) h.each apart in
-        let still : AllByRecursion Q (wait ++ kept.hand) = all-weaker P Q (kept-instead kept.leases point.buffers place slot buffer) (wait ++ kept.hand) both in
+        let both : AllByRecursion P (wait ++ kept.hand) = all_and (IsKept kept.leases point.buffers) (λ (placed : Placed). place ≢ place_of placed) (wait ++ kept.hand) h.each apart in
+        let still : AllByRecursion Q (wait ++ kept.hand) = all_weaker P Q (kept-instead kept.leases point.buffers place slot buffer) (wait ++ kept.hand) both in
         let here : Q back = record {
           lease = buffer.lease;
           kept = get-in kept.leases place slot (subst (λ n. place < n) (sym h.leases) below);
           came = get-in point.buffers place buffer (subst (λ n. place < n) (sym h.buffers) below);
         } in
-        let each : AllByRecursion Q (wait ++ back ∷ kept.hand) = all-append Q wait (back ∷ kept.hand) (all-left Q wait kept.hand still) (here, all-right Q wait kept.hand still) in
+        let each : AllByRecursion Q (wait ++ back ∷ kept.hand) = all_append Q wait (back ∷ kept.hand) (all_front Q wait kept.hand still) (here, all_back Q wait kept.hand still) in
         let made : Holds (back_at kept place buffer) (record point { state = record point.state { hand = place ∷ map place_of kept.hand }; buffers = slice_set point.buffers place buffer; offered = None }) =
         rehanded kept point h (back ∷ kept.hand) (slice_set kept.leases place slot) None (slice_set point.buffers place buffer) (place ∷ map place_of kept.hand) refl
         (length-set kept.leases place slot) (length-set point.buffers place buffer) each in

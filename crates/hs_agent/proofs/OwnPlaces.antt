@@ -5,6 +5,9 @@ use Rattle.std.specs.Option.{option_map_or, option_to_list}
 use borrow.Author.Tests.{ne_eqb}
 use Rattle.std.proofs.lemmas.List.{map-append}
 use Rattle.std.proofs.lemmas.Simd.{map-map}
+use Rattle.hs_lists.proofs.Bools.{by_answer}
+use Rattle.hs_lists.proofs.Alls.{all_weaker}
+use Rattle.hs_lists.proofs.Counts.{one_if}
 use Rattle.hs_base.specs.declared.ids.TraceId.{TraceId}
 use Rattle.hs_base.specs.Ids.{same_trace}
 use Rattle.hs_index.specs.Index.{Indexed, Noted, noted_of, is_of, nothing, chunks_left}
@@ -12,18 +15,12 @@ use Rattle.hs_pins.specs.Remembered.{Pin}
 use Rattle.hs_model.specs.Standings.{Taken, trace_of, is_indexed, is_indexed_of, is_pinned, indexed_places, places_from, passes, stands}
 use Rattle.hs_model.specs.State.{AgentState}
 use Rattle.hs_model.specs.Laws.{count_of, given_places, IsInOnePlace}
+use Rattle.hs_model.proofs.Counts.{count-append}
+use Rattle.hs_model.proofs.Traces.{same_trace-true, same_trace-refl}
 use Rattle.hs_agent.specs.declared.placed.Place.{Place}
 use Rattle.hs_agent.specs.Placing.{Placed, place_of, HaveOwnPlaces}
 use Rattle.hs_agent.specs.Keeping.{Kept, Holds, Point, AreApart, IsIndexed, pinned_place, waiting_chunks, all_held}
-use Rattle.hs_agent.proofs.Alls.{all-weaker, by_answer}
-use Rattle.hs_agent.proofs.Indexing.{same_from_test, same_itself, same_swap}
-
-abbrev pub one_if : Bool → ℕ
-one_if b = cond b 1 0
-
-pub count-append : (xs ys : List ℕ) (q : ℕ) → count_of (xs ++ ys) q ≡ count_of xs q + count_of ys q
-count-append [] ys q = omega arith
-count-append (x ∷ xs) ys q = let rest = count-append xs ys q in omega (arith, rest)
+use Rattle.hs_agent.proofs.Indexing.{same_swap}
 
 -- ---- the places of an indexed trace
 
@@ -63,7 +60,7 @@ Traced = Indexed Place
 each-noted : (ts : List Traced) → AreApart ts → AllByRecursion (λ (t : Traced). noted_of t.trace ts ≡ t.noted) ts
 each-noted [] apart = tt
 each-noted (t ∷ ts) apart = (
-  ap (λ b. option_map_or (λ (u : Traced). u.noted) (cond b (Some t) (find (is_of t.trace) ts)) nothing) (same_itself t.trace),
+  ap (λ b. option_map_or (λ (u : Traced). u.noted) (cond b (Some t) (find (is_of t.trace) ts)) nothing) (same_trace-refl t.trace),
   later ts ts apart.0 (each-noted ts apart.1),
 )
   where
@@ -104,7 +101,7 @@ module _ (taken : List Taken) where
       by : (found : Option Taken) → option_map_or (is_indexed_of t.trace) found false ≡ true → option_map_or (is_indexed_of u.trace) found false ≡ false
       by None f = absurd (true≢false (sym f))
       by (Some c) f =
-          let same : t.trace ≡ trace_of c = same_from_test t.trace (trace_of c) (both-right (is_indexed c.standing) (same_trace t.trace (trace_of c)) f) in
+          let same : t.trace ≡ trace_of c = same_trace-true t.trace (trace_of c) (both-right (is_indexed c.standing) (same_trace t.trace (trace_of c)) f) in
           ap (λ b. is_indexed c.standing && b) (ap (same_trace u.trace) (sym same) ∙ same_swap u.trace t.trace ∙ apart) ∙ and-no (is_indexed c.standing)
 
   none_left : (t : Traced) (us : List Traced) (q : ℕ) → AllByRecursion (λ (u : Traced). same_trace t.trace u.trace ≡ false) us → AllByRecursion HasPlaces us → passes (is_indexed_of t.trace) taken q ≡ true
@@ -158,7 +155,7 @@ own-once (p ∷ ps) once = (
 -- each indexed trace has the places of the model
 pub have_places : {L : Type 0} (kept : Kept L) (point : Point L) → Holds kept point → AllByRecursion (HasPlaces point.state.taken) kept.index.touched
 have_places kept point h =
-    all-weaker (λ (t : Traced). noted_of t.trace kept.index.touched ≡ t.noted) (HasPlaces point.state.taken)
+    all_weaker (λ (t : Traced). noted_of t.trace kept.index.touched ≡ t.noted) (HasPlaces point.state.taken)
     (λ t e. ap (λ (n : Noted Place). map place_of n.chunks) (sym e) ∙ h.index.touched.places t.trace) kept.index.touched (each-noted kept.index.touched h.index.touched.apart)
 
 module _ {L : Type 0} (kept : Kept L) (point : Point L) (h : Holds kept point) (one : (place : ℕ) → IsInOnePlace point.state place) where

@@ -5,11 +5,13 @@ use Rattle.std.specs.List.{AllByRecursion}
 use Rattle.std.specs.Option.{option_to_list}
 use Rattle.std.proofs.lemmas.List.{append_assoc, map-append}
 use Rattle.std.proofs.lemmas.Simd.{map-map}
+use Rattle.hs_lists.proofs.Alls.{all_weaker, all_append, all_front, all_back}
 use Rattle.hs_base.specs.declared.told.Group.{Group}
 use Rattle.hs_journal.specs.declared.books.Standing.{Standing}
 use Rattle.hs_pins.specs.Remembered.{Pin, Remembered, pins_for, without_group, is_for}
 use Rattle.hs_pins.specs.Abandoning.{leaving, staying, going, drops, relieved}
 use Rattle.hs_pins.specs.PinsLayout.{Pinning, Remembers}
+use Rattle.hs_pins.proofs.Sound.{staying_few}
 use Rattle.hs_index.specs.Index.{Indexed, chunks_left, count_chunks}
 use Rattle.hs_model.specs.State.{AgentState}
 use Rattle.hs_model.specs.Standings.{Taken}
@@ -20,8 +22,6 @@ use Rattle.hs_agent.specs.declared.placed.Place.{Place}
 use Rattle.hs_agent.specs.Placing.{Placed, Pledged, place_of}
 use Rattle.hs_agent.specs.Keeping.{Kept, Holds, HasPage, IsKept, IsIndexed, IsIndexOf, RemembersAs, Point, with_state, pinned_place, waiting_chunks, all_held}
 use Rattle.hs_agent.specs.LettingGo.{Going, with_fate, let_go, let_go_all, abandoned_going}
-use Rattle.hs_agent.proofs.Alls.{all-weaker}
-use Rattle.hs_agent.proofs.Going.{length-staying}
 use Rattle.hs_agent.proofs.GivingWay.{HasAbandoned, same_go, note_abandoned}
 use Rattle.hs_agent.proofs.Moved.{length-same, pages-same, has_page-same}
 
@@ -45,19 +45,6 @@ fold-goings f standings [] = refl
 fold-goings f standings (item ∷ items) = fold-goings f (note_going standings (f item)) items
 
 -- ---- lists that an abandonment cuts
-
-module _ {A : Type 0} (P : A → Type 0) where
-  pub all-append : (xs ys : List A) → AllByRecursion P xs → AllByRecursion P ys → AllByRecursion P (xs ++ ys)
-  all-append [] ys h k = k
-  all-append (x ∷ xs) ys h k = (h.0, all-append xs ys h.1 k)
-
-  pub all-front : (xs ys : List A) → AllByRecursion P (xs ++ ys) → AllByRecursion P xs
-  all-front [] ys h = tt
-  all-front (x ∷ xs) ys h = (h.0, all-front xs ys h.1)
-
-  pub all-back : (xs ys : List A) → AllByRecursion P (xs ++ ys) → AllByRecursion P ys
-  all-back [] ys h = h
-  all-back (x ∷ xs) ys h = all-back xs ys h.1
 
 module _ {A : Type 0} {P Q : A → Type 0} (f : (x : A) → P x → Q x) where
   pub all-same : (xs : List A) → AllByRecursion P xs → AllByRecursion Q xs
@@ -92,7 +79,7 @@ module _ (P : Placed → Type 0) where
   all-going [] pinned h = tt
   all-going (group ∷ groups) pinned h =
       subst (AllByRecursion P) (sym (map-append chunk_of (pins_for group pinned) (going groups (without_group group pinned))))
-      (all-append P (map chunk_of (pins_for group pinned)) (map chunk_of (going groups (without_group group pinned))) (all-for group pinned h) (all-going groups (without_group group pinned) (all-without group pinned h)))
+      (all_append P (map chunk_of (pins_for group pinned)) (map chunk_of (going groups (without_group group pinned))) (all-for group pinned h) (all-going groups (without_group group pinned) (all-without group pinned h)))
 
 -- ---- an abandonment
 
@@ -166,22 +153,22 @@ module _ {L : Type 0} (kept : Kept L) (pins : Pinning Place) (point : Point L) (
   each_kept : AllByRecursion (IsKept kept.leases point.buffers) (all_held left (staying groups pinned))
   each_kept =
       let P = IsKept kept.leases point.buffers in
-      let front = all-front P (waiting_chunks kept pinned) kept.hand h.each in
-      let hand = all-back P (waiting_chunks kept pinned) kept.hand h.each in
-      let indexed = all-front P index_chunks (map chunk_of pinned) front in
-      let pins_kept = all-back P index_chunks (map chunk_of pinned) front in
-      all-append P (index_chunks ++ map chunk_of (staying groups pinned)) (kept.hand ++ map chunk_of (going groups pinned))
-      (all-append P index_chunks (map chunk_of (staying groups pinned)) indexed (all-staying P groups pinned pins_kept))
-      (all-append P kept.hand (map chunk_of (going groups pinned)) hand (all-going P groups pinned pins_kept))
+      let front = all_front P (waiting_chunks kept pinned) kept.hand h.each in
+      let hand = all_back P (waiting_chunks kept pinned) kept.hand h.each in
+      let indexed = all_front P index_chunks (map chunk_of pinned) front in
+      let pins_kept = all_back P index_chunks (map chunk_of pinned) front in
+      all_append P (index_chunks ++ map chunk_of (staying groups pinned)) (kept.hand ++ map chunk_of (going groups pinned))
+      (all_append P index_chunks (map chunk_of (staying groups pinned)) indexed (all-staying P groups pinned pins_kept))
+      (all_append P kept.hand (map chunk_of (going groups pinned)) hand (all-going P groups pinned pins_kept))
 
   each_paged : AllByRecursion (HasPage point.settings new.taken) (waiting_chunks left (staying groups pinned))
   each_paged =
       let P = HasPage point.settings old.taken in
-      let indexed = all-front P index_chunks (map chunk_of pinned) h.paged in
-      let pins_paged = all-back P index_chunks (map chunk_of pinned) h.paged in
+      let indexed = all_front P index_chunks (map chunk_of pinned) h.paged in
+      let pins_paged = all_back P index_chunks (map chunk_of pinned) h.paged in
       all-same (λ (placed : Placed) (page : P placed). has_page-same old.taken new.taken gone.pages point.settings placed page)
       (index_chunks ++ map chunk_of (staying groups pinned))
-      (all-append P index_chunks (map chunk_of (staying groups pinned)) indexed (all-staying P groups pinned pins_paged))
+      (all_append P index_chunks (map chunk_of (staying groups pinned)) indexed (all-staying P groups pinned pins_paged))
 
   holds_left : Holds left (with_state new point)
   holds_left =
@@ -203,13 +190,13 @@ module _ {L : Type 0} (kept : Kept L) (pins : Pinning Place) (point : Point L) (
             ∙ sym (ap (λ (s : AgentState). filter_map (bytes_at new.taken) s.reported) gone.others);
         reported =
             subst (AllByRecursion (λ (place : ℕ). place < length new.taken)) (sym (ap (λ (s : AgentState). s.reported) gone.others))
-            (all-weaker (λ (place : ℕ). place < length old.taken) (λ (place : ℕ). place < length new.taken) (λ place within. subst (λ n. place < n) (sym long) within) old.reported h.reported);
+            (all_weaker (λ (place : ℕ). place < length old.taken) (λ (place : ℕ). place < length new.taken) (λ place within. subst (λ n. place < n) (sym long) within) old.reported h.reported);
         leases = h.leases ∙ sym long;
         buffers = h.buffers ∙ sym long;
         each = each_kept;
         paged = each_paged;
         few =
-            let fewer = length-staying groups pinned in
+            let fewer = staying_few groups pinned in
             let few = h.few in
             omega (arith, fewer, few, long);
         fits = let fits = h.fits in omega (arith, fits, long);

@@ -17,15 +17,6 @@ module _ {L : Type 0} (memory : Remembered L) (chunk : Buffer L) where
       by None = omega arith
       by (Some claim) = here claim (is_abandoned memory.abandoned claim.group)
 
-  -- nothing else is remembered where it comes back
-  pub arrived-back : comes_back memory chunk ≡ true → arrived memory chunk ≡ memory
-  arrived-back back = by (claim_for memory.claims chunk) back
-    where
-      by : (o : Option Claim) → option_map_or (λ (claim : Claim). is_abandoned memory.abandoned claim.group) o false ≡ true
-          → option_map_or (λ (claim : Claim). cond (is_abandoned memory.abandoned claim.group) memory (with_pin memory claim.group chunk)) o memory ≡ memory
-      by None e = refl
-      by (Some claim) e = ap (λ b. cond b memory (with_pin memory claim.group chunk)) e
-
   -- what is handed back says whether it comes back
   pub none-back : None ≡ handed_back memory chunk → comes_back memory chunk ≡ false
   none-back e = by (comes_back memory chunk) e

@@ -5,6 +5,7 @@ use Rattle.std.specs.List.{AllByRecursion}
 use Rattle.std.specs.Option.{option_map, option_map_or, option_and_then}
 use Rattle.std.proofs.lemmas.List.{append_assoc, map-append, length-append}
 use Rattle.std.proofs.lemmas.List.Sums.{fold-append}
+use Rattle.hs_lists.proofs.Alls.{all_weaker, all_append, all_front, all_back, all_map, all_unmap, all_and}
 use Rattle.hs_base.specs.declared.ids.TraceId.{TraceId}
 use Rattle.hs_base.specs.declared.ids.TriggerId.{TriggerId}
 use Rattle.hs_base.specs.declared.told.Group.{Group}
@@ -29,7 +30,6 @@ use Rattle.hs_agent.specs.Placing.{Placed, place_of}
 use Rattle.hs_agent.specs.Keeping.{Kept, Point, Holds, IsKept, HasPage, pinned_place, waiting_chunks}
 use Rattle.hs_agent.specs.LettingGo.{with_fate, reported_fate}
 use Rattle.hs_agent.specs.Reporting.{SendsNext, costs_of, id_of}
-use Rattle.hs_agent.proofs.Alls.{by_answer, all-append, all-left, all-right, all-map, all-unmap, all-weaker}
 use Rattle.hs_agent.proofs.GivingWay.{ArePinned, unmoved}
 use Rattle.hs_agent.proofs.Moved.{sheets, sheets-moved, has_page-same, indexed-moved, count-moved}
 use Rattle.hs_agent.proofs.NextPins.{AreDistinct, FirstFor, first-waiting, without-next, all-waiting, differ-from, distinct-without, filter-others}
@@ -43,10 +43,6 @@ chunk_of pin = pin.chunk
 -- the fate of a chunk that was sent is noted
 abbrev pub note_reported : List Standing → Pin Place → List Standing
 note_reported standings pin = with_fate (pinned_place pin) (reported_fate pin.group) standings
-
-pub all-both : {A : Type 0} (P Q : A → Type 0) (xs : List A) → AllByRecursion P xs → AllByRecursion Q xs → AllByRecursion (λ x. P x × Q x) xs
-all-both P Q [] h k = tt
-all-both P Q (x ∷ xs) h k = ((h.0, k.0), all-both P Q xs h.1 k.1)
 
 -- sends, and then others
 pub sends-split : {Q : Type 0} (sends : Q → ℕ → Q → Type 0) (xs ys : List ℕ) (old new : Q) → SendsEach sends old (xs ++ ys) new → (mid : Q) × SendsEach sends old xs mid × SendsEach sends mid ys new
@@ -99,9 +95,9 @@ module _ {L : Type 0} (first : Kept L) (point : Point L) (h : Holds first point)
         count = refl;
         others = refl;
         waits =
-            all-both P Q chunks
-            (all-right P (chunks_left first.index.touched) chunks (all-left P (waiting_chunks first h.memory.pinned) first.hand h.each))
-            (all-right Q (chunks_left first.index.touched) chunks h.paged);
+            all_and P Q chunks
+            (all_back P (chunks_left first.index.touched) chunks (all_front P (waiting_chunks first h.memory.pinned) first.hand h.each))
+            (all_back Q (chunks_left first.index.touched) chunks h.paged);
         went = subst (λ l. AllByRecursion Good (map chunk_of l)) (sym h.sent) tt;
         few = omega arith;
       }
@@ -127,7 +123,7 @@ module _ {L : Type 0} (first : Kept L) (point : Point L) (h : Holds first point)
       ap (map (used_at state.taken)) (order-waiting kept state id m)
       ∙ costs-at state (waiting kept.pins (id_of id)) m.pages
       (subst (AllByRecursion (λ (pin : Pin Place). Good pin.chunk)) (sym (m.remembers.waits (id_of id)))
-      (all-waiting (λ (pin : Pin Place). Good pin.chunk) (id_of id) m.memory.pinned (all-unmap Good chunk_of m.memory.pinned m.waits)))
+      (all-waiting (λ (pin : Pin Place). Good pin.chunk) (id_of id) m.memory.pinned (all_unmap Good chunk_of m.memory.pinned m.waits)))
 
   -- ---- one send
 
@@ -166,10 +162,10 @@ module _ {L : Type 0} (first : Kept L) (point : Point L) (h : Holds first point)
     all-left_over : (P : Pin Place → Type 0) → AllByRecursion P m.memory.pinned → AllByRecursion P left
     all-left_over P all =
         let now = subst (AllByRecursion P) front.is all in
-        all-append P front.before front.after (all-left P front.before (item ∷ front.after) now) (all-right P front.before (item ∷ front.after) now).1
+        all_append P front.before front.after (all_front P front.before (item ∷ front.after) now) (all_back P front.before (item ∷ front.after) now).1
 
     own : (P : Pin Place → Type 0) → AllByRecursion P m.memory.pinned → P item
-    own P all = (all-right P front.before (item ∷ front.after) (subst (AllByRecursion P) front.is all)).0
+    own P all = (all_back P front.before (item ∷ front.after) (subst (AllByRecursion P) front.is all)).0
 
     its_group : pinned_for state.taken place ≡ Some item.group
     its_group = own (λ (pin : Pin Place). pinned_for state.taken (pinned_place pin) ≡ Some pin.group) m.groups
@@ -193,10 +189,10 @@ module _ {L : Type 0} (first : Kept L) (point : Point L) (h : Holds first point)
 
     groups_now : ArePinned pinned_place after.taken left
     groups_now =
-        let both = all-both (λ (pin : Pin Place). pinned_for state.taken (pinned_place pin) ≡ Some pin.group) (λ (pin : Pin Place). is_among (place ∷ []) (pinned_place pin) ≡ false) left
+        let both = all_and (λ (pin : Pin Place). pinned_for state.taken (pinned_place pin) ≡ Some pin.group) (λ (pin : Pin Place). is_among (place ∷ []) (pinned_place pin) ≡ false) left
         (all-left_over (λ (pin : Pin Place). pinned_for state.taken (pinned_place pin) ≡ Some pin.group) m.groups)
-        (all-unmap (λ (q : ℕ). is_among (place ∷ []) q ≡ false) pinned_place left (subst (AllByRecursion (λ (q : ℕ). is_among (place ∷ []) q ≡ false)) (sym (map-append pinned_place front.before front.after)) differ)) in
-        all-weaker (λ (pin : Pin Place). (pinned_for state.taken (pinned_place pin) ≡ Some pin.group) × (is_among (place ∷ []) (pinned_place pin) ≡ false)) (λ (pin : Pin Place). pinned_for after.taken (pinned_place pin) ≡ Some pin.group)
+        (all_unmap (λ (q : ℕ). is_among (place ∷ []) q ≡ false) pinned_place left (subst (AllByRecursion (λ (q : ℕ). is_among (place ∷ []) q ≡ false)) (sym (map-append pinned_place front.before front.after)) differ)) in
+        all_weaker (λ (pin : Pin Place). (pinned_for state.taken (pinned_place pin) ≡ Some pin.group) × (is_among (place ∷ []) (pinned_place pin) ≡ false)) (λ (pin : Pin Place). pinned_for after.taken (pinned_place pin) ≡ Some pin.group)
         (λ pin e. unmoved (place ∷ []) reported_standing state.taken (pinned_place pin) e.1 ∙ e.0) left both
 
     pub sends-one : Midway next after
@@ -230,11 +226,11 @@ module _ {L : Type 0} (first : Kept L) (point : Point L) (h : Holds first point)
           places = λ trace. indexed-moved (place ∷ []) reported_standing state.taken (reports_unindexed (place ∷ []) state.taken) trace ∙ m.places trace;
           count = count-moved (place ∷ []) reported_standing state.taken (reports_unindexed (place ∷ []) state.taken) ∙ m.count;
           others = ap (report_one_of after) m.others;
-          waits = all-map Good chunk_of left (all-left_over (λ (pin : Pin Place). Good pin.chunk) (all-unmap Good chunk_of m.memory.pinned m.waits));
+          waits = all_map Good chunk_of left (all-left_over (λ (pin : Pin Place). Good pin.chunk) (all_unmap Good chunk_of m.memory.pinned m.waits));
           went =
               subst (λ l. AllByRecursion Good (map chunk_of l)) (sym s.moves.put)
               (subst (AllByRecursion Good) (sym (map-append chunk_of kept.sent (item ∷ [])))
-              (all-append Good (map chunk_of kept.sent) (item.chunk ∷ []) m.went (own (λ (pin : Pin Place). Good pin.chunk) (all-unmap Good chunk_of m.memory.pinned m.waits), tt)));
+              (all_append Good (map chunk_of kept.sent) (item.chunk ∷ []) m.went (own (λ (pin : Pin Place). Good pin.chunk) (all_unmap Good chunk_of m.memory.pinned m.waits), tt)));
           few =
               let few = m.few in
               let all = ap length front.is ∙ length-append front.before (item ∷ front.after) in
@@ -284,7 +280,7 @@ module _ {L : Type 0} (first : Kept L) (point : Point L) (h : Holds first point)
       let visited : visit point.settings state share ≡ report_each state (take n (order_of state id)) =
       ap (λ l. report (take (count_sent point.settings.size share l) (order_of state id)) state) (costs-same kept state id m ∙ same.0) ∙ report-each (take n (order_of state id)) state in
       let there : Midway mid (visit point.settings state share) = subst (Midway mid) (sym visited) (sends-some n id kept mid state parts.1 m) in
-      let still = all-weaker (λ (other : Share). (other.trigger.0 ≢ id) × (costs_of kept other.trigger.0 ≡ costs other.trigger.0)) (λ (other : Share). costs_of mid other.trigger.0 ≡ costs other.trigger.0)
+      let still = all_weaker (λ (other : Share). (other.trigger.0 ≢ id) × (costs_of kept other.trigger.0 ≡ costs other.trigger.0)) (λ (other : Share). costs_of mid other.trigger.0 ≡ costs other.trigger.0)
       (λ other e. ap (map (λ (pin : Pin Place). used_bytes pin.chunk)) (others-wait n id other.trigger.0 kept mid parts.1 e.0) ∙ e.1) shares
-      (all-both (λ (other : Share). other.trigger.0 ≢ id) (λ (other : Share). costs_of kept other.trigger.0 ≡ costs other.trigger.0) shares once.0 same.1) in
+      (all_and (λ (other : Share). other.trigger.0 ≢ id) (λ (other : Share). costs_of kept other.trigger.0 ≡ costs other.trigger.0) shares once.0 same.1) in
       sends-all costs shares mid new (visit point.settings state share) once.1 still parts.2 there

@@ -5,6 +5,7 @@ use Rattle.std.specs.List.{AllByRecursion}
 use Rattle.std.specs.Option.{option_to_list}
 use Rattle.std.proofs.lemmas.List.{append_assoc, map-append}
 use Rattle.std.proofs.lemmas.Simd.{map-map}
+use Rattle.hs_lists.proofs.Alls.{all_weaker, all_append, all_front, all_back}
 use Rattle.hs_journal.specs.declared.books.Standing.{Standing}
 use Rattle.hs_pins.specs.Remembered.{Pin}
 use Rattle.hs_index.specs.Index.{Index, Indexed, Leaving, chunks_left, kept, evicted, settled, going, with_touched}
@@ -15,7 +16,6 @@ use Rattle.hs_agent.specs.declared.placed.Place.{Place}
 use Rattle.hs_agent.specs.Placing.{Placed, place_of}
 use Rattle.hs_agent.specs.Keeping.{Kept, Holds, HasPage, IsKept, RemembersAs, Point, with_state, pinned_place, waiting_chunks, all_held}
 use Rattle.hs_agent.specs.LettingGo.{Going, let_go_all, evicted_going}
-use Rattle.hs_agent.proofs.Alls.{all-append, all-left, all-right, all-weaker}
 use Rattle.hs_agent.proofs.Evictions.{HasEvicted, same_evicted, note_leaving, all-kept, all-evicted, count-kept}
 use Rattle.hs_agent.proofs.Moved.{length-same, pages-same, has_page-same}
 use Rattle.hs_agent.proofs.Relieving.{let_go_all-is, fold-goings, going_buffer}
@@ -53,20 +53,20 @@ module _ {L : Type 0} (old : Kept L) (point : Point L) (h : Holds old point) whe
     each_kept =
         let P = IsKept old.leases point.buffers in
         let pins = map (λ (pin : Pin Place). pin.chunk) h.memory.pinned in
-        let front = all-left P (waiting_chunks old h.memory.pinned) old.hand h.each in
-        let hand = all-right P (waiting_chunks old h.memory.pinned) old.hand h.each in
-        let indexed = all-left P (chunks_left touched) pins front in
-        let pinned = all-right P (chunks_left touched) pins front in
-        all-append P (chunks_left stay ++ pins) (old.hand ++ map buffer_in leave)
-        (all-append P (chunks_left stay) pins (all-kept P threshold most touched indexed) pinned)
-        (all-append P old.hand (map buffer_in leave) hand (all-evicted P threshold most touched indexed))
+        let front = all_front P (waiting_chunks old h.memory.pinned) old.hand h.each in
+        let hand = all_back P (waiting_chunks old h.memory.pinned) old.hand h.each in
+        let indexed = all_front P (chunks_left touched) pins front in
+        let pinned = all_back P (chunks_left touched) pins front in
+        all_append P (chunks_left stay ++ pins) (old.hand ++ map buffer_in leave)
+        (all_append P (chunks_left stay) pins (all-kept P threshold most touched indexed) pinned)
+        (all_append P old.hand (map buffer_in leave) hand (all-evicted P threshold most touched indexed))
 
     each_paged : AllByRecursion (HasPage point.settings after.taken) (waiting_chunks left h.memory.pinned)
     each_paged =
         let P = HasPage point.settings point.state.taken in
         let pins = map (λ (pin : Pin Place). pin.chunk) h.memory.pinned in
-        all-weaker P (HasPage point.settings after.taken) (λ placed page. has_page-same point.state.taken after.taken gone.pages point.settings placed page) (chunks_left stay ++ pins)
-        (all-append P (chunks_left stay) pins (all-kept P threshold most touched (all-left P (chunks_left touched) pins h.paged)) (all-right P (chunks_left touched) pins h.paged))
+        all_weaker P (HasPage point.settings after.taken) (λ placed page. has_page-same point.state.taken after.taken gone.pages point.settings placed page) (chunks_left stay ++ pins)
+        (all_append P (chunks_left stay) pins (all-kept P threshold most touched (all_front P (chunks_left touched) pins h.paged)) (all_back P (chunks_left touched) pins h.paged))
 
   abbrev threshold : ℕ
   threshold = point.settings.threshold
@@ -81,7 +81,7 @@ module _ {L : Type 0} (old : Kept L) (point : Point L) (h : Holds old point) whe
     most = h.pins.most;
     claims = h.pins.claims ∙ sym (ap (λ (s : AgentState). s.claims) gone.others);
     pinned = h.pins.pinned ∙ sym (ap (λ (s : AgentState). s.pinned) gone.others);
-    groups = all-weaker _ _ (λ (pin : Pin Place) e. gone.pinned (pinned_place pin) pin.group e) h.memory.pinned h.pins.groups;
+    groups = all_weaker _ _ (λ (pin : Pin Place) e. gone.pinned (pinned_place pin) pin.group e) h.memory.pinned h.pins.groups;
     abandoned = h.pins.abandoned ∙ sym (ap (λ (s : AgentState). s.abandoned) gone.others);
     tried = h.pins.tried ∙ sym (ap (λ (s : AgentState). s.tried) gone.others);
     admitted = h.pins.admitted ∙ sym (ap (λ (s : AgentState). s.admitted) gone.others);
@@ -114,7 +114,7 @@ module _ {L : Type 0} (old : Kept L) (point : Point L) (h : Holds old point) whe
             ∙ sym (ap (λ (s : AgentState). filter_map (bytes_at after.taken) s.reported) gone.others);
         reported =
             subst (AllByRecursion (λ (place : ℕ). place < length after.taken)) (sym (ap (λ (s : AgentState). s.reported) gone.others))
-            (all-weaker (λ (place : ℕ). place < length point.state.taken) (λ (place : ℕ). place < length after.taken) (λ place within. subst (λ n. place < n) (sym long) within) point.state.reported h.reported);
+            (all_weaker (λ (place : ℕ). place < length point.state.taken) (λ (place : ℕ). place < length after.taken) (λ place within. subst (λ n. place < n) (sym long) within) point.state.reported h.reported);
         leases = h.leases ∙ sym long;
         buffers = h.buffers ∙ sym long;
         each = each_kept threshold most;

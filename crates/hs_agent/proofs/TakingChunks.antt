@@ -1,6 +1,7 @@
 -- A chunk that was taken: what is kept then is what the model says.
 use Rattle.std.proofs.Common.{◌≡◌, ℕ, ◌+◌, ◌≤◌, ◌<◌, ◌^◌, Bool, true, false, cond, [], ◌∷◌, ◌++◌, length, map, Option, Some, None, sym, ap, subst, ◌∙◌}
 use Rattle.std.specs.Option.{option_map, option_map_or, option_and_then}
+use Rattle.hs_lists.proofs.Bools.{by_answer}
 use Rattle.hs_base.specs.declared.ids.TraceId.{TraceId}
 use Rattle.hs_words.specs.declared.page.Header.{Header}
 use Rattle.hs_words.specs.Pages.{Sheet}
@@ -21,7 +22,6 @@ use Rattle.hs_agent.specs.Keeping.{Kept, Holds, Point, with_state, plain_claim}
 use Rattle.hs_agent.specs.LettingGo.{Going, let_go_all, abandoned_going, abandoned_fate}
 use Rattle.hs_agent.specs.Arriving.{noted, indexed, goings_with, ArrivesAtPins}
 use Rattle.hs_agent.specs.Points.{sheet_in, chunk_taken}
-use Rattle.hs_agent.proofs.Alls.{by_answer}
 use Rattle.hs_agent.proofs.Arrived.{holds-arrived, holds-pinned, holds-dropped}
 use Rattle.hs_agent.proofs.Crumbed.{claim_known}
 use Rattle.hs_agent.proofs.Relieving.{holds-abandoned}

@@ -1,5 +1,5 @@
 -- What is kept after a turn, and the shares then, are what the model says.
-use Rattle.std.proofs.Common.{◌≡◌, ℕ, ◌+◌, ◌<◌, ◌≤◌, suc, Bool, true, false, cond, List, [], ◌∷◌, ◌++◌, length, map, fold, Option, Some, refl, sym, ap, subst, ◌∙◌, arith, All, get_or}
+use Rattle.std.proofs.Common.{◌≡◌, ℕ, ◌+◌, ◌<◌, ◌≤◌, Bool, true, false, cond, List, [], ◌∷◌, ◌++◌, length, map, fold, Option, Some, refl, sym, ap, subst, ◌∙◌, arith, All, get_or}
 use Rattle.std.specs.Prelude.{filter_map, ◌≢◌}
 use Rattle.std.specs.List.{AllByRecursion, AllPairs, cons_option}
 use Rattle.std.specs.Option.{option_map, option_map_or, option_to_list, is_some, IsSome}
@@ -7,6 +7,7 @@ use Rattle.std.proofs.lemmas.List.{append_assoc, map-append}
 use Rattle.std.proofs.lemmas.List.Elements.{All-from_recursion, recursion_from_All, filter_map-append}
 use Rattle.std.proofs.lemmas.Option.{slice_get_within}
 use Rattle.std.proofs.lemmas.Simd.{map-map}
+use Rattle.hs_lists.proofs.Alls.{all_weaker, all_append, all_front, all_back, all_map, all_unmap, all_and, pairs_head, pairs_tail}
 use Rattle.hs_base.specs.declared.ids.TraceId.{TraceId}
 use Rattle.hs_words.specs.Chunks.{used_in, used_of}
 use Rattle.hs_words.specs.Pages.{page_bytes}
@@ -30,27 +31,20 @@ use Rattle.hs_agent.specs.Placing.{Placed, place_of}
 use Rattle.hs_agent.specs.Keeping.{Kept, Point, Holds, IsKept, HasPage, IsIndexed, RemembersAs, with_state, pinned_place, plain_claim, waiting_chunks, all_held}
 use Rattle.hs_agent.specs.LettingGo.{Going, let_go_all, reported, reported_going, page_in}
 use Rattle.hs_agent.specs.Reporting.{SendsNext, costs_of, id_of}
-use Rattle.hs_agent.proofs.Alls.{all-append, all-left, all-right, all-map, all-unmap, all-weaker}
 use Rattle.hs_agent.proofs.Moved.{length-same, pages-same, has_page-same}
 use Rattle.hs_agent.proofs.NextPins.{AreDistinct, distinct-counted, all-waiting}
 use Rattle.hs_agent.proofs.Relieving.{let_go_all-is, fold-goings, going_buffer}
-use Rattle.hs_agent.proofs.Sends.{all-both, Midway, Good, begins, chunk_of, note_reported, costs-same, sends-all, sends_of, AreVisitedOnce}
+use Rattle.hs_agent.proofs.Sends.{Midway, Good, begins, chunk_of, note_reported, costs-same, sends-all, sends_of, AreVisitedOnce}
 
 -- ---- shares
-
-pairs-first : {A : Type 0} (R : A → A → Type 0) (x : A) (xs : List A) → AllPairs R (x ∷ xs) → All (R x) xs
-pairs-first R x xs h k d within = h 0 (suc k) d (omega arith) (omega arith)
-
-pairs-rest : {A : Type 0} (R : A → A → Type 0) (x : A) (xs : List A) → AllPairs R (x ∷ xs) → AllPairs R xs
-pairs-rest R x xs h i j d below within = h (suc i) (suc j) d (omega arith) (omega arith)
 
 module _ {L : Type 0} (first : Kept L) (point : Point L) (h : Holds first point) where
   pub visited-once : (shares : List Share) → AllPairs (λ (a b : Share). a.trigger.0 < b.trigger.0) shares → AreVisitedOnce first point h shares
   visited-once [] rising = tt
   visited-once (share ∷ shares) rising = (
-    all-weaker (λ (other : Share). share.trigger.0 < other.trigger.0) (λ (other : Share). other.trigger.0 ≢ share.trigger.0) (λ other below same. absurd (omega (arith, below, same))) shares
-        (recursion_from_All (λ (other : Share). share.trigger.0 < other.trigger.0) shares (pairs-first (λ (a b : Share). a.trigger.0 < b.trigger.0) share shares rising)),
-    visited-once shares (pairs-rest (λ (a b : Share). a.trigger.0 < b.trigger.0) share shares rising),
+    all_weaker (λ (other : Share). share.trigger.0 < other.trigger.0) (λ (other : Share). other.trigger.0 ≢ share.trigger.0) (λ other below same. absurd (omega (arith, below, same))) shares
+        (recursion_from_All (λ (other : Share). share.trigger.0 < other.trigger.0) shares (pairs_head (λ (a b : Share). a.trigger.0 < b.trigger.0) share shares rising)),
+    visited-once shares (pairs_tail (λ (a b : Share). a.trigger.0 < b.trigger.0) share shares rising),
   )
 
   same_costs : (shares : List Share) → AllByRecursion (λ (share : Share). costs_of first share.trigger.0 ≡ costs_of first share.trigger.0) shares
@@ -62,20 +56,20 @@ module _ {L : Type 0} (first : Kept L) (point : Point L) (h : Holds first point)
   costs-within apart id =
       let m = begins first point h apart in
       All-from_recursion (λ cost. cost ≤ point.settings.size) (costs_of first id)
-      (all-map (λ cost. cost ≤ point.settings.size) (λ (pin : Pin Place). used_bytes pin.chunk) (waiting first.pins (id_of id))
-      (all-weaker (λ (pin : Pin Place). Good first point h pin.chunk) (λ (pin : Pin Place). used_bytes pin.chunk ≤ point.settings.size)
+      (all_map (λ cost. cost ≤ point.settings.size) (λ (pin : Pin Place). used_bytes pin.chunk) (waiting first.pins (id_of id))
+      (all_weaker (λ (pin : Pin Place). Good first point h pin.chunk) (λ (pin : Pin Place). used_bytes pin.chunk ≤ point.settings.size)
       (λ pin good. let is : used_in pin.chunk.chunk ≡ used_of good.1.chunk.sheet = ap (λ p. option_map_or used_of p 0) good.1.page in let most = good.1.size in omega (arith, is, most))
       (waiting first.pins (id_of id))
       (subst (AllByRecursion (λ (pin : Pin Place). Good first point h pin.chunk)) (sym (h.remembers.waits (id_of id)))
-      (all-waiting (λ (pin : Pin Place). Good first point h pin.chunk) (id_of id) h.memory.pinned (all-unmap (Good first point h) chunk_of h.memory.pinned (good_waits apart))))))
+      (all-waiting (λ (pin : Pin Place). Good first point h pin.chunk) (id_of id) h.memory.pinned (all_unmap (Good first point h) chunk_of h.memory.pinned (good_waits apart))))))
     where
       good_waits : AreDistinct (map pinned_place h.memory.pinned) → AllByRecursion (Good first point h) (map chunk_of h.memory.pinned)
       good_waits apart =
           let P = IsKept first.leases point.buffers in
           let Q = HasPage point.settings point.state.taken in
-          all-both P Q (map chunk_of h.memory.pinned)
-          (all-right P (chunks_left first.index.touched) (map chunk_of h.memory.pinned) (all-left P (waiting_chunks first h.memory.pinned) first.hand h.each))
-          (all-right Q (chunks_left first.index.touched) (map chunk_of h.memory.pinned) h.paged)
+          all_and P Q (map chunk_of h.memory.pinned)
+          (all_back P (chunks_left first.index.touched) (map chunk_of h.memory.pinned) (all_front P (waiting_chunks first h.memory.pinned) first.hand h.each))
+          (all_back Q (chunks_left first.index.touched) (map chunk_of h.memory.pinned) h.paged)
 
   pub pins-distinct : PlacesMatch point.state → AreDistinct (map pinned_place h.memory.pinned)
   pins-distinct match =
@@ -113,7 +107,7 @@ module _ {L : Type 0} (first : Kept L) (point : Point L) (h : Holds first point)
     pub sent-paged : All (λ (pin : Pin Place). IsSome pin.chunk.chunk.page) last.sent
     sent-paged =
         All-from_recursion (λ (pin : Pin Place). IsSome pin.chunk.chunk.page) last.sent
-        (all-weaker (λ (pin : Pin Place). Good first point h pin.chunk) (λ (pin : Pin Place). IsSome pin.chunk.chunk.page) (λ pin good. ap is_some good.1.page) last.sent (all-unmap (Good first point h) chunk_of last.sent m.went))
+        (all_weaker (λ (pin : Pin Place). Good first point h pin.chunk) (λ (pin : Pin Place). IsSome pin.chunk.chunk.page) (λ pin good. ap is_some good.1.page) last.sent (all_unmap (Good first point h) chunk_of last.sent m.went))
 
     abbrev left : Kept L
     left = record first {
@@ -188,19 +182,19 @@ module _ {L : Type 0} (first : Kept L) (point : Point L) (h : Holds first point)
     each_kept : AllByRecursion (IsKept first.leases point.buffers) (all_held left m.memory.pinned)
     each_kept =
         let P = IsKept first.leases point.buffers in
-        let front = all-left P (waiting_chunks first h.memory.pinned) first.hand h.each in
-        let hand = all-right P (waiting_chunks first h.memory.pinned) first.hand h.each in
-        all-append P (waiting_chunks left m.memory.pinned) (first.hand ++ map chunk_of sent)
-        (all-append P (chunks_left first.index.touched) (map chunk_of m.memory.pinned) (all-left P (chunks_left first.index.touched) (map chunk_of h.memory.pinned) front)
-        (all-weaker (Good first point h) P (λ placed good. good.0) (map chunk_of m.memory.pinned) m.waits))
-        (all-append P first.hand (map chunk_of sent) hand (all-weaker (Good first point h) P (λ placed good. good.0) (map chunk_of sent) m.went))
+        let front = all_front P (waiting_chunks first h.memory.pinned) first.hand h.each in
+        let hand = all_back P (waiting_chunks first h.memory.pinned) first.hand h.each in
+        all_append P (waiting_chunks left m.memory.pinned) (first.hand ++ map chunk_of sent)
+        (all_append P (chunks_left first.index.touched) (map chunk_of m.memory.pinned) (all_front P (chunks_left first.index.touched) (map chunk_of h.memory.pinned) front)
+        (all_weaker (Good first point h) P (λ placed good. good.0) (map chunk_of m.memory.pinned) m.waits))
+        (all_append P first.hand (map chunk_of sent) hand (all_weaker (Good first point h) P (λ placed good. good.0) (map chunk_of sent) m.went))
 
     each_paged : AllByRecursion (HasPage point.settings after.taken) (waiting_chunks left m.memory.pinned)
     each_paged =
         let Q = HasPage point.settings point.state.taken in
-        all-weaker Q (HasPage point.settings after.taken) (λ placed page. has_page-same point.state.taken after.taken m.pages point.settings placed page) (waiting_chunks left m.memory.pinned)
-        (all-append Q (chunks_left first.index.touched) (map chunk_of m.memory.pinned) (all-left Q (chunks_left first.index.touched) (map chunk_of h.memory.pinned) h.paged)
-        (all-weaker (Good first point h) Q (λ placed good. good.1) (map chunk_of m.memory.pinned) m.waits))
+        all_weaker Q (HasPage point.settings after.taken) (λ placed page. has_page-same point.state.taken after.taken m.pages point.settings placed page) (waiting_chunks left m.memory.pinned)
+        (all_append Q (chunks_left first.index.touched) (map chunk_of m.memory.pinned) (all_front Q (chunks_left first.index.touched) (map chunk_of h.memory.pinned) h.paged)
+        (all_weaker (Good first point h) Q (λ placed good. good.1) (map chunk_of m.memory.pinned) m.waits))
 
     holds_left : Holds left (with_state after point)
     holds_left = record {
@@ -221,8 +215,8 @@ module _ {L : Type 0} (first : Kept L) (point : Point L) (h : Holds first point)
           ∙ ap (filter_map (bytes_at after.taken)) (sym m.reported);
       reported =
           subst (AllByRecursion (λ (place : ℕ). place < length after.taken)) (sym m.reported)
-          (all-append (λ (place : ℕ). place < length after.taken) point.state.reported (map pinned_place sent)
-          (all-weaker (λ (place : ℕ). place < length point.state.taken) (λ (place : ℕ). place < length after.taken) (λ place within. subst (λ n. place < n) (sym long) within) point.state.reported h.reported)
+          (all_append (λ (place : ℕ). place < length after.taken) point.state.reported (map pinned_place sent)
+          (all_weaker (λ (place : ℕ). place < length point.state.taken) (λ (place : ℕ). place < length after.taken) (λ place within. subst (λ n. place < n) (sym long) within) point.state.reported h.reported)
           (within_all sent m.went));
       leases = h.leases ∙ sym long;
       buffers = h.buffers ∙ sym long;

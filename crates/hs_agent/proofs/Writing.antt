@@ -1,15 +1,10 @@
 -- What a list is after one of its items was written in place, and what is kept at a place.
 use Rattle.std.proofs.Common.{◌≡◌, ℕ, ◌<◌, List, [], ◌∷◌, ◌++◌, length, take, drop, set, get_or, map, Option, Some, None, slice_get, option_map, refl, sym, ap, ◌∙◌, subst, arith}
-use Rattle.std.proofs.lemmas.List.{take_at, length-set, length-map, map-set}
+use Rattle.std.proofs.lemmas.List.{length-map, map-set}
 use Rattle.std.proofs.lemmas.Option.{slice_get-map, slice_get-get_or, slice_get_within}
+use Rattle.hs_lists.proofs.Lent.{written_back}
 use Rattle.hs_agent.specs.Placing.{Pledged, pledged_of, pledges_in}
 use Rattle.hs_agent.specs.declared.placed.Pledge.{Pledge}
-
--- a slice that was lent out and written at a place, as its owner has it back
-pub written : {X : Type 0} (old lent : List X) (i : ℕ) (v : X) → lent ≡ old → take (length old) (set lent i v ++ drop (length (set lent i v)) old) ≡ set old i v
-written old lent i v is =
-    take_at (set lent i v) (drop (length (set lent i v)) old) (length old) (length-set lent i v ∙ ap length is)
-    ∙ ap (λ xs. set xs i v) is
 
 -- the first of a list, and the others
 pub first-rest : {X : Type 0} (xs ys : List X) (x : X) → Some x ≡ slice_get xs 0 → ys ≡ drop 1 xs → xs ≡ x ∷ ys
@@ -30,7 +25,7 @@ module _ {L : Type 0} {g : _} where
   pub written_pledge : (old lent : List (Option (Pledge L g))) (i : ℕ) (slot : Option (Pledge L g)) (p : Pledged L) → lent ≡ old → option_map pledged_of slot ≡ Some p
       → pledges_in (take (length old) (set lent i slot ++ drop (length (set lent i slot)) old)) ≡ set (pledges_in old) i (Some p)
   written_pledge old lent i slot p is same =
-      ap pledges_in (written old lent i slot is) ∙ map-set (option_map pledged_of) old i slot ∙ ap (set (pledges_in old) i) same
+      ap pledges_in (written_back old lent i slot is) ∙ map-set (option_map pledged_of) old i slot ∙ ap (set (pledges_in old) i) same
 
   pub pledges-set : (items : List (Option (Pledge L g))) (i : ℕ) (slot : Option (Pledge L g)) → pledges_in (set items i slot) ≡ set (pledges_in items) i (option_map pledged_of slot)
   pledges-set items i slot = map-set (option_map pledged_of) items i slot

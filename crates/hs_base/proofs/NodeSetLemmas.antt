@@ -1,6 +1,7 @@
 -- The least node of a set, and the nodes behind it.
 use Rattle.std.proofs.Common.{◌≡◌, ℕ, zero, suc, ◌+◌, ◌^◌, ◌*◌, ◌%◌, ◌<◌, ◌≤◌, List, Bool, true, false, not, ◌&&◌, nat_eq, cond, [], ◌∷◌, filter, eq-eqb, sym, ap, subst, refl, ◌∙◌, arith, ⊎_elim}
 use Rattle.std.specs.List.{range_with_len}
+use Rattle.std.proofs.Math.Bool.{and-true}
 use Rattle.std.proofs.lemmas.Bool.{cases_eq}
 use Rattle.std.proofs.Math.Pow.{pow-lt}
 use Rattle.std.proofs.lemmas.Grind.{one_shifted}
@@ -31,10 +32,6 @@ filter_same p q a (suc m) same =
     ap (picked m p a) (same a (omega arith))
     ∙ ap (λ xs. cond (q a) (a ∷ xs) xs) rest
 
-and_true : (b : Bool) → (b && true) ≡ b
-and_true true = refl
-and_true false = refl
-
 -- the first number that passes, and those that pass behind it
 filter_first : (p q : ℕ → Bool) (n a m : ℕ) → p n ≡ true → ((k : ℕ) → q k ≡ (p k && not (nat_eq k n))) → a ≤ n → n < a + m → ((k : ℕ) → k < n → p k ≡ false)
     → filter p (range_with_len a m) ≡ n ∷ filter q (range_with_len a m)
@@ -44,7 +41,7 @@ filter_first p q n a (suc m) is rest low high none = ⊎_elim (λ e. subst (λ b
     here : filter p (range_with_len n (suc m)) ≡ n ∷ filter q (range_with_len n (suc m))
     here =
         ap (picked m p n) is
-        ∙ ap (λ xs. n ∷ xs) (filter_same p q (n + 1) m (λ k above. sym (rest k ∙ ap (λ b. p k && not b) (ne_eqb k n (λ e. omega arith)) ∙ and_true (p k))))
+        ∙ ap (λ xs. n ∷ xs) (filter_same p q (n + 1) m (λ k above. sym (rest k ∙ ap (λ b. p k && not b) (ne_eqb k n (λ e. omega arith)) ∙ and-true (p k))))
         ∙ sym (ap (λ xs. n ∷ xs) (ap (picked m q n) (rest n ∙ ap (λ b. b && not (nat_eq n n)) is ∙ ap not (eq-eqb n n refl))))
 
     later : (a ≡ n → ⊥) → filter p (range_with_len (a + 1) m) ≡ n ∷ filter q (range_with_len (a + 1) m) → filter p (range_with_len a (suc m)) ≡ n ∷ filter q (range_with_len a (suc m))

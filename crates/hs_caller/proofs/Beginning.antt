@@ -29,10 +29,6 @@ use Rattle.hs_caller.specs.declared.making.Connected.{Connected}
 use Rattle.hs_caller.specs.Standing.{IsAt, IsDrawerFor, made_for, key_for}
 use Rattle.hs_caller.proofs.Operations.{fewer_crumbs, fewer_triggers}
 
-pub all_behind : {A : Type 0} (P : A → Type 0) (xs : List A) (x : A) → AllByRecursion P xs → P x → AllByRecursion P (xs ++ x ∷ [])
-all_behind P [] x all one = (one, tt)
-all_behind P (y ∷ xs) x all one = (all.0, all_behind P xs x all.1 one)
-
 -- the new parts of a client
 pub record AreParts (settings : PlainSettings) (id : ClientId) (ops : List Operation) (giver : Giving) (client : Live) (chunks : Incoming (Buffer Leased) Key) (crumbs : Incoming Crumb Key) (triggers : Incoming Trigger Key) : Type 0 where
   pub core : client.core ≡ new_core id settings.size (client_pieces settings.size ops)

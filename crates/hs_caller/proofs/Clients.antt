@@ -1,31 +1,28 @@
 -- The clients of a node in a valid workload, and their drawers.
-use Rattle.std.proofs.Common.{◌≡◌, ℕ, zero, suc, ◌+◌, ◌*◌, ◌<◌, ◌≤◌, List, [], ◌∷◌, length, map, take, drop, get_or, Some, None, refl, sym, ap, ◌∙◌, arith, length-take, length-drop}
-use Rattle.std.proofs.Math.Nat.{suc-mul, mul-le-mul, mul-le-mul_right}
+use Rattle.std.proofs.Common.{◌≡◌, ℕ, zero, suc, ◌+◌, ◌*◌, ◌<◌, ◌≤◌, List, [], ◌∷◌, length, map, take, drop, get_or, Some, None, sym, ap, ◌∙◌, arith, length-take, length-drop}
 use Rattle.std.proofs.lemmas.List.{length-map}
-use Rattle.std.proofs.lemmas.List.FromFn.{length-map-range_with_len}
 use Rattle.std.proofs.lemmas.List.Sums.{sum_by-cons}
 use Rattle.std.proofs.lemmas.Option.{same_Some, slice_get-get_or}
-use Rattle.std.specs.Prelude.{slice_get, unwrap_or, sum}
+use Rattle.std.specs.Prelude.{slice_get, sum}
 use Rattle.std.specs.List.{AllByRecursion}
+use Rattle.hs_lists.proofs.Places.{unwrap_map, item_there}
 use Rattle.hs_base.specs.Listing.{Listing}
 use Rattle.hs_base.specs.declared.limits.TheConstants.{MAX_OPERATIONS, MAX_NODES, MAX_CLIENTS, MIN_SIZE, MAX_SIZE, MAX_BUFFERS}
 use Rattle.hs_records.specs.Plain.{Operation, PlainSettings, PlainWorkload, settings_of}
 use Rattle.hs_ring.specs.Parts.{Drawing, Giving, new_drawers}
+use Rattle.hs_ring.proofs.Making.{new_drawers_length}
 use Rattle.hs_sent.specs.Sending.{place_of, ops_of}
-use Rattle.hs_words.specs.Chunks.{clear_chunk, clear_chunks}
 use Rattle.hs_words.specs.Pools.{PoolName}
 use Rattle.hs_workload.specs.Validity.{IsValid, client_pieces, workload_pieces}
 use Rattle.hs_workload.specs.Views.{operations_of, workload_of}
 use Rattle.hs_workload.specs.declared.operation.Op.{Op}
 use Rattle.hs_workload.specs.declared.operation.Workload.{Workload}
 use Rattle.hs_workload.specs.declared.word.Setting.TheVariants as words
+use Rattle.hs_workload.proofs.Sizes.{product_few, last_low}
 use Rattle.hs_caller.specs.Nodes.{AreClientsOf, lefts_of, drawer_for}
 use Rattle.hs_caller.specs.Standing.{IsDrawerFor}
 
 -- ---- how many there are
-
-product_few : (a b : ℕ) → a ≤ MAX_NODES → b ≤ MAX_CLIENTS → a * b ≤ MAX_NODES * MAX_CLIENTS
-product_few a b x y = mul-le-mul x y
 
 pub record AreFew (W : PlainWorkload) : Type 0 where
   pub nodes : W.settings.nodes ≤ MAX_NODES
@@ -37,14 +34,6 @@ are_few W valid = record { nodes = (valid.head words.Nodes).1; some = (valid.hea
 
 pub first_few : (W : PlainWorkload) → IsValid W → (node : ℕ) → node < W.settings.nodes → node * W.settings.clients ≤ MAX_NODES * MAX_CLIENTS
 first_few W valid node low = let few = are_few W valid in product_few node W.settings.clients (omega (arith, low, few.nodes)) few.clients
-
-pub last_low : (W : PlainWorkload) → IsValid W → (node : ℕ) → node < W.settings.nodes → node * W.settings.clients + W.settings.clients ≤ length W.clients
-last_low W valid node low =
-    let more : node + 1 ≤ W.settings.nodes = omega (arith, low) in
-    let row = mul-le-mul_right W.settings.clients more in
-    let product : (node + 1) * W.settings.clients ≡ node * W.settings.clients + W.settings.clients =
-    let e : node + 1 ≡ suc node = omega arith in ap (λ (k : ℕ). k * W.settings.clients) e ∙ suc-mul node W.settings.clients in
-    omega (arith, row, product, valid.count)
 
 pub place_low : (W : PlainWorkload) → IsValid W → (node number : ℕ) → node < W.settings.nodes → number < W.settings.clients → place_of W.settings.clients node number < length W.clients
 place_low W valid node number low within = let last = last_low W valid node low in omega (arith, last, within)
@@ -71,16 +60,11 @@ sliced (y ∷ xs) zero (suc count) (suc i) x h =
     ap (slice_get (y ∷ xs)) there ∙ ap (slice_get xs) (sym same) ∙ sliced xs zero count i x h
 sliced (y ∷ xs) (suc from) count i x h = let there : suc from + i ≡ suc (from + i) = omega arith in ap (slice_get (y ∷ xs)) there ∙ sliced xs from count i x h
 
-mapped_at : {X Y : Type 0} (f : X → Y) (xs : List X) (i : ℕ) (x : X) (d : Y) → slice_get xs i ≡ Some x → unwrap_or (slice_get (map f xs) i) d ≡ f x
-mapped_at f [] i x d h = let never : None ≡ Some x = h in absurd cc
-mapped_at f (y ∷ xs) zero x d h = ap f (same_Some y x h)
-mapped_at f (y ∷ xs) (suc i) x d h = mapped_at f xs i x d h
-
 pub ops_at : (w : Workload) (node number : ℕ) (clients : List (Listing Op)) (ops : Listing Op) → AreClientsOf w node clients → slice_get clients number ≡ Some ops → operations_of ops ≡ ops_of (workload_of w) node number
 ops_at w node number clients ops is found =
     let first = node * w.settings.clients in
     let there = sliced w.clients.items first w.settings.clients number ops (ap (λ (l : List (Listing Op)). slice_get l number) (sym is.are) ∙ found) in
-    sym (mapped_at operations_of w.clients.items (first + number) ops [] there)
+    sym (unwrap_map operations_of w.clients.items (first + number) ops [] there)
 
 -- ---- all pieces of a node's clients
 
@@ -110,10 +94,6 @@ each_few size (ops ∷ clients) few =
 
 -- ---- the drawers
 
-pub count_drawers : (pool : PoolName) (buffers size number : ℕ) (lefts : List ℕ) → length (new_drawers pool buffers size number lefts) ≡ length lefts
-count_drawers pool buffers size number [] = refl
-count_drawers pool buffers size number (left ∷ lefts) = ap suc (count_drawers pool buffers size (suc number) lefts)
-
 abbrev drawing : PoolName → (buffers size number left : ℕ) → Drawing
 drawing pool buffers size number left = record { pool = pool; buffers = buffers; size = size; number = number; left = left; floor = 0; answers = [] }
 
@@ -129,10 +109,6 @@ drawer_at pool buffers size number pages (first ∷ clients) (suc place) ops dra
     let here : suc number + place ≡ number + suc place = omega arith in
     drawer_at pool buffers size (suc number) pages clients place ops drawer found there ∙ ap (λ n. drawing pool buffers size n (client_pieces pages (operations_of ops))) here
 
--- the item at an index
-pub item_there : {A : Type 0} (items : List A) (place : ℕ) (x : A) → (place < length items) × (x ≡ get_or items place x) → slice_get items place ≡ Some x
-item_there items place x h = slice_get-get_or items place x h.0 ∙ ap (λ y. Some y) (sym h.1)
-
 -- The next drawer is that of the next client.
 pub record IsNext (w : Workload) (node : ℕ) (clients : List (Listing Op)) (giver : Giving) (number : ℕ) (drawer : Drawing) : Type 0 where
   pub within : number < length clients
@@ -147,7 +123,7 @@ next_is w node clients giver drawers number place drawer is made same turn =
     let size = w.settings.size in
     let lefts = lefts_of size clients in
     let within : number < length clients =
-    omega (arith, same, turn.0, ap length made, count_drawers giver.pool w.settings.buffers size 0 lefts, length-map clients (λ ops. client_pieces size (operations_of ops))) in
+    omega (arith, same, turn.0, ap length made, new_drawers_length giver.pool w.settings.buffers size 0 lefts, length-map clients (λ ops. client_pieces size (operations_of ops))) in
     let there : slice_get (new_drawers giver.pool w.settings.buffers size 0 lefts) number ≡ Some drawer =
     ap (λ (l : List Drawing). slice_get l number) (sym made) ∙ ap (slice_get drawers) same ∙ item_there drawers place drawer turn in
     let ops_are : (ops : Listing Op) → ops ≡ get_or clients number ops → operations_of ops ≡ ops_of (workload_of w) node number = λ ops e. ops_at w node number clients ops is (item_there clients number ops (within, e)) in
@@ -183,9 +159,6 @@ pub clients_sliced : (w : Workload) → IsValid (workload_of w) → (node : ℕ)
     → AreClientsOf w node (take count (drop (node * w.settings.clients) given))
 clients_sliced w valid node low given same count is =
     record { valid = valid; low = low; are = ap (λ n. take n (drop (node * w.settings.clients) given)) is ∙ ap (λ (l : List (Listing Op)). take w.settings.clients (drop (node * w.settings.clients) l)) same }
-
-pub count_clear : (count size : ℕ) → length (clear_chunks count size) ≡ count
-count_clear count size = length-map-range_with_len (clear_chunk size) 0 count
 
 pub record IsSized (W : PlainWorkload) : Type 0 where
   pub least : MIN_SIZE ≤ W.settings.size

@@ -1,7 +1,8 @@
 -- A caller that has done all its operations.
-use Rattle.std.proofs.Common.{◌≡◌, false, List, length, map, take, Option, Some, None, IsNone, refl, sym, ap, ◌∙◌, subst, arith}
+use Rattle.std.proofs.Common.{◌≡◌, List, length, map, take, Option, None, IsNone, sym, ap, ◌∙◌, subst, arith}
 use Rattle.std.proofs.lemmas.List.{append-nil, take_all}
 use Rattle.std.specs.Prelude.{is_some}
+use Rattle.hs_lists.proofs.Options.{is_some_false}
 use Rattle.hs_base.specs.declared.ids.ClientId.{ClientId}
 use Rattle.hs_base.specs.declared.ids.TraceId.{TraceId}
 use Rattle.hs_client.specs.Core.{Core, all_pages}
@@ -14,18 +15,14 @@ use Rattle.hs_records.specs.Pages.{pages_of}
 use Rattle.hs_records.specs.Plain.{Operation, PlainSettings}
 use Rattle.hs_ring.specs.Parts.{Leased}
 use Rattle.hs_sent.specs.OneMore.{open_after}
+use Rattle.hs_sent.proofs.OneMore.{none_open}
 use Rattle.hs_caller.specs.Calling.{Calling}
 use Rattle.hs_caller.specs.Standing.{IsAt, IsDone, Notes, made_for}
-use Rattle.hs_caller.proofs.Operations.{none_open}
 
 all_done : (settings : PlainSettings) (id : ClientId) (ops : List Operation) (caller : Calling) → IsAt settings id ops caller → caller.done ≡ length ops → HasDone (made_for settings id ops) ops caller.client
 all_done settings id ops caller a all =
     let whole : take caller.done ops ≡ ops = take_all caller.done ops (omega (arith, all)) in
     subst (λ (l : List Operation). HasDone (made_for settings id ops) l caller.client) whole a.inside
-
-no_trace : (trace : Option TraceId) → is_some trace ≡ false → trace ≡ None
-no_trace None e = refl
-no_trace (Some t) e = absurd cc
 
 pub is_closed : (caller : Calling) → IsDone caller → IsNone caller.client.core.trace
 is_closed caller is =
@@ -49,7 +46,7 @@ pub notes : ((made : Made) (ops : List Operation) (client : Live) → HasDone ma
 notes sent_is caller book is = λ settings id ops a all.
     let has = all_done settings id ops caller a all in
     let sent = sent_is (made_for settings id ops) ops caller.client has in
-    let closed : open_after None ops ≡ None = no_trace (open_after None ops) (none_open ops a.playable.client.bracketed) in
+    let closed : open_after None ops ≡ None = is_some_false (open_after None ops) (none_open ops a.playable.client.bracketed) in
     let owner : book.client ≡ id = is.owner ∙ a.is_of.owner in
     let pages : book.pages ≡ map note_of (pages_of settings.size ops) = is.pages ∙ closed_pages caller.client.core (sent.closed closed) ∙ sent.pages in
     λ i. record { client = owner i; draws = is.draws i; pages = pages i }

@@ -1,6 +1,5 @@
 -- A caller goes through the operations of a round.
-use Rattle.std.proofs.Common.{◌≡◌, ℕ, ◌+◌, List, [], refl, sym, ap, subst, arith}
-use Rattle.std.proofs.Math.Seq.{take-length}
+use Rattle.std.proofs.Common.{◌≡◌, ℕ, ◌+◌, List, sym, ap, subst}
 use Rattle.hs_base.specs.declared.ids.ClientId.{ClientId}
 use Rattle.hs_base.specs.declared.told.Crumb.{Crumb}
 use Rattle.hs_base.specs.declared.told.Trigger.{Trigger}
@@ -10,6 +9,8 @@ use Rattle.hs_live.specs.Done.{Does, DoesNothing}
 use Rattle.hs_live.specs.Keys.{Key}
 use Rattle.hs_live.specs.Live.{Live, GoesOn, Flushes}
 use Rattle.hs_live.specs.Writing.{DrawsOn}
+use Rattle.hs_live.proofs.Cuts.{draws_none}
+use Rattle.hs_live.proofs.Senders.{goes_same}
 use Rattle.hs_records.specs.Plain.{Operation, PlainSettings}
 use Rattle.hs_ring.specs.Parts.{Drawing, Leased}
 use Rattle.hs_sent.specs.SoFar.{done_behind}
@@ -27,12 +28,6 @@ pub record GoOn : Type 0 where
   pub triggers : (s t u : Outgoing Trigger Key) → GoesOn s t → GoesOn t u → GoesOn s u
   pub drawer : (a b c : Drawing) → DrawsOn a b → DrawsOn b c → DrawsOn a c
 
-goes_same : {T F : Type 0} (s : Outgoing T F) → GoesOn s s
-goes_same s = record { same = (refl, refl, refl, refl, refl); put = take-length s.put }
-
-draws_same : (d : Drawing) → DrawsOn d d
-draws_same d = record { pool = refl; buffers = refl; size = refl; number = refl; floor = omega arith; added = []; since = refl; above = tt; drawn = tt }
-
 abbrev pub calling : ℕ → Live → Calling
 calling place client = record { done = place; client = client }
 
@@ -46,7 +41,7 @@ pub record HasCome (settings : PlainSettings) (ops : List Operation) (start plac
 
 pub come_none : (settings : PlainSettings) (ops : List Operation) (start : ℕ) (client : Live) → HasCome settings ops start start client client
 come_none settings ops start client =
-    record { at = λ id a. a; draws = draws_same client.drawer; chunks = goes_same client.chunks; crumbs = goes_same client.crumbs; triggers = goes_same client.triggers }
+    record { at = λ id a. a; draws = draws_none client.drawer; chunks = goes_same client.chunks; crumbs = goes_same client.crumbs; triggers = goes_same client.triggers }
 
 pub come_more : GoOn → (settings : PlainSettings) (ops : List Operation) (start place : ℕ) (op : Operation) (old now new : Live) → HasCome settings ops start place old now → Stands ops place op → Does op Done now new → Uses op now new
     → HasCome settings ops start (place + 1) old new

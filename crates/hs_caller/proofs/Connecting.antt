@@ -1,7 +1,8 @@
 -- The clients of a node are made one after another.
-use Rattle.std.proofs.Common.{◌≡◌, ◌⊎◌, inl, inr, ℕ, zero, suc, ◌+◌, ◌<◌, ◌≤◌, List, [], ◌∷◌, ◌++◌, length, Some, None, refl, sym, ap, ◌∙◌, subst, arith, length-append}
-use Rattle.std.proofs.lemmas.Option.{same_Some}
+use Rattle.std.proofs.Common.{◌≡◌, inl, inr, ℕ, ◌+◌, ◌<◌, ◌≤◌, List, [], ◌∷◌, ◌++◌, length, Some, None, refl, sym, ap, ◌∙◌, subst, arith, length-append}
+use Rattle.std.proofs.lemmas.Option.{same_Some, slice_get_within}
 use Rattle.std.specs.Prelude.{slice_get}
+use Rattle.hs_lists.proofs.Places.{get_push_cases, get_front, get_there}
 use Rattle.hs_base.specs.declared.limits.TheConstants.{MAX_TAKEN, MAX_CLIENTS}
 use Rattle.hs_base.specs.declared.told.Crumb.{Crumb}
 use Rattle.hs_base.specs.declared.told.Trigger.{Trigger}
@@ -21,17 +22,6 @@ use Rattle.hs_caller.specs.Nodes.{LinkBegins, CallerBegins, AreBegun, NodeBegins
 
 -- ---- lists with an item more
 
-pushed_at : {A : Type 0} (xs : List A) (x y : A) (place : ℕ) → slice_get (xs ++ x ∷ []) place ≡ Some y → (slice_get xs place ≡ Some y) ⊎ ((length xs ≡ place) × (x ≡ y))
-pushed_at [] x y zero at = inr (refl, same_Some x y at)
-pushed_at [] x y (suc place) at = let none : None ≡ Some y = at in absurd cc
-pushed_at (z ∷ xs) x y zero at = inl at
-pushed_at (z ∷ xs) x y (suc place) at = elim (pushed_at xs x y place at) [ inl h ↦ inl h | inr h ↦ inr (ap suc h.0, h.1) ]
-
-front_at : {A : Type 0} (xs ys : List A) (place : ℕ) (x : A) → slice_get xs place ≡ Some x → slice_get (xs ++ ys) place ≡ Some x
-front_at [] ys place x h = let never : None ≡ Some x = h in absurd cc
-front_at (y ∷ xs) ys zero x h = h
-front_at (y ∷ xs) ys (suc place) x h = front_at xs ys place x h
-
 last_at : {A : Type 0} (xs : List A) (x : A) (place : ℕ) → length xs ≡ place → slice_get (xs ++ x ∷ []) place ≡ Some x
 last_at xs x place is = ap (slice_get (xs ++ x ∷ [])) (sym is) ∙ seam xs
   where
@@ -39,16 +29,11 @@ last_at xs x place is = ap (slice_get (xs ++ x ∷ [])) (sym is) ∙ seam xs
     seam [] = refl
     seam (y ∷ front) = seam front
 
-some_at : {A : Type 0} (xs : List A) (place : ℕ) → place < length xs → (x : A) × (slice_get xs place ≡ Some x)
-some_at [] place low = absurd (omega (arith, low))
-some_at (x ∷ xs) zero low = (x, refl)
-some_at (x ∷ xs) (suc place) low = some_at xs place (omega (arith, low))
-
 -- ---- links
 
 module _ {T : Type 0} where
   still : (key : Key) (room number : ℕ) (s : Outgoing T Key) (receivers : List (Incoming T Key)) (r : Incoming T Key) → LinkBegins key room number s receivers → LinkBegins key room number s (receivers ++ r ∷ [])
-  still key room number s receivers r l = record { receiver = l.receiver; end = front_at receivers (r ∷ []) number l.receiver l.end; new = l.new }
+  still key room number s receivers r l = record { receiver = l.receiver; end = get_front receivers (r ∷ []) number l.receiver l.end; new = l.new }
 
   newest : (key : Key) (room number : ℕ) (s : Outgoing T Key) (receivers : List (Incoming T Key)) (r : Incoming T Key) → length receivers ≡ number → AreNewEnds key MAX_TAKEN room s r → LinkBegins key room number s (receivers ++ r ∷ [])
   newest key room number s receivers r count new = record { receiver = r; end = last_at receivers r number count; new = new }
@@ -97,7 +82,7 @@ begun_more W node giver count callers receiving drawer c are drawer_is is =
       triggers = omega (arith, are.triggers, length-append receiving.triggers (c.triggers ∷ []));
       each =
           λ number caller at.
-          elim (pushed_at callers c.caller caller number at) [
+          elim (get_push_cases callers c.caller caller number at) [
             | inl h ↦ still_begins W node giver number receiving caller (incoming c.chunks) c.crumbs c.triggers (are.each number caller h)
             | inr h ↦
                 let same : count ≡ number = sym are.callers_are ∙ h.0 in
@@ -118,31 +103,26 @@ of_link giver node number room key s receivers r client pool size l end =
       number_is = ap (λ (k : Key). k.client.number) named ∙ ap (λ (c : _). c.number) client;
     }
 
-low_at : {A : Type 0} (xs : List A) (place : ℕ) (x : A) → slice_get xs place ≡ Some x → place < length xs
-low_at [] place x e = let none : None ≡ Some x = e in absurd cc
-low_at (y ∷ xs) zero x e = omega arith
-low_at (y ∷ xs) (suc place) x e = let rest = low_at xs place x e in omega (arith, rest)
-
 pub is_port : (W : PlainWorkload) (node : ℕ) (giver : Giving) (callers : List Calling) (receiving : Receiving) → AreBegun W node giver W.settings.clients callers receiving → 1 ≤ W.settings.clients → W.settings.clients ≤ MAX_CLIENTS
     → IsPort (record { giver = giver; chunks = receiving.chunks; crumbs = receiving.crumbs; triggers = receiving.triggers })
 is_port W node giver callers receiving are some few =
     let there : (number count : ℕ) → number < count → count ≡ W.settings.clients → (caller : Calling) × (slice_get callers number ≡ Some caller) = λ number count low is.
-    some_at callers number (omega (arith, low, is, are.callers_are)) in
+    get_there callers number (omega (arith, low, is, are.callers_are)) in
     record {
       some = omega (arith, some, are.chunks);
       few = omega (arith, few, are.chunks);
       crumbs = are.crumbs ∙ sym are.chunks;
       triggers = are.triggers ∙ sym are.chunks;
       of_chunks = λ number r end.
-          let found = there number (length receiving.chunks) (low_at receiving.chunks number r end) are.chunks in
+          let found = there number (length receiving.chunks) (slice_get_within receiving.chunks number r end) are.chunks in
           let b = are.each number found.0 found.1 in
           of_link giver node number _ _ found.0.client.chunks receiving.chunks r refl refl refl b.chunks end;
       of_crumbs = λ number r end.
-          let found = there number (length receiving.crumbs) (low_at receiving.crumbs number r end) are.crumbs in
+          let found = there number (length receiving.crumbs) (slice_get_within receiving.crumbs number r end) are.crumbs in
           let b = are.each number found.0 found.1 in
           of_link giver node number _ _ found.0.client.crumbs receiving.crumbs r refl refl refl b.crumbs end;
       of_triggers = λ number r end.
-          let found = there number (length receiving.triggers) (low_at receiving.triggers number r end) are.triggers in
+          let found = there number (length receiving.triggers) (slice_get_within receiving.triggers number r end) are.triggers in
           let b = are.each number found.0 found.1 in
           of_link giver node number _ _ found.0.client.triggers receiving.triggers r refl refl refl b.triggers end;
     }

@@ -1,10 +1,11 @@
 -- The next operation of a caller may be done, and then the caller stands behind it.
-use Rattle.std.proofs.Common.{◌≡◌, ℕ, ◌+◌, ◌<◌, true, false, List, [], ◌∷◌, ◌++◌, length, map, take, drop, Option, Some, None, inl, inr, refl, sym, ap, ◌∙◌, subst, arith}
+use Rattle.std.proofs.Common.{◌≡◌, ℕ, ◌+◌, ◌<◌, true, List, ◌∷◌, length, map, take, drop, Option, None, inl, inr, sym, ap, ◌∙◌, subst, arith}
 use Rattle.std.proofs.lemmas.List.{length-map}
 use Rattle.std.proofs.lemmas.Option.{slice_get-map, slice_get_cases}
 use Rattle.std.specs.Prelude.{is_some, slice_get}
 use Rattle.std.specs.List.{AllByRecursion}
 use Rattle.std.specs.Option.{option_map}
+use Rattle.hs_lists.proofs.Options.{is_some_false}
 use Rattle.hs_auto.specs.Watching.{Watch}
 use Rattle.hs_base.specs.declared.ids.ClientId.{ClientId}
 use Rattle.hs_base.specs.declared.ids.TraceId.{TraceId}
@@ -17,6 +18,7 @@ use Rattle.hs_live.specs.Done.{HasDone, Does, DoesNothing}
 use Rattle.hs_live.specs.Keys.{Key}
 use Rattle.hs_live.specs.Live.{Live}
 use Rattle.hs_live.specs.Writing.{IsDrawn}
+use Rattle.hs_live.proofs.Cuts.{all_drawn}
 use Rattle.hs_words.specs.Ends.{Answer}
 use Rattle.hs_records.specs.Plain.{Operation, Begin, Point, End, Fire, Sample, PlainSettings}
 use Rattle.hs_records.specs.Plain as plain
@@ -32,10 +34,6 @@ use Rattle.hs_caller.proofs.Operations.{Stands, all_at, bracketed_at}
 
 -- ---- what the next operation needs
 
-none_open : (trace : Option TraceId) → is_some trace ≡ false → trace ≡ None
-none_open None e = refl
-none_open (Some t) e = absurd cc
-
 -- the autotrigger that a sample names, with its rule
 rule_at : (rules : List AutoRule) (auto : ℕ) (client : Live) → map (λ (w : Watch). w.rule) client.autos ≡ rules → auto < length rules → HasRule rules auto client
 rule_at rules auto client same within =
@@ -47,7 +45,7 @@ rule_at rules auto client same within =
 
 may_do_so : (settings : PlainSettings) (version : ℕ) (id : ClientId) (rest : List Operation) (op : Operation) (client : Live) → map (λ (w : Watch). w.rule) client.autos ≡ settings.autos → IsOf settings id client
     → HasEnough settings.size (op ∷ rest) client → AreBracketed (is_some client.core.trace) (op ∷ rest) → IsOperation version settings op → MayDo settings.autos op client
-may_do_so settings version id rest (Begin trace) client same is_of enough bracketed word = (omega (arith, enough.calls), none_open client.core.trace bracketed.0)
+may_do_so settings version id rest (Begin trace) client same is_of enough bracketed word = (omega (arith, enough.calls), is_some_false client.core.trace bracketed.0)
 may_do_so settings version id rest (Point moment payload) client same is_of enough bracketed word =
     subst (λ size. MayRecord (piece_count size (length payload)) (length payload) client) (sym is_of.size)
     (record {
@@ -77,10 +75,6 @@ may_do settings id ops place op client a is =
     may_do_so settings a.playable.version id rest op client a.inside.autos.rules_are a.is_of enough (subst (λ (t : Option TraceId). AreBracketed (is_some t) (op ∷ rest)) (sym a.inside.trace) bracketed) word
 
 -- ---- behind it
-
-all_drawn : (later earlier : List Answer) → AllByRecursion IsDrawn later → AllByRecursion IsDrawn earlier → AllByRecursion IsDrawn (later ++ earlier)
-all_drawn [] earlier h k = k
-all_drawn (answer ∷ later) earlier h k = (h.0, all_drawn later earlier h.1 k)
 
 pub at_next : (settings : PlainSettings) (id : ClientId) (ops : List Operation) (place : ℕ) (op : Operation) (old new : Live) → IsAt settings id ops (calling place old) → Stands ops place op → Does op Done old new
     → Uses op old new → IsAt settings id ops (calling (place + 1) new)

@@ -1,5 +1,5 @@
 -- Clients that are taken apart, one after another.
-use Rattle.std.proofs.Common.{◌≡◌, ℕ, zero, suc, ◌<◌, List, [], ◌∷◌, ◌++◌, length, map, get_or, refl, sym, ap, ◌∙◌, subst, arith}
+use Rattle.std.proofs.Common.{◌≡◌, ℕ, zero, suc, ◌<◌, List, [], ◌∷◌, ◌++◌, length, map, get_or, sym, ap, ◌∙◌, subst, arith}
 use Rattle.std.proofs.lemmas.List.{map-append}
 use Rattle.std.specs.List.{AllByRecursion}
 use Rattle.hs_journal.specs.Books.{PlainClientBook}
@@ -17,10 +17,6 @@ one_noted [] [] caller book are notes = (notes, tt)
 one_noted [] (b ∷ books) caller book are notes = absurd are
 one_noted (c ∷ callers) [] caller book are notes = absurd are
 one_noted (c ∷ callers) (b ∷ books) caller book are notes = (are.0, one_noted callers books caller book are.1 notes)
-
-pub map_same : {A : Type 0} (xs : List A) → map (λ x. x) xs ≡ xs
-map_same [] = refl
-map_same (x ∷ xs) = ap (λ (l : List _). x ∷ l) (map_same xs)
 
 -- a list that is read off the callers, with one more
 pub one_more : {B : Type 0} (f : Calling → B) (callers : List Calling) (caller : Calling) (items : List B) (item : B) (new : List B) → new ≡ items ++ item ∷ [] → items ≡ map f callers → item ≡ f caller → new ≡ map f (callers ++ caller ∷ [])

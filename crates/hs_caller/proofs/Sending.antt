@@ -3,8 +3,8 @@ use Rattle.std.proofs.Common.{◌≡◌, ℕ, suc, ◌+◌, ◌≤◌, false, Li
 use Rattle.std.proofs.lemmas.List.{append-nil, length-take-le, take-append-drop}
 use Rattle.std.specs.Prelude.{is_some, slice_get}
 use Rattle.std.specs.List.{AllByRecursion}
+use Rattle.hs_lists.proofs.Alls.{all_front}
 use Rattle.hs_base.specs.declared.ids.ClientId.{ClientId}
-use Rattle.hs_base.specs.declared.ids.TraceId.{TraceId}
 use Rattle.hs_client.specs.Core.{Core, Step, new_core}
 use Rattle.hs_client.specs.Calls.{AreSteps, IsBook, after, draws_supplied, filled_chunks, segments_of_steps, sheet_for, with_all}
 use Rattle.hs_journal.specs.declared.journal.Draw.{Draw}
@@ -16,7 +16,8 @@ use Rattle.hs_live.specs.Done.{HasDone, HasSent}
 use Rattle.hs_player.specs.Places.{IsPlayable}
 use Rattle.hs_records.specs.Plain.{Operation, PlainSettings}
 use Rattle.hs_records.specs.Pages.{PlainPage, pages_of}
-use Rattle.hs_records.specs.Records.{segments_of, coming}
+use Rattle.hs_records.specs.Records.{segments_of}
+use Rattle.hs_records.proofs.Payloads.{nothing_comes}
 use Rattle.hs_ring.specs.Parts.{Leased}
 use Rattle.hs_sent.specs.Draws.{count_started}
 use Rattle.hs_sent.specs.HandedOut.{CoresHandOutSoFar, sheets_of_items}
@@ -40,10 +41,6 @@ pub record Laws : Type 0 where
   pub handed : CoresHandOutSoFar Leased
   pub crumbs : FirstCrumbsAreSent
   pub triggers : FirstTriggersAreSent
-
-nothing_comes : (size number : ℕ) (trace : Option TraceId) → coming size number trace [] ≡ []
-nothing_comes size number None = refl
-nothing_comes size number (Some trace) = refl
 
 -- the segments that the steps gave are those of the operations
 recorded : (made : Made) (ops : List Operation) (client : Live) (h : HasDone made ops client) → reverse (segments_of_steps (h.writes []).steps) ≡ segments_of made.size ops
@@ -107,17 +104,13 @@ filled_leased id number (p ∷ pages) (Some b ∷ buffers) (d ∷ draws) all agr
   filled_leased id (number + 1) pages buffers draws all agree.1 (next_behind number d draws all behind),
 )
 
-all_first : {A : Type 0} (P : A → Type 0) (xs ys : List A) → AllByRecursion P (xs ++ ys) → AllByRecursion P xs
-all_first P [] ys h = tt
-all_first P (x ∷ xs) ys h = (h.0, all_first P xs ys h.1)
-
 leased : (id : ClientId) (pages : List PlainPage) (client : Live) (answers : List Answer) (chunks rest : List (Buffer Leased)) → client.core.draws ≡ draws_by answers
     → chunks ++ rest ≡ filled_chunks id 0 pages (buffers_by client.drawer.pool client.drawer.size answers) → AllByRecursion (IsLeasedTo id client.core.draws) chunks
 leased id pages client answers chunks rest draws is =
     let buffers = buffers_by client.drawer.pool client.drawer.size answers in
     let all = filled_leased id 0 pages buffers (draws_by answers) (draws_by answers) (answers_agree client.drawer.pool client.drawer.size answers) (λ place. let same : 0 + place ≡ place = omega arith in ap (slice_get (draws_by answers)) same) in
     subst (λ (l : List Draw). AllByRecursion (IsLeasedTo id l) chunks) (sym draws)
-    (all_first (IsLeasedTo id (draws_by answers)) chunks rest (subst (λ (l : List (Buffer Leased)). AllByRecursion (IsLeasedTo id (draws_by answers)) l) (sym is) all))
+    (all_front (IsLeasedTo id (draws_by answers)) chunks rest (subst (λ (l : List (Buffer Leased)). AllByRecursion (IsLeasedTo id (draws_by answers)) l) (sym is) all))
 
 abbrev calling : ℕ → Live → Calling
 calling place client = record { done = place; client = client }

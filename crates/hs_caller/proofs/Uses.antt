@@ -14,10 +14,11 @@ use Rattle.hs_live.specs.declared.called.Called.TheVariants as called
 use Rattle.hs_live.specs.Calls.{BeginsBy, PointsBy, NotesBy, EndsBy, WritesOnly, begun, counts}
 use Rattle.hs_live.specs.Keys.{Key}
 use Rattle.hs_live.specs.Live.{Live, GoesOn, Sends}
-use Rattle.hs_live.specs.Writing.{DrawsOn, Spends, writing_of}
+use Rattle.hs_live.specs.Writing.{Spends, writing_of}
+use Rattle.hs_live.proofs.Cuts.{draws_none}
 use Rattle.hs_records.specs.Plain.{Operation, Begin, Point, End, Fire, Sample}
 use Rattle.hs_records.specs.Plain as plain
-use Rattle.hs_ring.specs.Parts.{Drawing, Leased}
+use Rattle.hs_ring.specs.Parts.{Leased}
 use Rattle.hs_caller.specs.Counting.{SendsFew, UsesUp, Uses}
 
 -- ---- answers
@@ -56,9 +57,6 @@ ends core called.TooWide left some by = absurd by
 
 -- ---- what is used
 
-draws_same : (d : Drawing) → DrawsOn d d
-draws_same d = record { pool = refl; buffers = refl; size = refl; number = refl; floor = omega arith; added = []; since = refl; above = tt; drawn = tt }
-
 sends_none : {T F : Type 0} (items : ℕ) (s : Outgoing T F) → SendsFew items s s
 sends_none items s = record { goes = record { same = (refl, refl, refl, refl, refl); put = take-length s.put }; few = omega arith }
 
@@ -72,7 +70,7 @@ begin_uses trace answer old new done is =
       size = refl;
       calls_are = refl;
       counted = omega arith;
-      draws = draws_same old.drawer;
+      draws = draws_none old.drawer;
       left = omega arith;
       chunks = sends_none 1 old.chunks;
       crumbs_are = sends_none 0 old.crumbs;
@@ -104,7 +102,7 @@ crumb_uses node old new is goes most =
       size = refl;
       calls_are = refl;
       counted = omega arith;
-      draws = draws_same old.drawer;
+      draws = draws_none old.drawer;
       left = omega arith;
       chunks = sends_none 1 old.chunks;
       crumbs_are = record { goes = goes; few = most };
@@ -118,7 +116,7 @@ triggered old autos triggers sends =
       size = refl;
       calls_are = refl;
       counted = omega arith;
-      draws = draws_same old.drawer;
+      draws = draws_none old.drawer;
       left = omega arith;
       chunks = sends_none 1 old.chunks;
       crumbs_are = sends_none 0 old.crumbs;

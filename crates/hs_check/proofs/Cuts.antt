@@ -1,21 +1,15 @@
 -- How far a part goes, line by line.
-use Rattle.std.proofs.Common.{◌≡◌, ◌≢◌, ℕ, ◌+◌, ◌≤◌, Bool, true, false, not, cond, nat_eq, get_or, List, [], ◌∷◌, ◌++◌, length, take, add-zero, refl, sym, ap, ◌∙◌, arith, length-append}
+use Rattle.std.proofs.Common.{◌≡◌, ◌≢◌, ℕ, ◌+◌, ◌≤◌, Bool, true, false, not, cond, nat_eq, List, [], ◌∷◌, ◌++◌, length, take, add-zero, refl, sym, ap, ◌∙◌, arith, length-append}
 use Rattle.std.specs.List.{All, take_while}
 use Rattle.std.specs.Str.{bytes_eq}
 use Rattle.std.proofs.lemmas.List.{take_all}
-use Rattle.std.proofs.lemmas.List.Splits.{slice_split_at, slice_split_none}
+use Rattle.std.proofs.lemmas.List.Splits.{slice_split_none}
 use Rattle.std.proofs.lemmas.List.Sums.{take_while-cons}
 use Rattle.std.proofs.lemmas.Slice.Eq.{bytes_eq-Decides}
-use borrow.Author.Tests.{ne_eqb}
 use Rattle.hs_text.specs.Judging.{parts_of}
 use Rattle.hs_text.specs.Text.{text_of}
+use Rattle.hs_text.specs.JudgingLaws.{no_newline, line_part}
 use Rattle.hs_check.specs.Parts.{length_with, part_through}
-
-no_newline : (line : List ℕ) → All (λ b. b ≢ 10) line → All (λ b. nat_eq b 10 ≡ false) line
-no_newline line one = λ k d within. ne_eqb (get_or line k d) 10 (one k d within)
-
-first_line : (line behind : List ℕ) → All (λ b. b ≢ 10) line → parts_of (line ++ 10 ∷ behind) ≡ line ∷ parts_of behind
-first_line line behind one = slice_split_at (λ b. nat_eq b 10) line 10 behind (no_newline line one) refl
 
 -- whether a line is another one
 abbrev is_other : List ℕ → List ℕ → Bool
@@ -44,11 +38,11 @@ in_last_at word rest false other = let e = in_other word rest [] other in omega 
 
 -- a line further on, where the line is another one
 pub behind_other : (word line behind text : List ℕ) → text ≡ line ++ 10 ∷ behind → All (λ b. b ≢ 10) line → bytes_eq line word ≡ false → length_with word text ≡ length line + 1 + length_with word behind
-behind_other word line behind text split one other = ap (length_with word) split ∙ ap (length_in word) (first_line line behind one) ∙ in_other word line (parts_of behind) other
+behind_other word line behind text split one other = ap (length_with word) split ∙ ap (length_in word) (line_part line behind one) ∙ in_other word line (parts_of behind) other
 
 -- the line itself
 pub with_line : (word line behind text : List ℕ) → text ≡ line ++ 10 ∷ behind → All (λ b. b ≢ 10) line → bytes_eq line word ≡ true → length_with word text ≡ length line + 1
-with_line word line behind text split one same = ap (length_with word) split ∙ ap (length_in word) (first_line line behind one) ∙ in_same word line (parts_of behind) same
+with_line word line behind text split one same = ap (length_with word) split ∙ ap (length_in word) (line_part line behind one) ∙ in_same word line (parts_of behind) same
 
 -- what has no newline is no more than the part
 pub to_the_end : (word rest : List ℕ) → All (λ b. b ≢ 10) rest → length rest ≤ length_with word rest

@@ -6,8 +6,9 @@ use Rattle.std.proofs.lemmas.Bool.{and_parts}
 use Rattle.std.proofs.lemmas.List.{map-append, nil_from_length}
 use Rattle.std.proofs.lemmas.List.FromFn.{length-range_with_len, get_or-range_with_len}
 use Rattle.std.proofs.lemmas.Option.{slice_get-map, slice_get-get_or, slice_get_within, same_Some}
-use Rattle.hs_clauses.proofs.Knowing.{all_true}
-use Rattle.hs_clauses.proofs.Queues.{range_parts}
+use Rattle.hs_lists.proofs.Places.{get_there}
+use Rattle.hs_lists.proofs.Tests.{list_all_at}
+use Rattle.hs_lists.proofs.Ranges.{range_append}
 use Rattle.hs_clauses.specs.Finding.{AreFound}
 use Rattle.hs_followed.specs.Parting.{books_left}
 use Rattle.hs_followed.specs.Whole.{AllAt}
@@ -35,12 +36,6 @@ found_over IsOf f [] (y ∷ ys) count each = absurd (omega (arith, count))
 found_over IsOf f (x ∷ xs) [] count each = absurd (omega (arith, count))
 found_over IsOf f (x ∷ xs) (y ∷ ys) count each = (each 0 x y refl refl, found_over IsOf f xs ys (omega (arith, count)) (λ n a b at bt. each (suc n) a b at bt))
 
--- something stands at each place
-there_at : {A : Type 0} (xs : List A) (n : ℕ) → n < length xs → (x : A) × (slice_get xs n ≡ Some x)
-there_at [] n low = absurd (omega (arith, low))
-there_at (x ∷ xs) zero low = (x, refl)
-there_at (x ∷ xs) (suc n) low = there_at xs n (omega (arith, low))
-
 -- the items of a row, by what each says
 row_of : {A B C : Type 0} (f : ℕ → C) (item : A → B) (view : B → C) (start : ℕ) (xs : List A) → ((n : ℕ) (x : A) → slice_get xs n ≡ Some x → view (item x) ≡ f (start + n))
     → map view (map item xs) ≡ map f (range_with_len start (length xs))
@@ -64,7 +59,7 @@ rows_of {C = C} f row view each first (x ∷ xs) rows =
     map-append view (row x) (flat_map row xs)
     ∙ (λ i. (rows 0 x refl ∙ ap (λ s. map f (range_with_len s each)) here) i ++ (rest ∙ ap (λ s. map f (range_with_len s (length xs * each))) next) i)
     ∙ sym (map-append f (range_with_len (first * each) each) (range_with_len (first * each + each) (length xs * each)))
-    ∙ ap (map f) (sym (range_parts (first * each) each (length xs * each)))
+    ∙ ap (map f) (sym (range_append (first * each) each (length xs * each)))
     ∙ ap (λ n. map f (range_with_len (first * each) n)) (sym many)
 
 -- ---- nodes
@@ -92,7 +87,7 @@ module _ (runs : RunsAreOfTheJournal) (W : PlainWorkload) (J : PlainJournal) (no
   agent_left n node t at t_at =
       record {
         stands = (a.nodes_are.each n node t at t_at).stands.agent;
-        pinned = nil_from_length node.state.pinned (eqb-true (length node.state.pinned) 0 (and_parts _ _ (all_true (is_left_bare run) run.nodes n node lawful.L10 at)).1);
+        pinned = nil_from_length node.state.pinned (eqb-true (length node.state.pinned) 0 (and_parts _ _ (list_all_at (is_left_bare run) run.nodes n node lawful.L10 at)).1);
       }
 
   row_left : (n : ℕ) (node : NodeRun) (t : Tracked) → slice_get run.nodes n ≡ Some node → slice_get nodes n ≡ Some t
@@ -104,7 +99,7 @@ module _ (runs : RunsAreOfTheJournal) (W : PlainWorkload) (J : PlainJournal) (no
       ∙ ap (λ m. map (client_book W J) (range_with_len (n * W.settings.clients) m)) stand.count
 
   node_there : (n : ℕ) (t : Tracked) → slice_get nodes n ≡ Some t → (node : NodeRun) × (slice_get run.nodes n ≡ Some node)
-  node_there n t at = let within = slice_get_within nodes n t at in let count = a.nodes_are.count in there_at run.nodes n (omega (arith, within, count))
+  node_there n t at = let within = slice_get_within nodes n t at in let count = a.nodes_are.count in get_there run.nodes n (omega (arith, within, count))
 
   pub all_left : (ended : Ended) → ended.clients.items ≡ flat_map books_left nodes → ended.agents.items ≡ map (λ (t : Tracked). t.follower.agent) nodes → AreLeft W J ended
   all_left ended clients agents =

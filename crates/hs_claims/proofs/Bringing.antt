@@ -1,9 +1,11 @@
 -- Only a trigger or an ask makes claims, one for each of its traces that is not claimed yet. All other small steps leave the claims as they
 -- are, and a message is of the group that was claimed for, or of one that was claimed for before.
-use Rattle.std.proofs.Common.{◌≡◌, ℕ, Bool, true, false, cond, List, [], ◌∷◌, ◌++◌, refl, sym, subst, Option, Some, None, append-nil}
+use Rattle.std.proofs.Common.{◌≡◌, ℕ, Bool, true, false, cond, List, [], ◌∷◌, refl, sym, subst, Option, Some, None}
 use Rattle.std.specs.Prelude.{fold, nat_lt, length}
 use Rattle.std.specs.List.{AllByRecursion}
-use Rattle.std.specs.Option.{option_map_or, option_and_then, option_to_list}
+use Rattle.std.specs.Option.{option_map_or, option_and_then}
+use Rattle.std.proofs.lemmas.Option.{same_Some}
+use Rattle.hs_lists.proofs.Alls.{all_append, all_append_option}
 use Rattle.hs_base.specs.declared.ids.TraceId.{TraceId}
 use Rattle.hs_base.specs.declared.told.Ask.{Ask}
 use Rattle.hs_base.specs.declared.told.Crumb.{Crumb}
@@ -24,19 +26,6 @@ use Rattle.hs_model.specs.State.{AgentState, ClaimedTrace, claim_of, is_claimed,
 use Rattle.hs_model.specs.Stepping.{Input, Chunk, Crumbed, Triggered, Asked, Turn, Answered, Given, Missed, Unread, Took, Gave, with_indexed, with_abandoned, with_pinned, pin_chunk, with_touched, tell_late, late_crumb, admits, group_of, claim_for, note_trigger, count_admitted, admit, told_by, take_input, take_answer, give_back}
 use Rattle.hs_model.specs.Turning.{visit}
 use Rattle.hs_claims.specs.Bringing.{AllPass, IsClaimOf, TellsOf, BringsOnly, ClaimsAreOfWhatIsBrought}
-
--- ---- lists
-
-all_both : {X : Type 0} (P : X → Type 0) (xs ys : List X) → AllByRecursion P xs → AllByRecursion P ys → AllByRecursion P (xs ++ ys)
-all_both P [] ys a b = b
-all_both P (x ∷ xs) ys a b = (a.0, all_both P xs ys a.1 b)
-
-some_told : {X : Type 0} (P : X → Type 0) (xs : List X) (o : Option X) → AllByRecursion P xs → ((x : X) → o ≡ Some x → P x) → AllByRecursion P (xs ++ option_to_list o)
-some_told P xs None all each = subst (AllByRecursion P) (sym (append-nil xs)) all
-some_told P xs (Some x) all each = all_both P xs (x ∷ []) all (each x refl, tt)
-
-the_same : {X : Type 0} (a b : X) → Some a ≡ Some b → a ≡ b
-the_same a b h = cc
 
 -- ---- the claims that small steps leave alone
 
@@ -87,11 +76,11 @@ module _ (test : TraceId → Bool) where
     where
       by : (b : Bool) → Claims (cond b s (claim_trace ask trace s))
       by true = all
-      by false = all_both (IsClaimOf test) s.claims (record { trace = trace; group = ask.group; laterals = ask.laterals } ∷ []) all (record { trace = pass.0; group = only }, tt)
+      by false = all_append (IsClaimOf test) s.claims (record { trace = trace; group = ask.group; laterals = ask.laterals } ∷ []) all (record { trace = pass.0; group = only }, tt)
 
   -- the claim that is found is one of these
   found_if : (first : ClaimedTrace) (rest : Option ClaimedTrace) (claim : ClaimedTrace) (b : Bool) → IsClaimOf test first → (rest ≡ Some claim → IsClaimOf test claim) → cond b (Some first) rest ≡ Some claim → IsClaimOf test claim
-  found_if first rest claim true only later h = subst (IsClaimOf test) (the_same first claim h) only
+  found_if first rest claim true only later h = subst (IsClaimOf test) (same_Some first claim h) only
   found_if first rest claim false only later h = later h
 
   found : (trace : TraceId) (claims : List ClaimedTrace) (claim : ClaimedTrace) → AllByRecursion (IsClaimOf test) claims → claim_of claims trace ≡ Some claim → IsClaimOf test claim
@@ -147,17 +136,17 @@ module _ (test : TraceId → Bool) where
       where
         by : (b : Bool) → cond b None (Some (late_of claim crumb)) ≡ Some told → TellsOf test told
         by true h = let no : None ≡ Some told = h in absurd cc
-        by false h = subst (TellsOf test) (the_same (late_of claim crumb) told h) (found crumb.trace s.claims claim all is).group
+        by false h = subst (TellsOf test) (same_Some (late_of claim crumb) told h) (found crumb.trace s.claims claim all is).group
 
     trigger_told : (trigger : Trigger) (told : Told) (b : Bool) → AllPass test (trigger.lead ∷ trigger.laterals) → cond b (Some (told_of s.crumbs (group_of node s trigger) Fired)) None ≡ Some told → TellsOf test told
-    trigger_told trigger told true only h = subst (TellsOf test) (the_same (told_of s.crumbs (group_of node s trigger) Fired) told h) only
+    trigger_told trigger told true only h = subst (TellsOf test) (same_Some (told_of s.crumbs (group_of node s trigger) Fired) told h) only
     trigger_told trigger told false only h = let no : None ≡ Some told = h in absurd cc
 
     input_told : (input : Input) (told : Told) → BringsOnly test (Took input) → told_by settings node s input ≡ Some told → TellsOf test told
     input_told (Chunk client sheet) told only h = let no : None ≡ Some told = h in absurd cc
     input_told (Crumbed client crumb) told only h = late_told crumb told (claim_of s.claims crumb.trace) refl h
     input_told (Triggered client trigger) told only h = trigger_told trigger told (admits settings s.tried trigger) only h
-    input_told (Asked ask) told only h = subst (TellsOf test) (the_same (told_of s.crumbs ask Answer) told h) only
+    input_told (Asked ask) told only h = subst (TellsOf test) (same_Some (told_of s.crumbs ask Answer) told h) only
     input_told Turn told only h = let no : None ≡ Some told = h in absurd cc
 
 pub claims_are_of_what_is_brought : StepsSayWhatTheyTell → ClaimsAreOfWhatIsBrought
@@ -166,7 +155,7 @@ claims_are_of_what_is_brought says settings node test s (Took input) only h =
       claims = input_claims test settings node s h.claims input only;
       said =
           subst (AllByRecursion (TellsOf test)) (sym ((says settings node s).inputs input))
-          (some_told (TellsOf test) s.said (told_by settings node s input) h.said (λ told is. input_told test settings node s h.claims input told only is));
+          (all_append_option (TellsOf test) s.said (told_by settings node s input) h.said (λ told is. input_told test settings node s h.claims input told only is));
     }
 claims_are_of_what_is_brought says settings node test s (Gave answer) only h =
     record { claims = answer_claims test settings node s h.claims answer; said = subst (AllByRecursion (TellsOf test)) (sym ((says settings node s).answers answer)) h.said }

@@ -6,7 +6,9 @@ use Rattle.std.specs.List.Sorted.{IsPermutation, IsNonDecreasingBy}
 use Rattle.std.specs.Option.{option_map_or}
 use Rattle.std.proofs.lemmas.Bool.{and_parts, and_from, and_left, and_right, eqb-true, eq-eqb, ne_eqb, ltb-true, ltb-false, lt-ltb, le-ltb, cases_Bool, cases_eq, cases_lt, or_cases, true≢false, false_from_ne_true}
 use Rattle.std.proofs.lemmas.List.Sorted.{sum_by-IsPermutation}
-use Rattle.std.proofs.lemmas.List.Sums.{sum_by-cons}
+use Rattle.hs_lists.proofs.Tests.{list_any_none}
+use Rattle.hs_lists.proofs.Counts.{count_cons, one_if}
+use Rattle.hs_lists.proofs.Alls.{all_each}
 use Rattle.hs_words.specs.PoolHistory.{Event}
 use Rattle.hs_lawful.specs.Pooled.{PoolEvent, has_buffer, is_touched}
 use Rattle.hs_clauses.specs.declared.happened.Happening.{Happening}
@@ -14,8 +16,7 @@ use Rattle.hs_clauses.specs.declared.happened.Happening.TheVariants as happening
 use Rattle.hs_clauses.specs.declared.happened.Timed.{Timed}
 use Rattle.hs_clauses.specs.Happening.{event_of, pool_event}
 use Rattle.hs_clauses.specs.Answering.{last_at, answers_last, answers_through}
-use Rattle.hs_clauses.proofs.Numbered.{one_if}
-use Rattle.hs_clauses.proofs.Sorting.{All-weaker, Sorted, sorted_from}
+use Rattle.hs_clauses.proofs.Sorting.{Sorted, sorted_from}
 
 -- ---- some and all
 
@@ -28,16 +29,9 @@ module _ {A : Type 0} where
       at a true e cases here later = refl
       at a false e cases here later = elim cases [ inl h ↦ absurd (true≢false (sym (here h))) | inr h ↦ later h ]
 
-  pub any_none : (p : A → Bool) (xs : List A) → AllByRecursion (λ x. p x ≡ false) xs → list_any p xs ≡ false
-  any_none p [] all = refl
-  any_none p (x ∷ xs) all = ap (λ b. b || list_any p xs) all.0 ∙ any_none p xs all.1
-
-  counted : (p : A → Bool) (x : A) (xs : List A) → count_by p (x ∷ xs) ≡ one_if (p x) + count_by p xs
-  counted p x xs = sum_by-cons (λ y. cond (p y) 1 0) x xs
-
   pub all_counted : (p : A → Bool) (xs : List A) → list_all p xs ≡ eqb (count_by (λ x. not (p x)) xs) 0
   all_counted p [] = refl
-  all_counted p (x ∷ xs) = at (p x) (count_by (λ y. not (p y)) xs) (all_counted p xs) ∙ sym (ap (λ n. eqb n 0) (counted (λ y. not (p y)) x xs))
+  all_counted p (x ∷ xs) = at (p x) (count_by (λ y. not (p y)) xs) (all_counted p xs) ∙ sym (ap (λ n. eqb n 0) (count_cons (λ y. not (p y)) x xs))
     where
       at : (b : Bool) (n : ℕ) → list_all p xs ≡ eqb n 0 → (b && list_all p xs) ≡ eqb (one_if (not b) + n) 0
       at true n e = e ∙ ap (λ k. eqb k 0) (omega arith)
@@ -45,7 +39,7 @@ module _ {A : Type 0} where
 
   pub any_counted : (p : A → Bool) (xs : List A) → list_any p xs ≡ not (eqb (count_by p xs) 0)
   any_counted p [] = refl
-  any_counted p (x ∷ xs) = at (p x) (count_by p xs) (any_counted p xs) ∙ sym (ap (λ n. not (eqb n 0)) (counted p x xs))
+  any_counted p (x ∷ xs) = at (p x) (count_by p xs) (any_counted p xs) ∙ sym (ap (λ n. not (eqb n 0)) (count_cons p x xs))
     where
       at : (b : Bool) (n : ℕ) → list_any p xs ≡ not (eqb n 0) → (b || list_any p xs) ≡ not (eqb (one_if b + n) 0)
       at true n e = sym (ap not (ne_eqb (1 + n) 0 (λ h. omega (arith, h))))
@@ -57,9 +51,6 @@ module _ {A : Type 0} where
   pub all-permutation : (p : A → Bool) (xs ys : List A) → IsPermutation xs ys → list_all p xs ≡ list_all p ys
   all-permutation p xs ys same = all_counted p xs ∙ sym (ap (λ n. eqb n 0) (count-permutation (λ x. not (p x)) xs ys same)) ∙ sym (all_counted p ys)
 
-  pub any-permutation : (p : A → Bool) (xs ys : List A) → IsPermutation xs ys → list_any p xs ≡ list_any p ys
-  any-permutation p xs ys same = any_counted p xs ∙ sym (ap (λ n. not (eqb n 0)) (count-permutation p xs ys same)) ∙ sym (any_counted p ys)
-
 -- ---- rising stamps
 
 abbrev pub Rising : List Timed → Type 0
@@ -69,7 +60,7 @@ Rising (t ∷ timed) = AllByRecursion (λ (u : Timed). t.stamp < u.stamp) timed 
 none_of : (s : ℕ) (timed : List Timed) → count_by (λ (t : Timed). eqb t.stamp s) timed ≡ 0 → AllByRecursion (λ (t : Timed). s ≤ t.stamp) timed → AllByRecursion (λ (t : Timed). s < t.stamp) timed
 none_of s [] none low = tt
 none_of s (t ∷ timed) none low =
-    let count = counted (λ (t : Timed). eqb t.stamp s) t timed in
+    let count = count_cons (λ (t : Timed). eqb t.stamp s) t timed in
     elim (cases_eq t.stamp s) [
       | inl same ↦ (let one = ap one_if (eq-eqb t.stamp s same) in absurd (omega (arith, count, none, one)))
       | inr other ↦ (let at = low.0 in (omega (arith, other, at), none_of s timed (omega (arith, count, none)) low.1))
@@ -80,10 +71,10 @@ pub rising_from : (timed : List Timed) → Sorted (λ (t : Timed). t.stamp) time
 rising_from [] sorted once = tt
 rising_from (t ∷ timed) sorted once =
     let here = once t.stamp in
-    let count = counted (λ (u : Timed). eqb u.stamp t.stamp) t timed in
+    let count = count_cons (λ (u : Timed). eqb u.stamp t.stamp) t timed in
     let one = ap one_if (eq-eqb t.stamp t.stamp refl) in (
       none_of t.stamp timed (omega (arith, here, count, one)) sorted.0,
-      rising_from timed sorted.1 (λ s. let all = once s in let c = counted (λ (u : Timed). eqb u.stamp s) t timed in omega (arith, all, c)),
+      rising_from timed sorted.1 (λ s. let all = once s in let c = count_cons (λ (u : Timed). eqb u.stamp s) t timed in omega (arith, all, c)),
     )
 
 -- ---- the last event of a buffer
@@ -117,7 +108,7 @@ last_some buffer (t ∷ before) last falls e = at (touches buffer t) refl e (las
     at true h e later =
         let same : t.stamp ≡ last = cc in
         record {
-          upper = ((λ k. omega (arith, same)), All-weaker (λ (u : Timed). u.stamp < t.stamp) (λ u. touches buffer u ≡ true → u.stamp ≤ last) before (λ u low k. omega (arith, low, same)) falls.0);
+          upper = ((λ k. omega (arith, same)), all_each (λ (u : Timed). u.stamp < t.stamp) (λ u. touches buffer u ≡ true → u.stamp ≤ last) before (λ u low k. omega (arith, low, same)) falls.0);
           there = ap (λ b. b || list_any (λ u. touches buffer u && eqb u.stamp last) before) (and_from (touches buffer t) (eqb t.stamp last) h (eq-eqb t.stamp last same));
         }
     at false h e later =
@@ -154,16 +145,16 @@ module _ (whole : (Timed → Bool) → Bool) (before later : List Timed) (buffer
 
   none_later : list_any (λ t. touches buffer t && ltb drawn t.stamp && ltb t.stamp given) later ≡ false
   none_later =
-      any_none (λ t. touches buffer t && ltb drawn t.stamp && ltb t.stamp given) later
-      (All-weaker (λ (t : Timed). given ≤ t.stamp) (λ t. (touches buffer t && ltb drawn t.stamp && ltb t.stamp given) ≡ false) later
+      list_any_none (λ t. touches buffer t && ltb drawn t.stamp && ltb t.stamp given) later
+      (all_each (λ (t : Timed). given ≤ t.stamp) (λ t. (touches buffer t && ltb drawn t.stamp && ltb t.stamp given) ≡ false) later
       (λ t h. and_right (touches buffer t && ltb drawn t.stamp) (ltb t.stamp given) (le-ltb t.stamp given h)) high)
 
   -- a draw that came before stands among the events before
   draw_before : drawn < given → list_any (λ t. touches buffer t && eqb t.stamp drawn) before ≡ true
   draw_before less =
       or_left_part (list_any (λ t. touches buffer t && eqb t.stamp drawn) before) (list_any (λ t. touches buffer t && eqb t.stamp drawn) later) (sym (parted (λ t. touches buffer t && eqb t.stamp drawn)) ∙ draw)
-      (any_none (λ t. touches buffer t && eqb t.stamp drawn) later
-      (All-weaker (λ (t : Timed). given ≤ t.stamp) (λ t. (touches buffer t && eqb t.stamp drawn) ≡ false) later
+      (list_any_none (λ t. touches buffer t && eqb t.stamp drawn) later
+      (all_each (λ (t : Timed). given ≤ t.stamp) (λ t. (touches buffer t && eqb t.stamp drawn) ≡ false) later
       (λ t h. and_right (touches buffer t) (eqb t.stamp drawn) (ne_eqb t.stamp drawn (λ e. omega (arith, e, h, less)))) high))
 
   touched_is : whole (λ t. touches buffer t && ltb drawn t.stamp && ltb t.stamp given) ≡ list_any (λ t. touches buffer t && ltb drawn t.stamp && ltb t.stamp given) before
@@ -178,7 +169,7 @@ module _ (whole : (Timed → Bool) → Bool) (before later : List Timed) (buffer
   without none =
       elim (cases_Bool (ltb drawn given)) [
         | inl less ↦
-            (let nobody = any_none (λ t. touches buffer t && eqb t.stamp drawn) before (All-weaker (λ t. touches buffer t ≡ false) (λ t. (touches buffer t && eqb t.stamp drawn) ≡ false) before (λ t h. and_left (touches buffer t) (eqb t.stamp drawn) h) (last_none buffer before none)) in
+            (let nobody = list_any_none (λ t. touches buffer t && eqb t.stamp drawn) before (all_each (λ t. touches buffer t ≡ false) (λ t. (touches buffer t && eqb t.stamp drawn) ≡ false) before (λ t h. and_left (touches buffer t) (eqb t.stamp drawn) h) (last_none buffer before none)) in
             absurd (true≢false (sym (draw_before (ltb-true drawn given less)) ∙ nobody)))
         | inr past ↦ and_left (ltb drawn given) (not (whole (λ t. touches buffer t && ltb drawn t.stamp && ltb t.stamp given))) past
       ]
@@ -190,16 +181,16 @@ module _ (whole : (Timed → Bool) → Bool) (before later : List Timed) (buffer
     last_low : last < given
     last_low = elim (cases_lt last given) [
       | inl less ↦ less
-      | inr past ↦ absurd (true≢false (sym l.there ∙ any_none (λ t. touches buffer t && eqb t.stamp last) before
-          (All-weaker (λ (t : Timed). t.stamp < given) (λ t. (touches buffer t && eqb t.stamp last) ≡ false) before (λ t h. and_right (touches buffer t) (eqb t.stamp last) (ne_eqb t.stamp last (λ e. omega (arith, e, h, past)))) low)))
+      | inr past ↦ absurd (true≢false (sym l.there ∙ list_any_none (λ t. touches buffer t && eqb t.stamp last) before
+          (all_each (λ (t : Timed). t.stamp < given) (λ t. (touches buffer t && eqb t.stamp last) ≡ false) before (λ t h. and_right (touches buffer t) (eqb t.stamp last) (ne_eqb t.stamp last (λ e. omega (arith, e, h, past)))) low)))
     ]
 
     -- the last one is the draw
     same_last : last ≡ drawn → (ltb drawn given && not (whole (λ t. touches buffer t && ltb drawn t.stamp && ltb t.stamp given))) ≡ true
     same_last same =
         let less : drawn < given = omega (arith, same, last_low) in
-        let untouched = any_none (λ t. touches buffer t && ltb drawn t.stamp && ltb t.stamp given) before
-        (All-weaker (λ t. touches buffer t ≡ true → t.stamp ≤ last) (λ t. (touches buffer t && ltb drawn t.stamp && ltb t.stamp given) ≡ false) before
+        let untouched = list_any_none (λ t. touches buffer t && ltb drawn t.stamp && ltb t.stamp given) before
+        (all_each (λ t. touches buffer t ≡ true → t.stamp ≤ last) (λ t. (touches buffer t && ltb drawn t.stamp && ltb t.stamp given) ≡ false) before
         (λ t h. and_left (touches buffer t && ltb drawn t.stamp) (ltb t.stamp given)
         (false_from_ne_true (touches buffer t && ltb drawn t.stamp) (λ k. let both = and_parts (touches buffer t) (ltb drawn t.stamp) k in let upper = h both.0 in let above = ltb-true drawn t.stamp both.1 in omega (arith, upper, above, same)))) l.upper) in
         and_from (ltb drawn given) (not (whole (λ t. touches buffer t && ltb drawn t.stamp && ltb t.stamp given))) (lt-ltb drawn given less) (ap not (touched_is ∙ untouched))
@@ -212,14 +203,14 @@ module _ (whole : (Timed → Bool) → Bool) (before later : List Timed) (buffer
               (let here = draw_before (ltb-true drawn given less) in
               let below : drawn ≤ last =
               elim (cases_lt last drawn) [
-                | inl past ↦ absurd (true≢false (sym here ∙ any_none (λ t. touches buffer t && eqb t.stamp drawn) before
-                    (All-weaker (λ t. touches buffer t ≡ true → t.stamp ≤ last) (λ t. (touches buffer t && eqb t.stamp drawn) ≡ false) before
+                | inl past ↦ absurd (true≢false (sym here ∙ list_any_none (λ t. touches buffer t && eqb t.stamp drawn) before
+                    (all_each (λ t. touches buffer t ≡ true → t.stamp ≤ last) (λ t. (touches buffer t && eqb t.stamp drawn) ≡ false) before
                     (λ t h. false_from_ne_true (touches buffer t && eqb t.stamp drawn) (λ k. let both = and_parts (touches buffer t) (eqb t.stamp drawn) k in let upper = h both.0 in let e = eqb-true t.stamp drawn both.1 in omega (arith, upper, e, past))) l.upper)))
                 | inr fine ↦ fine
               ] in
               let touched : whole (λ t. touches buffer t && ltb drawn t.stamp && ltb t.stamp given) ≡ true =
               touched_is ∙ any_weaker (λ t. touches buffer t && eqb t.stamp last) (λ t. touches buffer t && ltb drawn t.stamp && ltb t.stamp given) before
-              (All-weaker (λ (t : Timed). t.stamp < given) (λ t. (touches buffer t && eqb t.stamp last) ≡ true → (touches buffer t && ltb drawn t.stamp && ltb t.stamp given) ≡ true) before
+              (all_each (λ (t : Timed). t.stamp < given) (λ t. (touches buffer t && eqb t.stamp last) ≡ true → (touches buffer t && ltb drawn t.stamp && ltb t.stamp given) ≡ true) before
               (λ t h k. let both = and_parts (touches buffer t) (eqb t.stamp last) k in let e = eqb-true t.stamp last both.1 in
               and_from (touches buffer t && ltb drawn t.stamp) (ltb t.stamp given) (and_from (touches buffer t) (ltb drawn t.stamp) both.0 (lt-ltb drawn t.stamp (omega (arith, e, below, other)))) (lt-ltb t.stamp given h)) low) l.there in
               and_right (ltb drawn given) (not (whole (λ t. touches buffer t && ltb drawn t.stamp && ltb t.stamp given))) (ap not touched))
@@ -253,7 +244,7 @@ pub through_is : (whole : (Timed → Bool) → Bool) (before later : List Timed)
 through_is whole before [] parted falls low rises draws = refl
 through_is whole before (t ∷ later) parted falls low rises draws =
     let both = and_parts (has_draw whole t.event) (list_all (λ (t : Timed). has_draw whole t.event) later) draws in
-    let high : AllByRecursion (λ (u : Timed). t.stamp ≤ u.stamp) (t ∷ later) = (omega arith, All-weaker (λ (u : Timed). t.stamp < u.stamp) (λ (u : Timed). t.stamp ≤ u.stamp) later (λ u h. omega (arith, h)) rises.0) in
+    let high : AllByRecursion (λ (u : Timed). t.stamp ≤ u.stamp) (t ∷ later) = (omega arith, all_each (λ (u : Timed). t.stamp < u.stamp) (λ (u : Timed). t.stamp ≤ u.stamp) later (λ u h. omega (arith, h)) rises.0) in
     let here = event_answers whole before (t ∷ later) t.stamp t.event parted falls low.0 high both.0 in
     let rest = through_is whole (t ∷ before) later (λ p. parted p ∙ moved (p t) (list_any p before) (list_any p later)) (low.0, falls) (before_more t before later rises.0 low.1) rises.1 both.1 in
     ap (λ b. b && answers_through (t ∷ before) later) here ∙ ap (λ b. answers_all whole t.stamp t.event && b) rest

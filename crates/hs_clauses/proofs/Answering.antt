@@ -1,12 +1,15 @@
 -- The gives of a followed node answer their draws exactly where its events, in the order of stamps, say so.
-use Rattle.std.proofs.Common.{◌≡◌, ℕ, zero, suc, ◌+◌, ◌*◌, ◌<◌, ◌≤◌, Bool, true, false, cond, eqb, ltb, List, [], ◌∷◌, ◌++◌, length, map, take, Option, Some, None, refl, sym, ap, ◌∙◌, subst, arith}
+use Rattle.std.proofs.Common.{◌≡◌, ℕ, zero, suc, ◌+◌, ◌*◌, ◌<◌, ◌≤◌, Bool, true, false, eqb, ltb, List, [], ◌∷◌, ◌++◌, length, map, take, Option, Some, None, refl, sym, ap, ◌∙◌, subst, arith}
 use Rattle.std.specs.Prelude.{slice_get, option_map, filter_map, count_by, not, ◌&&◌, ◌||◌}
 use Rattle.std.specs.List.{flat_map, range_with_len, list_all, list_any}
 use Rattle.std.specs.List.Sorted.{IsPermutation, IsNonDecreasingBy}
 use Rattle.std.specs.Option.{option_and_then, option_to_list, option_map_or}
 use Rattle.std.proofs.lemmas.Bool.{and_parts, and_from, eq-eqb}
 use Rattle.std.proofs.lemmas.List.{length-map, append_assoc}
-use Rattle.std.proofs.lemmas.List.Sums.{sum_by-cons, sum_by-append}
+use Rattle.std.proofs.lemmas.List.Folds.{list_all-append, list_any-append}
+use Rattle.std.proofs.lemmas.List.Sorted.{list_any-IsPermutation}
+use Rattle.hs_lists.proofs.Counts.{count_cons, count_append, one_if}
+use Rattle.hs_lists.proofs.Tests.{list_any_map}
 use Rattle.hs_journal.specs.declared.journal.Draw.{Draw}
 use Rattle.hs_journal.specs.declared.journal.Draw.TheVariants as draws
 use Rattle.hs_journal.specs.declared.journal.Step.{Step}
@@ -32,44 +35,14 @@ use Rattle.hs_clauses.specs.declared.happened.Timed.{Timed}
 use Rattle.hs_clauses.specs.Answering.{answers_through, is_got}
 use Rattle.hs_clauses.specs.Finding.{named, given_name}
 use Rattle.hs_clauses.specs.Happening.{event_of, pool_event, timed_draw, timed_miss, timed_give, timed_gives, node_timed, draw_at, drawn_from}
-use Rattle.hs_clauses.proofs.Answered.{touches, Before, Rising, rising_from, answers_all, has_draw, through_is, any_weaker, all-permutation, any-permutation, count-permutation}
+use Rattle.hs_clauses.proofs.Answered.{touches, Before, Rising, rising_from, answers_all, has_draw, through_is, any_weaker, all-permutation, count-permutation}
 use Rattle.hs_clauses.proofs.Bared.{clients_counted}
-use Rattle.hs_clauses.proofs.Knowing.{KnownAt, all_true}
+use Rattle.hs_clauses.proofs.Knowing.{KnownAt}
 use Rattle.hs_clauses.proofs.NodeEvents.{drawn_lists, lists_are, page_draw}
-use Rattle.hs_clauses.proofs.Numbered.{one_if, numbered_once}
+use Rattle.hs_clauses.proofs.Numbered.{numbered_once}
 use Rattle.hs_clauses.proofs.Pooling.{noted, told_events}
 use Rattle.hs_clauses.proofs.Ranges.{each_holds}
 use Rattle.hs_clauses.proofs.Sorting.{sorted_from}
-
--- ---- counts
-
-module _ {A : Type 0} (p : A → Bool) where
-  counted : (x : A) (xs : List A) → count_by p (x ∷ xs) ≡ one_if (p x) + count_by p xs
-  counted x xs = sum_by-cons (λ y. cond (p y) 1 0) x xs
-
-  joined : (xs ys : List A) → count_by p (xs ++ ys) ≡ count_by p xs + count_by p ys
-  joined xs ys = sum_by-append (λ y. cond (p y) 1 0) xs ys
-
-module _ {A : Type 0} where
-  all-append : (p : A → Bool) (xs ys : List A) → list_all p (xs ++ ys) ≡ (list_all p xs && list_all p ys)
-  all-append p [] ys = refl
-  all-append p (x ∷ xs) ys = ap (λ b. p x && b) (all-append p xs ys) ∙ assoc (p x) (list_all p xs) (list_all p ys)
-    where
-      assoc : (a b c : Bool) → (a && (b && c)) ≡ ((a && b) && c)
-      assoc true b c = refl
-      assoc false b c = refl
-
-  any-append : (p : A → Bool) (xs ys : List A) → list_any p (xs ++ ys) ≡ (list_any p xs || list_any p ys)
-  any-append p [] ys = refl
-  any-append p (x ∷ xs) ys = ap (λ b. p x || b) (any-append p xs ys) ∙ assoc (p x) (list_any p xs) (list_any p ys)
-    where
-      assoc : (a b c : Bool) → (a || (b || c)) ≡ ((a || b) || c)
-      assoc true b c = refl
-      assoc false b c = refl
-
-any-map : {A B : Type 0} (p : B → Bool) (f : A → B) (xs : List A) → list_any p (map f xs) ≡ list_any (λ x. p (f x)) xs
-any-map p f [] = refl
-any-map p f (x ∷ xs) = ap (λ b. p (f x) || b) (any-map p f xs)
 
 -- ---- no stamp comes twice
 
@@ -84,8 +57,8 @@ taken_few : (s k : ℕ) (ds : List Draw) → count_by (λ (t : Timed). eqb t.sta
 taken_few s zero ds = omega arith
 taken_few s (suc k) [] = omega arith
 taken_few s (suc k) (d ∷ ds) =
-    let a = counted (λ (t : Timed). eqb t.stamp s) (timed_draw d) (map timed_draw (take k ds)) in
-    let b = counted (λ v. eqb v s) (stamp_of d) (draw_stamps ds) in
+    let a = count_cons (λ (t : Timed). eqb t.stamp s) (timed_draw d) (map timed_draw (take k ds)) in
+    let b = count_cons (λ v. eqb v s) (stamp_of d) (draw_stamps ds) in
     let same = ap (λ v. one_if (eqb v s)) (draw_stamp d) in
     let rest = taken_few s k ds in
     omega (arith, a, b, same, rest)
@@ -97,8 +70,8 @@ drawn_few s J p a (suc m) [] many = absurd (omega arith)
 drawn_few s J p a zero (c ∷ clients) many = absurd (omega arith)
 drawn_few s J p a (suc m) (c ∷ clients) many =
     let ds = draws_at J (p + a) in
-    let x = joined (λ (t : Timed). eqb t.stamp s) (map timed_draw (take (length c.started.items) ds)) (flat_map (map timed_draw) (drawn_from J (p + a + 1) clients)) in
-    let y = joined (λ v. eqb v s) (draw_stamps ds) (flat_map draw_stamps (map (λ number. draws_at J (p + number)) (range_with_len (a + 1) m))) in
+    let x = count_append (λ (t : Timed). eqb t.stamp s) (map timed_draw (take (length c.started.items) ds)) (flat_map (map timed_draw) (drawn_from J (p + a + 1) clients)) in
+    let y = count_append (λ v. eqb v s) (draw_stamps ds) (flat_map draw_stamps (map (λ number. draws_at J (p + number)) (range_with_len (a + 1) m))) in
     let first = taken_few s (length c.started.items) ds in
     let next : p + a + 1 ≡ p + (a + 1) = omega arith in
     let moved = ap (λ k. count_by (λ (t : Timed). eqb t.stamp s) (flat_map (map timed_draw) (drawn_from J k clients))) next in
@@ -106,24 +79,24 @@ drawn_few s J p a (suc m) (c ∷ clients) many =
     omega (arith, x, y, first, moved, rest)
 
 give_few : (s stamp : ℕ) (o : Option Draw) → count_by (λ (t : Timed). eqb t.stamp s) (option_to_list (timed_give stamp o)) ≤ one_if (eqb stamp s)
-give_few s stamp (Some (draws.Got buffer drawn)) = let a = counted (λ (t : Timed). eqb t.stamp s) (record { stamp = stamp; event = happenings.Given buffer drawn }) [] in omega (arith, a)
+give_few s stamp (Some (draws.Got buffer drawn)) = let a = count_cons (λ (t : Timed). eqb t.stamp s) (record { stamp = stamp; event = happenings.Given buffer drawn }) [] in omega (arith, a)
 give_few s stamp (Some (draws.Empty drawn)) = omega arith
 give_few s stamp None = omega arith
 
 logged_few : (s : ℕ) (lists : List (List Draw)) (log : List Step) (pages : List FoundPage)
     → count_by (λ (t : Timed). eqb t.stamp s) (timed_gives lists log pages) + count_by (λ (t : Timed). eqb t.stamp s) (filter_map timed_miss log) ≤ count_by (λ v. eqb v s) (log_stamps log)
 logged_few s lists [] pages = omega arith
-logged_few s lists (steps.Given stamp ∷ log) [] = let rest = logged_few s lists log [] in let b = counted (λ v. eqb v s) stamp (log_stamps log) in omega (arith, rest, b)
+logged_few s lists (steps.Given stamp ∷ log) [] = let rest = logged_few s lists log [] in let b = count_cons (λ v. eqb v s) stamp (log_stamps log) in omega (arith, rest, b)
 logged_few s lists (steps.Given stamp ∷ log) (page ∷ pages) =
     let o = draw_at lists page in
-    let a = joined (λ (t : Timed). eqb t.stamp s) (option_to_list (timed_give stamp o)) (timed_gives lists log pages) in
-    let b = counted (λ v. eqb v s) stamp (log_stamps log) in
+    let a = count_append (λ (t : Timed). eqb t.stamp s) (option_to_list (timed_give stamp o)) (timed_gives lists log pages) in
+    let b = count_cons (λ v. eqb v s) stamp (log_stamps log) in
     let one = give_few s stamp o in
     let rest = logged_few s lists log pages in
     omega (arith, a, b, one, rest)
 logged_few s lists (steps.Missed stamp ∷ log) pages =
-    let a = counted (λ (t : Timed). eqb t.stamp s) (record { stamp = stamp; event = happenings.Missed }) (filter_map timed_miss log) in
-    let b = counted (λ v. eqb v s) stamp (log_stamps log) in
+    let a = count_cons (λ (t : Timed). eqb t.stamp s) (record { stamp = stamp; event = happenings.Missed }) (filter_map timed_miss log) in
+    let b = count_cons (λ v. eqb v s) stamp (log_stamps log) in
     let rest = logged_few s lists log pages in
     omega (arith, a, b, rest)
 logged_few s lists (steps.Chunk c ∷ log) pages = logged_few s lists log pages
@@ -152,7 +125,7 @@ module _ (xs : List Timed) where
   opt_is stamp None = refl
 
   touched_is : (buffer drawn stamp : ℕ) → is_touched (map pool_event xs) buffer drawn stamp ≡ list_any (λ t. touches buffer t && ltb drawn t.stamp && ltb t.stamp stamp) xs
-  touched_is buffer drawn stamp = any-map (λ (e : PoolEvent). has_buffer buffer e.event && ltb drawn e.stamp && ltb e.stamp stamp) pool_event xs
+  touched_is buffer drawn stamp = list_any_map (λ (e : PoolEvent). has_buffer buffer e.event && ltb drawn e.stamp && ltb e.stamp stamp) pool_event xs
 
   and_true : (b : Bool) → b ≡ (b && true)
   and_true true = refl
@@ -202,7 +175,7 @@ module _ (xs : List Timed) where
         (given_answers g page name ∙ ap (λ s. answers_opt s o) stamps ∙ give_is stamp o)
         ∙ ap (λ b. (is_got o && list_all A (option_to_list (timed_give stamp o))) && b) (gives_are log given pages rest others)
         ∙ rearranged (is_got o) (list_all A (option_to_list (timed_give stamp o))) (list_all (λ page. is_got (draw_at lists page)) pages) (list_all A (timed_gives lists log pages))
-        ∙ sym (ap (λ b. (is_got o && list_all (λ page. is_got (draw_at lists page)) pages) && b) (all-append A (option_to_list (timed_give stamp o)) (timed_gives lists log pages)))
+        ∙ sym (ap (λ b. (is_got o && list_all (λ page. is_got (draw_at lists page)) pages) && b) (list_all-append A (option_to_list (timed_give stamp o)) (timed_gives lists log pages)))
     gives_are (steps.Chunk c ∷ log) (g ∷ given) pages noted names = gives_are log (g ∷ given) pages noted names
     gives_are (steps.Chunk c ∷ log) [] pages noted names = gives_are log [] pages noted names
     gives_are (steps.Crumb c ∷ log) (g ∷ given) pages noted names = gives_are log (g ∷ given) pages noted names
@@ -222,7 +195,7 @@ module _ (xs : List Timed) where
 
 drawn_hold : (p : Timed → Bool) → ((d : Draw) → p (timed_draw d) ≡ true) → (lists : List (List Draw)) → list_all p (flat_map (map timed_draw) lists) ≡ true
 drawn_hold p h [] = refl
-drawn_hold p h (ds ∷ lists) = all-append p (map timed_draw ds) (flat_map (map timed_draw) lists) ∙ and_from (list_all p (map timed_draw ds)) (list_all p (flat_map (map timed_draw) lists)) (each ds) (drawn_hold p h lists)
+drawn_hold p h (ds ∷ lists) = list_all-append p (map timed_draw ds) (flat_map (map timed_draw) lists) ∙ and_from (list_all p (map timed_draw ds)) (list_all p (flat_map (map timed_draw) lists)) (each ds) (drawn_hold p h lists)
   where
     each : (ds : List Draw) → list_all p (map timed_draw ds) ≡ true
     each [] = refl
@@ -257,10 +230,10 @@ got_there : (buffer drawn : ℕ) (lists : List (List Draw)) (client page : ℕ) 
     → list_any (λ t. touches buffer t && eqb t.stamp drawn) (flat_map (map timed_draw) lists) ≡ true
 got_there buffer drawn [] client page e = let none : None ≡ Some (draws.Got buffer drawn) = e in absurd cc
 got_there buffer drawn (ds ∷ lists) zero page e =
-    any-append (λ t. touches buffer t && eqb t.stamp drawn) (map timed_draw ds) (flat_map (map timed_draw) lists)
+    list_any-append (λ t. touches buffer t && eqb t.stamp drawn) (map timed_draw ds) (flat_map (map timed_draw) lists)
     ∙ ap (λ b. b || list_any (λ t. touches buffer t && eqb t.stamp drawn) (flat_map (map timed_draw) lists)) (got_in buffer drawn ds page e)
 got_there buffer drawn (ds ∷ lists) (suc client) page e =
-    any-append (λ t. touches buffer t && eqb t.stamp drawn) (map timed_draw ds) (flat_map (map timed_draw) lists)
+    list_any-append (λ t. touches buffer t && eqb t.stamp drawn) (map timed_draw ds) (flat_map (map timed_draw) lists)
     ∙ or_true (list_any (λ t. touches buffer t && eqb t.stamp drawn) (map timed_draw ds)) _ (got_there buffer drawn lists client page e)
   where
     or_true : (a b : Bool) → b ≡ true → (a || b) ≡ true
@@ -274,7 +247,7 @@ module _ (lists : List (List Draw)) (later : List Timed) where
   give_has : (stamp : ℕ) (page : FoundPage) (o : Option Draw) → draw_at lists page ≡ o → list_all (λ (t : Timed). has_draw (λ p. list_any p all_timed) t.event) (option_to_list (timed_give stamp o)) ≡ true
   give_has stamp page (Some (draws.Got buffer drawn)) e =
       and_from (list_any (λ t. touches buffer t && eqb t.stamp drawn) all_timed) true
-      (any-append (λ t. touches buffer t && eqb t.stamp drawn) (flat_map (map timed_draw) lists) later
+      (list_any-append (λ t. touches buffer t && eqb t.stamp drawn) (flat_map (map timed_draw) lists) later
       ∙ ap (λ b. b || list_any (λ t. touches buffer t && eqb t.stamp drawn) later) (got_there buffer drawn lists page.client page.page e)) refl
   give_has stamp page (Some (draws.Empty drawn)) e = refl
   give_has stamp page None e = refl
@@ -283,7 +256,7 @@ module _ (lists : List (List Draw)) (later : List Timed) where
   gives_have [] pages = refl
   gives_have (steps.Given stamp ∷ log) [] = refl
   gives_have (steps.Given stamp ∷ log) (page ∷ pages) =
-      all-append (λ (t : Timed). has_draw (λ p. list_any p all_timed) t.event) (option_to_list (timed_give stamp (draw_at lists page))) (timed_gives lists log pages)
+      list_all-append (λ (t : Timed). has_draw (λ p. list_any p all_timed) t.event) (option_to_list (timed_give stamp (draw_at lists page))) (timed_gives lists log pages)
       ∙ and_from (list_all (λ (t : Timed). has_draw (λ p. list_any p all_timed) t.event) (option_to_list (timed_give stamp (draw_at lists page)))) _ (give_has stamp page (draw_at lists page) refl) (gives_have log pages)
   gives_have (steps.Missed s ∷ log) pages = gives_have log pages
   gives_have (steps.Chunk c ∷ log) pages = gives_have log pages
@@ -316,9 +289,9 @@ module _ (W : PlainWorkload) (J : PlainJournal) (gives : GivesAreNoted) (plays :
       let p = i * W.settings.clients in
       let none : p + 0 ≡ p = omega arith in
       let D : List Timed = flat_map (map timed_draw) lists in
-      let a = joined (λ (t : Timed). eqb t.stamp s) (D ++ timed_gives lists log f.gives.items) (filter_map timed_miss log) in
-      let b = joined (λ (t : Timed). eqb t.stamp s) D (timed_gives lists log f.gives.items) in
-      let c = joined (λ v. eqb v s) (flat_map draw_stamps (node_draws W J i)) (log_stamps (log_at J i)) in
+      let a = count_append (λ (t : Timed). eqb t.stamp s) (D ++ timed_gives lists log f.gives.items) (filter_map timed_miss log) in
+      let b = count_append (λ (t : Timed). eqb t.stamp s) D (timed_gives lists log f.gives.items) in
+      let c = count_append (λ v. eqb v s) (flat_map draw_stamps (node_draws W J i)) (log_stamps (log_at J i)) in
       let d = drawn_few s J p 0 W.settings.clients f.clients.items (clients_counted W J i f k) in
       let e = ap (λ (l : List (List Draw)). count_by (λ (t : Timed). eqb t.stamp s) (flat_map (map timed_draw) l)) (ap (λ q. drawn_from J q f.clients.items) none ∙ lists_are W J i f k) in
       let g = logged_few s lists log f.gives.items in
@@ -342,8 +315,8 @@ module _ (W : PlainWorkload) (J : PlainJournal) (gives : GivesAreNoted) (plays :
       sym (ap (λ (l : List PoolEvent). list_all (λ (g : GivenPlace). option_map_or (λ (d : DrawnPage). answers_draw l g.stamp d.draw) (given_page run run.state g.place) false) run.state.given) told)
       ∙ gives_are xs run log run.state.given f.gives.items (noted W J gives plays i f k) k.is.gives
       ∙ ap (λ b. list_all (λ page. is_got (draw_at lists page)) f.gives.items && b)
-      (sym (all-append A (D ++ G) (filter_map timed_miss log)
-      ∙ ap (λ b. b && list_all A (filter_map timed_miss log)) (all-append A D G)
+      (sym (list_all-append A (D ++ G) (filter_map timed_miss log)
+      ∙ ap (λ b. b && list_all A (filter_map timed_miss log)) (list_all-append A D G)
       ∙ ap (λ b. (b && list_all A G) && list_all A (filter_map timed_miss log)) (drawn_hold A (no_give (λ p. list_any p xs)) lists)
       ∙ ap (λ b. list_all A G && b) (missed_hold A (λ s. refl) log)
       ∙ true_right (list_all A G)))
@@ -367,8 +340,8 @@ module _ (W : PlainWorkload) (J : PlainJournal) (gives : GivesAreNoted) (plays :
       let joined_up : xs ≡ D ++ (G ++ M) = append_assoc D G M in
       let H : Timed → Bool = λ t. has_draw (λ p. list_any p xs) t.event in
       let of_gives : list_all H G ≡ true = subst (λ (l : List Timed). list_all (λ (t : Timed). has_draw (λ p. list_any p l) t.event) G ≡ true) (sym joined_up) (gives_have lists (G ++ M) log f.gives.items) in
-      all-append H (D ++ G) M
-      ∙ and_from (list_all H (D ++ G)) (list_all H M) (all-append H D G ∙ and_from (list_all H D) (list_all H G) (drawn_hold H (no_give (λ p. list_any p xs)) lists) of_gives) (missed_hold H (λ s. refl) log)
+      list_all-append H (D ++ G) M
+      ∙ and_from (list_all H (D ++ G)) (list_all H M) (list_all-append H D G ∙ and_from (list_all H D) (list_all H G) (drawn_hold H (no_give (λ p. list_any p xs)) lists) of_gives) (missed_hold H (λ s. refl) log)
     where
       no_give : (whole : (Timed → Bool) → Bool) (d : Draw) → has_draw whole (timed_draw d).event ≡ true
       no_give whole (draws.Got buffer stamp) = refl
@@ -393,7 +366,7 @@ module _ (W : PlainWorkload) (J : PlainJournal) (gives : GivesAreNoted) (plays :
       let H : Timed → Bool = λ t. has_draw whole t.event in
       let A : Timed → Bool = λ t. answers_all whole t.stamp t.event in
       answer
-      ∙ through_is whole [] sorted (λ p. any-permutation p xs sorted moved) tt (nothing_before sorted) up (sym (all-permutation H xs sorted moved) ∙ has_draws)
+      ∙ through_is whole [] sorted (λ p. list_any-IsPermutation p xs sorted moved) tt (nothing_before sorted) up (sym (all-permutation H xs sorted moved) ∙ has_draws)
       ∙ sym (all-permutation A xs sorted moved)
       ∙ sym (parted ∙ ap (λ b. b && list_all A xs) (sym (ap (λ (l : List (List Draw)). list_all (λ page. is_got (draw_at l page)) f.gives.items) (lists_are W J i f k)) ∙ got))
     where

@@ -4,6 +4,7 @@ use Rattle.std.specs.Prelude.{count_by, zip, ◌&&◌}
 use Rattle.std.specs.List.{list_all, range_with_len}
 use Rattle.std.proofs.lemmas.List.{length-map}
 use Rattle.std.proofs.lemmas.List.FromFn.{length-range_with_len}
+use Rattle.hs_lists.proofs.Counts.{count_map}
 use Rattle.hs_base.specs.declared.ids.NodeId.{NodeId}
 use Rattle.hs_base.specs.declared.node_set.NodeSet.{NodeSet}
 use Rattle.hs_base.specs.NodeSets.{has_node}
@@ -20,7 +21,7 @@ use Rattle.hs_sent.specs.Sending.{ClientSends, client_sends}
 use Rattle.hs_clauses.specs.declared.found.Found.{Found}
 use Rattle.hs_clauses.specs.declared.found.FoundNode.{FoundNode}
 use Rattle.hs_clauses.specs.Finding.{IsFound, IsFoundNode, IsFoundClient}
-use Rattle.hs_clauses.proofs.Knowing.{KnownAt, found_as_many, heard_is_told, asks_counted, count-map}
+use Rattle.hs_clauses.proofs.Knowing.{KnownAt, found_as_many, heard_is_told, asks_counted}
 
 -- how many clients were found at a node
 pub clients_counted : (W : PlainWorkload) (J : PlainJournal) (i : ℕ) (f : FoundNode) → KnownAt W J i f → length f.clients.items ≡ W.settings.clients
@@ -42,7 +43,7 @@ module _ (W : PlainWorkload) (J : PlainJournal) (found : Found) (plays : Followi
       let asked : asks ≡ length (asks_to run.node R.heard) = counted ∙ sent ∙ sym (ap (λ n. length (asks_to n R.heard)) k.node) in
       let hears : heard ≡ count_by (is_from (record { 0 = run.node })) R.heard =
       told ∙ sym (ap (count_by (λ (other : NodeId). eqb other.0 i)) (heard_is_told W J found plays runs done is))
-      ∙ count-map (λ (other : NodeId). eqb other.0 i) (λ (m : Message). m.node) R.heard
+      ∙ count_map (λ (other : NodeId). eqb other.0 i) (λ (m : Message). m.node) R.heard
       ∙ sym (ap (λ n. count_by (λ (m : Message). eqb m.node.0 n) R.heard) k.node) in
       answer W.settings run k.is (k.log ∙ sym same)
       ∙ ap (λ n. list_all (λ (c : ℕ × ClientSends). took_all run.state.log c.0 c.1) (zip (range_with_len 0 (length run.sends)) run.sends)

@@ -3,6 +3,8 @@ use Rattle.std.proofs.Common.{◌≡◌, ℕ, zero, suc, ◌+◌, ◌-◌, ◌<�
 use Rattle.std.proofs.lemmas.Bool.{leb-true, leb-false, le-leb, lt-leb, cases_lt}
 use Rattle.std.proofs.lemmas.List.{drop_more, drop_all}
 use Rattle.std.specs.List.{flat_map, AllByRecursion}
+use Rattle.hs_lists.proofs.Alls.{all_drop, all_append}
+use Rattle.hs_lists.proofs.Parts.{map_drop, length_map, map_append}
 use Rattle.hs_workload.specs.declared.operation.Op.{Op}
 use Rattle.hs_workload.specs.Views.{operation_of}
 use Rattle.hs_base.specs.declared.limits.TheConstants.{PIECE_COST, MIN_SIZE}
@@ -68,11 +70,6 @@ front_opens_none size budget spent [] all within = refl
 front_opens_none size budget spent (cost ∷ costs) all within =
     front_at size budget spent cost costs (leb cost (budget - spent)) (leb (spent + cost) budget) refl refl all.0.some within (λ h. front_opens_none size budget (spent + cost) costs all.1 h)
 
-All-drop : (P : ℕ → Type 0) (n : ℕ) (xs : List ℕ) → AllByRecursion P xs → AllByRecursion P (drop n xs)
-All-drop P zero xs all = all
-All-drop P (suc n) [] all = tt
-All-drop P (suc n) (x ∷ xs) all = All-drop P n xs all.1
-
 -- a page takes the next run of pieces
 next_run : (size cost : ℕ) (costs : List ℕ) → AllByRecursion (IsCost size) (cost ∷ costs)
     → opened size 0 (cost ∷ costs) ≡ opened size 0 (drop (count_beside (page_room size) 0 (cost ∷ costs)) (cost ∷ costs)) + 1
@@ -87,15 +84,6 @@ next_run size cost costs all =
     opens size cost costs all.0.some ∙ ap (λ n. n + 1) (front_opens_none size room cost costs all.1 all.0.fits)
     ∙ sym (ap (λ n. opened size 0 (drop n (cost ∷ costs)) + 1) count)
 
-drop-map : {A B : Type 0} (f : A → B) (n : ℕ) (xs : List A) → map f (drop n xs) ≡ drop n (map f xs)
-drop-map f zero xs = refl
-drop-map f (suc n) [] = refl
-drop-map f (suc n) (x ∷ xs) = drop-map f n xs
-
-length-map' : {A B : Type 0} (f : A → B) (xs : List A) → length (map f xs) ≡ length xs
-length-map' f [] = refl
-length-map' f (x ∷ xs) = ap suc (length-map' f xs)
-
 runs_count : (most size : ℕ) (pieces : List Piece) → AllByRecursion (IsCost size) (map cost_of pieces) → length pieces ≤ most → length (runs_within most size pieces) ≡ opened size 0 (map cost_of pieces)
 runs_count zero size [] all few = refl
 runs_count zero size (piece ∷ pieces) all few = absurd (omega arith)
@@ -106,11 +94,11 @@ runs_count (suc most) size (piece ∷ pieces) all few =
     let costs = map cost_of (piece ∷ pieces) in
     let room = page_room size in
     let later = count_beside room (cost_of piece) (map cost_of pieces) in
-    let same : map cost_of rest ≡ drop k costs = drop-map cost_of k (piece ∷ pieces) in
+    let same : map cost_of rest ≡ drop k costs = map_drop cost_of k (piece ∷ pieces) in
     let takes : leb (0 + cost_of piece) room ≡ true = le-leb (0 + cost_of piece) room (let h = all.0.fits in omega (arith, h)) in
     let count : k ≡ 1 + count_beside room (0 + cost_of piece) (map cost_of pieces) = ap (λ b. cond b (1 + count_beside room (0 + cost_of piece) (map cost_of pieces)) 0) takes in
     let left : length rest ≤ most = let e = length-drop k (piece ∷ pieces) in omega (arith, e, count) in
-    let kept : AllByRecursion (IsCost size) (map cost_of rest) = subst (λ (l : List ℕ). AllByRecursion (IsCost size) l) (sym same) (All-drop (IsCost size) k costs all) in
+    let kept : AllByRecursion (IsCost size) (map cost_of rest) = subst (λ (l : List ℕ). AllByRecursion (IsCost size) l) (sym same) (all_drop (IsCost size) k costs all) in
     let ih = runs_count most size rest kept left in
     let next = next_run size (cost_of piece) (map cost_of pieces) all in
     let one : suc (opened size 0 (drop k costs)) ≡ opened size 0 (drop k costs) + 1 = omega arith in
@@ -118,17 +106,9 @@ runs_count (suc most) size (piece ∷ pieces) all few =
 
 segment_count : (size : ℕ) (segment : Segment) → AllByRecursion (IsCost size) (map cost_of segment.pieces) → length (segment_pages size segment) ≡ opened size 0 (map cost_of segment.pieces)
 segment_count size segment all =
-    length-map' _ (runs_of size segment.pieces) ∙ runs_count (length segment.pieces) size segment.pieces all (omega arith)
+    length_map _ (runs_of size segment.pieces) ∙ runs_count (length segment.pieces) size segment.pieces all (omega arith)
 
 -- ---- payloads
-
-All-append : (P : ℕ → Type 0) (xs ys : List ℕ) → AllByRecursion P xs → AllByRecursion P ys → AllByRecursion P (xs ++ ys)
-All-append P [] ys a b = b
-All-append P (x ∷ xs) ys a b = (a.0, All-append P xs ys a.1 b)
-
-map-append' : {A B : Type 0} (f : A → B) (xs ys : List A) → map f (xs ++ ys) ≡ map f xs ++ map f ys
-map-append' f [] ys = refl
-map-append' f (x ∷ xs) ys = ap (λ (l : List _). f x ∷ l) (map-append' f xs ys)
 
 -- a payload of at most so many bytes is a cost
 is_cost : (size bytes : ℕ) → MIN_SIZE ≤ size → bytes ≤ piece_limit size → IsCost size (PIECE_COST + bytes)
@@ -156,14 +136,14 @@ piece_costs size number moment (bytes ∷ payloads) = ap (λ (l : List ℕ). (PI
 -- the pieces of a record and those behind them
 point_costs : (size number moment : ℕ) (payload : List ℕ) (pieces : List Piece) → map cost_of (record_pieces size number moment payload ++ pieces) ≡ payload_costs size payload ++ map cost_of pieces
 point_costs size number moment payload pieces =
-    map-append' cost_of (record_pieces size number moment payload) pieces ∙ ap (λ (l : List ℕ). l ++ map cost_of pieces) (piece_costs size number moment (payload_pieces size payload))
+    map_append cost_of (record_pieces size number moment payload) pieces ∙ ap (λ (l : List ℕ). l ++ map cost_of pieces) (piece_costs size number moment (payload_pieces size payload))
 
 segment_fits : (size number : ℕ) (ops : List Operation) → MIN_SIZE ≤ size → AllByRecursion (IsCost size) (map cost_of (pieces_until_end size number ops))
 segment_fits size number [] least = tt
 segment_fits size number (End ∷ ops) least = tt
 segment_fits size number (Point moment payload ∷ ops) least =
     subst (λ (l : List ℕ). AllByRecursion (IsCost size) l) (sym (point_costs size number moment payload (pieces_until_end size (number + 1) ops)))
-    (All-append (IsCost size) (payload_costs size payload) (map cost_of (pieces_until_end size (number + 1) ops)) (payload_fits size payload least) (segment_fits size (number + 1) ops least))
+    (all_append (IsCost size) (payload_costs size payload) (map cost_of (pieces_until_end size (number + 1) ops)) (payload_fits size payload least) (segment_fits size (number + 1) ops least))
 segment_fits size number (Begin trace ∷ ops) least = segment_fits size number ops least
 segment_fits size number (Crumb node ∷ ops) least = segment_fits size number ops least
 segment_fits size number (Fire trigger ∷ ops) least = segment_fits size number ops least
@@ -212,7 +192,7 @@ started_few size room (Begin trace) counted = omega arith
 started_few size room End counted = omega arith
 started_few size room (Point moment payload) counted =
     let a = opened_few size room (payload_costs size payload) in
-    let b = length-map' (λ (bytes : List ℕ). PIECE_COST + length bytes) (payload_pieces size payload) in
+    let b = length_map (λ (bytes : List ℕ). PIECE_COST + length bytes) (payload_pieces size payload) in
     omega (arith, a, b, counted payload)
 started_few size room (Crumb node) counted = omega arith
 started_few size room (Fire trigger) counted = omega arith

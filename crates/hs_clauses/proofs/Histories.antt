@@ -1,7 +1,9 @@
 -- A history, event by event from its front.
 use Rattle.std.proofs.Common.{◌≡◌, ℕ, zero, suc, ◌+◌, ◌<◌, ◌≤◌, Bool, true, false, cond, ltb, List, [], ◌∷◌, ◌++◌, length, map, drop, get_or, reverse, refl, sym, ap, ◌∙◌, arith}
 use Rattle.std.specs.Prelude.{filter, ◌&&◌}
+use Rattle.std.proofs.Math.Bool.{and-true}
 use Rattle.std.proofs.lemmas.List.{drop_more, reverse-append, append_assoc, append-nil}
+use Rattle.hs_lists.proofs.Bools.{and_assoc}
 use Rattle.hs_words.specs.PoolHistory.{Event}
 use Rattle.hs_clauses.specs.declared.happened.Timed.{Timed}
 use Rattle.hs_clauses.specs.Happening.{event_of, pool_event, events_below, may_come, earlier_with}
@@ -12,16 +14,8 @@ abbrev pub history_from : ℕ → List Event → List Event → Bool
 history_from n earlier [] = true
 history_from n earlier (event ∷ later) = may_follow n earlier event && history_from n (event ∷ earlier) later
 
-and_true : (b : Bool) → (b && true) ≡ b
-and_true true = refl
-and_true false = refl
-
-and_assoc : (a b c : Bool) → ((a && b) && c) ≡ (a && (b && c))
-and_assoc true b c = refl
-and_assoc false b c = refl
-
 back_is : (n : ℕ) (earlier later : List Event) → is_history_back n (reverse later ++ earlier) ≡ (is_history_back n earlier && history_from n earlier later)
-back_is n earlier [] = sym (and_true (is_history_back n earlier))
+back_is n earlier [] = sym (and-true (is_history_back n earlier))
 back_is n earlier (event ∷ later) =
     ap (λ (l : List Event). is_history_back n (l ++ earlier)) (reverse-append (event ∷ []) later)
     ∙ ap (is_history_back n) (append_assoc (reverse later) (event ∷ []) earlier)

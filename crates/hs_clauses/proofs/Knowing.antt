@@ -1,12 +1,17 @@
 -- What is known of each node of a journal that can be followed: its log and its clients are the journal's, and what was found is its own.
 use Rattle.std.proofs.Common.{◌≡◌, ℕ, zero, suc, ◌+◌, ◌<◌, ◌≤◌, Bool, true, false, cond, eqb, List, [], ◌∷◌, ◌++◌, length, map, drop, get_or, Option, Some, None, refl, sym, ap, ◌∙◌, subst, inl, inr, ◌⊎◌, arith}
 use Rattle.std.specs.Prelude.{slice_get, option_map, count_by, ◌&&◌}
-use Rattle.std.specs.List.{range_with_len, list_all, AllByRecursion}
+use Rattle.std.specs.List.{list_all, AllByRecursion}
 use Rattle.std.specs.Option.{option_and_then}
 use Rattle.std.proofs.lemmas.Bool.{and_parts, eqb-true}
 use Rattle.std.proofs.lemmas.List.{append_assoc, append-nil, map-append, length-append, length-map, nil_from_length}
 use Rattle.std.proofs.lemmas.List.FromFn.{length-range_with_len}
 use Rattle.std.proofs.lemmas.List.Sums.{sum_by-cons}
+use Rattle.hs_lists.proofs.Ranges.{range_found}
+use Rattle.hs_lists.proofs.Places.{get_map}
+use Rattle.hs_lists.proofs.Tests.{list_all_at}
+use Rattle.hs_lists.proofs.Counts.{one_if}
+use Rattle.hs_lists.proofs.Alls.{all_at}
 use Rattle.hs_base.specs.declared.ids.NodeId.{NodeId}
 use Rattle.hs_base.specs.declared.told.Ask.{Ask}
 use Rattle.hs_base.specs.declared.told.Told.{Told}
@@ -24,8 +29,6 @@ use Rattle.hs_lawful.specs.Played.{played}
 use Rattle.hs_clauses.specs.declared.found.Found.{Found}
 use Rattle.hs_clauses.specs.declared.found.FoundNode.{FoundNode}
 use Rattle.hs_clauses.specs.Finding.{AreFound, IsFoundNode, IsFound, AreAsked}
-use Rattle.hs_clauses.proofs.Numbered.{one_if}
-use Rattle.hs_clauses.proofs.Valid.{all_at}
 
 -- ---- one for one
 
@@ -51,21 +54,6 @@ found_at IsOf (x ∷ xs) (g ∷ founds) (suc i) f all less is =
     let h = found_at IsOf xs founds i f all.1 (omega arith) is in
     let more : suc i + 1 ≡ suc (i + 1) = omega arith in
     record { of = h.of; here = h.here ∙ sym (ap (λ k. h.of ∷ drop k (x ∷ xs)) more); at = h.at; is = h.is }
-
-range_at : (a n i : ℕ) (k : ℕ) → slice_get (range_with_len a n) i ≡ Some k → k ≡ a + i
-range_at a zero i k e = let none : None ≡ Some k = e in absurd cc
-range_at a (suc n) zero k e = let same : a ≡ k = cc in omega (arith, same)
-range_at a (suc n) (suc i) k e = let h = range_at (a + 1) n i k e in omega (arith, h)
-
-map_at : {A B : Type 0} (f : A → B) (xs : List A) (i : ℕ) (x : A) → slice_get xs i ≡ Some x → slice_get (map f xs) i ≡ Some (f x)
-map_at f [] i x e = let none : None ≡ Some x = e in absurd cc
-map_at f (y ∷ xs) zero x e = let same : y ≡ x = cc in ap (λ z. Some (f z)) same
-map_at f (y ∷ xs) (suc i) x e = map_at f xs i x e
-
-pub all_true : {A : Type 0} (p : A → Bool) (xs : List A) (i : ℕ) (x : A) → list_all p xs ≡ true → slice_get xs i ≡ Some x → p x ≡ true
-all_true p [] i x all e = let none : None ≡ Some x = e in absurd cc
-all_true p (y ∷ xs) zero x all e = let same : y ≡ x = cc in ap p (sym same) ∙ (and_parts (p y) (list_all p xs) all).0
-all_true p (y ∷ xs) (suc i) x all e = all_true p xs i x (and_parts (p y) (list_all p xs) all).1 e
 
 -- ---- what the coordinator heard
 
@@ -102,10 +90,6 @@ leads_told settings run last (Goes r next l p leads) = leads_told settings next 
     performed : (run next : Run) → Performs settings run next → map (λ (m : Message). m.node) next.heard ++ next.left ≡ map (λ (m : Message). m.node) run.heard ++ run.left
     performed run next (inl step) = ap (λ (r : Run). map (λ (m : Message). m.node) r.heard ++ r.left) step.result
     performed run next (inr heard) = hears_told run next run.left refl heard
-
-pub count-map : {A B : Type 0} (p : B → Bool) (f : A → B) (xs : List A) → count_by p (map f xs) ≡ count_by (λ x. p (f x)) xs
-count-map p f [] = refl
-count-map p f (x ∷ xs) = let a = sum_by-cons (λ y. cond (p y) 1 0) (f x) (map f xs) in let b = sum_by-cons (λ y. cond (p (f y)) 1 0) x xs in let rest = count-map p f xs in omega (arith, a, b, rest)
 
 -- ---- asks
 
@@ -162,9 +146,9 @@ module _ (W : PlainWorkload) (J : PlainJournal) (found : Found) (plays : Followi
       let h = found_at (IsFoundNode W.settings) (followed W J).nodes found.nodes.items i f is.nodes less there in
       let of = runs W J (followed W J) (plays W J).leads in
       let mine = all_at (IsOfJournal W J) (followed W J).nodes i h.of of.each h.at in
-      let numbered = map_at (λ (node : NodeRun). node.node) (followed W J).nodes i h.of h.at in
-      let number : h.of.node ≡ i = range_at 0 W.settings.nodes i h.of.node (sym (ap (λ (l : List ℕ). slice_get l i) of.numbers) ∙ numbered) ∙ omega arith in
-      let through = all_true (λ (node : NodeRun). eqb (length node.left) 0) (followed W J).nodes i h.of done_parts.0 h.at in
+      let numbered = get_map (λ (node : NodeRun). node.node) (followed W J).nodes i h.of h.at in
+      let number : h.of.node ≡ i = range_found 0 W.settings.nodes i h.of.node (sym (ap (λ (l : List ℕ). slice_get l i) of.numbers) ∙ numbered) ∙ omega arith in
+      let through = list_all_at (λ (node : NodeRun). eqb (length node.left) 0) (followed W J).nodes i h.of done_parts.0 h.at in
       let none = nil_from_length h.of.left (eqb-true (length h.of.left) 0 through) in
       record {
         run = h.of;

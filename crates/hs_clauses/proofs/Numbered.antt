@@ -5,9 +5,11 @@ use Rattle.std.specs.List.{range_with_len, list_all}
 use Rattle.std.proofs.lemmas.Bool.{eqb-true, eq-eqb, ne_eqb, cases_eq, cases_lt, false_from_ne_true, true≢false, lt-ltb, le-ltb}
 use Rattle.std.proofs.lemmas.Bool.Decides.{nat_tests}
 use Rattle.std.proofs.lemmas.List.{get_or-set_same, get_or-set_other}
-use Rattle.std.proofs.lemmas.List.Sums.{count_by_more_yes, count_by_more_no, sum_by-cons, sum_by-take-le, count_by-le-length}
+use Rattle.std.proofs.lemmas.List.Sums.{count_by_more_yes, count_by_more_no, sum_by-take-le, count_by-le-length}
+use Rattle.hs_lists.proofs.Counts.{one_if, count_cons, none_below_zero}
+use Rattle.hs_lists.proofs.Ranges.{list_all_range}
 use Rattle.hs_lawful.specs.Shape.{are_numbered}
-use Rattle.hs_clauses.proofs.Ranges.{all_hold, one_fails, each_holds}
+use Rattle.hs_clauses.proofs.Ranges.{one_fails, each_holds}
 
 -- ---- sums below a number
 
@@ -32,34 +34,24 @@ all_ones f (suc n) one = let a = all_ones f n (λ s less. one s (omega arith)) i
 
 -- ---- counts
 
-abbrev pub one_if : Bool → ℕ
-one_if b = cond b 1 0
-
-counted : (p : ℕ → Bool) (x : ℕ) (xs : List ℕ) → count_by p (x ∷ xs) ≡ cond (p x) 1 0 + count_by p xs
-counted p x xs = sum_by-cons (λ y. cond (p y) 1 0) x xs
-
-none_below : (xs : List ℕ) → count_by (λ t. ltb t 0) xs ≡ 0
-none_below [] = refl
-none_below (x ∷ xs) = let e = counted (λ t. ltb t 0) x xs in let no : one_if (ltb x 0) ≡ 0 = ap one_if (le-ltb x 0 (omega arith)) in omega (arith, e, no, none_below xs)
-
 one_more : (x n : ℕ) → cond (ltb x n) 1 0 + cond (eqb x n) 1 0 ≡ cond (ltb x (suc n)) 1 0
 one_more x n = grind (arith, nat_tests)
 
 below_more : (n : ℕ) (xs : List ℕ) → count_by (λ t. ltb t n) xs + count_by (λ t. eqb t n) xs ≡ count_by (λ t. ltb t (suc n)) xs
 below_more n [] = refl
 below_more n (x ∷ xs) =
-    omega (arith, counted (λ t. ltb t n) x xs, counted (λ t. eqb t n) x xs, counted (λ t. ltb t (suc n)) x xs, one_more x n, below_more n xs)
+    omega (arith, count_cons (λ t. ltb t n) x xs, count_cons (λ t. eqb t n) x xs, count_cons (λ t. ltb t (suc n)) x xs, one_more x n, below_more n xs)
 
 -- each number below n is counted at itself
 pub total_is : (n : ℕ) (xs : List ℕ) → total (λ s. count_by (λ t. eqb t s) xs) n ≡ count_by (λ t. ltb t n) xs
-total_is zero xs = sym (none_below xs)
+total_is zero xs = sym (none_below_zero xs)
 total_is (suc n) xs = ap (λ k. k + count_by (λ t. eqb t n) xs) (total_is n xs) ∙ below_more n xs
 
 some_fails : (p : ℕ → Bool) (xs : List ℕ) (i x : ℕ) → i < length xs → get_or xs i 0 ≡ x → p x ≡ false → count_by p xs < length xs
 some_fails p [] i x less is fails = absurd (omega arith)
 some_fails p (y ∷ xs) zero x less is fails =
-    let e = counted p y xs in let no : one_if (p y) ≡ 0 = ap one_if (ap p is ∙ fails) in omega (arith, e, no, count_by-le-length p xs)
-some_fails p (y ∷ xs) (suc i) x less is fails = let e = counted p y xs in let few = at_most (p y) in omega (arith, e, few, some_fails p xs i x (omega arith) is fails)
+    let e = count_cons p y xs in let no : one_if (p y) ≡ 0 = ap one_if (ap p is ∙ fails) in omega (arith, e, no, count_by-le-length p xs)
+some_fails p (y ∷ xs) (suc i) x less is fails = let e = count_cons p y xs in let few = at_most (p y) in omega (arith, e, few, some_fails p xs i x (omega arith) is fails)
   where
     at_most : (b : Bool) → cond b 1 0 ≤ 1
     at_most true = omega arith
@@ -72,7 +64,7 @@ module _ (xs : List ℕ) where
   pub numbered : count_by (λ t. ltb t (length xs)) xs ≡ length xs → ((s : ℕ) → s < length xs → count_by (λ t. eqb t s) xs ≤ 1) → true ≡ are_numbered xs
   numbered low few =
       let once = ones (λ s. count_by (λ t. eqb t s) xs) (length xs) few (total_is (length xs) xs ∙ low) in
-      sym (all_hold (λ s. eqb (count_by (λ t. eqb t s) xs) 1) 0 (length xs) (λ s low high. eq-eqb (count_by (λ t. eqb t s) xs) 1 (once s (omega arith))))
+      sym (list_all_range (λ s. eqb (count_by (λ t. eqb t s) xs) 1) 0 (length xs) (λ s low high. eq-eqb (count_by (λ t. eqb t s) xs) 1 (once s (omega arith))))
 
   -- one is too high
   pub too_high : (i x : ℕ) → i < length xs → get_or xs i 0 ≡ x → length xs ≤ x → false ≡ are_numbered xs
@@ -112,10 +104,6 @@ marked xs seen i less many low new counts s below =
           more ∙ counts s below ∙ sym (ap one_if (get_or-set_other seen x s true false (λ e. other (sym e)))))
     ]
 
-pub at_most_one : (b : Bool) → one_if b ≤ 1
-at_most_one true = omega arith
-at_most_one false = omega arith
-
 -- ---- no number comes twice
 
 beside : (x n s : ℕ) → n ≤ s → one_if (ltb x n) + one_if (eqb x s) ≤ 1
@@ -124,8 +112,8 @@ beside x n s high = grind (arith, nat_tests)
 apart : (n s : ℕ) (xs : List ℕ) → n ≤ s → count_by (λ t. ltb t n) xs + count_by (λ t. eqb t s) xs ≤ length xs
 apart n s [] high = omega arith
 apart n s (x ∷ xs) high =
-    let a = counted (λ t. ltb t n) x xs in
-    let b = counted (λ t. eqb t s) x xs in
+    let a = count_cons (λ t. ltb t n) x xs in
+    let b = count_cons (λ t. eqb t s) x xs in
     let one = beside x n s high in
     let rest = apart n s xs high in
     omega (arith, a, b, one, rest)

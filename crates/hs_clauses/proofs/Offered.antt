@@ -2,15 +2,16 @@
 use Rattle.std.proofs.Common.{◌≡◌, ℕ, zero, suc, ◌+◌, ◌-◌, ◌<◌, ◌≤◌, Bool, true, false, cond, eqb, List, [], ◌∷◌, length, map, take, drop, get_or, refl, sym, ap, ◌∙◌, arith}
 use Rattle.std.specs.Prelude.{not, zip, ◌&&◌, ◌||◌}
 use Rattle.std.specs.List.{list_all, list_any, range_with_len}
+use Rattle.std.proofs.Math.Bool.{or-false}
 use Rattle.std.proofs.lemmas.List.{nil_from_length, length-map, drop_more}
 use Rattle.std.proofs.lemmas.List.FromFn.{length-range_with_len}
+use Rattle.hs_lists.proofs.Counts.{one_if}
 use Rattle.hs_journal.specs.declared.journal.Step.{Step}
 use Rattle.hs_lawful.specs.Following.{NodeRun}
 use Rattle.hs_lawful.specs.Passes.{is_unread, ends_between, put_step, passes_of, but_last, last_of, offers_end}
 use Rattle.hs_records.specs.Plain.{PlainSettings}
 use Rattle.hs_clauses.specs.Finding.{hand_behind, behind_passes}
 use Rattle.hs_clauses.specs.Offering.{ends_front, ends_through, may_stand}
-use Rattle.hs_clauses.proofs.Numbered.{one_if}
 use Rattle.hs_clauses.proofs.PassFronts.{Begins, begins}
 
 -- whether the offers of a pass are made that leaves so many buffers in the hand
@@ -19,10 +20,6 @@ pass_done hand pass = not (list_any is_unread (but_last pass)) && (list_any is_u
 
 abbrev pub all_done : List ℕ → List (List Step) → Bool
 all_done hands passes = list_all (λ (p : ℕ × List Step). pass_done p.0 p.1) (zip hands passes)
-
-or_false : (b : Bool) → (b || false) ≡ b
-or_false true = refl
-or_false false = refl
 
 -- a step before a pass is not its last one
 pass_longer : (hand : ℕ) (step next : Step) (pass : List Step) → pass_done hand (step ∷ next ∷ pass) ≡ (not (is_unread step) && pass_done hand (next ∷ pass))
@@ -63,7 +60,7 @@ ends_is [] [] many = refl
 ends_is [] (hand ∷ hands) many = absurd (omega arith)
 ends_is (step ∷ []) [] many = absurd (omega arith)
 ends_is (step ∷ []) (hand ∷ hands) many =
-    ap (λ b. (b || eqb hand 0) && true) (sym (or_false (is_unread step))) ∙ ap (λ (l : List ℕ). pass_done hand (step ∷ []) && all_done l []) (sym (nil_from_length hands (omega arith)))
+    ap (λ b. (b || eqb hand 0) && true) (sym (or-false (is_unread step))) ∙ ap (λ (l : List ℕ). pass_done hand (step ∷ []) && all_done l []) (sym (nil_from_length hands (omega arith)))
 ends_is (step ∷ next ∷ log) [] many = let count = passes_counted step (next ∷ log) in let some = some_passes next log in absurd (omega (arith, many, count, some))
 ends_is (step ∷ next ∷ log) (hand ∷ hands) many =
     at (ends_between step next) refl h.pass h.later h.is (λ hs few. ends_is (next ∷ log) hs few)
@@ -85,7 +82,7 @@ ends_is (step ∷ next ∷ log) (hand ∷ hands) many =
         let one = ap one_if e in
         ap (λ b. (is_unread step || eqb hand 0) && b) (rest hands (omega (arith, many, count, one)))
         ∙ ap (λ (l : List (List Step)). (is_unread step || eqb hand 0) && all_done hands l) is
-        ∙ ap (λ b. (b || eqb hand 0) && all_done hands ((next ∷ pass) ∷ later)) (sym (or_false (is_unread step)))
+        ∙ ap (λ b. (b || eqb hand 0) && all_done hands ((next ∷ pass) ∷ later)) (sym (or-false (is_unread step)))
     at false e pass later is rest =
         let count = passes_counted step (next ∷ log) in
         let none = ap one_if e in

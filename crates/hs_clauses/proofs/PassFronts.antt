@@ -5,11 +5,7 @@ use Rattle.std.specs.List.{AllByRecursion}
 use Rattle.std.proofs.lemmas.Bool.{cases_Bool, or_cases}
 use Rattle.hs_journal.specs.declared.journal.Step.{Step}
 use Rattle.hs_lawful.specs.Passes.{is_turn, is_offer, ends_between, put_step, passes_of}
-
--- a step that takes an item
-pub record IsItem (step : Step) : Type 0 where
-  pub turn : is_turn step ≡ false
-  pub offer : is_offer step ≡ false
+use Rattle.hs_lawful.proofs.Logs.{IsTake}
 
 -- the offers at the front of a log, and what stands behind them
 abbrev pub offers_of : List Step → List Step
@@ -49,13 +45,13 @@ pub begins : (step : Step) (log : List Step) → Begins step log
 begins step log = let h = put_begins step (passes_of log) in record { pass = h.0; later = h.1; is = h.2 }
 
 -- an item is put into the pass before which it stands
-put_item : (item next : Step) (pass : List Step) (passes : List (List Step)) → IsItem item → put_step item ((next ∷ pass) ∷ passes) ≡ (item ∷ next ∷ pass) ∷ passes
+put_item : (item next : Step) (pass : List Step) (passes : List (List Step)) → IsTake item → put_step item ((next ∷ pass) ∷ passes) ≡ (item ∷ next ∷ pass) ∷ passes
 put_item item next pass passes is =
     ap (λ b. cond ((b || is_offer item) && not (is_offer next)) ((item ∷ []) ∷ (next ∷ pass) ∷ passes) ((item ∷ next ∷ pass) ∷ passes)) is.turn
     ∙ ap (λ b. cond (b && not (is_offer next)) ((item ∷ []) ∷ (next ∷ pass) ∷ passes) ((item ∷ next ∷ pass) ∷ passes)) is.offer
 
 -- items at the front stand in the first pass
-pub items_join : (items : List Step) (step : Step) (log pass : List Step) (later : List (List Step)) → AllByRecursion IsItem items → passes_of (step ∷ log) ≡ (step ∷ pass) ∷ later
+pub items_join : (items : List Step) (step : Step) (log pass : List Step) (later : List (List Step)) → AllByRecursion IsTake items → passes_of (step ∷ log) ≡ (step ∷ pass) ∷ later
     → passes_of (items ++ step ∷ log) ≡ (items ++ step ∷ pass) ∷ later
 items_join [] step log pass later all is = is
 items_join (item ∷ []) step log pass later all is = ap (put_step item) is ∙ put_item item step pass later all.0
@@ -63,7 +59,7 @@ items_join (item ∷ next ∷ items) step log pass later all is =
     ap (put_step item) (items_join (next ∷ items) step log pass later all.1 is) ∙ put_item item next (items ++ step ∷ pass) later all.0
 
 -- items alone are a pass
-pub items_alone : (item : Step) (items : List Step) → AllByRecursion IsItem (item ∷ items) → passes_of (item ∷ items) ≡ (item ∷ items) ∷ []
+pub items_alone : (item : Step) (items : List Step) → AllByRecursion IsTake (item ∷ items) → passes_of (item ∷ items) ≡ (item ∷ items) ∷ []
 items_alone item [] all = refl
 items_alone item (next ∷ items) all = ap (put_step item) (items_alone next items all.1) ∙ put_item item next items [] all.0
 

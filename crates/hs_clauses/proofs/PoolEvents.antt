@@ -3,7 +3,7 @@ use Rattle.std.proofs.Common.{◌≡◌, ℕ, zero, suc, ◌+◌, ◌*◌, ◌<�
 use Rattle.std.specs.Prelude.{slice_get, option_map, filter_map}
 use Rattle.std.specs.List.{flat_map, range_with_len}
 use Rattle.std.specs.Option.{option_and_then, option_to_list}
-use Rattle.std.proofs.lemmas.Option.{slice_get-get_or}
+use Rattle.std.proofs.lemmas.Option.{slice_get-get_or, slice_get_past}
 use Rattle.hs_journal.specs.declared.journal.Draw.{Draw}
 use Rattle.hs_journal.specs.declared.journal.Step.{Step}
 use Rattle.hs_journal.specs.Views.{PlainJournal}
@@ -11,11 +11,6 @@ use Rattle.hs_sent.specs.Sending.{draws_at}
 use Rattle.hs_clauses.specs.declared.found.FoundClient.{FoundClient}
 use Rattle.hs_clauses.specs.declared.found.FoundPage.{FoundPage}
 use Rattle.hs_clauses.specs.Happening.{drawn_from, draw_at}
-
-get_past : {A : Type 0} (xs : List A) (i : ℕ) → length xs ≤ i → slice_get xs i ≡ None
-get_past [] i past = refl
-get_past (x ∷ xs) zero past = absurd (omega arith)
-get_past (x ∷ xs) (suc i) past = get_past xs i (omega arith)
 
 -- the draws of a client
 pub drawn_here : (J : PlainJournal) (p : ℕ) (clients : List FoundClient) (i : ℕ) (c : FoundClient) → i < length clients → c ≡ get_or clients i c
@@ -35,7 +30,7 @@ length-drawn J p (x ∷ clients) = ap suc (length-drawn J (p + 1) clients)
 module _ (J : PlainJournal) (p : ℕ) (clients : List FoundClient) (page : FoundPage) where
   -- no client
   pub no_client : length clients ≤ page.client → None ≡ draw_at (drawn_from J p clients) page
-  no_client past = sym (ap (option_and_then (λ (draws : List Draw). slice_get draws page.page)) (get_past (drawn_from J p clients) page.client (let e = length-drawn J p clients in omega (arith, e))))
+  no_client past = sym (ap (option_and_then (λ (draws : List Draw). slice_get draws page.page)) (slice_get_past (drawn_from J p clients) page.client (let e = length-drawn J p clients in omega (arith, e))))
 
   module _ (c : FoundClient) (low : page.client < length clients) (is : c ≡ get_or clients page.client c) (draws : List Draw) (are : draws ≡ take (length c.started.items) (draws_at J (p + page.client))) where
     here : draw_at (drawn_from J p clients) page ≡ slice_get draws page.page
@@ -43,7 +38,7 @@ module _ (J : PlainJournal) (p : ℕ) (clients : List FoundClient) (page : Found
 
     -- no page
     pub no_page : length draws ≤ page.page → None ≡ draw_at (drawn_from J p clients) page
-    no_page past = sym (here ∙ get_past draws page.page past)
+    no_page past = sym (here ∙ slice_get_past draws page.page past)
 
     pub one_page : (d : Draw) → page.page < length draws → Some (get_or draws page.page d) ≡ draw_at (drawn_from J p clients) page
     one_page d less = sym (here ∙ slice_get-get_or draws page.page d less)

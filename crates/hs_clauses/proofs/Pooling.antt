@@ -2,6 +2,7 @@
 use Rattle.std.proofs.Common.{◌≡◌, ℕ, ◌*◌, Bool, List, length, map, sym, ap, ◌∙◌}
 use Rattle.std.specs.Prelude.{filter_map}
 use Rattle.std.proofs.lemmas.List.{length-map}
+use Rattle.hs_lists.proofs.Alls.{all_at}
 use Rattle.hs_journal.specs.Views.{PlainJournal}
 use Rattle.hs_model.specs.State.{GivenPlace}
 use Rattle.hs_records.specs.Plain.{PlainWorkload}
@@ -14,7 +15,6 @@ use Rattle.hs_clauses.specs.declared.happened.Timed.{Timed}
 use Rattle.hs_clauses.specs.Happening.{pool_event, drawn_from, node_timed}
 use Rattle.hs_clauses.proofs.Knowing.{KnownAt}
 use Rattle.hs_clauses.proofs.NodeEvents.{events_are}
-use Rattle.hs_clauses.proofs.Valid.{all_at}
 
 module _ (W : PlainWorkload) (J : PlainJournal) (gives : GivesAreNoted) (plays : FollowingPlaysOut) (i : ℕ) (f : FoundNode) (k : KnownAt W J i f) where
   pub noted : map (λ (g : GivenPlace). g.stamp) k.run.state.given ≡ filter_map given_stamp k.run.state.log

@@ -3,15 +3,15 @@ use Rattle.std.proofs.Common.{◌≡◌, ℕ, zero, suc, ◌+◌, ◌*◌, ◌<�
 use Rattle.std.specs.Prelude.{filter, count_by, unwrap_or, ◌&&◌}
 use Rattle.std.specs.List.{range_with_len, flat_map, list_all}
 use Rattle.std.proofs.lemmas.Bool.{ltb-true, ltb-false, eqb-true, ne_eqb, eq-eqb, cases_eq}
-use Rattle.std.proofs.lemmas.List.Sums.{sum_by-cons}
+use Rattle.std.proofs.lemmas.List.Elements.{filter_agree}
+use Rattle.hs_lists.proofs.Counts.{count_alike}
+use Rattle.hs_lists.proofs.Ranges.{range_append}
 use Rattle.hs_base.specs.declared.limits.TheConstants.{MAX_TAKEN}
 use Rattle.hs_journal.specs.declared.journal.Step.{Step}
 use Rattle.hs_journal.specs.declared.journal.Step.TheVariants as steps
 use Rattle.hs_lawful.specs.Following.{Queue, Chunks, Crumbs, Triggers, Asks, takes, taken}
 use Rattle.hs_lawful.specs.Passes.{client_queues}
 use Rattle.hs_clauses.specs.Walking.{place_of}
-use Rattle.hs_clauses.proofs.Numbered.{one_if}
-use Rattle.hs_clauses.proofs.Sorting.{filter_same}
 
 -- how many queues there are
 abbrev pub queue_count : ℕ → ℕ
@@ -108,32 +108,16 @@ clients_match clients a (suc count) few =
     subst (λ k. Match clients (flat_map client_queues (range_with_len a (suc count))) (range_with_len (3 * a) k)) (sym three)
     (takes_chunk clients a low, (takes_crumb clients a low, ((λ step. takes_trigger clients a low step ∙ ap (λ k. eqb (place clients step) k) (sym two)), later)))
 
-pub range_parts : (start a b : ℕ) → range_with_len start (a + b) ≡ range_with_len start a ++ range_with_len (start + a) b
-range_parts start zero b = let none : zero + b ≡ b = omega arith in let same : start ≡ start + 0 = omega arith in ap (range_with_len start) none ∙ ap (λ s. range_with_len s b) same
-range_parts start (suc a) b =
-    let more : suc a + b ≡ suc (a + b) = omega arith in
-    let same : (start + 1) + a ≡ start + suc a = omega arith in
-    ap (range_with_len start) more ∙ ap (λ (l : List ℕ). start ∷ l) (range_parts (start + 1) a b) ∙ ap (λ s. start ∷ (range_with_len (start + 1) a ++ range_with_len s b)) same
-
 -- all queues of a node
 pub queues_match : (clients : ℕ) → Match clients (flat_map client_queues (range_with_len 0 clients) ++ Asks ∷ []) (range_with_len 0 (queue_count clients))
 queues_match clients =
     let last : 0 + 3 * clients ≡ 3 * clients = omega arith in
     let parts : range_with_len 0 (3 * clients) ++ (3 * clients) ∷ [] ≡ range_with_len 0 (queue_count clients) =
-    ap (λ k. range_with_len 0 (3 * clients) ++ k ∷ []) (sym last) ∙ sym (range_parts 0 (3 * clients) 1) in
+    ap (λ k. range_with_len 0 (3 * clients) ++ k ∷ []) (sym last) ∙ sym (range_append 0 (3 * clients) 1) in
     subst (λ (l : List ℕ). Match clients (flat_map client_queues (range_with_len 0 clients) ++ Asks ∷ []) l) parts
     (Match-append clients (flat_map client_queues (range_with_len 0 clients)) (Asks ∷ []) (range_with_len 0 (3 * clients)) ((3 * clients) ∷ []) (clients_match clients 0 clients (omega arith)) (takes_ask clients, tt))
 
 -- ---- what is said of queues, said of places
-
-count_same : (p q : Step → Bool) → ((step : Step) → p step ≡ q step) → (xs : List Step) → count_by p xs ≡ count_by q xs
-count_same p q same [] = refl
-count_same p q same (x ∷ xs) =
-    let a = sum_by-cons (λ y. cond (p y) 1 0) x xs in
-    let b = sum_by-cons (λ y. cond (q y) 1 0) x xs in
-    let first = ap one_if (same x) in
-    let rest = count_same p q same xs in
-    omega (arith, a, b, first, rest)
 
 pub taken_in_order : (clients : ℕ) (pass : List Step) (queues : List Queue) (places : List ℕ) → Match clients queues places
     → flat_map (λ queue. filter (takes queue) pass) queues ≡ flat_map (λ s. filter (λ step. eqb (place clients step) s) pass) places
@@ -141,7 +125,7 @@ taken_in_order clients pass [] [] m = refl
 taken_in_order clients pass [] (p ∷ places) m = absurd m
 taken_in_order clients pass (queue ∷ queues) [] m = absurd m
 taken_in_order clients pass (queue ∷ queues) (p ∷ places) m =
-    ap (λ (l : List Step). l ++ flat_map (λ queue. filter (takes queue) pass) queues) (filter_same (takes queue) (λ step. eqb (place clients step) p) m.0 pass)
+    ap (λ (l : List Step). l ++ flat_map (λ queue. filter (takes queue) pass) queues) (filter_agree (takes queue) (λ step. eqb (place clients step) p) m.0 pass)
     ∙ ap (λ (l : List Step). filter (λ step. eqb (place clients step) p) pass ++ l) (taken_in_order clients pass queues places m.1)
 
 pub few_of_each : (clients : ℕ) (pass : List Step) (queues : List Queue) (places : List ℕ) → Match clients queues places
@@ -150,5 +134,5 @@ few_of_each clients pass [] [] m = refl
 few_of_each clients pass [] (p ∷ places) m = absurd m
 few_of_each clients pass (queue ∷ queues) [] m = absurd m
 few_of_each clients pass (queue ∷ queues) (p ∷ places) m =
-    ap (λ k. leb k MAX_TAKEN && list_all (λ queue. leb (taken queue pass) MAX_TAKEN) queues) (count_same (takes queue) (λ step. eqb (place clients step) p) m.0 pass)
+    ap (λ k. leb k MAX_TAKEN && list_all (λ queue. leb (taken queue pass) MAX_TAKEN) queues) (count_alike (takes queue) (λ step. eqb (place clients step) p) m.0 pass)
     ∙ ap (λ b. leb (count_by (λ step. eqb (place clients step) p) pass) MAX_TAKEN && b) (few_of_each clients pass queues places m.1)

@@ -1,11 +1,11 @@
 -- A test of each number of a range, or of each item of a list, from its front.
-use Rattle.std.proofs.Common.{◌≡◌, ℕ, zero, suc, ◌+◌, ◌-◌, ◌<◌, ◌≤◌, Bool, true, false, List, [], ◌∷◌, ◌++◌, length, map, get_or, drop, refl, sym, ap, ◌∙◌, arith}
+use Rattle.std.proofs.Common.{◌≡◌, ℕ, ◌+◌, ◌-◌, ◌<◌, ◌≤◌, Bool, true, false, List, [], ◌∷◌, ◌++◌, length, get_or, drop, sym, ap, ◌∙◌, arith}
 use Rattle.std.specs.Prelude.{◌&&◌}
 use Rattle.std.specs.List.{range_with_len, list_all, flat_map}
 use Rattle.std.proofs.lemmas.List.{drop_more, drop_all, append_assoc, append-nil}
 use Rattle.std.proofs.lemmas.List.FromFn.{length-range_with_len, get_or-range_with_len}
 use Rattle.std.proofs.lemmas.List.Folds.{list_all_at}
-use Rattle.std.proofs.lemmas.Bool.{and_from, true_from_ne_false, true≢false}
+use Rattle.std.proofs.lemmas.Bool.{true_from_ne_false, true≢false}
 
 -- what is left of a range
 abbrev pub range_from : ℕ → ℕ → List ℕ
@@ -42,10 +42,6 @@ module _ {A : Type 0} (f : A → Bool) (whole : Bool) (xs : List A) (i : ℕ) wh
   pub each_done : length xs ≤ i → list_all f (drop i xs) ≡ whole → true ≡ whole
   each_done past e = sym (ap (list_all f) (drop_all i xs past)) ∙ e
 
-pub list_all-map : {A B : Type 0} (f : B → Bool) (g : A → B) (xs : List A) → list_all f (map g xs) ≡ list_all (λ x. f (g x)) xs
-list_all-map f g [] = refl
-list_all-map f g (x ∷ xs) = ap (λ b. f (g x) && b) (list_all-map f g xs)
-
 -- what is told over a range, one number more told
 module _ {A : Type 0} (f : ℕ → List A) (whole : List A) (i n : ℕ) where
   pub told_more : (before : List A) → i < n → before ++ flat_map f (range_from i n) ≡ whole → (before ++ f i) ++ flat_map f (range_from (i + 1) n) ≡ whole
@@ -53,11 +49,6 @@ module _ {A : Type 0} (f : ℕ → List A) (whole : List A) (i n : ℕ) where
 
   pub told_all : (before : List A) → n ≤ i → before ++ flat_map f (range_from i n) ≡ whole → before ≡ whole
   told_all before past e = sym (append-nil before) ∙ sym (ap (λ (l : List ℕ). before ++ flat_map f l) (range_none i n past)) ∙ e
-
--- a test that holds of each number of a range, and one that does not
-pub all_hold : (p : ℕ → Bool) (a n : ℕ) → ((i : ℕ) → a ≤ i → i < a + n → p i ≡ true) → list_all p (range_with_len a n) ≡ true
-all_hold p a zero h = refl
-all_hold p a (suc n) h = and_from (p a) (list_all p (range_with_len (a + 1) n)) (h a (omega arith) (omega arith)) (all_hold p (a + 1) n (λ i low high. h i (omega arith) (omega arith)))
 
 pub one_fails : (p : ℕ → Bool) (n i : ℕ) → i < n → p i ≡ false → list_all p (range_with_len 0 n) ≡ false
 one_fails p n i less fails =

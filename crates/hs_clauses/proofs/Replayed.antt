@@ -1,21 +1,18 @@
 -- A replayed pool, one event on.
-use Rattle.std.proofs.Common.{◌≡◌, ℕ, zero, suc, ◌+◌, ◌-◌, ◌<◌, ◌≤◌, Bool, true, false, cond, eqb, ltb, List, [], ◌∷◌, ◌++◌, length, drop, set, get_or, replicate, refl, sym, ap, ◌∙◌, inl, inr, arith}
+use Rattle.std.proofs.Common.{◌≡◌, ℕ, zero, suc, ◌+◌, ◌-◌, ◌<◌, ◌≤◌, true, false, eqb, ltb, List, [], ◌∷◌, ◌++◌, length, drop, set, get_or, replicate, refl, sym, ap, ◌∙◌, inl, inr, arith}
 use Rattle.std.specs.Prelude.{count_by, slice_get}
 use Rattle.std.specs.List.{AllByRecursion, range_with_len}
 use Rattle.std.specs.Option.{option_map_or}
 use Rattle.std.proofs.lemmas.Bool.{eq-eqb, ne_eqb, lt-ltb, le-ltb, cases_eq, and_left, and_from, and_right}
 use Rattle.std.proofs.lemmas.List.{drop_more, drop_all, drop-append-le, length-set, length_push, get_or-set_same, get_or-set_other, get_or-replicate, length-replicate}
 use Rattle.std.proofs.lemmas.List.FromFn.{length-range_with_len}
-use Rattle.std.proofs.lemmas.List.Sums.{sum_by-cons, count_by-le-length}
+use Rattle.std.proofs.lemmas.List.Sums.{count_by-le-length}
+use Rattle.hs_lists.proofs.Counts.{one_if, count_cons}
+use Rattle.hs_lists.proofs.Ranges.{range_append}
+use Rattle.hs_lists.proofs.Alls.{all_append}
 use Rattle.hs_words.specs.PoolHistory.{Event, Got, Empty, Given, Missed, is_got, is_given, is_empty, is_missed, queue_after}
 use Rattle.hs_lawful.specs.Pooled.{may_follow}
 use Rattle.hs_clauses.specs.Replaying.{Stands}
-use Rattle.hs_clauses.proofs.Numbered.{one_if}
-use Rattle.hs_clauses.proofs.Queues.{range_parts}
-use Rattle.hs_clauses.proofs.Sorting.{All-append}
-
-counted : (p : Event → Bool) (e : Event) (earlier : List Event) → count_by p (e ∷ earlier) ≡ one_if (p e) + count_by p earlier
-counted p e earlier = sum_by-cons (λ y. cond (p y) 1 0) e earlier
 
 low_at : (n : ℕ) (xs : List ℕ) (i : ℕ) → AllByRecursion (λ b. b < n) xs → i < length xs → get_or xs i 0 < n
 low_at n [] i all less = absurd (omega arith)
@@ -75,8 +72,8 @@ module _ (n : ℕ) (earlier : List Event) (waiting : List ℕ) (gone : ℕ) (out
         low = stands.low;
         many = length-set out buffer (get_or out buffer 0 + 1) ∙ stands.many;
         counts = λ other low.
-            let a = counted (is_given other) (Got buffer) earlier in
-            let b = counted (is_got other) (Got buffer) earlier in
+            let a = count_cons (is_given other) (Got buffer) earlier in
+            let b = count_cons (is_got other) (Got buffer) earlier in
             let was = stands.counts other low in
             elim (cases_eq other buffer) [
               | inl same ↦
@@ -91,11 +88,11 @@ module _ (n : ℕ) (earlier : List Event) (waiting : List ℕ) (gone : ℕ) (out
                   omega (arith, a, b, was, now, none))
             ];
         never = λ other high.
-            let b = counted (is_got other) (Got buffer) earlier in
+            let b = count_cons (is_got other) (Got buffer) earlier in
             let none = ap one_if (ne_eqb buffer other (λ e. omega (arith, e, is, first, high))) in
             let was = stands.never other high in
             omega (arith, b, none, was);
-        missing = (let a = counted is_missed (Got buffer) earlier in let b = counted is_empty (Got buffer) earlier in omega (arith, a, b, stands.missing));
+        missing = (let a = count_cons is_missed (Got buffer) earlier in let b = count_cons is_empty (Got buffer) earlier in omega (arith, a, b, stands.missing));
       }
 
   -- ---- a draw that found nothing
@@ -113,9 +110,9 @@ module _ (n : ℕ) (earlier : List Event) (waiting : List ℕ) (gone : ℕ) (out
         behind = stands.behind;
         low = stands.low;
         many = stands.many;
-        counts = λ other low. let a = counted (is_given other) Empty earlier in let b = counted (is_got other) Empty earlier in let was = stands.counts other low in omega (arith, a, b, was);
-        never = λ other high. let b = counted (is_got other) Empty earlier in let was = stands.never other high in omega (arith, b, was);
-        missing = (let a = counted is_missed Empty earlier in let b = counted is_empty Empty earlier in omega (arith, a, b, stands.missing));
+        counts = λ other low. let a = count_cons (is_given other) Empty earlier in let b = count_cons (is_got other) Empty earlier in let was = stands.counts other low in omega (arith, a, b, was);
+        never = λ other high. let b = count_cons (is_got other) Empty earlier in let was = stands.never other high in omega (arith, b, was);
+        missing = (let a = count_cons is_missed Empty earlier in let b = count_cons is_empty Empty earlier in omega (arith, a, b, stands.missing));
       }
 
   -- ---- a give
@@ -134,11 +131,11 @@ module _ (n : ℕ) (earlier : List Event) (waiting : List ℕ) (gone : ℕ) (out
       record {
         queue = drop-append-le gone waiting (buffer ∷ []) stands.behind ∙ ap (λ (q : List ℕ). q ++ buffer ∷ []) stands.queue;
         behind = (let e = length_push waiting buffer in let was = stands.behind in omega (arith, e, was));
-        low = All-append (λ b. b < n) waiting (buffer ∷ []) stands.low (within, tt);
+        low = all_append (λ b. b < n) waiting (buffer ∷ []) stands.low (within, tt);
         many = length-set out buffer (get_or out buffer 0 - 1) ∙ stands.many;
         counts = λ other low.
-            let a = counted (is_given other) (Given buffer) earlier in
-            let b = counted (is_got other) (Given buffer) earlier in
+            let a = count_cons (is_given other) (Given buffer) earlier in
+            let b = count_cons (is_got other) (Given buffer) earlier in
             let was = stands.counts other low in
             elim (cases_eq other buffer) [
               | inl same ↦
@@ -152,8 +149,8 @@ module _ (n : ℕ) (earlier : List Event) (waiting : List ℕ) (gone : ℕ) (out
                   let none = ap one_if (ne_eqb buffer other (λ e. differ (sym e))) in
                   omega (arith, a, b, was, now, none))
             ];
-        never = λ other high. let b = counted (is_got other) (Given buffer) earlier in let was = stands.never other high in omega (arith, b, was);
-        missing = (let a = counted is_missed (Given buffer) earlier in let b = counted is_empty (Given buffer) earlier in omega (arith, a, b, stands.missing));
+        never = λ other high. let b = count_cons (is_got other) (Given buffer) earlier in let was = stands.never other high in omega (arith, b, was);
+        missing = (let a = count_cons is_missed (Given buffer) earlier in let b = count_cons is_empty (Given buffer) earlier in omega (arith, a, b, stands.missing));
       }
 
   -- ---- a give that missed
@@ -176,10 +173,10 @@ module _ (n : ℕ) (earlier : List Event) (waiting : List ℕ) (gone : ℕ) (out
         behind = stands.behind;
         low = stands.low;
         many = stands.many;
-        counts = λ other low. let a = counted (is_given other) Missed earlier in let b = counted (is_got other) Missed earlier in let was = stands.counts other low in omega (arith, a, b, was);
-        never = λ other high. let b = counted (is_got other) Missed earlier in let was = stands.never other high in omega (arith, b, was);
-        missing = (let a = counted is_missed Missed earlier in let b = counted is_empty Missed earlier in omega (arith, a, b, stands.missing, some));
+        counts = λ other low. let a = count_cons (is_given other) Missed earlier in let b = count_cons (is_got other) Missed earlier in let was = stands.counts other low in omega (arith, a, b, was);
+        never = λ other high. let b = count_cons (is_got other) Missed earlier in let was = stands.never other high in omega (arith, b, was);
+        missing = (let a = count_cons is_missed Missed earlier in let b = count_cons is_empty Missed earlier in omega (arith, a, b, stands.missing, some));
       }
 
 pub range_push : (n : ℕ) → range_with_len 0 n ++ n ∷ [] ≡ range_with_len 0 (n + 1)
-range_push n = sym (range_parts 0 n 1 ∙ ap (λ k. range_with_len 0 n ++ k ∷ []) (omega arith))
+range_push n = sym (range_append 0 n 1 ∙ ap (λ k. range_with_len 0 n ++ k ∷ []) (omega arith))

@@ -6,7 +6,7 @@ use Rattle.hs_lawful.specs.Ends.{rounds_for, rounds_of}
 use Rattle.hs_records.specs.Plain.{Operation, PlainWorkload}
 use Rattle.hs_workload.specs.Validity.{IsValid, workload_pieces}
 use Rattle.hs_workload.specs.declared.word.Setting.TheVariants as settings
-use Rattle.hs_clauses.proofs.Valid.{ops_few}
+use Rattle.hs_workload.proofs.Sizes.{operations_few}
 
 one_below : (a b : ℕ) → (a ≤ b) ⊎ (b ≤ a)
 one_below zero b = inl (omega arith)
@@ -27,7 +27,7 @@ rounds_within size stride limit n (ops ∷ clients) some few low =
     (max_within n (rounds_for stride (length ops)) stride (limit + stride) low one)
   where
     one : rounds_for stride (length ops) * stride ≤ limit + stride
-    one = omega (arith, ops_few size ops, few, div-mul-le_self (length ops + (stride - 1)) stride)
+    one = omega (arith, operations_few size ops, few, div-mul-le_self (length ops + (stride - 1)) stride)
 
 pub rounds_fit : (W : PlainWorkload) → IsValid W → rounds_of W * W.settings.stride < 2 ^ 64
 rounds_fit W valid =

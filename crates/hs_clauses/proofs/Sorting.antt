@@ -5,45 +5,9 @@ use Rattle.std.specs.List.Sorted.{IsNonDecreasingBy}
 use Rattle.std.proofs.lemmas.List.{append-nil, map-append}
 use Rattle.std.specs.List.{AllByRecursion, range_with_len, flat_map}
 use Rattle.std.proofs.lemmas.Bool.{eqb-true, eq-eqb, ne_eqb, cases_eq, cases_Bool, ltb-true, ltb-false}
-
--- ---- facts of all items
-
-module _ {A : Type 0} where
-  pub All-weaker : (P Q : A → Type 0) (xs : List A) → ((x : A) → P x → Q x) → AllByRecursion P xs → AllByRecursion Q xs
-  All-weaker P Q [] h all = tt
-  All-weaker P Q (x ∷ xs) h all = (h x all.0, All-weaker P Q xs h all.1)
-
-  pub All-append : (P : A → Type 0) (xs ys : List A) → AllByRecursion P xs → AllByRecursion P ys → AllByRecursion P (xs ++ ys)
-  All-append P [] ys a b = b
-  All-append P (x ∷ xs) ys a b = (a.0, All-append P xs ys a.1 b)
-
-  pub All-front : (P : A → Type 0) (xs ys : List A) → AllByRecursion P (xs ++ ys) → AllByRecursion P xs
-  All-front P [] ys all = tt
-  All-front P (x ∷ xs) ys all = (all.0, All-front P xs ys all.1)
-
-  pub All-back : (P : A → Type 0) (xs ys : List A) → AllByRecursion P (xs ++ ys) → AllByRecursion P ys
-  All-back P [] ys all = all
-  All-back P (x ∷ xs) ys all = All-back P xs ys all.1
-
-  pub filter-append : (p : A → Bool) (xs ys : List A) → filter p (xs ++ ys) ≡ filter p xs ++ filter p ys
-  filter-append p [] ys = refl
-  filter-append p (x ∷ xs) ys = at (p x) (filter-append p xs ys)
-    where
-      at : (b : Bool) → filter p (xs ++ ys) ≡ filter p xs ++ filter p ys → cond b (x ∷ filter p (xs ++ ys)) (filter p (xs ++ ys)) ≡ cond b (x ∷ filter p xs) (filter p xs) ++ filter p ys
-      at true e = ap (λ (l : List A). x ∷ l) e
-      at false e = e
-
-  pub filter_none : (p : A → Bool) (xs : List A) → AllByRecursion (λ x. p x ≡ false) xs → filter p xs ≡ []
-  filter_none p [] all = refl
-  filter_none p (x ∷ xs) all = ap (λ b. cond b (x ∷ filter p xs) (filter p xs)) all.0 ∙ filter_none p xs all.1
-
-  pub filter_whole : (p : A → Bool) (xs : List A) → AllByRecursion (λ x. p x ≡ true) xs → filter p xs ≡ xs
-  filter_whole p [] all = refl
-  filter_whole p (x ∷ xs) all = ap (λ b. cond b (x ∷ filter p xs) (filter p xs)) all.0 ∙ ap (λ (l : List A). x ∷ l) (filter_whole p xs all.1)
-
-  pub filter_same : (p q : A → Bool) → ((x : A) → p x ≡ q x) → (xs : List A) → filter p xs ≡ filter q xs
-  filter_same p q same [] = refl
-  filter_same p q same (x ∷ xs) = ap (λ b. cond b (x ∷ filter p xs) (filter p xs)) (same x) ∙ ap (λ (l : List A). cond (q x) (x ∷ l) l) (filter_same p q same xs)
+use Rattle.std.proofs.lemmas.List.Elements.{filter-append}
+use Rattle.hs_lists.proofs.Alls.{all_each, all_append, all_back}
+use Rattle.hs_lists.proofs.Filters.{filter_none}
 
 -- ---- in order
 
@@ -63,12 +27,12 @@ module _ {A : Type 0} (key : A → ℕ) where
   Sorted-append b [] ys sx low sy high = sy
   Sorted-append b (x ∷ xs) ys sx low sy high =
       let first = low.0 in
-      (All-append (λ y. key x ≤ key y) xs ys sx.0 (All-weaker (λ y. b ≤ key y) (λ y. key x ≤ key y) ys (λ y h. omega (arith, h, first)) high), Sorted-append b xs ys sx.1 low.1 sy high)
+      (all_append (λ y. key x ≤ key y) xs ys sx.0 (all_each (λ y. b ≤ key y) (λ y. key x ≤ key y) ys (λ y h. omega (arith, h, first)) high), Sorted-append b xs ys sx.1 low.1 sy high)
 
   -- what stands before an item has no greater number
   pub before_is_low : (xs : List A) (y : A) (ys : List A) → Sorted (xs ++ y ∷ ys) → AllByRecursion (λ x. key x ≤ key y) xs
   before_is_low [] y ys s = tt
-  before_is_low (x ∷ xs) y ys s = ((All-back (λ z. key x ≤ key z) xs (y ∷ ys) s.0).0, before_is_low xs y ys s.1)
+  before_is_low (x ∷ xs) y ys s = ((all_back (λ z. key x ≤ key z) xs (y ∷ ys) s.0).0, before_is_low xs y ys s.1)
 
   -- ---- buckets of what is in order
 
@@ -85,7 +49,7 @@ module _ {A : Type 0} (key : A → ℕ) where
       ap (λ (l : List A). l ++ buckets (a + 1) m (x ∷ ys)) (not_in a x ys (λ e. omega (arith, e))) ∙ ap (λ (l : List A). bucket a ys ++ l) (past (a + 1) m x ys (omega arith))
 
   none_here : (a : ℕ) (xs : List A) → AllByRecursion (λ y. a < key y) xs → bucket a xs ≡ []
-  none_here a xs all = filter_none (λ x. eqb (key x) a) xs (All-weaker (λ y. a < key y) (λ y. eqb (key y) a ≡ false) xs (λ y h. ne_eqb (key y) a (λ e. omega (arith, e, h))) all)
+  none_here a xs all = filter_none (λ x. eqb (key x) a) xs (all_each (λ y. a < key y) (λ y. eqb (key y) a ≡ false) xs (λ y h. ne_eqb (key y) a (λ e. omega (arith, e, h))) all)
 
   first_stays : (a m : ℕ) (x : A) (ys : List A) → a ≤ key x → key x < a + m → AllByRecursion (λ y. key x ≤ key y) ys → buckets a m (x ∷ ys) ≡ x ∷ buckets a m ys
   first_stays a zero x ys low high all = absurd (omega arith)
@@ -95,7 +59,7 @@ module _ {A : Type 0} (key : A → ℕ) where
             ap (λ b. cond b (x ∷ bucket a ys) (bucket a ys) ++ buckets (a + 1) m (x ∷ ys)) (eq-eqb (key x) a here)
             ∙ ap (λ (l : List A). x ∷ (bucket a ys ++ l)) (past (a + 1) m x ys (omega (arith, here)))
         | inr other ↦
-            (let none = none_here a ys (All-weaker (λ y. key x ≤ key y) (λ y. a < key y) ys (λ y h. omega (arith, h, other)) all) in
+            (let none = none_here a ys (all_each (λ y. key x ≤ key y) (λ y. a < key y) ys (λ y h. omega (arith, h, other)) all) in
             ap (λ (l : List A). l ++ buckets (a + 1) m (x ∷ ys)) (not_in a x ys other ∙ none)
             ∙ first_stays (a + 1) m x ys (omega (arith, other)) (omega arith) all
             ∙ sym (ap (λ (l : List A). x ∷ (l ++ buckets (a + 1) m ys)) none))
@@ -110,9 +74,9 @@ module _ {A : Type 0} (key : A → ℕ) where
   pub others_add_none : (a m : ℕ) (xs ys : List A) → AllByRecursion (λ y. a + m ≤ key y) ys → buckets a m (xs ++ ys) ≡ buckets a m xs
   others_add_none a zero xs ys high = refl
   others_add_none a (suc m) xs ys high =
-      let none = filter_none (λ x. eqb (key x) a) ys (All-weaker (λ y. a + suc m ≤ key y) (λ y. eqb (key y) a ≡ false) ys (λ y h. ne_eqb (key y) a (λ e. omega (arith, e, h))) high) in
+      let none = filter_none (λ x. eqb (key x) a) ys (all_each (λ y. a + suc m ≤ key y) (λ y. eqb (key y) a ≡ false) ys (λ y h. ne_eqb (key y) a (λ e. omega (arith, e, h))) high) in
       ap (λ (l : List A). l ++ buckets (a + 1) m (xs ++ ys)) (filter-append (λ x. eqb (key x) a) xs ys ∙ ap (λ (l : List A). bucket a xs ++ l) none ∙ append-nil (bucket a xs))
-      ∙ ap (λ (l : List A). bucket a xs ++ l) (others_add_none (a + 1) m xs ys (All-weaker (λ y. a + suc m ≤ key y) (λ y. (a + 1) + m ≤ key y) ys (λ y h. omega (arith, h)) high))
+      ∙ ap (λ (l : List A). bucket a xs ++ l) (others_add_none (a + 1) m xs ys (all_each (λ y. a + suc m ≤ key y) (λ y. (a + 1) + m ≤ key y) ys (λ y h. omega (arith, h)) high))
 
   -- ---- what is put in order is in order
 
@@ -126,23 +90,23 @@ module _ {A : Type 0} (key : A → ℕ) where
 
   pub same_sorted : (a : ℕ) (xs : List A) → AllByRecursion (λ x. key x ≡ a) xs → Sorted xs
   same_sorted a [] all = tt
-  same_sorted a (x ∷ xs) all = let first = all.0 in (All-weaker (λ y. key y ≡ a) (λ y. key x ≤ key y) xs (λ y h. omega (arith, h, first)) all.1, same_sorted a xs all.1)
+  same_sorted a (x ∷ xs) all = let first = all.0 in (all_each (λ y. key y ≡ a) (λ y. key x ≤ key y) xs (λ y h. omega (arith, h, first)) all.1, same_sorted a xs all.1)
 
   -- the numbers are those of the range
   pub buckets_are_within : (a m : ℕ) (xs : List A) → AllByRecursion (λ x. (a ≤ key x) × (key x < a + m)) (buckets a m xs)
   buckets_are_within a zero xs = tt
   buckets_are_within a (suc m) xs =
-      All-append (λ x. (a ≤ key x) × (key x < a + suc m)) (bucket a xs) (buckets (a + 1) m xs)
-      (All-weaker (λ x. key x ≡ a) (λ x. (a ≤ key x) × (key x < a + suc m)) (bucket a xs) (λ x h. (omega (arith, h), omega (arith, h))) (all_here a xs))
-      (All-weaker (λ x. (a + 1 ≤ key x) × (key x < (a + 1) + m)) (λ x. (a ≤ key x) × (key x < a + suc m)) (buckets (a + 1) m xs) (λ x h. (omega (arith, h.0), omega (arith, h.1))) (buckets_are_within (a + 1) m xs))
+      all_append (λ x. (a ≤ key x) × (key x < a + suc m)) (bucket a xs) (buckets (a + 1) m xs)
+      (all_each (λ x. key x ≡ a) (λ x. (a ≤ key x) × (key x < a + suc m)) (bucket a xs) (λ x h. (omega (arith, h), omega (arith, h))) (all_here a xs))
+      (all_each (λ x. (a + 1 ≤ key x) × (key x < (a + 1) + m)) (λ x. (a ≤ key x) × (key x < a + suc m)) (buckets (a + 1) m xs) (λ x h. (omega (arith, h.0), omega (arith, h.1))) (buckets_are_within (a + 1) m xs))
 
   pub buckets_are_sorted : (a m : ℕ) (xs : List A) → Sorted (buckets a m xs)
   buckets_are_sorted a zero xs = tt
   buckets_are_sorted a (suc m) xs =
       Sorted-append a (bucket a xs) (buckets (a + 1) m xs) (same_sorted a (bucket a xs) (all_here a xs))
-      (All-weaker (λ x. key x ≡ a) (λ x. key x ≤ a) (bucket a xs) (λ x h. omega (arith, h)) (all_here a xs))
+      (all_each (λ x. key x ≡ a) (λ x. key x ≤ a) (bucket a xs) (λ x h. omega (arith, h)) (all_here a xs))
       (buckets_are_sorted (a + 1) m xs)
-      (All-weaker (λ x. (a + 1 ≤ key x) × (key x < (a + 1) + m)) (λ x. a ≤ key x) (buckets (a + 1) m xs) (λ x h. omega (arith, h.0)) (buckets_are_within (a + 1) m xs))
+      (all_each (λ x. (a + 1 ≤ key x) × (key x < (a + 1) + m)) (λ x. a ≤ key x) (buckets (a + 1) m xs) (λ x h. omega (arith, h.0)) (buckets_are_within (a + 1) m xs))
 
   -- ---- what is sorted, cut at a number
 

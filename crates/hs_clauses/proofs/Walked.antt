@@ -4,25 +4,27 @@ use Rattle.std.specs.Prelude.{count_by, not, ◌&&◌, ◌||◌, unwrap_or}
 use Rattle.std.specs.List.{list_all, range_with_len, AllByRecursion}
 use Rattle.std.proofs.lemmas.Bool.{eqb-true, eqb-false, ltb-true, ltb-false, eq-eqb, ne_eqb, lt-ltb, le-ltb, cases_eq, cases_lt, and_left}
 use Rattle.std.proofs.lemmas.List.{append_assoc, append-nil}
+use Rattle.hs_lists.proofs.Counts.{one_if, count_append, count_cons}
+use Rattle.hs_lists.proofs.Alls.{all_each, all_append}
 use Rattle.hs_base.specs.declared.limits.TheConstants.{MAX_TAKEN}
 use Rattle.hs_journal.specs.declared.journal.Step.{Step}
 use Rattle.hs_journal.specs.declared.journal.Step.TheVariants as steps
 use Rattle.hs_lawful.specs.Following.{Queue}
 use Rattle.hs_lawful.specs.Passes.{is_turn, is_offer, is_whole_pass, passes_of}
+use Rattle.hs_lawful.proofs.Logs.{IsTake}
 use Rattle.hs_clauses.specs.declared.passes.Walk.{Walk}
 use Rattle.hs_clauses.specs.declared.passes.Walk.TheVariants as walks
 use Rattle.hs_clauses.specs.Walking.{place_of, walk_taking, walk_at, walk_behind, goes_through, at_start}
-use Rattle.hs_clauses.proofs.Numbered.{one_if}
-use Rattle.hs_clauses.proofs.PassFronts.{IsItem, offers_of, behind_offers, offers_are_offers, begins, items_join, items_alone, closes}
+use Rattle.hs_clauses.proofs.PassFronts.{offers_of, behind_offers, offers_are_offers, begins, items_join, items_alone, closes}
 use Rattle.hs_clauses.proofs.Queues.{queue_count, place, Match}
-use Rattle.hs_clauses.proofs.Sorting.{All-weaker, All-append, Sorted, Sorted-append}
-use Rattle.hs_clauses.proofs.Whole.{count-append, count-cons, count_none, is_whole, no_turn, no_queue, no_order, too_many}
+use Rattle.hs_clauses.proofs.Sorting.{Sorted, Sorted-append}
+use Rattle.hs_clauses.proofs.Whole.{count_none, is_whole, no_turn, no_queue, no_order, too_many}
 
 -- ---- where a walk stands
 
 -- the items of a pass so far, the last of which is of the queue at a place, of which so many were taken
 record Stands (clients : ℕ) (its : List Step) (q k : ℕ) : Type 0 where
-  items : AllByRecursion IsItem its
+  items : AllByRecursion IsTake its
   low : AllByRecursion (λ step. place clients step < queue_count clients) its
   sorted : Sorted (place clients) its
   top : AllByRecursion (λ step. place clients step ≤ q) its
@@ -35,25 +37,25 @@ module _ (clients : ℕ) where
   nothing = record { items = tt; low = tt; sorted = tt; top = tt; few = λ s. omega arith; now = refl; reached = inl refl }
 
   -- one item more
-  one_more : (its : List Step) (q k : ℕ) (x : Step) (p more : ℕ) → Stands clients its q k → IsItem x → place clients x ≡ p → p < queue_count clients → q ≤ p
+  one_more : (its : List Step) (q k : ℕ) (x : Step) (p more : ℕ) → Stands clients its q k → IsTake x → place clients x ≡ p → p < queue_count clients → q ≤ p
       → count_by (λ step. eqb (place clients step) p) its + 1 ≡ more → more ≤ MAX_TAKEN → Stands clients (its ++ x ∷ []) p more
   one_more its q k x p more was item at low high count few =
       record {
-        items = All-append IsItem its (x ∷ []) was.items (item, tt);
-        low = All-append (λ step. place clients step < queue_count clients) its (x ∷ []) was.low (omega (arith, at, low), tt);
+        items = all_append IsTake its (x ∷ []) was.items (item, tt);
+        low = all_append (λ step. place clients step < queue_count clients) its (x ∷ []) was.low (omega (arith, at, low), tt);
         sorted = Sorted-append (place clients) q its (x ∷ []) was.sorted was.top (tt, tt) (omega (arith, at, high), tt);
-        top = All-append (λ step. place clients step ≤ p) its (x ∷ []) (All-weaker (λ step. place clients step ≤ q) (λ step. place clients step ≤ p) its (λ step h. omega (arith, h, high)) was.top) (omega (arith, at), tt);
+        top = all_append (λ step. place clients step ≤ p) its (x ∷ []) (all_each (λ step. place clients step ≤ q) (λ step. place clients step ≤ p) its (λ step h. omega (arith, h, high)) was.top) (omega (arith, at), tt);
         few = λ s.
-            let parts = count-append (λ step. eqb (place clients step) s) its (x ∷ []) in
-            let last : count_by (λ step. eqb (place clients step) s) (x ∷ []) ≡ one_if (eqb (place clients x) s) = count-cons (λ step. eqb (place clients step) s) x [] ∙ omega arith in
+            let parts = count_append (λ step. eqb (place clients step) s) its (x ∷ []) in
+            let last : count_by (λ step. eqb (place clients step) s) (x ∷ []) ≡ one_if (eqb (place clients x) s) = count_cons (λ step. eqb (place clients step) s) x [] ∙ omega arith in
             let before = was.few s in
             elim (cases_eq p s) [
               | inl same ↦ (let one = ap one_if (eq-eqb (place clients x) s (at ∙ same)) in let here = ap (λ t. count_by (λ step. eqb (place clients step) t) its) same in omega (arith, parts, last, one, here, count, few))
               | inr other ↦ (let none = ap one_if (ne_eqb (place clients x) s (λ e. other (sym at ∙ e))) in omega (arith, parts, last, none, before))
             ];
         now =
-            (let parts = count-append (λ step. eqb (place clients step) p) its (x ∷ []) in
-            let last : count_by (λ step. eqb (place clients step) p) (x ∷ []) ≡ one_if (eqb (place clients x) p) = count-cons (λ step. eqb (place clients step) p) x [] ∙ omega arith in
+            (let parts = count_append (λ step. eqb (place clients step) p) its (x ∷ []) in
+            let last : count_by (λ step. eqb (place clients step) p) (x ∷ []) ≡ one_if (eqb (place clients x) p) = count_cons (λ step. eqb (place clients step) p) x [] ∙ omega arith in
             let one = ap one_if (eq-eqb (place clients x) p at) in
             omega (arith, parts, last, one, count));
         reached = inr (omega (arith, count));
@@ -89,13 +91,13 @@ module _ (clients : ℕ) where
     goes_on walk log = elim walk [ Some next ↦ goes_through clients next log | None ↦ false ]
 
     -- a first pass that is not whole
-    first_fails : (its : List Step) (x : Step) (log : List Step) → AllByRecursion IsItem its → ((tail : List Step) → is_whole_pass queues (its ++ x ∷ tail) ≡ false) → whole (its ++ x ∷ log) ≡ false
+    first_fails : (its : List Step) (x : Step) (log : List Step) → AllByRecursion IsTake its → ((tail : List Step) → is_whole_pass queues (its ++ x ∷ tail) ≡ false) → whole (its ++ x ∷ log) ≡ false
     first_fails its x log items fails =
         let first = begins x log in
         ap (list_all (is_whole_pass queues)) (items_join its x log first.pass first.later items first.is)
         ∙ and_left (is_whole_pass queues (its ++ x ∷ first.pass)) (list_all (is_whole_pass queues) first.later) (fails first.pass)
 
-    taking_at : (its : List Step) (q k : ℕ) (x : Step) (log : List Step) (p : ℕ) → Stands clients its q k → IsItem x → place_of clients x ≡ Some p
+    taking_at : (its : List Step) (q k : ℕ) (x : Step) (log : List Step) (p : ℕ) → Stands clients its q k → IsTake x → place_of clients x ≡ Some p
         → ((r m : ℕ) → Stands clients (its ++ x ∷ []) r m → whole ((its ++ x ∷ []) ++ log) ≡ goes_through clients (walks.Taking r m) log)
         → (a b c : Bool) → eqb p q ≡ a → ltb k MAX_TAKEN ≡ b → ltb q p ≡ c
         → whole (its ++ x ∷ log) ≡ goes_on (cond a (cond b (Some (walks.Taking q (k + 1))) None) (cond c (Some (walks.Taking p 1)) None)) log
@@ -117,7 +119,7 @@ module _ (clients : ℕ) where
         let above = ltb-true q p ec in
         let here = placed x p at in
         let low = placed_low x p at in
-        let none = count_none (λ step. eqb (place clients step) p) its (All-weaker (λ step. place clients step ≤ q) (λ step. eqb (place clients step) p ≡ false) its (λ step h. ne_eqb (place clients step) p (λ e. omega (arith, e, h, above))) was.top) in
+        let none = count_none (λ step. eqb (place clients step) p) its (all_each (λ step. place clients step ≤ q) (λ step. eqb (place clients step) p ≡ false) its (λ step h. ne_eqb (place clients step) p (λ e. omega (arith, e, h, above))) was.top) in
         ap whole (sym (append_assoc its (x ∷ []) log))
         ∙ later p 1 (one_more its q k x p 1 was item here low (omega (arith, above)) (omega (arith, none)) (omega arith))
     taking_at its q k x log p was item at later false b false ea eb ec =
@@ -128,14 +130,14 @@ module _ (clients : ℕ) where
         let some : 1 ≤ count_by (λ step. eqb (place clients step) q) its = elim was.reached [ inl none ↦ omega (arith, none, below) | inr some ↦ omega (arith, some, was.now) ] in
         first_fails its x log was.items (λ tail. no_order clients queues match its x tail q (omega (arith, here, below)) some)
 
-    item_at : (its : List Step) (q k : ℕ) (x : Step) (log : List Step) (o : Option ℕ) → Stands clients its q k → IsItem x → place_of clients x ≡ o
+    item_at : (its : List Step) (q k : ℕ) (x : Step) (log : List Step) (o : Option ℕ) → Stands clients its q k → IsTake x → place_of clients x ≡ o
         → ((r m : ℕ) → Stands clients (its ++ x ∷ []) r m → whole ((its ++ x ∷ []) ++ log) ≡ goes_through clients (walks.Taking r m) log)
         → whole (its ++ x ∷ log) ≡ goes_on (walk_at o (walks.Taking q k)) log
     item_at its q k x log None was item at later =
         let here = unplaced x at in first_fails its x log was.items (λ tail. no_queue clients queues match its x tail item (omega (arith, here)))
     item_at its q k x log (Some p) was item at later = taking_at its q k x log p was item at later (eqb p q) (ltb k MAX_TAKEN) (ltb q p) refl refl refl
 
-    first_at : (x : Step) (log : List Step) (o : Option ℕ) → IsItem x → place_of clients x ≡ o
+    first_at : (x : Step) (log : List Step) (o : Option ℕ) → IsTake x → place_of clients x ≡ o
         → ((r m : ℕ) → Stands clients (x ∷ []) r m → whole ((x ∷ []) ++ log) ≡ goes_through clients (walks.Taking r m) log)
         → whole (x ∷ log) ≡ goes_on (walk_at o walks.Turned) log
     first_at x log None item at later = let here = unplaced x at in first_fails [] x log tt (λ tail. no_queue clients queues match [] x tail item (omega (arith, here)))
@@ -148,8 +150,8 @@ module _ (clients : ℕ) where
         ap (list_all (is_whole_pass queues)) (items_join its steps.Turn log os (passes_of (behind_offers log)) was.items (closes steps.Turn log refl))
         ∙ ap (λ b. b && whole (behind_offers log)) (is_whole clients queues match its os was.items was.low was.sorted was.few (offers_are_offers log))
 
-    items_turn_not : (its : List Step) → AllByRecursion IsItem its → count_by is_turn its ≡ 0
-    items_turn_not its items = count_none is_turn its (All-weaker IsItem (λ step. is_turn step ≡ false) its (λ step h. h.turn) items)
+    items_turn_not : (its : List Step) → AllByRecursion IsTake its → count_by is_turn its ≡ 0
+    items_turn_not its items = count_none is_turn its (all_each IsTake (λ step. is_turn step ≡ false) its (λ step h. h.turn) items)
 
     offer_no_turn : (step : Step) → is_offer step ≡ true → is_turn step ≡ false
     offer_no_turn (steps.Given s) e = refl
@@ -166,11 +168,11 @@ module _ (clients : ℕ) where
     offer_at its x log q k was offer closing =
         let os = offers_of log in
         let pass : List Step = its ++ x ∷ os in
-        let a = count-append is_turn its (x ∷ os) in
-        let b = count-cons is_turn x os in
+        let a = count_append is_turn its (x ∷ os) in
+        let b = count_cons is_turn x os in
         let one = ap one_if (offer_no_turn x offer) in
         let front = items_turn_not its was.items in
-        let back = count_none is_turn os (All-weaker (λ step. is_offer step ≡ true) (λ step. is_turn step ≡ false) os (λ step h. offer_no_turn step h) (offers_are_offers log)) in
+        let back = count_none is_turn os (all_each (λ step. is_offer step ≡ true) (λ step. is_turn step ≡ false) os (λ step h. offer_no_turn step h) (offers_are_offers log)) in
         ap (list_all (is_whole_pass queues)) (items_join its x log os (passes_of (behind_offers log)) was.items (closes x log closing))
         ∙ and_left (is_whole_pass queues pass) (whole (behind_offers log)) (no_turn clients queues match pass (omega (arith, a, b, one, front, back)))
 

@@ -1,15 +1,17 @@
 -- What holds after any steps.
-use Rattle.std.proofs.Common.{◌≡◌, ℕ, List, [], ◌∷◌, ◌++◌, length, length-append, map, Some, None, Option, refl, sym, ap, ◌∙◌, subst, arith, ◌⊎◌, inl, inr, ⊎_elim}
+use Rattle.std.proofs.Common.{◌≡◌, ℕ, List, [], ◌∷◌, ◌++◌, length, length-append, map, Some, None, Option, refl, sym, ap, ◌∙◌, subst, arith, ◌⊎◌, inl, inr, ⊎_elim, append_assoc}
 use Rattle.std.specs.Prelude.{IsSome}
 use Rattle.std.specs.Option.{option_to_list}
+use Rattle.std.proofs.lemmas.List.{append-nil}
+use Rattle.hs_lists.proofs.Options.{some_item}
 use Rattle.hs_base.specs.declared.ids.TraceId.{TraceId}
 use Rattle.hs_base.specs.declared.ids.ClientId.{ClientId}
-use Rattle.hs_records.specs.Records.{Segment}
+use Rattle.hs_records.specs.Records.{Segment, Piece}
 use Rattle.hs_records.specs.Pages.{PlainPage}
 use Rattle.hs_journal.specs.declared.journal.Draw.{Draw}
 use Rattle.hs_client.specs.Core.{Core, Step, Began, Wrote, Needed, Supplied, Ended_, Refused, after_step, new_core, closed, handed, draw_of, number_after}
 use Rattle.hs_words.specs.Buffers.{Buffer}
-use Rattle.hs_client.specs.Calls.{after, AreSteps, next_number, segments_of_steps, open_trace, chunks_supplied, draws_supplied, handed_out, with_last, pages_of_steps, note_of, filled_chunks, IsBook}
+use Rattle.hs_client.specs.Calls.{after, AreSteps, next_number, segments_of_steps, open_trace, chunks_supplied, draws_supplied, handed_out, with_last, pages_of_steps, note_of, filled_chunks, IsBook, with_all}
 use Rattle.hs_client.proofs.Runs.{AreLongest}
 use Rattle.hs_client.proofs.Book.{pages_back, pages_in_order, KeepsNone, KeepsLast, numbered, begun, needed, needed_none, wrote, supplied_more}
 
@@ -19,10 +21,6 @@ apart {A} o a none some = let e : ◌≡◌ {A = Option A} None (Some a) = sym n
 lacks : {A : Type 0} (o : Option A) → o ≡ None → IsSome o → ⊥
 lacks None none some = cc
 lacks (Some a) none some = cc
-
-the_trace : (o : Option TraceId) → IsSome o → (trace : TraceId) × (o ≡ Some trace)
-the_trace None some = absurd cc
-the_trace (Some trace) some = (trace, refl)
 
 module _ {L : Type 0} (longest : AreLongest) (client : ClientId) (size calls : ℕ) where
   abbrev new : Core L
@@ -79,7 +77,7 @@ module _ {L : Type 0} (longest : AreLongest) (client : ClientId) (size calls : �
   holds (Supplied buffer stamp moment payload more ∷ earlier) are =
       let is = holds earlier are.0 in
       let core = after new earlier in
-      let t = the_trace core.trace are.1.0.opened in
+      let t = some_item core.trace are.1.0.opened in
       record {
         client_is = is.client_is;
         size_is = is.size_is;
@@ -131,3 +129,10 @@ module _ {L : Type 0} (longest : AreLongest) (client : ClientId) (size calls : �
         chunks = whole.chunks ∙ ap (λ (ps : List PlainPage). filled_chunks client 0 ps (chunks_supplied steps)) same;
         closed = λ none. ⊎_elim (λ kept. kept.none) (λ last. absurd (apart (after new steps).trace last.trace (is.trace_is ∙ none) last.trace_is)) is.keeps;
       }
+
+pub with_all-open : (trace : TraceId) (before pieces : List Piece) (segments : List Segment)
+    → with_all pieces (record { trace = trace; pieces = before } ∷ segments) ≡ record { trace = trace; pieces = before ++ pieces } ∷ segments
+with_all-open trace before [] segments = ap (λ (pieces : List Piece). let s : Segment = record { trace = trace; pieces = pieces } in s ∷ segments) (sym (append-nil before))
+with_all-open trace before (piece ∷ pieces) segments =
+    with_all-open trace (before ++ piece ∷ []) pieces segments
+    ∙ ap (λ (pieces : List Piece). let s : Segment = record { trace = trace; pieces = pieces } in s ∷ segments) (append_assoc before (piece ∷ []) pieces)

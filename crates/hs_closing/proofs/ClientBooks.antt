@@ -1,10 +1,11 @@
 -- The books of clients that have done all, in the order of node and number.
-use Rattle.std.proofs.Common.{◌≡◌, ℕ, zero, suc, ◌+◌, ◌*◌, ◌/◌, ◌<◌, ◌≤◌, List, [], ◌∷◌, ◌++◌, length, map, Some, refl, sym, ap, ◌∙◌, subst, arith}
+use Rattle.std.proofs.Common.{◌≡◌, ℕ, suc, ◌+◌, ◌*◌, ◌/◌, ◌<◌, ◌≤◌, List, [], ◌∷◌, ◌++◌, length, map, Some, refl, sym, ap, ◌∙◌, subst, arith}
 use Rattle.std.proofs.Math.Nat.{mul-add-mod_self_right, mod-eq_of_lt}
 use Rattle.std.proofs.lemmas.List.{map-append}
 use Rattle.std.proofs.lemmas.Nat.{div-mul-add}
 use Rattle.std.specs.Prelude.{slice_get}
 use Rattle.std.specs.List.{range_with_len}
+use Rattle.hs_lists.proofs.Ranges.{range_append}
 use Rattle.hs_base.specs.declared.ids.ClientId.{ClientId}
 use Rattle.hs_base.specs.Ids.{client_of}
 use Rattle.hs_client.specs.Calls.{note_of}
@@ -60,21 +61,11 @@ node_books W J node callers books count noted are =
     let all = from_on W J node 0 callers books (omega (arith, count)) (λ place caller found. let same : place ≡ 0 + place = omega arith in subst (λ n. IsNoted W J node n caller) same (noted place caller found)) are in
     all ∙ ap (λ n. map (client_book W J) (range_with_len n (length callers))) none ∙ ap (λ n. map (client_book W J) (range_with_len (node * each) n)) count
 
-range_parts : (start m n : ℕ) → range_with_len start (m + n) ≡ range_with_len start m ++ range_with_len (start + m) n
-range_parts start zero n =
-    let none : zero + n ≡ n = omega arith in
-    let here : start ≡ start + zero = omega arith in
-    ap (range_with_len start) none ∙ ap (λ s. range_with_len s n) here
-range_parts start (suc m) n =
-    let more : suc m + n ≡ suc (m + n) = omega arith in
-    let on : (start + 1) + m ≡ start + suc m = omega arith in
-    ap (range_with_len start) more ∙ ap (λ (l : List ℕ). start ∷ l) (range_parts (start + 1) m n ∙ ap (λ s. range_with_len (start + 1) m ++ range_with_len s n) on)
-
 pub books_more : (W : PlainWorkload) (J : PlainJournal) (nodes : ℕ) → first_books W J (suc nodes) ≡ first_books W J nodes ++ books_of W J nodes
 books_more W J nodes =
     let each = W.settings.clients in
     let f = client_book W J in
     let row : suc nodes * each ≡ nodes * each + each = omega arith in
     let zero_on : 0 + nodes * each ≡ nodes * each = omega arith in
-    ap (λ n. map f (range_with_len 0 n)) row ∙ ap (map f) (range_parts 0 (nodes * each) each ∙ ap (λ s. range_with_len 0 (nodes * each) ++ range_with_len s each) zero_on)
+    ap (λ n. map f (range_with_len 0 n)) row ∙ ap (map f) (range_append 0 (nodes * each) each ∙ ap (λ s. range_with_len 0 (nodes * each) ++ range_with_len s each) zero_on)
     ∙ map-append f (range_with_len 0 (nodes * each)) (range_with_len (nodes * each) each)

@@ -3,13 +3,13 @@ use Rattle.std.proofs.Common.{◌≡◌, ℕ, suc, ◌<◌, ◌≤◌, List, [],
 use Rattle.std.specs.List.{AllByRecursion}
 use Rattle.std.specs.Option.{option_map_or}
 use Rattle.std.proofs.lemmas.List.{length-append}
-use Rattle.hs_base.specs.declared.limits.TheConstants.{MAX_NODES}
+use Rattle.std.proofs.lemmas.Option.{slice_get_within}
+use Rattle.hs_lists.proofs.Places.{get_there}
 use Rattle.hs_coord.specs.Messages.{Messages}
 use Rattle.hs_coord.specs.declared.asks.Asks.{Asks}
 use Rattle.hs_model.specs.Stepping.{Event}
 use Rattle.hs_records.specs.Plain.{PlainWorkload}
-use Rattle.hs_workload.specs.Validity.{IsValid}
-use Rattle.hs_workload.specs.declared.word.Setting.TheVariants as settings
+use Rattle.hs_workload.proofs.Sizes.{few_nodes}
 use Rattle.hs_actors.specs.Doings.{asks_in, crumbs_in, triggers_in, steps_of}
 use Rattle.hs_lawful.specs.Shape.{log_stamps}
 use Rattle.hs_ring.specs.Parts.{Leased}
@@ -23,10 +23,6 @@ use Rattle.hs_retell.specs.Spans.{Post, IsPost, IsStep}
 use Rattle.hs_retell.specs.Closing.{TakesLeft, IsPassAlone}
 use Rattle.hs_retell.specs.Laws.{ClosingGoesOn, DesksArePosts}
 use Rattle.hs_closing.specs.Shutting.{AllSents, PassedAlone, Stand, Passing, Asked, ClosingAt}
-use Rattle.hs_desk.proofs.Lists.{got, within}
-
-few_nodes : (W : PlainWorkload) → IsValid W → W.settings.nodes ≤ MAX_NODES
-few_nodes W valid = (valid.head settings.Nodes).1
 
 -- what was heard, and nothing was asked yet
 pub asked_begins : (W : PlainWorkload) (sents : AllSents) (heard : Messages) (begun : ℕ → Work) (old nodes : List Shut) (c c' : Coordinating) → Stand W sents heard begun old c → (p : Passing W sents heard begun (length old) old nodes c')
@@ -64,14 +60,14 @@ module _ (goes_on : ClosingGoesOn) (are_posts : DesksArePosts) (W : PlainWorkloa
     -- one node
     module _ (node : ℕ) (low : node < W.settings.nodes) (x y z : Shut) (first : slice_get old node ≡ Some x) (mid : slice_get nodes node ≡ Some y) (end : slice_get last node ≡ Some z) where
       alone : PassedAlone W node sents (at.posts node).work (p.works node) x.giver y.giver
-      alone = (p.passed node x y (let inside = within old node x first in inside) first mid).0
+      alone = (p.passed node x y (let inside = slice_get_within old node x first in inside) first mid).0
 
       said : z.said ≡ []
-      said = (a.only.each node y z mid end).said ∙ (p.passed node x y (let inside = within old node x first in inside) first mid).1
+      said = (a.only.each node y z mid end).said ∙ (p.passed node x y (let inside = slice_get_within old node x first in inside) first mid).1
 
       step : IsStep W node at.heard (at.heard ++ more) (at.posts node) (record { work = a.works node; giver = z.giver })
       step =
-          let s = (p.passed node x y (let inside = within old node x first in inside) first mid).0 in
+          let s = (p.passed node x y (let inside = slice_get_within old node x first in inside) first mid).0 in
           let same = (a.same node).0 in
           let giver = at.givers node x first in
           let last_giver = (a.only.each node y z mid end).giver in
@@ -101,18 +97,18 @@ module _ (goes_on : ClosingGoesOn) (are_posts : DesksArePosts) (W : PlainWorkloa
       stands : IsPost W node (at.heard ++ more) (record { work = a.works node; giver = z.giver })
       stands =
           let shut = a.stands.each node z end in
-          let told = got c3.told node (let count = a.coordinates.count in omega (arith, count, low)) in
+          let told = get_there c3.told node (let count = a.coordinates.count in omega (arith, count, low)) in
           let waits = ap length (a.coordinates.waits node told.0 told.1) in
           let both = length-append (heard_of node (at.heard ++ more)) told.0 in
           are_posts W node (at.heard ++ more) (a.works node) (shut_desk z) (shut_lines z) shut.node_is shut.is.stands
-          ((a.only.each node y z mid end).said ∙ (p.passed node x y (let inside = within old node x first in inside) first mid).1)
+          ((a.only.each node y z mid end).said ∙ (p.passed node x y (let inside = slice_get_within old node x first in inside) first mid).1)
           (a.coordinates.asks_are node low ∙ ap (λ (l : List Asks). (a.works node).asked ++ asks_for node l) none ∙ append-nil (a.works node).asked) (omega (arith, waits, both))
 
       takes : (site : Site) → slice_get m.standing.nodes node ≡ Some site → (client : ℕ) (caller : Calling) → slice_get site.callers client ≡ Some caller → TakesLeft client caller (at.posts node).work (a.works node)
       takes site there client caller mine =
-          let s = (p.passed node x y (let inside = within old node x first in inside) first mid).0 in
+          let s = (p.passed node x y (let inside = slice_get_within old node x first in inside) first mid).0 in
           let same = (a.same node).0 in
-          let inside = within site.callers client caller mine in
+          let inside = slice_get_within site.callers client caller mine in
           let count = (at.clients node site there).1 in
           let t = s.takes client (omega (arith, inside, count)) in
           let chunks = ap length (at.sents_are.chunks node client site caller there mine) in
@@ -136,9 +132,9 @@ module _ (goes_on : ClosingGoesOn) (are_posts : DesksArePosts) (W : PlainWorkloa
         let count = at.stand.count in
         let many = p.many in
         let all = lengths in
-        let x = got old node (omega (arith, low, count)) in
-        let y = got nodes node (omega (arith, low, count, many)) in
-        let z = got last node (omega (arith, low, all)) in
+        let x = get_there old node (omega (arith, low, count)) in
+        let y = get_there nodes node (omega (arith, low, count, many)) in
+        let z = get_there last node (omega (arith, low, all)) in
         pass_alone node low x.0 y.0 z.0 x.1 y.1 z.1 site there
 
     pub closing_more : ClosingAt W rounds m sents last c3
@@ -153,22 +149,22 @@ module _ (goes_on : ClosingGoesOn) (are_posts : DesksArePosts) (W : PlainWorkloa
           stand = record { valid = at.stand.valid; few = at.stand.few; count = lengths; stands = a.stands; coordinates = a.coordinates };
           givers = λ node shut there. ap (λ (q : Post). q.giver) (post_is node shut there);
           said = λ node shut there.
-              let inside = within last node shut there in
+              let inside = slice_get_within last node shut there in
               let all = lengths in
               let count = at.stand.count in
               let many = p.many in
-              let x = got old node (omega (arith, inside, all, count)) in
-              let y = got nodes node (omega (arith, inside, all, count, many)) in
-              (a.only.each node y.0 shut y.1 there).said ∙ (p.passed node x.0 y.0 (within old node x.0 x.1) x.1 y.1).1;
+              let x = get_there old node (omega (arith, inside, all, count)) in
+              let y = get_there nodes node (omega (arith, inside, all, count, many)) in
+              (a.only.each node y.0 shut y.1 there).said ∙ (p.passed node x.0 y.0 (slice_get_within old node x.0 x.1) x.1 y.1).1;
           kept = λ node site shut stood there.
-              let inside = within last node shut there in
+              let inside = slice_get_within last node shut there in
               let all = lengths in
               let count = at.stand.count in
               let many = p.many in
-              let x = got old node (omega (arith, inside, all, count)) in
-              let y = got nodes node (omega (arith, inside, all, count, many)) in
+              let x = get_there old node (omega (arith, inside, all, count)) in
+              let y = get_there nodes node (omega (arith, inside, all, count, many)) in
               let before = at.kept node site x.0 stood x.1 in
-              let gives = (p.passed node x.0 y.0 (within old node x.0 x.1) x.1 y.1).0.gives in
+              let gives = (p.passed node x.0 y.0 (slice_get_within old node x.0 x.1) x.1 y.1).0.gives in
               let same = (a.only.each node y.0 shut y.1 there).giver in
               record {
                 pool = ap (λ g. g.pool) same ∙ gives.pool ∙ before.pool;

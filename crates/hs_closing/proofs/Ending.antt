@@ -2,6 +2,9 @@
 use Rattle.std.proofs.Common.{◌≡◌, ℕ, zero, suc, ◌+◌, ◌<◌, true, false, List, [], ◌∷◌, ◌++◌, length, map, Some, None, refl, sym, ap, subst, ◌∙◌, arith, slice_get, append-nil}
 use Rattle.std.specs.List.{AllByRecursion}
 use Rattle.std.proofs.lemmas.List.{length-map}
+use Rattle.std.proofs.lemmas.Option.{slice_get_within}
+use Rattle.hs_lists.proofs.Alls.{all_at}
+use Rattle.hs_lists.proofs.Places.{get_there}
 use Rattle.hs_base.specs.declared.told.Told.{Told}
 use Rattle.hs_base.specs.declared.told.Crumb.{Crumb}
 use Rattle.hs_base.specs.declared.told.Trigger.{Trigger}
@@ -27,7 +30,6 @@ use Rattle.hs_retell.specs.Closing as closing
 use Rattle.hs_retell.specs.Closing.{drawn_at, IsClosedPool, IsOver}
 use Rattle.hs_retell.specs.Laws.{PoolOf, AllBegin, PoolsAreKept}
 use Rattle.hs_closing.specs.Shutting.{AllSents, ClosingAt, AllBare}
-use Rattle.hs_desk.proofs.Lists.{got, within}
 
 abbrev pub drawer_of : Calling → Drawing
 drawer_of caller = caller.client.drawer
@@ -35,11 +37,6 @@ drawer_of caller = caller.client.drawer
 answers_mapped : (callers : List Calling) → answers_of_all (map drawer_of callers) ≡ map (λ (caller : Calling). caller.client.drawer.answers) callers
 answers_mapped [] = refl
 answers_mapped (caller ∷ callers) = ap (λ rest. caller.client.drawer.answers ∷ rest) (answers_mapped callers)
-
-all_at : {X : Type 0} (P : X → Type 0) (xs : List X) (i : ℕ) (x : X) → AllByRecursion P xs → slice_get xs i ≡ Some x → P x
-all_at P [] i x all h = let no : None ≡ Some x = h in absurd cc
-all_at P (y ∷ xs) zero x all h = let same : Some y ≡ Some x = h in let is : y ≡ x = cc in subst P is all.0
-all_at P (y ∷ xs) (suc i) x all h = all_at P xs i x all.1 h
 
 -- nothing is left of a line
 taken_all : {X : Type 0} (came items all : List X) → came ++ items ≡ all → items ≡ [] → came ≡ all
@@ -65,7 +62,7 @@ module _ (kept : PoolsAreKept) (W : PlainWorkload) (rounds : ℕ) (m : Moment) (
     pool_of node site there = kept W rounds m stand.valid came begin node site there
 
     pub shut_for : (node : ℕ) (site : Site) → slice_get m.standing.nodes node ≡ Some site → (shut : Shut) × (slice_get nodes node ≡ Some shut)
-    shut_for node site there = let low = (at.clients node site there).0 in let count = at.stand.count in got nodes node (omega (arith, low, count))
+    shut_for node site there = let low = (at.clients node site there).0 in let count = at.stand.count in get_there nodes node (omega (arith, low, count))
 
     -- the drawers of its clients are all drawers of a node's pool
     pub all_ends : (node : ℕ) (site : Site) (shut : Shut) → slice_get m.standing.nodes node ≡ Some site → slice_get nodes node ≡ Some shut → AreAllEnds shut.giver (map drawer_of site.callers)
@@ -95,21 +92,21 @@ module _ (kept : PoolsAreKept) (W : PlainWorkload) (rounds : ℕ) (m : Moment) (
           let crumb_long = length-map shut.0.crumbs (λ (r : Remaining Crumb Key). closed r) in
           let trigger_count = lines.triggers.count in
           let trigger_long = length-map shut.0.triggers (λ (r : Remaining Trigger Key). closed r) in
-          let told = got c.told node (let boxes = at.stand.coordinates.count in omega (arith, boxes, low)) in
+          let told = get_there c.told node (let boxes = at.stand.coordinates.count in omega (arith, boxes, low)) in
           record {
             chunks = λ client caller mine.
-                let inside = within site.callers client caller mine in
-                let r = got shut.0.chunks client (omega (arith, inside, count, chunk_count, chunk_long)) in
+                let inside = slice_get_within site.callers client caller mine in
+                let r = get_there shut.0.chunks client (omega (arith, inside, count, chunk_count, chunk_long)) in
                 taken_all (came_of client (at.posts node).work) r.0.items ((sents node).chunks client) (stands.left.chunks client r.0 r.1) (all_at (λ (r : Remaining (Buffer Leased) Key). r.items ≡ []) shut.0.chunks client r.0 b.chunks r.1)
                 ∙ at.sents_are.chunks node client site caller there mine;
             crumbs = λ client caller mine.
-                let inside = within site.callers client caller mine in
-                let r = got shut.0.crumbs client (omega (arith, inside, count, crumb_count, crumb_long)) in
+                let inside = slice_get_within site.callers client caller mine in
+                let r = get_there shut.0.crumbs client (omega (arith, inside, count, crumb_count, crumb_long)) in
                 taken_all (crumbs_in client (at.posts node).work.events) r.0.items ((sents node).crumbs client) (stands.left.crumbs client r.0 r.1) (all_at (λ (r : Remaining Crumb Key). r.items ≡ []) shut.0.crumbs client r.0 b.crumbs r.1)
                 ∙ at.sents_are.crumbs node client site caller there mine;
             triggers = λ client caller mine.
-                let inside = within site.callers client caller mine in
-                let r = got shut.0.triggers client (omega (arith, inside, count, trigger_count, trigger_long)) in
+                let inside = slice_get_within site.callers client caller mine in
+                let r = get_there shut.0.triggers client (omega (arith, inside, count, trigger_count, trigger_long)) in
                 taken_all (triggers_in client (at.posts node).work.events) r.0.items ((sents node).triggers client) (stands.left.triggers client r.0 r.1) (all_at (λ (r : Remaining Trigger Key). r.items ≡ []) shut.0.triggers client r.0 b.triggers r.1)
                 ∙ at.sents_are.triggers node client site caller there mine;
             asks = taken_all (asks_in (at.posts node).work.events) shut.0.asks (at.posts node).work.asked stands.stands.asks_are b.asks;

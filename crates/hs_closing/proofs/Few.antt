@@ -1,6 +1,7 @@
 -- No agent takes more triggers than its clients sent, so no more than the workload has, when the links are closed too.
 use Rattle.std.proofs.Common.{ℕ, ◌<◌, ◌≤◌, length, ap, arith, length-append}
 use Rattle.std.proofs.lemmas.List.{length-map}
+use Rattle.hs_lists.proofs.Places.{get_there}
 use Rattle.hs_actors.specs.Doings.{triggers_in}
 use Rattle.hs_base.specs.declared.told.Trigger.{Trigger}
 use Rattle.hs_link.specs.Contents.{Remaining}
@@ -10,7 +11,6 @@ use Rattle.hs_sent.specs.Sending.{operations_at, place_of}
 use Rattle.hs_workload.specs.Validity.{IsValid, client_pieces}
 use Rattle.hs_desk.specs.Lines.{closed}
 use Rattle.hs_desk.proofs.Few.{few_of_sent}
-use Rattle.hs_desk.proofs.Lists.{got}
 use Rattle.hs_closing.specs.Shutting.{AllSents, AreFew}
 
 pub few_shut : (W : PlainWorkload) → IsValid W → (sents : AllSents) → ((node client : ℕ) → node < W.settings.nodes → client < W.settings.clients → length ((sents node).triggers client) ≤ client_pieces W.settings.size (operations_at W (place_of W.settings.clients node client)))
@@ -21,7 +21,7 @@ few_shut W valid sents each node work shut low stands = few_of_sent W valid node
     received client own =
         let count = stands.is.stands.lines_are.triggers.count in
         let long = length-map shut.triggers (λ (r : Remaining Trigger Key). closed r) in
-        let (r, there) = got shut.triggers client (omega (arith, own, count, long)) in
+        let (r, there) = get_there shut.triggers client (omega (arith, own, count, long)) in
         let parts = ap length (stands.is.left.triggers client r there) in
         let both = length-append (triggers_in client work.events) r.items in
         let sent_few = each node client low own in

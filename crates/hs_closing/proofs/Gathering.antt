@@ -1,6 +1,8 @@
 -- The books of a run whose nodes were closed one by one.
 use Rattle.std.proofs.Common.{◌≡◌, ℕ, zero, suc, ◌+◌, ◌*◌, ◌<◌, List, [], ◌∷◌, ◌++◌, length, map, Some, None, refl, sym, ap, subst, ◌∙◌, arith, slice_get, append-nil, append_assoc}
 use Rattle.std.specs.List.{range_with_len}
+use Rattle.std.proofs.lemmas.Option.{slice_get_within}
+use Rattle.hs_lists.proofs.Places.{get_there}
 use Rattle.hs_base.specs.declared.ids.NodeId.{NodeId}
 use Rattle.hs_journal.specs.Books.{PlainAgentBook, PlainClientBook}
 use Rattle.hs_journal.specs.Views.{PlainJournal}
@@ -25,7 +27,6 @@ use Rattle.hs_closing.specs.Ended.{AreShut, CanFinish, MayFinish, HasFinished, H
 use Rattle.hs_closing.specs.Noted.{IsNoted, books_of, first_books}
 use Rattle.hs_closing.proofs.ClientBooks.{node_books, books_more}
 use Rattle.hs_closing.proofs.Ending.{drawer_of, all_ends, all_over}
-use Rattle.hs_desk.proofs.Lists.{got, within}
 
 -- ---- lists of equal length
 
@@ -174,15 +175,15 @@ module _ (kept : PoolsAreKept) (runs : RunsAreLawful) (W : PlainWorkload) (valid
         let long = long_nodes in
         let both = shut_long sites books lists first shut in
         let count = both.0 in
-        let site = got sites node (omega (arith, low, long)) in
-        let one = got first node (omega (arith, low, long, count)) in
+        let site = get_there sites node (omega (arith, low, long)) in
+        let one = get_there first node (omega (arith, low, long, count)) in
         record { site = site.0; there = site.1; drawers = (shut_at sites books lists first shut node site.0 one.0 site.1 one.1).drawers }
 
     pub can_finish : MayFinish nodes lists
     can_finish =
         may_finish nodes lists ((shut_long sites books lists first shut).1 ∙ sym long_nodes)
         (λ node x drawers at there.
-        let f = found node (within nodes node x at) in
+        let f = found node (slice_get_within nodes node x at) in
         let same : Some drawers ≡ Some (map drawer_of f.site.callers) = sym there ∙ f.drawers in
         let is : drawers ≡ map drawer_of f.site.callers = cc in
         let stands = (closed.at.stand.stands.each node x at).is in
@@ -198,7 +199,7 @@ module _ (kept : PoolsAreKept) (runs : RunsAreLawful) (W : PlainWorkload) (valid
     module _ (agents : List PlainAgentBook) (finished : HaveFinished nodes lists agents) where
       one_finished : (node : ℕ) (site : Site) (x : Shut) → slice_get m.standing.nodes node ≡ Some site → slice_get nodes node ≡ Some x → (book : PlainAgentBook) × (slice_get agents node ≡ Some book) × HasFinished x (map drawer_of site.callers) book
       one_finished node site x at there =
-          let f = found node (within nodes node x there) in
+          let f = found node (slice_get_within nodes node x there) in
           let same : Some f.site ≡ Some site = sym (stood node f.site f.there) ∙ at in
           let is : f.site ≡ site = cc in
           finished_at nodes lists agents finished node x (map drawer_of site.callers) there (f.drawers ∙ ap (λ (s : Site). Some (map drawer_of s.callers)) is)
@@ -234,10 +235,10 @@ module _ (kept : PoolsAreKept) (runs : RunsAreLawful) (W : PlainWorkload) (valid
           agents_so J r =
               by_places (λ node. book_of node (after W.settings node (closed.at.posts node).work.events)) 0 W.settings.nodes agents (finished_long nodes lists agents finished ∙ closed.at.stand.count)
               (λ i book h.
-              let inside = within agents i book h in
+              let inside = slice_get_within agents i book h in
               let count = finished_long nodes lists agents finished in
-              let x = got nodes i (omega (arith, inside, count)) in
-              let f = found i (within nodes i x.0 x.1) in
+              let x = get_there nodes i (omega (arith, inside, count)) in
+              let f = found i (slice_get_within nodes i x.0 x.1) in
               let one = one_finished i f.site x.0 (stood i f.site f.there) x.1 in
               let same : Some one.0 ≡ Some book = sym one.1 ∙ h in
               let is : one.0 ≡ book = cc in

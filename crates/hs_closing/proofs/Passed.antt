@@ -3,6 +3,8 @@ use Rattle.std.proofs.Common.{◌≡◌, inl, inr, ℕ, ◌+◌, ◌<◌, List, 
 use Rattle.std.proofs.lemmas.List.{length-append}
 use Rattle.std.proofs.lemmas.Option.{same_Some}
 use Rattle.std.specs.Prelude.{Result, Ok, Err, OnOk}
+use Rattle.hs_lists.proofs.Numbers.{same_or_less}
+use Rattle.hs_lists.proofs.Places.{get_set_cases, get_other}
 use Rattle.hs_coord.specs.Messages.{Messages}
 use Rattle.hs_model.specs.Stepping.{Event}
 use Rattle.hs_records.specs.Plain.{PlainWorkload}
@@ -16,7 +18,6 @@ use Rattle.hs_desk.specs.Coordinators.{Coordinating}
 use Rattle.hs_desk.specs.Shut.{Shut, AllSent, PassesShut}
 use Rattle.hs_desk.specs.Work.{Work, with_events, is_of}
 use Rattle.hs_closing.specs.Shutting.{AllSents, IsShutAt, TakesItems, PassedAlone, Tells, MayTell, HasTold, CanPass, HasPassed, Stand, Passing}
-use Rattle.hs_desk.proofs.Lists.{same_or_less, found_in, get_other}
 
 -- what a pass of this node led to
 abbrev pub Passed : PlainWorkload → AllSent → Work → Shut → Shut → Type 0
@@ -101,7 +102,7 @@ module _ (W : PlainWorkload) (sents : AllSents) (heard : Messages) (begun : ℕ 
       stands' : (k : ℕ) (z : Shut) → slice_get (set nodes n y) k ≡ Some z → IsShutAt W k sents (works' k) z
       unfolding works'
       stands' k z found =
-          elim (found_in nodes n k x y z at found) [
+          elim (get_set_cases nodes n k x y z at found) [
             | inl e ↦
                 subst (λ (i : ℕ). IsShutAt W i sents (put h.works n p.next i) z) e.0
                 (subst (λ (v : Shut). IsShutAt W n sents (put h.works n p.next n) v) e.1 (subst (λ (w : Work). IsShutAt W n sents w y) (sym (put_here h.works n p.next)) p.stands))
@@ -111,7 +112,7 @@ module _ (W : PlainWorkload) (sents : AllSents) (heard : Messages) (begun : ℕ 
       passed' : (k : ℕ) (a b : Shut) → k < n + 1 → slice_get old k ≡ Some a → slice_get (set nodes n y) k ≡ Some b → PassedAlone W k sents (begun k) (works' k) a.giver b.giver × (b.said ≡ [])
       unfolding works'
       passed' k a b less was now =
-          elim (found_in nodes n k x y b at now) [
+          elim (get_set_cases nodes n k x y b at now) [
             | inl e ↦
                 let first = h.others n (omega arith) in
                 let stood : a ≡ x = same_Some a x (sym was ∙ ap (slice_get old) (sym e.0) ∙ sym first.0 ∙ at) in

@@ -1,8 +1,9 @@
 -- The clients of nodes are taken apart, and their links closed.
-use Rattle.std.proofs.Common.{◌≡◌, ℕ, zero, suc, ◌<◌, List, [], ◌∷◌, ◌++◌, length, map, get_or, Some, None, refl, sym, ap, ◌∙◌, subst, arith, append_assoc, slice_get}
+use Rattle.std.proofs.Common.{◌≡◌, ℕ, zero, suc, ◌<◌, List, [], ◌∷◌, ◌++◌, length, map, get_or, Some, refl, sym, ap, ◌∙◌, subst, arith, append_assoc, slice_get}
 use Rattle.std.proofs.lemmas.List.{append-nil, length-map}
-use Rattle.std.proofs.lemmas.Option.{same_Some}
 use Rattle.std.specs.List.{AllByRecursion}
+use Rattle.hs_lists.proofs.Alls.{all_by_place}
+use Rattle.hs_lists.proofs.Places.{get_unmap}
 use Rattle.hs_base.specs.declared.told.Crumb.{Crumb}
 use Rattle.hs_base.specs.declared.told.Trigger.{Trigger}
 use Rattle.hs_base.specs.Ids.{client_of}
@@ -22,29 +23,16 @@ use Rattle.hs_closing.specs.Ended.{IsEnded, HasShut, AreShut}
 
 -- ---- lists
 
-pub by_place : {A : Type 0} (P : A → Type 0) (xs : List A) → ((place : ℕ) (x : A) → slice_get xs place ≡ Some x → P x) → AllByRecursion P xs
-by_place P [] h = tt
-by_place P (x ∷ xs) h = (h 0 x refl, by_place P xs (λ place y found. h (suc place) y found))
-
-mapped_at : {A B : Type 0} (f : A → B) (xs : List A) (place : ℕ) (y : B) → slice_get (map f xs) place ≡ Some y → (x : A) × (slice_get xs place ≡ Some x) × (f x ≡ y)
-mapped_at f [] place y h = let none : None ≡ Some y = h in absurd cc
-mapped_at f (x ∷ xs) zero y h = (x, refl, same_Some (f x) y h)
-mapped_at f (x ∷ xs) (suc place) y h = mapped_at f xs place y h
-
 pub there : {A B : Type 0} (f : A → B) (xs : List A) (place : ℕ) (x : A) → (place < length xs) × (x ≡ get_or xs place x) → slice_get (map f xs) place ≡ Some (f x)
 there f [] place x h = absurd (omega (arith, h.0))
 there f (y ∷ xs) zero x h = ap (λ (z : _). Some (f z)) (sym h.1)
 there f (y ∷ xs) (suc place) x h = there f xs place x (omega (arith, h.0), h.1)
 
-pub map_same : {A : Type 0} (xs : List A) → map (λ x. x) xs ≡ xs
-map_same [] = refl
-map_same (x ∷ xs) = ap (λ (l : List _). x ∷ l) (map_same xs)
-
 -- ---- one node
 
 pub all_done : (site : Site) → IsEnded site → AllByRecursion IsDone site.callers
 all_done site is =
-    by_place IsDone site.callers
+    all_by_place IsDone site.callers
     (λ number caller found.
     record {
       settings = is.workload.settings;
@@ -60,7 +48,7 @@ mates f site senders receivers are count each =
     record {
       count = ap length are ∙ length-map site.callers f ∙ sym count;
       each = λ number s found.
-          let (caller, there, is) = mapped_at f site.callers number s (ap (λ (l : List _). slice_get l number) (sym are) ∙ found) in
+          let (caller, there, is) = get_unmap f site.callers number s (ap (λ (l : List _). slice_get l number) (sym are) ∙ found) in
           subst (λ (o : Outgoing _ Key). IsMate number receivers o) is (each number caller there);
     }
 

@@ -1,7 +1,8 @@
 -- Where the rounds end, closing begins.
 use Rattle.std.proofs.Common.{◌≡◌, ℕ, zero, suc, ◌<◌, ◌≤◌, List, [], ◌∷◌, ◌++◌, length, map, Option, Some, sym, ap, subst, ◌∙◌, arith, slice_get, option_map}
 use Rattle.std.specs.Option.{option_map_or}
-use Rattle.std.proofs.lemmas.Option.{slice_get-map}
+use Rattle.std.proofs.lemmas.Option.{slice_get-map, slice_get_within}
+use Rattle.hs_lists.proofs.Places.{get_there}
 use Rattle.hs_base.specs.declared.ids.ClientId.{ClientId}
 use Rattle.hs_base.specs.Ids.{client_of}
 use Rattle.hs_link.specs.Contents.{Outgoing, sent}
@@ -23,7 +24,6 @@ use Rattle.hs_retell.specs.Laws.{ClosingBegins}
 use Rattle.hs_closing.specs.Shutting.{AreSentsOf, ClosingAt, AreShutFrom, sents_at}
 use Rattle.hs_closing.proofs.Few.{few_shut}
 use Rattle.hs_closing.specs.Ended.{sents_of}
-use Rattle.hs_desk.proofs.Lists.{got, within}
 
 abbrev pub HaveSent : Type 0
 HaveSent = (settings : PlainSettings) (client : ClientId) (ops : List Operation) (caller : Calling) → IsAt settings client ops caller → HasSentSoFar settings client ops caller
@@ -64,25 +64,25 @@ module _ (begins : ClosingBegins) (sends : HaveSent) (W : PlainWorkload) (rounds
   said_by (suc k) low node site there =
       let moves = came.moves k (omega (arith, low)) in
       let met = (came.meets k (omega (arith, low))).stands in
-      let inside = within (came.at (suc k)).standing.nodes node site there in
+      let inside = slice_get_within (came.at (suc k)).standing.nodes node site there in
       let count = moves.stands.count in
       let before = met.count in
-      let other = got (came.met k).standing.nodes node (omega (arith, inside, count, before)) in
+      let other = get_there (came.met k).standing.nodes node (omega (arith, inside, count, before)) in
       (moves.each node other.0 site other.1 there).said
 
   said : (node : ℕ) (site : Site) → slice_get m.standing.nodes node ≡ Some site → site.agent.said ≡ []
   said node site there = said_by rounds (omega arith) node site (ap (λ (moment : Moment). slice_get moment.standing.nodes node) came.last ∙ there)
 
   low_node : (node : ℕ) (site : Site) → slice_get m.standing.nodes node ≡ Some site → node < W.settings.nodes
-  low_node node site there = let inside = within m.standing.nodes node site there in let count = stands.count in omega (arith, inside, count)
+  low_node node site there = let inside = slice_get_within m.standing.nodes node site there in let count = stands.count in omega (arith, inside, count)
 
   few : (node client : ℕ) → node < W.settings.nodes → client < W.settings.clients → length ((sents_at m node).triggers client) ≤ client_pieces W.settings.size (operations_at W (place_of W.settings.clients node client))
   few node client low own =
       let count = stands.count in
-      let site = got m.standing.nodes node (omega (arith, low, count)) in
+      let site = get_there m.standing.nodes node (omega (arith, low, count)) in
       let s = stands.each node site.0 site.1 in
       let many = s.count in
-      let caller = got site.0.callers client (omega (arith, own, many)) in
+      let caller = get_there site.0.callers client (omega (arith, own, many)) in
       let all = ap length ((are_sents m).triggers node client site.0 caller.0 site.1 caller.1) in
       let most = (sends W.settings (client_of node client) (operations_at W (place_of W.settings.clients node client)) caller.0 (s.callers client caller.0 caller.1)).few in
       omega (arith, all, most)
@@ -97,7 +97,7 @@ module _ (begins : ClosingBegins) (sends : HaveSent) (W : PlainWorkload) (rounds
   post_is node site there = ap (λ (o : Option Site). record { work = m.works node; giver = option_map_or (λ (s : Site). s.agent.port.giver) o no_giver }) there
 
   site_for : (node : ℕ) (x : Shut) → slice_get nodes node ≡ Some x → (site : Site) × (slice_get m.standing.nodes node ≡ Some site)
-  site_for node x there = let inside = within nodes node x there in let count = shut.count in got m.standing.nodes node (omega (arith, inside, count))
+  site_for node x there = let inside = slice_get_within nodes node x there in let count = shut.count in get_there m.standing.nodes node (omega (arith, inside, count))
 
   pub closing_starts : ClosingAt W rounds m (sents_at m) nodes m.standing.coordinator
   closing_starts =

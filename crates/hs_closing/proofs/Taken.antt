@@ -1,47 +1,17 @@
 -- What all nodes leave, one after another.
-use Rattle.std.proofs.Common.{◌≡◌, ℕ, zero, suc, ◌<◌, List, [], ◌∷◌, ◌++◌, length, map, zip, get_or, Some, None, refl, sym, ap, subst, ◌∙◌, arith, slice_get, append_assoc}
+use Rattle.std.proofs.Common.{◌≡◌, ℕ, zero, suc, ◌<◌, List, [], ◌∷◌, ◌++◌, length, map, zip, get_or, Some, None, sym, ap, subst, ◌∙◌, arith, slice_get}
 use Rattle.std.proofs.lemmas.List.{length-map}
 use Rattle.std.proofs.lemmas.Option.{same_Some}
-use Rattle.std.specs.List.{AllByRecursion}
+use Rattle.hs_lists.proofs.Places.{get_unmap, get_map}
 use Rattle.hs_base.specs.Listing.{Listing}
-use Rattle.hs_base.specs.Ids.{client_of}
-use Rattle.hs_journal.specs.Books.{PlainAgentBook, PlainClientBook}
+use Rattle.hs_journal.specs.Books.{PlainAgentBook}
 use Rattle.hs_link.specs.Contents.{Incoming, Outgoing}
 use Rattle.hs_live.specs.Keys.{Key}
 use Rattle.hs_live.specs.Live.{IsMate}
 use Rattle.hs_ring.specs.Parts.{Drawing}
-use Rattle.hs_sent.specs.Sending.{operations_at, place_of}
 use Rattle.hs_caller.specs.Calling.{Calling}
-use Rattle.hs_caller.specs.Standing.{IsDone}
 use Rattle.hs_desk.specs.Shut.{Shut, AreMatesOf}
-use Rattle.hs_rounds.specs.Standing.{Site}
-use Rattle.hs_closing.specs.Ended.{IsEnded, HasShut, AreShut, CanFinish, MayFinish, HasFinished, HaveFinished, items_of}
-
-pub all_of : {A : Type 0} (P : A → Type 0) (xs : List A) → ((n : ℕ) (x : A) → slice_get xs n ≡ Some x → P x) → AllByRecursion P xs
-all_of P [] h = tt
-all_of P (x ∷ xs) h = (h 0 x refl, all_of P xs (λ n y at. h (suc n) y at))
-
--- what stands at a place of a mapped list
-pub mapped : {A B : Type 0} (f : A → B) (xs : List A) (n : ℕ) (y : B) → slice_get (map f xs) n ≡ Some y → (x : A) × (slice_get xs n ≡ Some x) × (f x ≡ y)
-mapped f [] n y at = let none : None ≡ Some y = at in absurd cc
-mapped f (x ∷ xs) zero y at = (x, refl, same_Some (f x) y at)
-mapped f (x ∷ xs) (suc n) y at = mapped f xs n y at
-
-pub map_there : {A B : Type 0} (f : A → B) (xs : List A) (n : ℕ) (x : A) → slice_get xs n ≡ Some x → slice_get (map f xs) n ≡ Some (f x)
-map_there f [] n x at = let none : None ≡ Some x = at in absurd cc
-map_there f (y ∷ xs) zero x at = ap (λ z. Some (f z)) (same_Some y x at)
-map_there f (y ∷ xs) (suc n) x at = map_there f xs n x at
-
-pub all_done : (site : Site) → IsEnded site → AllByRecursion IsDone site.callers
-all_done site e =
-    all_of IsDone site.callers
-    (λ number caller at. record {
-      settings = e.workload.settings;
-      client = client_of e.node number;
-      ops = operations_at e.workload (place_of e.workload.settings.clients e.node number);
-      at = e.stands.callers number caller at;
-      all = e.all number caller at;
-    })
+use Rattle.hs_closing.specs.Ended.{CanFinish, MayFinish, HasFinished, HaveFinished, items_of}
 
 -- the senders of all clients, with their receivers
 pub mates_of : {T : Type 0} (f : Calling → Outgoing T Key) (callers : List Calling) (senders : List (Outgoing T Key)) (receivers : List (Incoming T Key)) → senders ≡ map f callers → length callers ≡ length receivers
@@ -50,27 +20,9 @@ mates_of f callers senders receivers is count h =
     record {
       count = ap length is ∙ length-map callers f ∙ count;
       each = λ n s at.
-          let (c, there, e) = mapped f callers n s (sym (ap (λ (l : List (Outgoing _ Key)). slice_get l n) is) ∙ at) in
+          let (c, there, e) = get_unmap f callers n s (sym (ap (λ (l : List (Outgoing _ Key)). slice_get l n) is) ∙ at) in
           subst (IsMate n receivers) e (h n c there);
     }
-
--- ---- all nodes
-
-pub shut_more : (sites : List Site) (books : List PlainClientBook) (lists : List (List Drawing)) (shuts : List Shut) (site : Site) (noted : List PlainClientBook) (drawers : List Drawing) (shut : Shut)
-    → AreShut sites books lists shuts → HasShut site noted drawers shut → AreShut (sites ++ site ∷ []) (books ++ noted) (lists ++ drawers ∷ []) (shuts ++ shut ∷ [])
-shut_more [] books [] [] site noted drawers shut are has =
-    let all : books ++ noted ≡ noted ++ [] = ap (λ (l : List PlainClientBook). l ++ noted) are ∙ sym (append_none noted) in
-    (noted, [], all, has, refl)
-  where
-    append_none : (l : List PlainClientBook) → l ++ [] ≡ l
-    append_none [] = refl
-    append_none (x ∷ l) = ap (λ (r : List PlainClientBook). x ∷ r) (append_none l)
-shut_more [] books [] (s ∷ shuts) site noted drawers shut are has = absurd are
-shut_more [] books (l ∷ lists) shuts site noted drawers shut are has = absurd are
-shut_more (x ∷ sites) books [] shuts site noted drawers shut are has = absurd are
-shut_more (x ∷ sites) books (l ∷ lists) [] site noted drawers shut are has = absurd are
-shut_more (x ∷ sites) books (l ∷ lists) (s ∷ shuts) site noted drawers shut (first, others, is, one, rest) has =
-    (first, others ++ noted, ap (λ (b : List PlainClientBook). b ++ noted) is ∙ append_assoc first others noted, one, shut_more sites others lists shuts site noted drawers shut rest has)
 
 -- ---- the pools
 
@@ -99,7 +51,7 @@ zipped (x ∷ xs) (y ∷ ys) (suc n) p low is = zipped xs ys n p (omega (arith, 
 pub can_finish : (shuts : List Shut) (lists : List (Listing Drawing)) → MayFinish shuts (items_of lists) → (n : ℕ) (p : Shut × Listing Drawing) → (n < length (zip shuts lists)) × (p ≡ get_or (zip shuts lists) n p) → CanFinish p.0 p.1.items
 can_finish shuts lists may n p turn =
     let there = zipped shuts lists n p turn.0 turn.1 in
-    can_at shuts (items_of lists) may n p.0 p.1.items there.0 (map_there (λ (l : Listing Drawing). l.items) lists n p.1 there.1)
+    can_at shuts (items_of lists) may n p.0 p.1.items there.0 (get_map (λ (l : Listing Drawing). l.items) lists n p.1 there.1)
 
 pub all_finished : (shuts : List Shut) (lists : List (Listing Drawing)) (yielded : List (Shut × Listing Drawing)) (books : List PlainAgentBook) → MayFinish shuts (items_of lists) → map {B = Shut × Listing Drawing} (λ p. (p.0, p.1)) yielded ≡ zip shuts lists
     → HaveFinished (map (λ p. p.0) yielded) (map (λ p. p.1.items) yielded) books → HaveFinished shuts (items_of lists) books

@@ -1,8 +1,8 @@
 -- Messages go from an agent to the coordinator.
-use Rattle.std.proofs.Common.{◌≡◌, inl, inr, ℕ, List, [], ◌∷◌, ◌++◌, refl, sym, ap, subst, ◌∙◌, arith}
+use Rattle.std.proofs.Common.{◌≡◌, ℕ, List, [], ◌∷◌, ◌++◌, refl, sym, ap, subst, ◌∙◌, arith}
 use Rattle.std.specs.List.{AllByRecursion}
-use Rattle.std.proofs.lemmas.Bool.{cases_eq}
 use Rattle.std.proofs.lemmas.List.{length-append}
+use Rattle.hs_lists.proofs.Updates.{same_everywhere}
 use Rattle.hs_base.specs.declared.told.Ask.{Ask}
 use Rattle.hs_base.specs.declared.told.Told.{Told}
 use Rattle.hs_base.proofs.Updates.{put, put_here, put_else}
@@ -14,10 +14,6 @@ use Rattle.hs_desk.specs.Shut.{Shut, IsShut}
 use Rattle.hs_desk.specs.Work.{Work, with_moved}
 use Rattle.hs_rounds.specs.Standing.{moved_by, asked_by}
 use Rattle.hs_closing.specs.Shutting.{AllSents, Tells, HasTold}
-
--- two sequences that agree at one place and at all others
-pub all_same : {A : Type 0} (f g : ℕ → A) (n : ℕ) → f n ≡ g n → ((k : ℕ) → (k ≡ n → ⊥) → f k ≡ g k) → (k : ℕ) → f k ≡ g k
-all_same f g n here there k = elim (cases_eq k n) [ inl e ↦ ap f e ∙ here ∙ ap g (sym e) | inr ne ↦ there k ne ]
 
 -- the coordinator stands by what was moved and asked, node by node
 pub coordinates_same : (W : PlainWorkload) (heard : Messages) (moved moved' : ℕ → List Told) (asked asked' : ℕ → List Ask) (c : Coordinating) → ((n : ℕ) → moved' n ≡ moved n) → ((n : ℕ) → asked' n ≡ asked n)
@@ -47,8 +43,8 @@ module _ (W : PlainWorkload) (node : ℕ) (sents : AllSents) (work : Work) (hear
         only = refl;
         brought = λ works' here there.
             coordinates_same W heard (moved_by works) (moved_by works') (asked_by works) (asked_by works') before
-            (all_same (moved_by works') (moved_by works) node (ap (λ (x : Work). x.moved) here ∙ t.same.0) (λ other ne. ap (λ (x : Work). x.moved) (there other ne)))
-            (all_same (asked_by works') (asked_by works) node (ap (λ (x : Work). x.asked) here ∙ t.same.1) (λ other ne. ap (λ (x : Work). x.asked) (there other ne))) t.coordinates;
+            (same_everywhere (moved_by works') (moved_by works) node (ap (λ (x : Work). x.moved) here ∙ t.same.0) (λ other ne. ap (λ (x : Work). x.moved) (there other ne)))
+            (same_everywhere (asked_by works') (asked_by works) node (ap (λ (x : Work). x.asked) here ∙ t.same.1) (λ other ne. ap (λ (x : Work). x.asked) (there other ne))) t.coordinates;
         asks = refl;
       }
 
@@ -82,7 +78,7 @@ module _ (W : PlainWorkload) (node : ℕ) (sents : AllSents) (work : Work) (hear
               others = λ other ne. ap (λ (x : Work). x.moved) (there other ne ∙ sym (put_else works node h.next other ne));
             }) in
             coordinates_same W heard (moved_by works') (moved_by works') (asked_by (put works node h.next)) (asked_by works') after (λ n. refl)
-            (all_same (asked_by works') (asked_by (put works node h.next)) node (ap (λ (x : Work). x.asked) at ∙ ap (λ (x : Work). x.asked) (sym here))
+            (same_everywhere (asked_by works') (asked_by (put works node h.next)) node (ap (λ (x : Work). x.asked) at ∙ ap (λ (x : Work). x.asked) (sym here))
             (λ other ne. ap (λ (x : Work). x.asked) (there other ne ∙ sym (put_else works node h.next other ne))))
             coordinates;
         asks = asks ∙ h.asks;

@@ -1,5 +1,5 @@
 -- One more page, in the collection that a map's entries are.
-use Rattle.std.proofs.Common.{◌≡◌, ◌≤◌, ◌^◌, List, [], ◌∷◌, ◌++◌, map, Some, None, Result, Ok, Err, OnOk, OnErr, is_some, option_map, refl, sym, ap, ◌∙◌, subst, arith}
+use Rattle.std.proofs.Common.{◌≡◌, ◌≤◌, ◌^◌, List, [], ◌∷◌, ◌++◌, map, Some, None, is_some, option_map, refl, sym, ap, ◌∙◌, subst, arith}
 use Rattle.std.specs.List.{IsDistinct}
 use Rattle.std.specs.Map.{lookup, set_value}
 use Rattle.std.proofs.lemmas.List.{map-append}
@@ -72,13 +72,3 @@ collected_new sheets sheet own entries after none new collected same missing wri
     (subst (AreCollected (sheets ++ own ∷ [])) (sym view)
     (joins_last sheets own (collection_of entries) (wholes_of new) collected (any-keys trace entries ∙ ap is_some (sym missing))
     (takes [] (subst (AreWholes []) (sym empty) no_wholes))))
-
--- ---- clauses on a result
-
-pub on_ok : {X Y : Type 0} (result : Result X Y) (P Q : Type 0) → (P → Q) → OnOk result P → OnOk result Q
-on_ok (Ok x) P Q gives fact = gives fact
-on_ok (Err e) P Q gives fact = tt
-
-pub on_err : {X Y : Type 0} (result : Result X Y) (P Q : Type 0) → (P → Q) → OnErr result P → OnErr result Q
-on_err (Ok x) P Q gives fact = tt
-on_err (Err e) P Q gives fact = gives fact

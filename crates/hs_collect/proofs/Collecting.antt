@@ -6,6 +6,7 @@ use Rattle.std.proofs.lemmas.List.{append-nil, map-append}
 use Rattle.std.proofs.lemmas.List.Elements.{All-cons, All-head, All-tail, All-nil, All-push, filter-append}
 use Rattle.std.proofs.lemmas.List.Concat.{flat_map-append}
 use Rattle.std.proofs.lemmas.Bool.Decides.{nat_tests}
+use Rattle.hs_lists.proofs.Bools.{second_false, first_false}
 use Rattle.hs_base.specs.declared.ids.TraceId.{TraceId}
 use Rattle.hs_words.specs.Pages.{Sheet}
 use Rattle.hs_collect.specs.Collected.{Placed, is_of, page_pieces, pieces_of, AreWholes, AreCollected, first_seen}
@@ -78,21 +79,13 @@ traces_of collection = map (λ entry. entry.0) collection
 kept : (sheets : List Sheet) (sheet : Sheet) (entry : TraceId × List Placed) → is_trace sheet.header.trace entry.0 ≡ false → HasWholes sheets entry → HasWholes (sheets ++ sheet ∷ []) entry
 kept sheets sheet entry apart has = subst (λ (ps : List Placed). AreWholes ps entry.1) (sym (pieces-other entry.0 sheets sheet apart)) has
 
-none_left : (b c : Bool) → (b || c) ≡ false → c ≡ false
-none_left true c h = absurd (cc)
-none_left false c h = h
-
-not_first : (b c : Bool) → (b || c) ≡ false → b ≡ false
-not_first true c h = absurd (cc)
-not_first false c h = refl
-
 all-kept : (sheets : List Sheet) (sheet : Sheet) (entries : Collection) → list_any (is_trace sheet.header.trace) (traces_of entries) ≡ false → All (HasWholes sheets) entries
     → All (HasWholes (sheets ++ sheet ∷ [])) entries
 all-kept sheets sheet [] apart each = All-nil (HasWholes (sheets ++ sheet ∷ []))
 all-kept sheets sheet (entry ∷ entries) apart each =
     All-cons (HasWholes (sheets ++ sheet ∷ [])) entry entries
-    (kept sheets sheet entry (not_first _ _ apart) (All-head (HasWholes sheets) entry entries each))
-    (all-kept sheets sheet entries (none_left _ _ apart) (All-tail (HasWholes sheets) entry entries each))
+    (kept sheets sheet entry (first_false _ _ apart) (All-head (HasWholes sheets) entry entries each))
+    (all-kept sheets sheet entries (second_false _ _ apart) (All-tail (HasWholes sheets) entry entries each))
 
 -- one trace more at the end
 pub joins_last : (sheets : List Sheet) (sheet : Sheet) (entries : Collection) (wholes : List Placed) → AreCollected sheets entries → list_any (is_trace sheet.header.trace) (traces_of entries) ≡ false

@@ -1,20 +1,14 @@
 -- One record written in place, as a list lends its items.
 use Rattle.std.proofs.Common.{◌≡◌, ℕ, zero, suc, ◌<◌, Bool, true, false, not, List, [], ◌∷◌, ◌++◌, map, take, drop, set, get_or, length, option_map, unwrap_or, refl, sym, ap, ◌∙◌, arith}
 use Rattle.std.specs.Prelude.{slice_get}
-use Rattle.std.proofs.lemmas.List.{length-set, take-append-le, take_all, map-set, set-get_or}
+use Rattle.std.proofs.lemmas.List.{map-set, set-get_or}
+use Rattle.hs_lists.proofs.Lent.{written_back}
 use Rattle.hs_base.specs.Listing.{Listing}
 use Rattle.hs_base.specs.declared.ids.RecordId.{RecordId}
 use Rattle.hs_collect.specs.declared.records.TraceRecord.{TraceRecord}
 use Rattle.hs_collect.specs.Collected.{Placed, is_same}
 use Rattle.hs_collect.specs.Views.{placed_of}
 use Rattle.hs_collect.specs.Joining.{join_at, is_before}
-
-lent : {A : Type 0} (old now : List A) (last : ℕ) (x : A) → now ≡ old → take (length old) (set now last x ++ drop (length (set now last x)) old) ≡ set old last x
-lent old now last x same =
-    let long : length (set now last x) ≡ length old = length-set now last x ∙ ap length same in
-    take-append-le (length old) (set now last x) (drop (length (set now last x)) old) (omega (arith, long))
-    ∙ take_all (length old) (set now last x) (omega (arith, long))
-    ∙ ap (λ xs. set xs last x) same
 
 set-join : (wholes : List Placed) (last : ℕ) (whole : Placed) (bytes : List ℕ) → last < length wholes → whole ≡ get_or wholes last whole
     → set wholes last (record { id = whole.id; moment = whole.moment; payload = whole.payload ++ bytes }) ≡ join_at last bytes wholes
@@ -41,7 +35,7 @@ pub after_join : (old now : List TraceRecord) (last : ℕ) (r : TraceRecord) (pa
     ≡ join_at last bytes (map placed_of old)
 after_join old now last r payload bytes same within is joined =
     let here : r ≡ get_or old last r = is ∙ ap (λ xs. get_or xs last r) same in
-    ap (map placed_of) (lent old now last _ same)
+    ap (map placed_of) (written_back old now last _ same)
     ∙ map-set placed_of old last (record { id = (get_or now last r).id; moment = (get_or now last r).moment; payload = payload })
     ∙ ap (λ bs. set (map placed_of old) last (record { id = (get_or now last r).id; moment = (get_or now last r).moment; payload = bs })) joined
     ∙ ap (λ x. set (map placed_of old) last (record { id = x.id; moment = x.moment; payload = x.payload.items ++ bytes })) (sym is)
@@ -57,7 +51,7 @@ pub after_none : (old now : List TraceRecord) (last : ℕ) (r : TraceRecord) (pa
     ≡ map placed_of old
 after_none old now last r payload same within is kept =
     let here : r ≡ get_or old last r = is ∙ ap (λ xs. get_or xs last r) same in
-    ap (map placed_of) (lent old now last _ same)
+    ap (map placed_of) (written_back old now last _ same)
     ∙ map-set placed_of old last (record { id = (get_or now last r).id; moment = (get_or now last r).moment; payload = payload })
     ∙ ap (λ bs. set (map placed_of old) last (record { id = (get_or now last r).id; moment = (get_or now last r).moment; payload = bs })) kept
     ∙ ap (λ x. set (map placed_of old) last (placed_of x)) (sym is)

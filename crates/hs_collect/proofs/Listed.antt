@@ -3,6 +3,7 @@
 use Rattle.std.proofs.Common.{◌≡◌, ◌⊎◌, ℕ, zero, suc, ◌<◌, List, [], ◌∷◌, ◌++◌, length, get_or, All, refl, sym, subst, inl, inr, arith}
 use Rattle.std.specs.List.{Any, AllPairs}
 use Rattle.std.proofs.lemmas.List.Elements.{All-nil, All-cons, All-head, All-tail}
+use Rattle.hs_lists.proofs.Alls.{pairs_head, pairs_tail}
 
 -- ---- all elements
 
@@ -34,12 +35,6 @@ pairs_cons : {X : Type 0} (R : X → X → Type 0) (x : X) (xs : List X) → All
 pairs_cons R x xs first rest i zero d lt within = absurd (omega arith)
 pairs_cons R x xs first rest zero (suc j) d lt within = first j d (omega arith)
 pairs_cons R x xs first rest (suc i) (suc j) d lt within = rest i j d (omega arith) (omega arith)
-
-pub pairs_head : {X : Type 0} (R : X → X → Type 0) (x : X) (xs : List X) → AllPairs R (x ∷ xs) → All (R x) xs
-pairs_head R x xs h = λ k d lt. h 0 (suc k) d (omega arith) (omega arith)
-
-pub pairs_tail : {X : Type 0} (R : X → X → Type 0) (x : X) (xs : List X) → AllPairs R (x ∷ xs) → AllPairs R xs
-pairs_tail R x xs h = λ i j d lt within. h (suc i) (suc j) d (omega arith) (omega arith)
 
 pub pairs_into : {X : Type 0} (R : X → X → Type 0) (front : List X) (x : X) (back : List X) → AllPairs R (front ++ back) → All (λ f. R f x) front → All (R x) back → AllPairs R (front ++ x ∷ back)
 pairs_into R [] x back h before behind = pairs_cons R x back behind h

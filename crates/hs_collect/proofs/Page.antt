@@ -4,6 +4,7 @@ use Rattle.std.proofs.Common.{◌≡◌, ℕ, zero, suc, ◌+◌, ◌-◌, ◌�
 use Rattle.std.specs.Int.{from_bool}
 use Rattle.std.proofs.lemmas.List.{append_assoc, append-nil, take-append-drop, take-append-le, drop-append-le, take_at, drop_at}
 use Rattle.std.proofs.lemmas.List.Elements.{All-nil, All-push, All-weaker}
+use Rattle.hs_lists.proofs.Counts.{from_bool_one}
 use Rattle.hs_base.specs.declared.ids.ClientId.{ClientId}
 use Rattle.hs_base.specs.declared.ids.RecordId.{RecordId}
 use Rattle.hs_words.specs.declared.page.Header.{Header}
@@ -142,10 +143,6 @@ moved now fresh place within =
     ∙ ap (λ l. take place now ++ l ++ take (length now - place) (drop place (now ++ fresh))) (drop_at now fresh (length now) refl)
     ∙ ap (λ l. take place now ++ fresh ++ l) (ap (take (length now - place)) (drop-append-le place now fresh within) ∙ take_at (drop place now) fresh (length now - place) (length-drop place now))
 
-one_or_none : (b : Bool) → from_bool b ≡ cond b 1 0
-one_or_none true = refl
-one_or_none false = refl
-
 -- the whole of adding a page: its first piece joined, the records of the others appended, and these moved to their place
 pub records_added : (pieces old joined_old appended new : List Placed) (header : Header) (more : List Piece) (joined : Bool) (place middle from : ℕ) → place ≤ length old
     → (AreInOrder old → IsPlaceBehind header.client place old) → GoesBehind header old → Joins header place old more joined joined_old → from ≡ from_bool joined
@@ -153,7 +150,7 @@ pub records_added : (pieces old joined_old appended new : List Placed) (header :
     → new ≡ take place appended ++ drop middle appended ++ take (middle - place) (drop place appended) → AreWholes pieces old → AreWholes (pieces ++ pieces_from header.client header.first more) new
 records_added pieces old joined_old appended new header more joined place middle from within placed low joins from_is appends long moves are =
     let fresh : List Placed = drop (cond joined 1 0) (pieces_from header.client header.first more) in
-    let all : appended ≡ joined_old ++ fresh = appends ∙ ap (λ n. joined_old ++ drop n (pieces_from header.client header.first more)) (from_is ∙ one_or_none joined) in
+    let all : appended ≡ joined_old ++ fresh = appends ∙ ap (λ n. joined_old ++ drop n (pieces_from header.client header.first more)) (from_is ∙ from_bool_one joined) in
     let short : place ≤ length joined_old = omega (arith, length-joined header place old more joined joined_old joins) in
     let new_is : new ≡ with_pieces header.client header.first place more joined joined_old =
     moves ∙ ap (λ l. take place l ++ drop middle l ++ take (middle - place) (drop place l)) all

@@ -1,6 +1,7 @@
 -- The place of a client's records among records in order.
-use Rattle.std.proofs.Common.{◌≡◌, ℕ, ◌+◌, ◌<◌, ◌≤◌, Bool, true, false, not, List, map, take, drop, length, get_or, ◌-◌, ◌⊎◌, inl, inr, refl, sym, ap, subst, arith, length-drop}
+use Rattle.std.proofs.Common.{◌≡◌, ℕ, ◌+◌, ◌<◌, ◌≤◌, Bool, true, false, not, List, map, take, drop, length, get_or, ◌-◌, ◌⊎◌, inl, inr, sym, subst, arith, length-drop}
 use Rattle.std.specs.List.Sorted.{IsPartitionedBy, IsPartitionPoint}
+use Rattle.std.proofs.lemmas.Bool.{not-true, not-false, not_from_false}
 use Rattle.std.proofs.lemmas.List.{get_or-map, get_or-take, get_or-drop, take-map, drop-map, length-take-le, length-map}
 use Rattle.std.proofs.lemmas.List.Elements.{All-map, All-same}
 use Rattle.hs_base.specs.declared.ids.ClientId.{ClientId}
@@ -13,17 +14,6 @@ use Rattle.hs_collect.proofs.Ids.{behind_before}
 
 abbrev pub stays : ClientId → TraceRecord → Bool
 stays client entry = not (is_behind entry.id.client client)
-
-passes_not : (b : Bool) → not b ≡ true → b ≡ false
-passes_not true h = absurd (cc)
-passes_not false h = refl
-
-fails_not : (b : Bool) → not b ≡ false → b ≡ true
-fails_not true h = refl
-fails_not false h = absurd (cc)
-
-not_false : (b : Bool) → b ≡ false → not b ≡ true
-not_false b h = ap not h
 
 ordered_at : (entries : List TraceRecord) (i j : ℕ) (d : TraceRecord) → AreInOrder (map placed_of entries) → i < j → j < length entries → Precedes (get_or entries i d).id (get_or entries j d).id
 ordered_at entries i j d order lt within =
@@ -40,7 +30,7 @@ pub partitioned : (entries : List TraceRecord) (client : ClientId) → AreInOrde
 partitioned entries client order = λ i j d le within passes.
     elim (cases_le i j le) [
       | inl same ↦ subst (λ k. stays client (get_or entries k d) ≡ true) (sym same) passes
-      | inr lt ↦ not_false _ (behind_before (get_or entries i d).id (get_or entries j d).id client (ordered_at entries i j d order lt within) (passes_not _ passes))
+      | inr lt ↦ not_from_false _ (behind_before (get_or entries i d).id (get_or entries j d).id client (ordered_at entries i j d order lt within) (not-true _ passes))
     ]
 
 pub place_is : (entries : List TraceRecord) (client : ClientId) (place : ℕ) → place ≤ length entries
@@ -53,11 +43,11 @@ place_is entries client place within point =
           (λ k d lt.
           let short : length (take place entries) ≡ place = length-take-le place entries within in
           let low : k < place = omega arith in
-          subst (λ (e : TraceRecord). is_behind e.id.client client ≡ false) (sym (get_or-take place entries k d low)) (passes_not _ (point.0 k d (omega arith) low))));
+          subst (λ (e : TraceRecord). is_behind e.id.client client ≡ false) (sym (get_or-take place entries k d low)) (not-true _ (point.0 k d (omega arith) low))));
       behind =
           All-same (λ whole. is_behind whole.id.client client ≡ true) (drop place (map placed_of entries)) (map placed_of (drop place entries)) (drop-map placed_of place entries)
           (All-map (λ whole. is_behind whole.id.client client ≡ true) placed_of (drop place entries)
           (λ k d lt.
           let long : length (drop place entries) ≡ length entries - place = length-drop place entries in
-          subst (λ (e : TraceRecord). is_behind e.id.client client ≡ true) (sym (get_or-drop place entries k d)) (fails_not _ (point.1 (place + k) d (omega arith) (omega arith)))));
+          subst (λ (e : TraceRecord). is_behind e.id.client client ≡ true) (sym (get_or-drop place entries k d)) (not-false _ (point.1 (place + k) d (omega arith) (omega arith)))));
     }

@@ -6,6 +6,7 @@ use Rattle.std.proofs.lemmas.List.Elements.{All-nil, All-cons, All-head, All-tai
 use Rattle.std.proofs.lemmas.List.Kept.{AllPairs-cons, AllPairs-filter}
 use Rattle.std.proofs.lemmas.Bool.{cases_eq}
 use Rattle.std.proofs.lemmas.Bool.Decides.{nat_tests}
+use Rattle.hs_lists.proofs.Alls.{pairs_head, pairs_tail}
 use Rattle.hs_base.specs.declared.ids.TraceId.{TraceId}
 use Rattle.hs_base.specs.declared.ids.ClientId.{ClientId}
 use Rattle.hs_base.specs.declared.ids.RecordId.{RecordId}
@@ -13,7 +14,6 @@ use Rattle.hs_words.specs.Pages.{Piece, Sheet}
 use Rattle.hs_collect.specs.Collected.{Placed, is_of, is_same, is_piece_of, pieces_from, page_pieces, pieces_of, AreWholes, AreCollected, end_of, CanPrecede, CanBeAdded, is_by, KeepsRuns, IsReordering}
 use Rattle.hs_collect.specs.Views.{Collection}
 use Rattle.hs_collect.proofs.Ids.{same_itself}
-use Rattle.hs_collect.proofs.Listed.{pairs_head, pairs_tail}
 use Rattle.hs_collect.proofs.Lower.{found_holds}
 
 -- the pieces of a record on pages
@@ -22,7 +22,7 @@ record_on id sheets = filter (is_piece_of id) (flat_map page_pieces sheets)
 
 -- ---- pages of other clients have no piece of a record
 
-none_from : (id : RecordId) (client : ClientId) (number : ℕ) (pieces : List Piece) → (client.node == id.client.node && client.number == id.client.number) ≡ false
+pub none_from : (id : RecordId) (client : ClientId) (number : ℕ) (pieces : List Piece) → (client.node == id.client.node && client.number == id.client.number) ≡ false
     → filter (is_piece_of id) (pieces_from client number pieces) ≡ []
 none_from id client number [] apart = refl
 none_from id client number (piece ∷ pieces) apart =
@@ -135,7 +135,7 @@ passing_pairs p R (x ∷ xs) pairs = by_test (p x) refl pairs (passing_pairs p R
     by_test false fails here later =
         AllPairs-cons (λ a b. p a ≡ true → p b ≡ true → R a b) x xs (λ k d within yes. let no : true ≡ false = sym yes ∙ fails in absurd (cc)) (later here)
 
-own_run : (sheet : Sheet) → is_by sheet.header.client sheet.header.trace sheet ≡ true
+pub own_run : (sheet : Sheet) → is_by sheet.header.client sheet.header.trace sheet ≡ true
 own_run sheet = grind (arith, nat_tests)
 
 -- what holds of each page holds of each in the other order

@@ -2,8 +2,11 @@
 use Rattle.std.proofs.Common.{◌≡◌, ℕ, ◌+◌, ◌<◌, ◌==◌, ◌||◌, ◌&&◌, cond, Bool, true, false, List, [], ◌∷◌, ◌++◌, length, get_or, take, map, refl, sym, ap, ◌∙◌, arith}
 use Rattle.std.specs.Prelude.{not, count_by}
 use Rattle.std.specs.List.{AllByRecursion, list_any}
+use Rattle.std.proofs.Math.Bool.{or-true, or-false}
 use Rattle.std.proofs.lemmas.List.{take_more}
 use Rattle.std.proofs.lemmas.List.Sums.{sum_by-cons}
+use Rattle.hs_lists.proofs.Numbers.{nat_eq_itself}
+use Rattle.hs_lists.proofs.Alls.{all_weaker}
 use Rattle.hs_base.specs.declared.ids.TraceId.{TraceId}
 use Rattle.hs_ledger.specs.declared.ledger.Entry.{Entry}
 use Rattle.hs_ledger.specs.Totals.{is_reported}
@@ -16,31 +19,20 @@ use Rattle.hs_compare.proofs.Rings.{among_is}
 
 -- ---- the trace of each record was counted
 
-or_true : (b : Bool) → (b || true) ≡ true
-or_true true = refl
-or_true false = refl
-
-same : (n : ℕ) → (n == n) ≡ true
-same n = grind arith
-
-weaker : {X : Type 0} (P Q : X → Type 0) → ((x : X) → P x → Q x) → (xs : List X) → AllByRecursion P xs → AllByRecursion Q xs
-weaker P Q gives [] all = tt
-weaker P Q gives (x ∷ xs) all = (gives x all.0, weaker P Q gives xs all.1)
-
 abbrev pub traces_in : List Entry → List TraceId
 traces_in entries = map (λ (e : Entry). e.trace) entries
 
 each_among : (entries : List Entry) → AllByRecursion (λ (e : Entry). is_among (traces_in entries) e.trace ≡ true) entries
 each_among [] = tt
 each_among (e ∷ entries) = (
-  ap (λ b. b || is_among (traces_in entries) e.trace) (same e.trace.0),
-  weaker (λ (f : Entry). is_among (traces_in entries) f.trace ≡ true) (λ (f : Entry). is_among (traces_in (e ∷ entries)) f.trace ≡ true)
-      (λ f there. ap (λ b. (e.trace.0 == f.trace.0) || b) there ∙ or_true (e.trace.0 == f.trace.0)) entries (each_among entries),
+  ap (λ b. b || is_among (traces_in entries) e.trace) (nat_eq_itself e.trace.0),
+  all_weaker (λ (f : Entry). is_among (traces_in entries) f.trace ≡ true) (λ (f : Entry). is_among (traces_in (e ∷ entries)) f.trace ≡ true)
+      (λ f there. ap (λ b. (e.trace.0 == f.trace.0) || b) there ∙ or-true (e.trace.0 == f.trace.0)) entries (each_among entries),
 )
 
 pub each_counted : (entries : List Entry) (traces : List TraceId) (counts : Counts) → traces_in entries ≡ traces → AreCounted traces counts → AllByRecursion (λ (e : Entry). is_counted counts e.trace ≡ true) entries
 each_counted entries traces counts are counted =
-    weaker (λ (e : Entry). is_among (traces_in entries) e.trace ≡ true) (λ (e : Entry). is_counted counts e.trace ≡ true)
+    all_weaker (λ (e : Entry). is_among (traces_in entries) e.trace ≡ true) (λ (e : Entry). is_counted counts e.trace ≡ true)
     (λ e there. counted_is traces counts counted e.trace ∙ ap (λ ts. is_among ts e.trace) (sym are) ∙ there) entries (each_among entries)
 
 -- ---- so no claim is missed
@@ -73,16 +65,12 @@ limited_same counts named claimed claims (e ∷ entries) are there =
 
 -- ---- a claimed trace more
 
-or_false : (b : Bool) → (b || false) ≡ b
-or_false true = refl
-or_false false = refl
-
 put_among : (ks : List TraceId) (x t : TraceId) → is_among (cond (list_any (λ (other : TraceId). x.0 == other.0) ks) ks (ks ++ x ∷ [])) t ≡ (is_among ks t || (x.0 == t.0))
 put_among ks x t = ap (λ b. is_among (cond b ks (ks ++ x ∷ [])) t) (among_is ks x) ∙ by (is_among ks x) refl
   where
     again : is_among ks x ≡ true → (e : Bool) → (x.0 == t.0) ≡ e → is_among ks t ≡ (is_among ks t || e)
-    again ha true he = let yes : is_among ks t ≡ true = ap (is_among ks) (sym (same_ids x t he)) ∙ ha in yes ∙ sym (or_true (is_among ks t))
-    again ha false he = sym (or_false (is_among ks t))
+    again ha true he = let yes : is_among ks t ≡ true = ap (is_among ks) (sym (same_ids x t he)) ∙ ha in yes ∙ sym (or-true (is_among ks t))
+    again ha false he = sym (or-false (is_among ks t))
 
     by : (a : Bool) → is_among ks x ≡ a → is_among (cond a ks (ks ++ x ∷ [])) t ≡ (is_among ks t || (x.0 == t.0))
     by true ha = again ha (x.0 == t.0) refl
@@ -111,5 +99,5 @@ claims_left counts claimed i d old within are none t =
   where
     by : (c : Bool) → is_counted counts t ≡ c → (e : Bool) → ((get_or claimed i d).0 == t.0) ≡ e → (c && is_among (take i claimed) t) ≡ (c && (is_among (take i claimed) t || e))
     by false hc e he = refl
-    by true hc false he = sym (or_false (is_among (take i claimed) t))
+    by true hc false he = sym (or-false (is_among (take i claimed) t))
     by true hc true he = let never : false ≡ true = sym none ∙ ap (is_counted counts) (same_ids (get_or claimed i d) t he) ∙ hc in absurd cc

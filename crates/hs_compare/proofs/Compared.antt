@@ -2,6 +2,8 @@
 use Rattle.std.proofs.Common.{◌≡◌, ℕ, ◌==◌, ◌&&◌, cond, List, [], ◌∷◌, length, map, refl, sym, ap, ap₂, ◌∙◌, arith}
 use Rattle.std.specs.Prelude.{nat_lt, count_by, sum_by}
 use Rattle.std.proofs.lemmas.List.Sums.{sum_by-cons}
+use Rattle.hs_lists.proofs.Counts.{count_alike}
+use Rattle.hs_lists.proofs.Parts.{length_map}
 use Rattle.hs_base.specs.declared.ids.TraceId.{TraceId}
 use Rattle.hs_records.specs.Plain.{PlainWorkload}
 use Rattle.hs_samplers.specs.Coming as samplers
@@ -10,9 +12,7 @@ use Rattle.hs_samplers.specs.Samplers.{is_of}
 use Rattle.hs_samplers.specs.Lines.{PlainLine, each_once, is_whole}
 use Rattle.hs_compare.specs.Counting.{is_same, times, is_whole_by, line_by}
 use Rattle.hs_compare.specs.Plain.{plain_line}
-use Rattle.hs_compare.proofs.Counted.{count_same}
 use Rattle.hs_compare.proofs.Ringed.{HasNames}
-use Rattle.hs_compare.proofs.Tails.{length_map}
 
 abbrev trace_in : samplers.Coming → TraceId
 trace_in c = c.trace
@@ -36,7 +36,7 @@ the_plain r t w s = record { records = r; traces = t; whole = w; shipped = s }
 module _ (W : PlainWorkload) (all : List samplers.Coming) (named : List TraceId) (are : all ≡ all_comings W) (has : HasNames (named_in W) named) where
   whole_is : (kept : List samplers.Coming) → count_by (is_whole_by (times (map trace_in all)) (times (map trace_in kept))) named ≡ count_by (is_whole (all_comings W) kept) (each_once (named_in W))
   whole_is kept =
-      count_same (is_whole_by (times (map trace_in all)) (times (map trace_in kept))) (is_whole all kept)
+      count_alike (is_whole_by (times (map trace_in all)) (times (map trace_in kept))) (is_whole all kept)
       (λ t. ap₂ (λ n k. nat_lt 0 n && (k == n)) (times_of all t) (times_of kept t)) named
       ∙ ap (λ cs. count_by (is_whole cs kept) named) are ∙ has.once (is_whole (all_comings W) kept)
 

@@ -4,6 +4,7 @@ use Rattle.std.specs.Prelude.{count_by, nat_lt, unwrap_or}
 use Rattle.std.specs.Map.{lookup}
 use Rattle.std.proofs.lemmas.List.Folds.{list_any-append}
 use Rattle.std.proofs.lemmas.List.Sums.{sum_by_push, sum_by-cons, count_by-le-length, length-filter}
+use Rattle.hs_lists.proofs.Counts.{count_alike}
 use Rattle.hs_base.specs.declared.ids.TraceId.{TraceId}
 use Rattle.hs_compare.specs.Ringing.{is_among}
 use Rattle.hs_compare.specs.declared.lines.Line.{Line}
@@ -123,19 +124,10 @@ counted_more traces x old new are updated long =
         ap Some ((let z : times traces t ≡ times traces t + 0 = omega arith in z) ∙ ap (λ b. times traces t + cond b 1 0) (sym he) ∙ sym (times_more traces x t))
     by t false he false hb = refl
 
-pub count_same : {X : Type 0} (p q : X → Bool) → ((x : X) → p x ≡ q x) → (xs : List X) → count_by p xs ≡ count_by q xs
-count_same p q same [] = refl
-count_same p q same (x ∷ xs) =
-    let a = sum_by-cons (λ y. cond (p y) 1 0) x xs in
-    let b = sum_by-cons (λ y. cond (q y) 1 0) x xs in
-    let one : cond {A = ℕ} (p x) 1 0 ≡ cond (q x) 1 0 = ap (λ c. cond c 1 0) (same x) in
-    let ih = count_same p q same xs in
-    omega (arith, a, b, one, ih)
-
 pub whole_same : (all kept : List TraceId) (all' kept' : Counts) → AreCounted all all' → AreCounted kept kept' → (named : List TraceId)
     → count_by (is_whole_by (times_in all') (times_in kept')) named ≡ count_by (is_whole_by (times all) (times kept)) named
 whole_same all kept all' kept' are those named =
-    count_same (is_whole_by (times_in all') (times_in kept')) (is_whole_by (times all) (times kept))
+    count_alike (is_whole_by (times_in all') (times_in kept')) (is_whole_by (times all) (times kept))
     (λ t. ap (λ n. nat_lt 0 n && (times_in kept' t == n)) (times_are all all' are t) ∙ ap (λ n. nat_lt 0 (times all t) && (n == times all t)) (times_are kept kept' those t)) named
 
 pub few_times : (traces : List TraceId) (counts : Counts) (t : TraceId) → AreCounted traces counts → times_in counts t ≤ length traces
@@ -212,14 +204,14 @@ count_either p q (x ∷ xs) =
 few_among : (traces named : List TraceId) → ((t : TraceId) → times named t ≤ 1) → count_by (is_among traces) named ≤ length traces
 few_among [] named once = omega (arith, count_none named)
 few_among (x ∷ traces) named once =
-    omega (arith, count_either (λ (t : TraceId). x.0 == t.0) (is_among traces) named, count_same (λ (t : TraceId). x.0 == t.0) (is_same x) (λ t. flip x.0 t.0) named, once x, few_among traces named once)
+    omega (arith, count_either (λ (t : TraceId). x.0 == t.0) (is_among traces) named, count_alike (λ (t : TraceId). x.0 == t.0) (is_same x) (λ t. flip x.0 t.0) named, once x, few_among traces named once)
   where
     flip : (a b : ℕ) → (a == b) ≡ (b == a)
     flip a b = grind arith
 
 pub named_few : (traces named : List TraceId) (counts : Counts) → AreCounted traces counts → ((t : TraceId) → times named t ≤ 1) → length (filter (is_counted counts) named) ≤ length traces
 named_few traces named counts are once =
-    omega (arith, length-filter (is_counted counts) named, count_same (is_counted counts) (is_among traces) (counted_is traces counts are) named, few_among traces named once)
+    omega (arith, length-filter (is_counted counts) named, count_alike (is_counted counts) (is_among traces) (counted_is traces counts are) named, few_among traces named once)
 
 count_filtered : {X : Type 0} (p q : X → Bool) → ((x : X) → q x ≡ false → p x ≡ false) → (xs : List X) → count_by p (filter q xs) ≡ count_by p xs
 count_filtered p q none [] = refl

@@ -4,11 +4,12 @@ use Rattle.std.specs.Prelude.{zip, slice_get}
 use Rattle.std.specs.List.{AllByRecursion, flat_map, range_with_len}
 use Rattle.std.proofs.lemmas.List.Sums.{sum_by-cons, sum_by-append}
 use Rattle.std.proofs.lemmas.List.Sorted.{length_permutation}
+use Rattle.hs_lists.proofs.Filters.{filter_few}
+use Rattle.hs_lists.proofs.Parts.{length_map}
 use Rattle.hs_base.specs.declared.ids.ClientId.{ClientId}
 use Rattle.hs_base.specs.declared.ids.TraceId.{TraceId}
 use Rattle.hs_base.specs.declared.limits.TheConstants.{MAX_PAYLOAD, MAX_OPERATIONS}
 use Rattle.hs_base.specs.Ids.{is_among}
-use Rattle.hs_clauses.proofs.Valid.{ops_few}
 use Rattle.hs_outcome.specs.Outcomes.{client_at}
 use Rattle.hs_records.specs.Plain.{Operation, Begin, Point, Crumb, End, Fire, Sample, PlainSettings, PlainWorkload}
 use Rattle.hs_records.specs.Records.{Record, numbered_from, record_at, records_of, open_behind}
@@ -19,6 +20,7 @@ use Rattle.hs_samplers.specs.Laws.{RingKeepsEachOnce}
 use Rattle.hs_samplers.specs.Samplers.{tail_keeps, ring_keeps}
 use Rattle.hs_workload.specs.Validity.{IsOperation, IsClient, IsValid, workload_pieces}
 use Rattle.hs_workload.specs.declared.word.Setting.TheVariants as settings
+use Rattle.hs_workload.proofs.Sizes.{operations_few}
 use Rattle.hs_compare.specs.declared.coming.Coming.{Coming}
 use Rattle.hs_compare.specs.Counting.{is_same, times}
 use Rattle.hs_compare.specs.Happens.{coming_of}
@@ -26,11 +28,9 @@ use Rattle.hs_compare.specs.Marked.{bytes_in}
 use Rattle.hs_compare.specs.Ringing.{Ringing}
 use Rattle.hs_compare.specs.Whole.{ringing_by}
 use Rattle.hs_compare.proofs.Counted.{times_once}
-use Rattle.hs_compare.proofs.Firsts.{filter-less}
 use Rattle.hs_compare.proofs.Lined.{bytes_by, bytes_same}
 use Rattle.hs_compare.proofs.Outcomed.{after_all, names_all}
 use Rattle.hs_compare.proofs.Pointed.{coming_by, records_few}
-use Rattle.hs_compare.proofs.Tails.{length_map}
 
 -- ---- a client
 
@@ -84,7 +84,7 @@ module _ (version : ℕ) (set : PlainSettings) (who : ℕ → ClientId) (ops_at 
   rows_few first (ops ∷ clients) rows =
       let rest = flat_map comings_at (range_with_len (first + 1) (length clients)) in
       let here : length (comings_at first) ≤ length ops = subst (λ (o : List Operation). length (comings_of (who first) o) ≤ length ops) (sym (row_here first ops clients rows)) (client_few set.size (who first) ops) in
-      omega (arith, here, ops_few set.size ops, length-append (comings_at first) rest, rows_few (first + 1) clients (rows_behind first ops clients rows))
+      omega (arith, here, operations_few set.size ops, length-append (comings_at first) rest, rows_few (first + 1) clients (rows_behind first ops clients rows))
 
   rows_short : (first : ℕ) (clients : List (List Operation)) → AreRows first clients → AllByRecursion (IsClient version set) clients
       → bytes_by (flat_map comings_at (range_with_len first (length clients))) ≤ workload_pieces set.size clients * MAX_PAYLOAD
@@ -93,7 +93,7 @@ module _ (version : ℕ) (set : PlainSettings) (who : ℕ → ClientId) (ops_at 
       let rest = flat_map comings_at (range_with_len (first + 1) (length clients)) in
       let here : bytes_by (comings_at first) ≤ length ops * MAX_PAYLOAD =
       subst (λ (o : List Operation). bytes_by (comings_of (who first) o) ≤ length ops * MAX_PAYLOAD) (sym (row_here first ops clients rows)) (client_short version set (who first) ops all.0.words) in
-      omega (arith, here, ops_few set.size ops, sum_by-append (λ (c : samplers.Coming). c.bytes) (comings_at first) rest, rows_short (first + 1) clients (rows_behind first ops clients rows) all.1)
+      omega (arith, here, operations_few set.size ops, sum_by-append (λ (c : samplers.Coming). c.bytes) (comings_at first) rest, rows_short (first + 1) clients (rows_behind first ops clients rows) all.1)
 
 -- ---- a valid workload
 
@@ -120,7 +120,7 @@ module _ (W : PlainWorkload) (valid : IsValid W) where
       let many = length_map (λ (c : samplers.Coming). c.trace) (ring_keeps room W) in
       let both = length_permutation (tail_keeps W) (ring_keeps room W ++ parts.0) parts.1 in
       let long = length-append (ring_keeps room W) parts.0 in
-      let tail = filter-less (λ (c : samplers.Coming). is_among (named_in W) c.trace) (all_comings W) in
+      let tail = filter_few (λ (c : samplers.Coming). is_among (named_in W) c.trace) (all_comings W) in
       omega (arith, all_few, kept, many, both, long, tail)
 
 -- the ring names no trace twice

@@ -2,6 +2,7 @@
 use Rattle.std.proofs.Common.{◌≡◌, ℕ, ◌&&◌, cond, Bool, true, false, List, [], ◌∷◌, map, filter, refl, ap, ap₂, ◌∙◌, arith}
 use Rattle.std.specs.Prelude.{not, count_by, sum_by, zip}
 use Rattle.std.proofs.lemmas.List.Sums.{sum_by-cons}
+use Rattle.hs_lists.proofs.Counts.{count_alike}
 use Rattle.hs_base.specs.declared.ids.TraceId.{TraceId}
 use Rattle.hs_base.specs.Ids.{is_among}
 use Rattle.hs_ledger.specs.declared.ledger.Entry.{Entry}
@@ -19,7 +20,6 @@ use Rattle.hs_compare.specs.Marked.{marked, traces_of, bytes_in}
 use Rattle.hs_compare.specs.Comparing.{line_of_marked, line_of_sent, marks_of_head, marks_of_named, marks_of_reported, comparison_by}
 use Rattle.hs_compare.specs.Plain.{plain_line, plain_comparison}
 use Rattle.hs_compare.proofs.Compared.{line_is_plain}
-use Rattle.hs_compare.proofs.Counted.{count_same}
 use Rattle.hs_compare.proofs.Ringed.{HasNames}
 
 abbrev pub trace_in : samplers.Coming → TraceId
@@ -113,7 +113,7 @@ module _ (W : PlainWorkload) (all : List Coming) (named : List TraceId) (are : m
 
   limited_same : (entries : List Entry) (claimed : List TraceId) → count_by (is_limited named claimed) entries ≡ count_by (is_limited (named_in W) claimed) entries
   limited_same entries claimed =
-      count_same (is_limited named claimed) (is_limited (named_in W) claimed) (λ (e : Entry). ap (λ b. b && not (is_among claimed e.trace)) (has.among e.trace)) entries
+      count_alike (is_limited named claimed) (is_limited (named_in W) claimed) (λ (e : Entry). ap (λ b. b && not (is_among claimed e.trace)) (has.among e.trace)) entries
 
   -- where `ring` are the traces of what the ring keeps
   pub lines_are_plain : (one_in room : ℕ) (ring : List TraceId) (entries : List Entry) (claimed : List TraceId) → ring ≡ map (λ (c : samplers.Coming). c.trace) (ring_keeps room W)

@@ -1,8 +1,7 @@
 -- A valid workload with a lawful journal can be compared, and its outcome has an entry for each record. The ring through all scripts is
 -- the ring of the workload, so what was counted is its comparison.
-use Rattle.std.proofs.Common.{◌≡◌, ℕ, false, List, [], ◌∷◌, map, refl, sym, ap, subst, ◌∙◌}
+use Rattle.std.proofs.Common.{◌≡◌, ℕ, List, [], ◌∷◌, map, refl, sym, ap, subst, ◌∙◌}
 use Rattle.std.specs.Prelude.{fold}
-use Rattle.std.specs.List.{AllByRecursion}
 use Rattle.hs_base.specs.declared.ids.TraceId.{TraceId}
 use Rattle.hs_clauses.specs.Beginning.{MayBegin}
 use Rattle.hs_journal.specs.Views.{PlainJournal}
@@ -11,16 +10,16 @@ use Rattle.hs_lawful.specs.Ends.{rounds_of}
 use Rattle.hs_lawful.specs.Lawful.{IsLawful}
 use Rattle.hs_outcome.specs.Outcomes.{outcome_of}
 use Rattle.hs_outcome.specs.Records.{Named, name_of}
-use Rattle.hs_records.specs.Plain.{Operation, PlainSettings, PlainWorkload}
-use Rattle.hs_records.specs.Records.{AreBracketed}
+use Rattle.hs_records.specs.Plain.{PlainWorkload}
 use Rattle.hs_report.specs.declared.outcome.Outcome.{Outcome}
 use Rattle.hs_report.specs.Outcomes.{IsOutcome}
 use Rattle.hs_samplers.specs.Coming.{all_comings, events_in_order, named_by, named_in}
 use Rattle.hs_samplers.specs.Laws.{CanBeCompared, EntriesStandByTheRecords, TailIsTheSum, SumsToTail, name_of_coming, compared_by}
 use Rattle.hs_samplers.specs.Lines.{PlainComparison, comparison_of}
 use Rattle.hs_samplers.specs.Samplers.{Ring, ring_step, empty_ring}
-use Rattle.hs_workload.specs.Validity.{IsClient, IsValid}
+use Rattle.hs_workload.specs.Validity.{IsValid}
 use Rattle.hs_workload.specs.declared.word.Setting.TheVariants as settings
+use Rattle.hs_workload.proofs.Sizes.{bracketed}
 use Rattle.hs_compare.specs.declared.coming.Coming.{Coming}
 use Rattle.hs_compare.specs.declared.script.Script.{Script}
 use Rattle.hs_compare.specs.Beginning.{AreScripts}
@@ -37,10 +36,6 @@ use Rattle.hs_compare.proofs.Ordered.{rounds_in_order}
 use Rattle.hs_compare.proofs.Ringed.{HasNames, rings_are, names_are_named}
 
 -- ---- what a valid workload has
-
-bracketed : (version : ℕ) (set : PlainSettings) (clients : List (List Operation)) → AllByRecursion (IsClient version set) clients → AllByRecursion (AreBracketed false) clients
-bracketed version set [] all = tt
-bracketed version set (ops ∷ clients) all = (all.0.bracketed, bracketed version set clients all.1)
 
 pub can_be_compared : (W : PlainWorkload) → IsValid W → CanBeCompared W
 can_be_compared W valid =

@@ -7,6 +7,8 @@ use Rattle.std.proofs.lemmas.Option.{same_Some}
 use Rattle.std.proofs.lemmas.List.{append-nil, map-append, length_push}
 use Rattle.std.proofs.lemmas.List.Concat.{flat_map-append}
 use Rattle.std.proofs.lemmas.List.FromFn.{length-range_with_len}
+use Rattle.hs_lists.proofs.Parts.{length_map}
+use Rattle.hs_lists.proofs.Ranges.{range_append}
 use Rattle.hs_base.specs.declared.ids.ClientId.{ClientId}
 use Rattle.hs_base.specs.declared.ids.TraceId.{TraceId}
 use Rattle.hs_records.specs.Plain.{Operation, Begin, Point, Crumb, End, Fire, Sample}
@@ -14,14 +16,15 @@ use Rattle.hs_records.specs.Records.{Record, NumberedOperation, numbered_from, n
 use Rattle.hs_sent.specs.OneMore.{OneMoreOperation, open_after, next_behind}
 use Rattle.hs_sent.specs.Sending.{Sent}
 use Rattle.hs_sent.specs.Timing.{point_numbers}
+use Rattle.hs_sent.proofs.OneMore.{open_push}
 use Rattle.hs_samplers.specs.Coming.{comings_of, sent_comings}
 use Rattle.hs_samplers.specs.Coming as samplers
+use Rattle.hs_samplers.proofs.Order.{beside_length}
 use Rattle.hs_compare.specs.Happens.{coming_of, comes_at, points_by}
 use Rattle.hs_compare.specs.Points.{HasGone, brought, coming_seen, record_seen}
 use Rattle.hs_compare.specs.declared.coming.Coming.{Coming}
 use Rattle.hs_compare.specs.declared.points.Seen.{Seen}
 use Rattle.hs_compare.specs.declared.points.Walk.{Walk}
-use Rattle.hs_compare.proofs.Walked.{range-append}
 
 zip-push : {X Y : Type 0} (xs : List X) (ys : List Y) (x : X) (y : Y) → length xs ≡ length ys → zip (xs ++ x ∷ []) (ys ++ y ∷ []) ≡ zip xs ys ++ (x, y) ∷ []
 zip-push [] [] x y same = refl
@@ -35,16 +38,12 @@ length-zip [] (b ∷ ys) same = absurd (omega arith)
 length-zip (a ∷ xs) [] same = absurd (omega arith)
 length-zip (a ∷ xs) (b ∷ ys) same = ap suc (length-zip xs ys (omega arith))
 
-length_of_map : {X Y : Type 0} (f : X → Y) (xs : List X) → length (map f xs) ≡ length xs
-length_of_map f [] = refl
-length_of_map f (x ∷ xs) = ap suc (length_of_map f xs)
-
 -- as many points as records
 points_each : (ops : List NumberedOperation) → length (flat_map (λ (op : NumberedOperation). map (λ _. op.number) (record_at op)) ops) ≡ length (flat_map record_at ops)
 points_each [] = refl
 points_each (op ∷ ops) =
     let ih = points_each ops in
-    let here = length_of_map (λ (r : Record). op.number) (record_at op) in
+    let here = length_map (λ (r : Record). op.number) (record_at op) in
     let a = length-append (map (λ _. op.number) (record_at op)) (flat_map (λ (o : NumberedOperation). map (λ _. o.number) (record_at o)) ops) in
     let b = length-append (record_at op) (flat_map record_at ops) in
     omega (arith, ih, here, a, b)
@@ -113,32 +112,22 @@ more_comings one client ops op r some =
     let rs = records_of ops in
     let n = length rs in
     let numbers : range_with_len 0 (length (rs ++ r ∷ [])) ≡ range_with_len 0 n ++ n ∷ [] =
-    ap (range_with_len 0) (length_push rs r) ∙ range-append 0 n 1 ∙ ap (λ k. range_with_len 0 n ++ k ∷ []) (let e : 0 + n ≡ n = omega arith in e) in
+    ap (range_with_len 0) (length_push rs r) ∙ range_append 0 n 1 ∙ ap (λ k. range_with_len 0 n ++ k ∷ []) (let e : 0 + n ≡ n = omega arith in e) in
     ap (λ xs. map (coming_by client) (zip (range_with_len 0 (length xs)) xs)) (more_records one ops op r some)
     ∙ ap (λ ns. map (coming_by client) (zip ns (rs ++ r ∷ []))) numbers
     ∙ ap (map (coming_by client)) (zip-push (range_with_len 0 n) rs n r (length-range_with_len 0 n))
     ∙ map-append (coming_by client) (zip (range_with_len 0 n) rs) ((n, r) ∷ [])
-
-comings_each : (client : ClientId) (ops : List Operation) → length (point_numbers ops) ≡ length (comings_of client ops)
-comings_each client ops =
-    let rs = records_of ops in
-    points_each (numbered_of ops)
-    ∙ sym (length_of_map (coming_by client) (zip (range_with_len 0 (length rs)) rs) ∙ length-zip (range_with_len 0 (length rs)) rs (length-range_with_len 0 (length rs)))
 
 pub more_points : OneMoreOperation → (client : ClientId) (ops : List Operation) (op : Operation) (r : Record) → record_in (open_after None ops) op ≡ r ∷ []
     → points_by client (ops ++ op ∷ []) ≡ points_by client ops ++ comes_at (record { number = length ops; item = coming_by client (length (records_of ops), r) }) ∷ []
 more_points one client ops op r some =
     let c = coming_by client (length (records_of ops), r) in
     ap₂ (λ ns cs. map comes_at (map sent_by (zip ns cs))) (more_numbers one ops op r some) (more_comings one client ops op r some)
-    ∙ ap (λ s. map comes_at (map sent_by s)) (zip-push (point_numbers ops) (comings_of client ops) (length ops) c (comings_each client ops))
+    ∙ ap (λ s. map comes_at (map sent_by s)) (zip-push (point_numbers ops) (comings_of client ops) (length ops) c (beside_length client ops))
     ∙ ap (map comes_at) (map-append sent_by (zip (point_numbers ops) (comings_of client ops)) ((length ops, c) ∷ []))
     ∙ map-append comes_at (sent_comings client ops) (record { number = length ops; item = c } ∷ [])
 
 -- ---- steps of a walk
-
-open_push : (trace : Option TraceId) (ops : List Operation) (op : Operation) → open_after trace (ops ++ op ∷ []) ≡ open_behind (open_after trace ops) op
-open_push trace [] op = refl
-open_push trace (o ∷ ops) op = open_push (open_behind trace o) ops op
 
 seen_none : (rs : List Record) → None ≡ record_seen rs → rs ≡ []
 seen_none [] h = refl

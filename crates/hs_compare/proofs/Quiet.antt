@@ -1,6 +1,7 @@
 -- Operations of which none may send a trigger name nothing.
 use Rattle.std.proofs.Common.{◌≡◌, ℕ, ◌+◌, Bool, true, false, ◌||◌, List, [], ◌∷◌, ◌++◌, map, Option, Some, None, refl, sym, ap, ap₂, ◌∙◌}
 use Rattle.std.specs.List.{list_any}
+use Rattle.std.proofs.lemmas.Bool.{or_parts}
 use Rattle.hs_base.specs.declared.ids.TraceId.{TraceId}
 use Rattle.hs_base.specs.declared.settings.AutoRule.{AutoRule}
 use Rattle.hs_records.specs.Plain.{Operation, Begin, Point, Crumb, End, Fire, Sample}
@@ -21,10 +22,6 @@ none_at autos earlier None End h = refl
 none_at autos earlier (Some trace) End h = refl
 none_at autos earlier trace (Fire trigger) h = let never : true ≡ false = h in absurd cc
 none_at autos earlier trace (Sample moment auto value) h = let never : true ≡ false = h in absurd cc
-
-or_parts : (a b : Bool) → (a || b) ≡ false → (a ≡ false) × (b ≡ false)
-or_parts true b h = let never : true ≡ false = h in absurd cc
-or_parts false b h = (refl, h)
 
 none_here : (op : Operation) (ops : List Operation) → list_any may_trigger (op ∷ ops) ≡ false → (may_trigger op ≡ false) × (list_any may_trigger ops ≡ false)
 none_here op ops h = or_parts (may_trigger op) (list_any may_trigger ops) h

@@ -1,9 +1,11 @@
 -- The ring of ids goes as the ring of whole records does.
-use Rattle.std.proofs.Common.{◌≡◌, ℕ, zero, suc, ◌+◌, ◌-◌, cond, ◌==◌, ◌||◌, Bool, true, false, List, [], ◌∷◌, ◌++◌, length, drop, filter, map, refl, sym, ap, ap₂, ◌∙◌, subst, arith, append_assoc}
+use Rattle.std.proofs.Common.{◌≡◌, ℕ, ◌+◌, ◌-◌, cond, ◌==◌, ◌||◌, Bool, true, false, List, [], ◌∷◌, ◌++◌, length, drop, filter, map, refl, sym, ap, ap₂, ◌∙◌, subst, arith, append_assoc}
 use Rattle.std.specs.Prelude.{not, fold, count_by}
 use Rattle.std.specs.List.{flat_map}
 use Rattle.std.proofs.lemmas.List.{map-append, append-nil}
 use Rattle.std.proofs.lemmas.List.Sums.{sum_by_push}
+use Rattle.hs_lists.proofs.Parts.{map_drop, length_map}
+use Rattle.hs_lists.proofs.Filters.{filter_mapped}
 use Rattle.hs_base.specs.declared.ids.TraceId.{TraceId}
 use Rattle.hs_base.specs.Ids.{is_among}
 use Rattle.hs_samplers.specs.Coming.{Coming}
@@ -17,21 +19,7 @@ use Rattle.hs_compare.specs.Walking.{ring_after, rings_after}
 use Rattle.hs_compare.specs.Whole.{noted_of, ringing_by}
 use Rattle.hs_compare.proofs.Counted.{among_more, once_more}
 use Rattle.hs_compare.proofs.Queued.{same_ids}
-use Rattle.hs_compare.proofs.Tails.{ringing, length_map}
-
-map-drop : {X Y : Type 0} (f : X → Y) (n : ℕ) (xs : List X) → map f (drop n xs) ≡ drop n (map f xs)
-map-drop f zero xs = refl
-map-drop f (suc n) [] = refl
-map-drop f (suc n) (x ∷ xs) = map-drop f n xs
-
-filter-map : {X Y : Type 0} (f : X → Y) (p : Y → Bool) (xs : List X) → filter p (map f xs) ≡ map f (filter (λ x. p (f x)) xs)
-filter-map f p [] = refl
-filter-map f p (x ∷ xs) = by (p (f x)) (filter-map f p xs)
-  where
-    by : (b : Bool) → filter p (map f xs) ≡ map f (filter (λ y. p (f y)) xs)
-        → cond b (f x ∷ filter p (map f xs)) (filter p (map f xs)) ≡ map f (cond b (x ∷ filter (λ y. p (f y)) xs) (filter (λ y. p (f y)) xs))
-    by true ih = ap (λ ys. f x ∷ ys) ih
-    by false ih = ih
+use Rattle.hs_compare.proofs.Tails.{ringing}
 
 ids_noted : (cs : List Coming) → ids_in (map noted_of cs) ≡ map (λ (c : Coming). c.id) cs
 ids_noted [] = refl
@@ -42,7 +30,7 @@ traces_noted [] = refl
 traces_noted (c ∷ cs) = ap (λ ts. c.trace ∷ ts) (traces_noted cs)
 
 last_same : (room : ℕ) (cs : List Coming) → last_noted room (map noted_of cs) ≡ map noted_of (last_ones room cs)
-last_same room cs = ap (λ n. drop (n - room) (map noted_of cs)) (length_map noted_of cs) ∙ sym (map-drop noted_of (length cs - room) cs)
+last_same room cs = ap (λ n. drop (n - room) (map noted_of cs)) (length_map noted_of cs) ∙ sym (map_drop noted_of (length cs - room) cs)
 
 one_step : (room : ℕ) (ring : Ring) (e : samplers.Event) → ring_after (ringing_by room ring) (event_of e) ≡ ringing_by room (ring_step room ring e)
 one_step room ring (samplers.Comes c) = by (is_among ring.named c.trace)
@@ -68,9 +56,9 @@ one_step room ring (samplers.Names t) = by (is_among ring.named t)
         ≡ ringing_by room (cond b ring (record { waiting = filter (λ c. not (is_of t c)) ring.waiting; named = ring.named ++ t ∷ []; kept = ring.kept ++ own }))
     by true = refl
     by false =
-        let mine = filter-map noted_of (is_noted_of t) ring.waiting in
+        let mine = filter_mapped noted_of (is_noted_of t) ring.waiting in
         ap (λ ws. ringing room ws (ring.named ++ t ∷ []) (map (λ (c : Coming). c.id) ring.kept ++ ids_in (filter (is_noted_of t) (map noted_of ring.waiting))) (map (λ (c : Coming). c.trace) ring.kept ++ traces_in (filter (is_noted_of t) (map noted_of ring.waiting))))
-        (filter-map noted_of (λ n. not (is_noted_of t n)) ring.waiting)
+        (filter_mapped noted_of (λ n. not (is_noted_of t n)) ring.waiting)
         ∙ ap₂ (ringing room (map noted_of (filter (λ c. not (is_of t c)) ring.waiting)) (ring.named ++ t ∷ []))
         (ap (λ ids. map (λ (c : Coming). c.id) ring.kept ++ ids) (ap ids_in mine ∙ ids_noted own) ∙ sym (map-append (λ (c : Coming). c.id) ring.kept own))
         (ap (λ ts. map (λ (c : Coming). c.trace) ring.kept ++ ts) (ap traces_in mine ∙ traces_noted own) ∙ sym (map-append (λ (c : Coming). c.trace) ring.kept own))

@@ -1,9 +1,10 @@
 -- What a ring tail is after a step.
-use Rattle.std.proofs.Common.{◌≡◌, ℕ, suc, ◌+◌, ◌-◌, ◌≤◌, cond, ◌==◌, ◌||◌, Bool, true, false, List, [], ◌∷◌, ◌++◌, length, drop, filter, map, refl, sym, ap, ◌∙◌, arith}
+use Rattle.std.proofs.Common.{◌≡◌, ℕ, ◌+◌, ◌-◌, ◌≤◌, cond, ◌==◌, ◌||◌, Bool, true, false, List, [], ◌∷◌, ◌++◌, length, drop, filter, map, refl, sym, ap, ◌∙◌, arith}
 use Rattle.std.specs.Prelude.{not}
 use Rattle.std.proofs.lemmas.List.{length_push, drop-append-le}
 use Rattle.std.proofs.lemmas.List.Filters.{length-filter_both}
 use Rattle.std.proofs.lemmas.List.Folds.{list_any-append}
+use Rattle.hs_lists.proofs.Parts.{length_map}
 use Rattle.hs_base.specs.declared.ids.TraceId.{TraceId}
 use Rattle.hs_base.specs.declared.ids.RecordId.{RecordId}
 use Rattle.hs_compare.specs.declared.ring.Noted.{Noted}
@@ -19,10 +20,6 @@ pub comes_named : (ring : Ringing) (noted : Noted) (kept : List RecordId) (trace
 comes_named ring noted kept traces among is are =
     ap (λ ks. ringing ring.room ring.waiting ring.named ks traces) is ∙ ap (ringing ring.room ring.waiting ring.named (ring.kept ++ noted.id ∷ [])) are
     ∙ ap (λ b. cond b (ringing ring.room ring.waiting ring.named (ring.kept ++ noted.id ∷ []) (ring.traces ++ noted.trace ∷ [])) (record ring { waiting = last_noted ring.room (ring.waiting ++ noted ∷ []) })) (sym among)
-
-pub turned : (b : Bool) → not b ≡ true → b ≡ false
-turned true h = let never : false ≡ true = h in absurd cc
-turned false h = refl
 
 pub last_more : (room : ℕ) (waiting : List Noted) (noted : Noted) → 1 ≤ room → drop (length waiting + 1 - room) waiting ++ noted ∷ [] ≡ last_noted room (waiting ++ noted ∷ [])
 last_more room waiting noted some =
@@ -112,10 +109,6 @@ queued_left old new named trace ring are rest t = rest t ∙ by (is_key trace t)
     by : (b : Bool) → is_key trace t ≡ b → cond b [] (queued old t) ≡ ids_of t (filter (λ n. not (is_noted_of trace n)) (alive named ring))
     by true e = sym (none_own trace (alive named ring)) ∙ ap (λ s. ids_of s (filter (λ n. not (is_noted_of trace n)) (alive named ring))) (same_ids trace t e)
     by false e = are t ∙ sym (other_own trace t (alive named ring) e)
-
-pub length_map : {X Y : Type 0} (f : X → Y) (xs : List X) → length (map f xs) ≡ length xs
-length_map f [] = refl
-length_map f (x ∷ xs) = ap suc (length_map f xs)
 
 -- how many wait still, once the queue of a trace is taken out
 pub count_left : (named : List TraceId) (trace : TraceId) (ring : List Noted) (old : Entries) → AreQueued old (alive named ring)

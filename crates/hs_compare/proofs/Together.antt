@@ -1,6 +1,7 @@
 -- Lines that leave out the named traces without a record are the lines of all.
 use Rattle.std.proofs.Common.{◌≡◌, ℕ, ◌≤◌, Bool, List, length, filter, ap, ap₂, ◌∙◌, arith}
 use Rattle.std.specs.Prelude.{count_by}
+use Rattle.hs_lists.proofs.Parts.{length_map}
 use Rattle.hs_base.specs.declared.ids.TraceId.{TraceId}
 use Rattle.hs_base.specs.declared.limits.TheConstants.{MAX_OPERATIONS}
 use Rattle.hs_ledger.specs.declared.ledger.Entry.{Entry}
@@ -12,7 +13,6 @@ use Rattle.hs_compare.specs.Comparing.{line_of_marked, line_of_sent, marks_of_he
 use Rattle.hs_compare.specs.Counting.{AreCounted, is_counted, times}
 use Rattle.hs_compare.specs.Marked.{marked, traces_of, bytes_in}
 use Rattle.hs_compare.proofs.Counted.{Counts, named_few, line_known}
-use Rattle.hs_compare.proofs.Tails.{length_map}
 
 abbrev the_comparison : Line → Line → Line → Line → ℕ → ℕ → Comparison
 the_comparison h t r i g l = record { head = h; tail = t; ring = r; hindsight = i; gap = g; limited = l }

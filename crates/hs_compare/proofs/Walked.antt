@@ -1,11 +1,12 @@
 -- Happenings that are taken in turn.
-use Rattle.std.proofs.Common.{◌≡◌, ℕ, zero, suc, ◌+◌, ◌<◌, ◌≤◌, cond, ◌==◌, Bool, true, false, List, [], ◌∷◌, ◌++◌, length, get_or, drop, filter, refl, sym, ap, ◌∙◌, subst, arith, append_assoc, ⊎_elim}
+use Rattle.std.proofs.Common.{◌≡◌, ℕ, suc, ◌+◌, ◌<◌, ◌≤◌, cond, ◌==◌, Bool, true, false, List, [], ◌∷◌, ◌++◌, length, get_or, drop, filter, refl, sym, ap, ◌∙◌, subst, arith, append_assoc, ⊎_elim}
 use Rattle.std.specs.List.{flat_map, range_with_len}
 use Rattle.std.proofs.Math.Seq.{drop-cons, get_or-append_seam}
 use Rattle.std.proofs.Math.ListN.{drop_of_length-le}
 use Rattle.std.proofs.lemmas.Bool.{eqb-true, eqb-false, ne_eqb, cases_lt}
 use Rattle.std.proofs.lemmas.List.{append-nil, get_or_append_left, length_push}
 use Rattle.std.proofs.lemmas.List.Concat.{flat_map-append}
+use Rattle.hs_lists.proofs.Ranges.{range_append}
 use Rattle.hs_compare.specs.declared.happening.Happening.{Happening}
 use Rattle.hs_compare.specs.declared.script.Script.{Script}
 use Rattle.hs_compare.specs.Walking.{AreInTurn, AreLeft, IsScript, events_in, events_of, both_of, events_from, run_of, rest_of}
@@ -92,13 +93,8 @@ run_ends hs next n past = let none : drop next hs ≡ [] = past_end hs next past
 
 -- ---- one operation more
 
-pub range-append : (a m n : ℕ) → range_with_len a (m + n) ≡ range_with_len a m ++ range_with_len (a + m) n
-range-append a zero n = ap (range_with_len a) (let e : 0 + n ≡ n = omega arith in e) ∙ ap (λ k. range_with_len k n) (let e : a ≡ a + 0 = omega arith in e)
-range-append a (suc m) n =
-    ap (range_with_len a) (let e : suc m + n ≡ suc (m + n) = omega arith in e) ∙ ap (λ r. a ∷ r) (range-append (a + 1) m n) ∙ ap (λ k. a ∷ range_with_len (a + 1) m ++ range_with_len k n) (let e : a + 1 + m ≡ a + suc m = omega arith in e)
-
 pub events-append : (points names : List Happening) (a m n : ℕ) → events_from points names a (m + n) ≡ events_from points names a m ++ events_from points names (a + m) n
-events-append points names a m n = ap (flat_map (both_of points names)) (range-append a m n) ∙ flat_map-append (both_of points names) (range_with_len a m) (range_with_len (a + m) n)
+events-append points names a m n = ap (flat_map (both_of points names)) (range_append a m n) ∙ flat_map-append (both_of points names) (range_with_len a m) (range_with_len (a + m) n)
 
 pub events_more : (points names : List Happening) (n : ℕ) → events_from points names 0 (n + 1) ≡ events_from points names 0 n ++ both_of points names n
 events_more points names n =

@@ -1,11 +1,6 @@
 -- What a step does to one node's bits.
 use Rattle.std.proofs.Common.{◌≡◌, Bool, true, false, not, ◌||◌, ◌&&◌, refl, true≢false}
 
--- the node's bit of the asked set: it told the first message, a crumb led to it before, a crumb leads to it now
-pub asked_bit : (first told now : Bool) → ((first || told) || now) ≡ (first || (told || now))
-asked_bit true told now = refl
-asked_bit false told now = refl
-
 -- the node's bit of the asks: it has an ask now, and had none before
 pub ask_bit : (first told now : Bool) → (now && not (first || told)) ≡ (((told || now) && not first) && not (told && not first))
 ask_bit true true true = refl

@@ -6,6 +6,7 @@ use Rattle.std.specs.Cmp.{IsEquivalence}
 use Rattle.std.specs.Map.{lookup}
 use Rattle.std.specs.Option.{option_map_or}
 use Rattle.std.proofs.lemmas.Bool.{and_parts, and_from, eqb-true, false_from_ne_true}
+use Rattle.hs_lists.proofs.Bools.{or_assoc}
 use Rattle.hs_base.specs.declared.ids.GroupId.{GroupId}
 use Rattle.hs_base.specs.declared.node_set.NodeSet.{NodeSet}
 use Rattle.hs_base.specs.NodeSets.{has_node}
@@ -15,13 +16,13 @@ use Rattle.hs_coord.specs.Following.{Message, Messages, same_group, is_of, has_c
 use Rattle.hs_coord.specs.Answers.{IsAskedSet}
 use Rattle.hs_coord.specs.Kept.{Kept, IsFollowed, StandsFor, HasTaken}
 use Rattle.hs_coord.specs.Leading.{Begins, Takes, Writes}
-use Rattle.hs_coord.proofs.BitLemmas.{asked_bit, ask_bit, waiting_bit}
+use Rattle.hs_coord.proofs.BitLemmas.{ask_bit, waiting_bit}
 use Rattle.hs_coord.proofs.FollowingLemmas.{first_stays, first_now, first_of_other, has_crumb-push, is_answered-push, unanswered, no_message_no_crumb}
 
 same_group-refl : (a : GroupId) → same_group a a ≡ true
 same_group-refl a = and_from _ _ (eq-eqb a.node a.node refl) (eq-eqb a.number a.number refl)
 
-same_group-true : (a b : GroupId) → same_group a b ≡ true → a ≡ b
+pub same_group-true : (a b : GroupId) → same_group a b ≡ true → a ≡ b
 same_group-true a b e =
     let parts = and_parts (nat_eq a.node b.node) (nat_eq a.number b.number) e in
     λ i. record { node = eqb-true a.node b.node parts.0 i; number = eqb-true a.number b.number parts.1 i }
@@ -129,7 +130,7 @@ module _ (messages : Messages) (m : Message) where
       laterals_are = ap (λ a. a.laterals) t.ask ∙ p.laterals;
       asked = λ n.
           t.asked n ∙ ap (λ b. b || has_node m.told.crumbs n) (p.asked n)
-          ∙ asked_bit (nat_eq n first.node.0) (has_crumb (group_of m) messages n) (has_node m.told.crumbs n)
+          ∙ or_assoc (nat_eq n first.node.0) (has_crumb (group_of m) messages n) (has_node m.told.crumbs n)
           ∙ sym (ap (λ b. b || has_crumb (group_of m) all n) (first_after n) ∙ ap (λ b. nat_eq n first.node.0 || b) (crumb_after n));
       waiting = λ n.
           t.waiting n

@@ -2,6 +2,7 @@
 use Rattle.std.proofs.Common.{◌≡◌, ℕ, zero, suc, ◌+◌, ◌*◌, ◌-◌, ◌/◌, ◌<◌, ◌≤◌, max, Bool, true, false, nat_lt, ltb-true, ltb-false, List, [], ◌∷◌, length, map, fold, Some, None, refl, sym, ap, ◌∙◌, arith, slice_get, div-lt_iff_lt-mul}
 use Rattle.std.proofs.Math.Nat.{suc-mul}
 use Rattle.hs_lawful.specs.Ends.{rounds_for, rounds_of}
+use Rattle.hs_lawful.proofs.Logs.{rounds_few}
 use Rattle.hs_records.specs.Plain.{Operation, PlainWorkload}
 use Rattle.hs_workload.specs.Validity.{IsValid}
 use Rattle.hs_workload.specs.declared.word.Setting.TheVariants as settings
@@ -28,13 +29,6 @@ most_high f (y ∷ xs) from (suc i) x at = most_high f xs (max from (f y)) i x a
 
 -- ---- of one client
 
-enough : (stride operations rounds : ℕ) → 1 ≤ stride → operations ≤ rounds * stride → rounds_for stride operations ≤ rounds
-enough stride operations rounds some low =
-    let next : suc rounds * stride ≡ rounds * stride + stride = suc-mul rounds stride in
-    let less : operations + (stride - 1) < suc rounds * stride = omega (arith, some, low, next) in
-    let rise : (operations + (stride - 1)) / stride < suc rounds = (div-lt_iff_lt-mul {k = stride} {x = operations + (stride - 1)} {y = suc rounds} (omega (arith, some))).1 less in
-    omega (arith, rise)
-
 needed : (stride operations before : ℕ) → 1 ≤ stride → before * stride < operations → suc before ≤ rounds_for stride operations
 needed stride operations before some high = either (nat_lt ((operations + (stride - 1)) / stride) (suc before)) refl
   where
@@ -50,7 +44,7 @@ all_rounds W rounds valid done last =
     let stride = W.settings.stride in
     let some = (valid.head settings.Stride).0 in
     let takes : List Operation → ℕ = λ ops. rounds_for stride (length ops) in
-    let low : rounds_of W ≤ rounds = most_low takes W.clients 0 rounds (omega arith) (λ i ops at. enough stride (length ops) rounds some (done i ops at)) in
+    let low : rounds_of W ≤ rounds = most_low takes W.clients 0 rounds (omega arith) (λ i ops at. rounds_few stride (length ops) rounds some (done i ops at)) in
     let high : rounds ≤ rounds_of W = needs rounds refl in
     omega (arith, low, high)
   where

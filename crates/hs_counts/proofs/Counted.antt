@@ -2,6 +2,8 @@
 use Rattle.std.proofs.Common.{◌≡◌, ℕ, zero, suc, ◌+◌, ◌/◌, ◌%◌, ◌<◌, ◌≤◌, not, List, length, map, take, Option, Some, unwrap_or, [], refl, sym, ap, subst, ◌∙◌, arith, slice_get, sum_by, count_by, div-lt_iff_lt-mul, div-add-mod'}
 use Rattle.std.proofs.Math.Nat.{mod-lt}
 use Rattle.std.specs.List.{range_with_len}
+use Rattle.hs_lists.proofs.Places.{get_there}
+use Rattle.hs_lists.proofs.Counts.{count_alike}
 use Rattle.hs_board.specs.declared.progress.Progress.{Progress}
 use Rattle.hs_client.specs.Core.{is_null}
 use Rattle.hs_journal.specs.Views.{PlainJournal}
@@ -21,7 +23,7 @@ use Rattle.hs_counts.specs.declared.client.ClientCount.{ClientCount}
 use Rattle.hs_counts.specs.declared.log.LogCount.{LogCount}
 use Rattle.hs_counts.specs.Counts.{Counts, AreCounts, log_count, progress_of}
 use Rattle.hs_counts.specs.Laws.{CountsAreProgress}
-use Rattle.hs_counts.proofs.Sums.{got, by_places, sum_mapped, sum_same, count_same}
+use Rattle.hs_counts.proofs.Sums.{by_places, sum_mapped, sum_same}
 
 null_so : (draw : Draw) → is_null draw ≡ not (has_buffer draw)
 null_so (draws.Got buffer stamp) = refl
@@ -52,9 +54,9 @@ module _ (W : PlainWorkload) (rounds : ℕ) (m : Moment) (came : Came W rounds m
     counted node client place is few own =
         let stands = stands_at k low in
         let many = stands.count in
-        let site = got (came.at k).standing.nodes node (omega (arith, few, many)) in
+        let site = get_there (came.at k).standing.nodes node (omega (arith, few, many)) in
         let clients = (stands.each node site.0 site.1).count in
-        let caller = got site.0.callers client (omega (arith, own, clients)) in
+        let caller = get_there site.0.callers client (omega (arith, own, clients)) in
         let noted = notes.clients node client k site.0 caller.0 low site.1 caller.1 in
         let here = place_of W.settings.clients node client in
         let ops = operations_at W here in
@@ -84,7 +86,7 @@ module _ (W : PlainWorkload) (rounds : ℕ) (m : Moment) (came : Came W rounds m
     operations_by =
         by_places (operations_at W) 0 (length W.clients) W.clients refl
         (λ place less.
-        let here = got W.clients place less in
+        let here = get_there W.clients place less in
         let zeroth : place ≡ 0 + place = omega arith in
         here.1 ∙ ap (λ (o : Option (List Operation)). Some (unwrap_or o [])) (sym here.1) ∙ ap (λ p. Some (operations_at W p)) zeroth)
 
@@ -106,7 +108,7 @@ module _ (W : PlainWorkload) (rounds : ℕ) (m : Moment) (came : Came W rounds m
         (sum_by (λ node. count_by is_given (steps_after J k node)) (range_with_len 0 W.settings.nodes)) (client_sum (λ (c : ClientCount). c.done) ∙ sum_of (done_after W k))
         (client_sum (λ (c : ClientCount). c.points) ∙ sum_of (points_after W k))
         (client_sum (λ (c : ClientCount). c.nulls)
-        ∙ sum_same (λ place. count_by is_null (draws_after W J k place)) (nulls_after W J k) (λ place. count_same is_null (λ draw. not (has_buffer draw)) null_so (draws_after W J k place)) (range_with_len 0 (length W.clients)))
+        ∙ sum_same (λ place. count_by is_null (draws_after W J k place)) (nulls_after W J k) (λ place. count_alike is_null (λ draw. not (has_buffer draw)) null_so (draws_after W J k place)) (range_with_len 0 (length W.clients)))
         (log_sum (λ (c : LogCount). c.taken)) (log_sum (λ (c : LogCount). c.given))
 
 pub counts_come : CountsAreProgress

@@ -2,6 +2,7 @@
 use Rattle.std.proofs.Common.{◌≡◌, ℕ, zero, suc, ◌*◌, ◌≤◌, Bool, true, false, not, cond, nat_lt, ltb-true, List, [], ◌∷◌, ◌++◌, length, take, filter, Some, None, refl, sym, ap, subst, ◌∙◌, ⊎_elim, arith, sum_by, count_by}
 use Rattle.std.specs.List.{AllByRecursion, range_with_len}
 use Rattle.std.proofs.lemmas.List.Sums.{sum_by-cons}
+use Rattle.hs_lists.proofs.Alls.{all_weaker}
 use Rattle.hs_board.specs.declared.progress.Progress.{Progress}
 use Rattle.hs_board.specs.Shown.{first, IsAmong, IsLast}
 use Rattle.hs_journal.specs.Views.{PlainJournal}
@@ -57,11 +58,7 @@ all_among P [] all x (place, at) = let none : None ≡ Some x = at in absurd cc
 all_among P (y ∷ xs) all x (zero, at) = let same : Some y ≡ Some x = at in let is : y ≡ x = cc in subst P is all.0
 all_among P (y ∷ xs) all x (suc place, at) = all_among P xs all.1 x (place, at)
 
-all_each : (P Q : Progress → Type 0) → ((x : Progress) → P x → Q x) → (xs : List Progress) → AllByRecursion P xs → AllByRecursion Q xs
-all_each P Q f [] all = tt
-all_each P Q f (x ∷ xs) all = (f x all.0, all_each P Q f xs all.1)
-
-end_of : (P : Progress → Type 0) (xs : List Progress) → AllByRecursion P xs → (x : Progress) → IsLast x xs → P x
+pub end_of : (P : Progress → Type 0) (xs : List Progress) → AllByRecursion P xs → (x : Progress) → IsLast x xs → P x
 end_of P xs all x (before, is) = go before (subst (AllByRecursion P) is all)
   where
     go : (before : List Progress) → AllByRecursion P (before ++ x ∷ []) → P x
@@ -86,7 +83,7 @@ shown_seen W rounds m came J valid notes all_rounds shown seen totals x is_last 
     let high = last.2 x is_last in
     let low = total_low W rounds m came J valid notes last.0 (total last.0 (end_of (λ (y : Progress). IsAmong y shown) seen sees.among last.0 last.1)) in
     record {
-      each = all_each (λ (y : Progress). IsAmong y shown) (λ (y : Progress). y ≡ progress_after W J y.rounds) (λ y among. total_is W rounds m came J valid notes y (total y among)) seen sees.among;
+      each = all_weaker (λ (y : Progress). IsAmong y shown) (λ (y : Progress). y ≡ progress_after W J y.rounds) (λ y among. total_is W rounds m came J valid notes y (total y among)) seen sees.among;
       rises = sees.rises;
       last = (last.0, last.1, omega (arith, high, low, end, all_rounds));
     }

@@ -1,16 +1,9 @@
 -- Lists by their places, and sums over them.
-use Rattle.std.proofs.Common.{◌≡◌, ℕ, zero, suc, ◌+◌, ◌<◌, Bool, true, false, cond, List, [], ◌∷◌, length, map, take, get_or, Some, refl, sym, ap, ◌∙◌, arith, slice_get, sum_by, count_by}
+use Rattle.std.proofs.Common.{◌≡◌, ℕ, zero, suc, ◌+◌, ◌<◌, Bool, true, false, List, [], ◌∷◌, length, map, take, get_or, Some, refl, sym, ap, ◌∙◌, arith, slice_get, sum_by, count_by}
 use Rattle.std.specs.List.{range_with_len}
 use Rattle.std.proofs.lemmas.List.{get_or-map, length-map}
 use Rattle.std.proofs.lemmas.List.Sums.{sum_by-cons, count_by_more_yes, count_by_more_no}
-
-pub got : {X : Type 0} (xs : List X) (i : ℕ) → i < length xs → (x : X) × (slice_get xs i ≡ Some x)
-got [] i low = absurd (omega (arith, low))
-got (x ∷ xs) zero low = (x, refl)
-got (x ∷ xs) (suc i) low = got xs i (omega (arith, low))
-
-some_same : {X : Type 0} (x y : X) → Some x ≡ Some y → x ≡ y
-some_same x y h = cc
+use Rattle.std.proofs.lemmas.Option.{same_Some}
 
 pub by_places : {X : Type 0} (f : ℕ → X) (start count : ℕ) (xs : List X) → length xs ≡ count → ((i : ℕ) → i < count → slice_get xs i ≡ Some (f (start + i))) → xs ≡ map f (range_with_len start count)
 by_places f start zero [] long each = refl
@@ -18,7 +11,7 @@ by_places f start (suc count) [] long each = absurd (omega (arith, long))
 by_places f start zero (x ∷ xs) long each = absurd (omega (arith, long))
 by_places f start (suc count) (x ∷ xs) long each =
     let zeroth : start + 0 ≡ start = omega arith in
-    ap (λ y. y ∷ xs) (some_same x (f start) (each 0 (omega arith) ∙ ap (λ i. Some (f i)) zeroth))
+    ap (λ y. y ∷ xs) (same_Some x (f start) (each 0 (omega arith) ∙ ap (λ i. Some (f i)) zeroth))
     ∙ ap (λ rest. f start ∷ rest)
     (by_places f (start + 1) count xs (omega (arith, long)) (λ i low. let next : start + suc i ≡ start + 1 + i = omega arith in each (suc i) (omega (arith, low)) ∙ ap (λ j. Some (f j)) next))
 
@@ -29,9 +22,6 @@ sum_mapped g f (x ∷ xs) = sum_by-cons g (f x) (map f xs) ∙ ap (λ rest. g (f
 pub sum_same : {X : Type 0} (f g : X → ℕ) → ((x : X) → f x ≡ g x) → (xs : List X) → sum_by f xs ≡ sum_by g xs
 sum_same f g each [] = refl
 sum_same f g each (x ∷ xs) = sum_by-cons f x xs ∙ ap (λ n. n + sum_by f xs) (each x) ∙ ap (λ rest. g x + rest) (sum_same f g each xs) ∙ sym (sum_by-cons g x xs)
-
-pub count_same : {X : Type 0} (p q : X → Bool) → ((x : X) → p x ≡ q x) → (xs : List X) → count_by p xs ≡ count_by q xs
-count_same p q each xs = sum_same (λ x. cond (p x) 1 0) (λ x. cond (q x) 1 0) (λ x. ap (λ b. cond b 1 0) (each x)) xs
 
 -- one more is counted, or is not
 module _ {A B : Type 0} (f : A → B) (p : B → Bool) (xs : List A) (place : ℕ) (x : A) (low : place < length xs) (is : x ≡ get_or xs place x) where

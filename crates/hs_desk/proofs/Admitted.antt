@@ -1,22 +1,19 @@
 -- An agent has admitted no more triggers than it took, and what it told may be heard.
-use Rattle.std.proofs.Common.{◌≡◌, ℕ, ◌+◌, ◌≤◌, Bool, true, false, cond, List, [], ◌∷◌, arith}
+use Rattle.std.proofs.Common.{◌≡◌, ℕ, ◌+◌, ◌≤◌, cond, List, [], ◌∷◌, arith}
 use Rattle.std.proofs.lemmas.List.Sums.{sum_by-append}
+use Rattle.hs_lists.proofs.Counts.{one_few}
 use Rattle.hs_model.specs.Laws.{EventsAddFew}
 use Rattle.hs_model.specs.State.{AgentState, start}
 use Rattle.hs_model.specs.Stepping.{Chunk, Crumbed, Triggered, Asked, Turn, Event, Took, Gave, admits, after_event, after_from, after}
 use Rattle.hs_records.specs.Plain.{PlainSettings}
 use Rattle.hs_desk.specs.Work.{is_triggered, triggered}
 
-at_most_one : (b : Bool) → cond b 1 0 ≤ 1
-at_most_one true = omega arith
-at_most_one false = omega arith
-
 adds_one : EventsAddFew → (settings : PlainSettings) (node : ℕ) (state : AgentState) (event : Event) → (after_event settings node state event).admitted ≤ state.admitted + triggered (event ∷ [])
 adds_one few settings node state (Took (Chunk client sheet)) = let e = (few settings node state).admitted (Chunk client sheet) in omega (arith, e)
 adds_one few settings node state (Took (Crumbed client crumb)) = let e = (few settings node state).admitted (Crumbed client crumb) in omega (arith, e)
 adds_one few settings node state (Took (Triggered client trigger)) =
     let e = (few settings node state).admitted (Triggered client trigger) in
-    let one = at_most_one (admits settings state.tried trigger) in
+    let one = one_few (admits settings state.tried trigger) in
     omega (arith, e, one)
 adds_one few settings node state (Took (Asked ask)) = let e = (few settings node state).admitted (Asked ask) in omega (arith, e)
 adds_one few settings node state (Took Turn) = let e = (few settings node state).admitted Turn in omega (arith, e)

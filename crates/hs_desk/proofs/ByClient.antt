@@ -1,11 +1,17 @@
 -- What the events of a pass bring, client by client.
-use Rattle.std.proofs.Common.{◌≡◌, ℕ, zero, suc, ◌+◌, ◌<◌, ◌≤◌, ◌==◌, Bool, true, false, cond, List, [], ◌∷◌, ◌++◌, length, map, filter, replicate, Option, Some, None, refl, sym, ap, ap₂, ◌∙◌, arith, append_assoc, append-nil, eq-eqb}
+use Rattle.std.proofs.Common.{◌≡◌, ℕ, zero, suc, ◌+◌, ◌<◌, ◌≤◌, Bool, true, false, cond, List, [], ◌∷◌, ◌++◌, length, map, filter, replicate, Option, Some, None, refl, sym, ap, ap₂, ◌∙◌, arith, append_assoc, append-nil, eq-eqb}
 use Rattle.std.proofs.lemmas.Bool.{ne_eqb}
+use Rattle.std.proofs.lemmas.Grind.{flat_map-append}
 use Rattle.std.proofs.lemmas.List.{map-append}
+use Rattle.std.proofs.lemmas.List.Elements.{filter-append}
 use Rattle.std.proofs.lemmas.Option.{same_Some}
 use Rattle.std.specs.Prelude.{slice_get}
 use Rattle.std.specs.List.{AllByRecursion, flat_map, range_with_len}
 use Rattle.std.specs.Option.{option_map_or}
+use Rattle.hs_lists.proofs.Parts.{map_self}
+use Rattle.hs_lists.proofs.Numbers.{nat_eq_itself}
+use Rattle.hs_lists.proofs.Alls.{all_back, all_front, all_each}
+use Rattle.hs_lists.proofs.Filters.{filter_all, filter_none}
 use Rattle.hs_base.specs.declared.limits.TheConstants.{MAX_TAKEN}
 use Rattle.hs_base.specs.declared.told.Ask.{Ask}
 use Rattle.hs_base.specs.declared.told.Crumb.{Crumb}
@@ -25,16 +31,11 @@ use Rattle.hs_words.specs.Buffers.{Buffer}
 use Rattle.hs_desk.specs.Agents.{IsWithin}
 use Rattle.hs_desk.specs.Passing.{events_made}
 use Rattle.hs_desk.specs.Stages.{Helping, events_of, events_from, chunks_of}
-use Rattle.hs_desk.proofs.Lists.{all_mapped}
 use Rattle.hs_desk.specs.Work.{chunk_event, crumb_event, trigger_event, ask_event, gave_event, is_of}
 
 -- ---- lists
 
 module _ {A B : Type 0} (f : A → List B) where
-  pub flat_more : (xs ys : List A) → flat_map f (xs ++ ys) ≡ flat_map f xs ++ flat_map f ys
-  flat_more [] ys = refl
-  flat_more (x ∷ xs) ys = ap (λ (l : List B). f x ++ l) (flat_more xs ys) ∙ sym (append_assoc (f x) (flat_map f xs) (flat_map f ys))
-
   -- where each item leads to nothing
   pub flat_none : {C : Type 0} (g : C → A) (xs : List C) → ((x : C) → f (g x) ≡ []) → flat_map f (map g xs) ≡ []
   flat_none g [] none = refl
@@ -45,25 +46,18 @@ module _ {A B : Type 0} (f : A → List B) where
   flat_each g h [] one = refl
   flat_each g h (x ∷ xs) one = ap₂ (λ (a b : List B). a ++ b) (one x) (flat_each g h xs one)
 
-pub map_same : {A : Type 0} (xs : List A) → map (λ x. x) xs ≡ xs
-map_same [] = refl
-map_same (x ∷ xs) = ap (λ l. x ∷ l) (map_same xs)
-
 -- ---- what the lines of one client bring
-
-own : (c : ℕ) → (c == c) ≡ true
-own c = eq-eqb c c refl
 
 three : {T : Type 0} (f : Event → List T) (client : ℕ) (h : Helping) (a b c : List T) → flat_map f (map (chunk_event client) h.chunks) ≡ a → flat_map f (map (crumb_event client) h.crumbs) ≡ b → flat_map f (map (trigger_event client) h.triggers) ≡ c
     → flat_map f (events_of client h) ≡ (a ++ b) ++ c
 three f client h a b c e₁ e₂ e₃ =
-    flat_more f (map (chunk_event client) h.chunks ++ map (crumb_event client) h.crumbs) (map (trigger_event client) h.triggers)
-    ∙ ap₂ (λ x y. x ++ y) (flat_more f (map (chunk_event client) h.chunks) (map (crumb_event client) h.crumbs) ∙ ap₂ (λ x y. x ++ y) e₁ e₂) e₃
+    flat_map-append f (map (chunk_event client) h.chunks ++ map (crumb_event client) h.crumbs) (map (trigger_event client) h.triggers)
+    ∙ ap₂ (λ x y. x ++ y) (flat_map-append f (map (chunk_event client) h.chunks) (map (crumb_event client) h.crumbs) ∙ ap₂ (λ x y. x ++ y) e₁ e₂) e₃
 
 chunks_own : (c : ℕ) (h : Helping) → flat_map (chunk_in c) (events_of c h) ≡ map sheet_in h.chunks
 chunks_own c h =
     three (chunk_in c) c h (map sheet_in h.chunks) [] []
-    (flat_each (chunk_in c) (chunk_event c) sheet_in h.chunks (λ b. ap (λ t. cond t (sheet_in b ∷ []) []) (own c))) (flat_none (chunk_in c) (crumb_event c) h.crumbs (λ x. refl)) (flat_none (chunk_in c) (trigger_event c) h.triggers (λ x. refl))
+    (flat_each (chunk_in c) (chunk_event c) sheet_in h.chunks (λ b. ap (λ t. cond t (sheet_in b ∷ []) []) (nat_eq_itself c))) (flat_none (chunk_in c) (crumb_event c) h.crumbs (λ x. refl)) (flat_none (chunk_in c) (trigger_event c) h.triggers (λ x. refl))
     ∙ append-nil (map sheet_in h.chunks ++ []) ∙ append-nil (map sheet_in h.chunks)
 
 chunks_other : (c k : ℕ) (h : Helping) → (k ≡ c → ⊥) → flat_map (chunk_in c) (events_of k h) ≡ []
@@ -74,7 +68,7 @@ chunks_other c k h apart =
 crumbs_own : (c : ℕ) (h : Helping) → flat_map (crumb_in c) (events_of c h) ≡ h.crumbs
 crumbs_own c h =
     three (crumb_in c) c h [] h.crumbs [] (flat_none (crumb_in c) (chunk_event c) h.chunks (λ x. refl))
-    (flat_each (crumb_in c) (crumb_event c) (λ x. x) h.crumbs (λ x. ap (λ t. cond t (x ∷ []) []) (own c)) ∙ map_same h.crumbs) (flat_none (crumb_in c) (trigger_event c) h.triggers (λ x. refl))
+    (flat_each (crumb_in c) (crumb_event c) (λ x. x) h.crumbs (λ x. ap (λ t. cond t (x ∷ []) []) (nat_eq_itself c)) ∙ map_self h.crumbs) (flat_none (crumb_in c) (trigger_event c) h.triggers (λ x. refl))
     ∙ append-nil h.crumbs
 
 crumbs_other : (c k : ℕ) (h : Helping) → (k ≡ c → ⊥) → flat_map (crumb_in c) (events_of k h) ≡ []
@@ -85,7 +79,7 @@ crumbs_other c k h apart =
 triggers_own : (c : ℕ) (h : Helping) → flat_map (trigger_in c) (events_of c h) ≡ h.triggers
 triggers_own c h =
     three (trigger_in c) c h [] [] h.triggers (flat_none (trigger_in c) (chunk_event c) h.chunks (λ x. refl)) (flat_none (trigger_in c) (crumb_event c) h.crumbs (λ x. refl))
-    (flat_each (trigger_in c) (trigger_event c) (λ x. x) h.triggers (λ x. ap (λ t. cond t (x ∷ []) []) (own c)) ∙ map_same h.triggers)
+    (flat_each (trigger_in c) (trigger_event c) (λ x. x) h.triggers (λ x. ap (λ t. cond t (x ∷ []) []) (nat_eq_itself c)) ∙ map_self h.triggers)
 
 triggers_other : (c k : ℕ) (h : Helping) → (k ≡ c → ⊥) → flat_map (trigger_in c) (events_of k h) ≡ []
 triggers_other c k h apart =
@@ -98,27 +92,27 @@ module _ {T : Type 0} (f : ℕ → Event → List T) (field : Helping → List T
   none_below : (c k : ℕ) (helpings : List Helping) → c < k → flat_map (f c) (events_from k helpings) ≡ []
   none_below c k [] low = refl
   none_below c k (h ∷ helpings) low =
-      flat_more (f c) (events_of k h) (events_from (suc k) helpings) ∙ ap₂ (λ (x y : List T). x ++ y) (other c k h (λ e. omega (arith, e, low))) (none_below c (suc k) helpings (omega (arith, low)))
+      flat_map-append (f c) (events_of k h) (events_from (suc k) helpings) ∙ ap₂ (λ (x y : List T). x ++ y) (other c k h (λ e. omega (arith, e, low))) (none_below c (suc k) helpings (omega (arith, low)))
 
   at_client : (c k i : ℕ) (helpings : List Helping) (h : Helping) → c ≡ k + i → slice_get helpings i ≡ Some h → flat_map (f c) (events_from k helpings) ≡ field h
   at_client c k i [] h e at = let none : None ≡ Some h = at in absurd cc
   at_client c k zero (x ∷ helpings) h e at =
       let same : k ≡ c = omega (arith, e) in
-      flat_more (f c) (events_of k x) (events_from (suc k) helpings)
+      flat_map-append (f c) (events_of k x) (events_from (suc k) helpings)
       ∙ ap₂ (λ (x y : List T). x ++ y) (ap (λ n. flat_map (f c) (events_of n x)) same ∙ mine c x ∙ ap field (same_Some x h at)) (none_below c (suc k) helpings (omega (arith, same))) ∙ append-nil (field h)
   at_client c k (suc i) (x ∷ helpings) h e at =
-      flat_more (f c) (events_of k x) (events_from (suc k) helpings) ∙ ap₂ (λ (x y : List T). x ++ y) (other c k x (λ same. omega (arith, same, e))) (at_client c (suc k) i helpings h (omega (arith, e)) at)
+      flat_map-append (f c) (events_of k x) (events_from (suc k) helpings) ∙ ap₂ (λ (x y : List T). x ++ y) (other c k x (λ same. omega (arith, same, e))) (at_client c (suc k) i helpings h (omega (arith, e)) at)
 
   -- of a pass, whose other events bring nothing
   made_at : (c : ℕ) (helpings : List Helping) (asks : List Ask) (answers : List Answered) (h : Helping) → ((ask : Ask) → f c (ask_event ask) ≡ []) → f c (Took Turn) ≡ [] → ((answer : Answered) → f c (gave_event answer) ≡ []) → slice_get helpings c ≡ Some h
       → flat_map (f c) (events_made helpings asks answers) ≡ field h
   made_at c helpings asks answers h no_ask no_turn no_offer at =
       let zero_on : c ≡ 0 + c = omega arith in
-      flat_more (f c) ((events_from 0 helpings ++ map ask_event asks) ++ Took Turn ∷ []) (map gave_event answers)
+      flat_map-append (f c) ((events_from 0 helpings ++ map ask_event asks) ++ Took Turn ∷ []) (map gave_event answers)
       ∙ ap₂ (λ (x y : List T). x ++ y)
-      (flat_more (f c) (events_from 0 helpings ++ map ask_event asks) (Took Turn ∷ [])
+      (flat_map-append (f c) (events_from 0 helpings ++ map ask_event asks) (Took Turn ∷ [])
       ∙ ap₂ (λ (x y : List T). x ++ y)
-      (flat_more (f c) (events_from 0 helpings) (map ask_event asks) ∙ ap₂ (λ (x y : List T). x ++ y) (at_client c 0 c helpings h zero_on at) (flat_none (f c) ask_event asks no_ask) ∙ append-nil (field h))
+      (flat_map-append (f c) (events_from 0 helpings) (map ask_event asks) ∙ ap₂ (λ (x y : List T). x ++ y) (at_client c 0 c helpings h zero_on at) (flat_none (f c) ask_event asks no_ask) ∙ append-nil (field h))
       (ap (λ (l : List T). l ++ []) no_turn) ∙ append-nil (field h))
       (flat_none (f c) gave_event answers no_offer)
       ∙ append-nil (field h)
@@ -138,18 +132,18 @@ module _ (c : ℕ) (helpings : List Helping) (asks : List Ask) (answers : List A
 pub asks_of_none : (client : ℕ) (helpings : List Helping) → asks_in (events_from client helpings) ≡ []
 asks_of_none client [] = refl
 asks_of_none client (h ∷ helpings) =
-    flat_more ask_in (events_of client h) (events_from (suc client) helpings)
+    flat_map-append ask_in (events_of client h) (events_from (suc client) helpings)
     ∙ ap₂ (λ (a b : List Ask). a ++ b)
     (three ask_in client h [] [] [] (flat_none ask_in (chunk_event client) h.chunks (λ x. refl)) (flat_none ask_in (crumb_event client) h.crumbs (λ x. refl)) (flat_none ask_in (trigger_event client) h.triggers (λ x. refl)))
     (asks_of_none (suc client) helpings)
 
 pub asks_made : (helpings : List Helping) (asks : List Ask) (answers : List Answered) → asks_in (events_made helpings asks answers) ≡ asks
 asks_made helpings asks answers =
-    flat_more ask_in ((events_from 0 helpings ++ map ask_event asks) ++ Took Turn ∷ []) (map gave_event answers)
+    flat_map-append ask_in ((events_from 0 helpings ++ map ask_event asks) ++ Took Turn ∷ []) (map gave_event answers)
     ∙ ap₂ (λ (x y : List Ask). x ++ y)
-    (flat_more ask_in (events_from 0 helpings ++ map ask_event asks) (Took Turn ∷ [])
+    (flat_map-append ask_in (events_from 0 helpings ++ map ask_event asks) (Took Turn ∷ [])
     ∙ append-nil (asks_in (events_from 0 helpings ++ map ask_event asks))
-    ∙ flat_more ask_in (events_from 0 helpings) (map ask_event asks) ∙ ap₂ (λ (x y : List Ask). x ++ y) (asks_of_none 0 helpings) (flat_each ask_in ask_event (λ x. x) asks (λ x. refl) ∙ map_same asks))
+    ∙ flat_map-append ask_in (events_from 0 helpings) (map ask_event asks) ∙ ap₂ (λ (x y : List Ask). x ++ y) (asks_of_none 0 helpings) (flat_each ask_in ask_event (λ x. x) asks (λ x. refl) ∙ map_self asks))
     (flat_none ask_in gave_event answers (λ x. refl))
     ∙ append-nil asks
 
@@ -164,36 +158,16 @@ own_of : (W : PlainWorkload) (node client : ℕ) (items : List (Buffer Leased)) 
 own_of W node client [] more all = tt
 own_of W node client (item ∷ items) more all = (ap (λ i. i.number) all.0.1, own_of W node client items more all.1)
 
-all_behind : {A : Type 0} (P : A → Type 0) (xs ys : List A) → AllByRecursion P (xs ++ ys) → AllByRecursion P ys
-all_behind P [] ys all = all
-all_behind P (x ∷ xs) ys all = all_behind P xs ys all.1
-
-pub all_front : {A : Type 0} (P : A → Type 0) (xs ys : List A) → AllByRecursion P (xs ++ ys) → AllByRecursion P xs
-all_front P [] ys all = tt
-all_front P (x ∷ xs) ys all = (all.0, all_front P xs ys all.1)
-
 pub own_chunks : (W : PlainWorkload) (node client : ℕ) (helpings : List Helping) → AllByRecursion (IsWithin W node) (events_from client helpings) → OwnChunks client helpings
 own_chunks W node client [] all = tt
 own_chunks W node client (h ∷ helpings) all =
     let here = all_front (IsWithin W node) (events_of client h) (events_from (suc client) helpings) all in
     let first = all_front (IsWithin W node) (map (chunk_event client) h.chunks ++ map (crumb_event client) h.crumbs) (map (trigger_event client) h.triggers) here in
-    (own_of W node client h.chunks (map (crumb_event client) h.crumbs) first, own_chunks W node (suc client) helpings (all_behind (IsWithin W node) (events_of client h) (events_from (suc client) helpings) all))
+    (own_of W node client h.chunks (map (crumb_event client) h.crumbs) first, own_chunks W node (suc client) helpings (all_back (IsWithin W node) (events_of client h) (events_from (suc client) helpings) all))
 
 filter_step : {A : Type 0} (b : Bool) (x : A) (xs ys all : List A) → all ≡ xs ++ ys → cond b (x ∷ all) all ≡ cond b (x ∷ xs) xs ++ ys
 filter_step true x xs ys all e = ap (λ l. x ∷ l) e
 filter_step false x xs ys all e = e
-
-filter_more : {A : Type 0} (p : A → Bool) (xs ys : List A) → filter p (xs ++ ys) ≡ filter p xs ++ filter p ys
-filter_more p [] ys = refl
-filter_more p (x ∷ xs) ys = filter_step (p x) x (filter p xs) (filter p ys) (filter p (xs ++ ys)) (filter_more p xs ys)
-
-all_kept : {A : Type 0} (p : A → Bool) (xs : List A) → AllByRecursion (λ x. p x ≡ true) xs → filter p xs ≡ xs
-all_kept p [] all = refl
-all_kept p (x ∷ xs) all = ap (λ t. cond t (x ∷ filter p xs) (filter p xs)) all.0 ∙ ap (λ l. x ∷ l) (all_kept p xs all.1)
-
-none_kept : {A : Type 0} (p : A → Bool) (xs : List A) → AllByRecursion (λ x. p x ≡ false) xs → filter p xs ≡ []
-none_kept p [] all = refl
-none_kept p (x ∷ xs) all = ap (λ t. cond t (x ∷ filter p xs) (filter p xs)) all.0 ∙ none_kept p xs all.1
 
 abbrev number_of : Buffer Leased → ℕ
 number_of b = (sheet_in b).header.client.number
@@ -201,28 +175,28 @@ number_of b = (sheet_in b).header.client.number
 came_below : (c k : ℕ) (helpings : List Helping) → c < k → OwnChunks k helpings → filter (is_of c) (chunks_of helpings) ≡ []
 came_below c k [] low own_all = refl
 came_below c k (h ∷ helpings) low own_all =
-    filter_more (is_of c) h.chunks (chunks_of helpings)
+    filter-append (is_of c) h.chunks (chunks_of helpings)
     ∙ ap₂ (λ (x y : List (Buffer Leased)). x ++ y)
-    (none_kept (is_of c) h.chunks (all_mapped (λ (b : Buffer Leased). number_of b ≡ k) (λ (b : Buffer Leased). is_of c b ≡ false) h.chunks (λ b e. ne_eqb (number_of b) c (λ same. omega (arith, same, e, low))) own_all.0))
+    (filter_none (is_of c) h.chunks (all_each (λ (b : Buffer Leased). number_of b ≡ k) (λ (b : Buffer Leased). is_of c b ≡ false) h.chunks (λ b e. ne_eqb (number_of b) c (λ same. omega (arith, same, e, low))) own_all.0))
     (came_below c (suc k) helpings (omega (arith, low)) own_all.1)
 
 pub came_at : (c k i : ℕ) (helpings : List Helping) (h : Helping) → c ≡ k + i → OwnChunks k helpings → slice_get helpings i ≡ Some h → filter (is_of c) (chunks_of helpings) ≡ h.chunks
 came_at c k i [] h e own_all at = let none : None ≡ Some h = at in absurd cc
 came_at c k zero (x ∷ helpings) h e own_all at =
     let low : c < suc k = omega (arith, e) in
-    filter_more (is_of c) x.chunks (chunks_of helpings)
+    filter-append (is_of c) x.chunks (chunks_of helpings)
     ∙ ap₂ (λ (x y : List (Buffer Leased)). x ++ y)
-    (all_kept (is_of c) x.chunks (all_mapped (λ (b : Buffer Leased). number_of b ≡ k) (λ (b : Buffer Leased). is_of c b ≡ true) x.chunks (λ b same. eq-eqb (number_of b) c (omega (arith, same, e))) own_all.0))
+    (filter_all (is_of c) x.chunks (all_each (λ (b : Buffer Leased). number_of b ≡ k) (λ (b : Buffer Leased). is_of c b ≡ true) x.chunks (λ b same. eq-eqb (number_of b) c (omega (arith, same, e))) own_all.0))
     (came_below c (suc k) helpings low own_all.1)
     ∙ append-nil x.chunks ∙ ap (λ (y : Helping). y.chunks) (same_Some x h at)
 came_at c k (suc i) (x ∷ helpings) h e own_all at =
-    filter_more (is_of c) x.chunks (chunks_of helpings)
+    filter-append (is_of c) x.chunks (chunks_of helpings)
     ∙ ap₂ (λ (x y : List (Buffer Leased)). x ++ y)
-    (none_kept (is_of c) x.chunks (all_mapped (λ (b : Buffer Leased). number_of b ≡ k) (λ (b : Buffer Leased). is_of c b ≡ false) x.chunks (λ b same. ne_eqb (number_of b) c (λ other. omega (arith, same, other, e))) own_all.0))
+    (filter_none (is_of c) x.chunks (all_each (λ (b : Buffer Leased). number_of b ≡ k) (λ (b : Buffer Leased). is_of c b ≡ false) x.chunks (λ b same. ne_eqb (number_of b) c (λ other. omega (arith, same, other, e))) own_all.0))
     (came_at c (suc k) i helpings h (omega (arith, e)) own_all.1 at)
 
 pub came_more : (c : ℕ) (xs ys : List (Buffer Leased)) → filter (is_of c) (xs ++ ys) ≡ filter (is_of c) xs ++ filter (is_of c) ys
-came_more c xs ys = filter_more (is_of c) xs ys
+came_more c xs ys = filter-append (is_of c) xs ys
 
 -- ---- the steps of a pass
 
@@ -271,7 +245,7 @@ module _ (helpings : List Helping) (asks : List Ask) where
       let next : client + 1 ≡ suc client = omega arith in
       map-append noted_as (events_of client h) (events_from (suc client) rest)
       ∙ ap₂ (λ (x y : List Step). x ++ y) (of_client client h here) (ap (λ n. map noted_as (events_from n rest)) (sym next) ∙ of_clients (client + 1) rest later)
-      ∙ sym (flat_more steps_of_queue (client_queues client) (flat_map client_queues (range_with_len (client + 1) (length rest))))
+      ∙ sym (flat_map-append steps_of_queue (client_queues client) (flat_map client_queues (range_with_len (client + 1) (length rest))))
 
   all_behind_none : Behind 0 helpings
   all_behind_none i h at = let same : 0 + i ≡ i = omega arith in ap (slice_get helpings) same ∙ at
@@ -293,7 +267,7 @@ module _ (helpings : List Helping) (asks : List Ask) where
           ∙ ap₂ (λ (x y : List Step). x ++ y)
           (of_clients 0 helpings all_behind_none ∙ ap (λ n. flat_map steps_of_queue (flat_map client_queues (range_with_len 0 n))) number)
           (noted_each ask_event steps.Ask asks (λ _. refl) ∙ sym (append-nil (replicate (length asks) steps.Ask)))
-          ∙ sym (flat_more steps_of_queue (flat_map client_queues (range_with_len 0 W.settings.clients)) (Asks ∷ []))))
+          ∙ sym (flat_map-append steps_of_queue (flat_map client_queues (range_with_len 0 W.settings.clients)) (Asks ∷ []))))
           (offers_noted answers)
           ∙ append_assoc (flat_map steps_of_queue (queues_of W)) (steps.Turn ∷ []) (map step_of_answer answers);
     },

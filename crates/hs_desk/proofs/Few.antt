@@ -1,8 +1,10 @@
 -- No agent takes more triggers than its clients sent, and these are no more than the workload has.
 use Rattle.std.proofs.Common.{◌≡◌, inl, inr, ℕ, zero, suc, ◌+◌, ◌*◌, ◌<◌, ◌≤◌, List, [], ◌∷◌, ◌++◌, length, take, cond, eq-eqb, Bool, false, Option, refl, ap, subst, ◌∙◌, arith, slice_get, unwrap_or, length-append}
-use Rattle.std.proofs.Math.Nat.{suc-mul, mul-le-mul_right}
 use Rattle.std.proofs.lemmas.List.Sums.{sum_by-cons}
 use Rattle.std.specs.List.{AllByRecursion}
+use Rattle.hs_lists.proofs.Counts.{one_if as one}
+use Rattle.hs_lists.proofs.Numbers.{same_or_less}
+use Rattle.hs_lists.proofs.Places.{get_there, take_more}
 use Rattle.hs_base.specs.declared.limits.TheConstants.{MAX_CLIENTS}
 use Rattle.hs_actors.specs.Doings.{trigger_in, triggers_in}
 use Rattle.hs_base.specs.declared.told.Trigger.{Trigger}
@@ -10,23 +12,14 @@ use Rattle.hs_model.specs.Stepping.{Chunk, Crumbed, Triggered, Asked, Turn, Even
 use Rattle.hs_records.specs.Plain.{Operation, PlainWorkload}
 use Rattle.hs_workload.specs.Validity.{IsValid, client_pieces, workload_pieces}
 use Rattle.hs_workload.specs.declared.word.Setting.TheVariants as settings
+use Rattle.hs_workload.proofs.Sizes.{last_low}
 use Rattle.hs_desk.specs.Agents.{IsWithin}
 use Rattle.hs_desk.specs.Work.{Work, IsFew, is_triggered, triggered}
-use Rattle.hs_desk.proofs.Lists.{got, take_more, same_or_less}
 
 -- ---- the clients of a workload
 
 pub few_clients : (W : PlainWorkload) → IsValid W → W.settings.clients ≤ MAX_CLIENTS
 few_clients W valid = (valid.head settings.Clients).1
-
--- the clients of a node are among all
-pub last_low : (W : PlainWorkload) → IsValid W → (n : ℕ) → n < W.settings.nodes → n * W.settings.clients + W.settings.clients ≤ length W.clients
-last_low W valid n low =
-    let more : n + 1 ≤ W.settings.nodes = omega (arith, low) in
-    let row = mul-le-mul_right W.settings.clients more in
-    let product : (n + 1) * W.settings.clients ≡ n * W.settings.clients + W.settings.clients = let e : n + 1 ≡ suc n = omega arith in ap (λ (k : ℕ). k * W.settings.clients) e ∙ suc-mul n W.settings.clients in
-    let count = valid.count in
-    omega (arith, row, product, count)
 
 -- ---- sums over numbers
 
@@ -58,9 +51,6 @@ sum_lesser (suc n) f g i low h one =
 
 taken_of : List Event → ℕ → ℕ
 taken_of events client = length (triggers_in client events)
-
-one : Bool → ℕ
-one b = cond b 1 0
 
 count_cons : (e : Event) (es : List Event) → triggered (e ∷ es) ≡ one (is_triggered e) + triggered es
 unfolding one
@@ -119,7 +109,7 @@ pieces_first size lists start zero high = let e = ap (λ (k : ℕ). workload_pie
     same = omega arith
 pieces_first size lists start (suc n) high =
     let rest = pieces_first size lists start n (omega (arith, high)) in
-    let (x, at) = got lists (start + n) (omega (arith, high)) in
+    let (x, at) = get_there lists (start + n) (omega (arith, high)) in
     let more = ap (workload_pieces size) (take_more lists (start + n) x at) ∙ pieces_append size (take (start + n) lists) (x ∷ []) in
     let here = ap (λ (o : Option (List Operation)). client_pieces size (unwrap_or o [])) at in
     let next : start + suc n ≡ suc (start + n) = omega arith in

@@ -2,6 +2,7 @@
 use Rattle.std.proofs.Common.{◌≡◌, ℕ, zero, suc, ◌+◌, ◌<◌, ◌≤◌, List, [], ◌∷◌, ◌++◌, length, Option, Some, None, refl, sym, ap, subst, ◌∙◌, arith, append_assoc, append-nil, length-append, length-set}
 use Rattle.std.specs.Prelude.{slice_get, slice_set}
 use Rattle.std.proofs.lemmas.Option.{same_Some}
+use Rattle.hs_lists.proofs.Places.{get_there}
 use Rattle.hs_base.specs.declared.limits.TheConstants.{MAX_TAKEN}
 use Rattle.hs_records.specs.Plain.{PlainWorkload}
 use Rattle.hs_words.specs.Pools.{PoolName}
@@ -24,11 +25,6 @@ module _ {A : Type 0} where
   set_same [] i x at = refl
   set_same (y ∷ xs) zero x at = ap (λ (z : A). z ∷ xs) (sym (same_Some y x at))
   set_same (y ∷ xs) (suc i) x at = ap (λ (l : List A). y ∷ l) (set_same xs i x at)
-
-  pub there : (xs : List A) (i : ℕ) → i < length xs → (x : A) × (slice_get xs i ≡ Some x)
-  there [] i low = absurd (omega (arith, low))
-  there (x ∷ xs) zero low = (x, refl)
-  there (x ∷ xs) (suc i) low = there xs i (omega (arith, low))
 
 -- ---- one line
 
@@ -73,7 +69,7 @@ module _ {T : Type 0} where
 
   pub none_so_far : (client : ℕ) (lines : List (Line T)) → client < length lines → HandsSoFar client [] lines lines
   none_so_far client lines low =
-      let (l, at) = there lines client low in
+      let (l, at) = get_there lines client low in
       record {
         before = l;
         after = l;

@@ -1,10 +1,12 @@
 -- The coordinator hears messages.
 use Rattle.std.proofs.Common.{◌≡◌, ℕ, zero, suc, ◌+◌, ◌<◌, ◌≤◌, min, Bool, true, false, cond, List, [], ◌∷◌, ◌++◌, length, map, filter, Option, Some, None, ◌⊎◌, inl, inr, refl, sym, ap, ap₂, subst, ◌∙◌, arith, append_assoc, append-nil, length-append, length-set, eq-eqb}
 use Rattle.std.proofs.lemmas.Bool.{ne_eqb}
+use Rattle.std.proofs.lemmas.Grind.{flat_map-append}
 use Rattle.std.proofs.lemmas.List.{map-append}
 use Rattle.std.proofs.lemmas.Option.{same_Some, slice_get_within}
 use Rattle.std.specs.Prelude.{slice_get, slice_set, find, unwrap_or}
 use Rattle.std.specs.List.{AllByRecursion}
+use Rattle.hs_lists.proofs.Alls.{all_append}
 use Rattle.hs_base.specs.Rules.{is_declared}
 use Rattle.hs_base.specs.declared.ids.NodeId.{NodeId}
 use Rattle.hs_base.specs.declared.limits.TheConstants.{MAX_TAKEN}
@@ -14,12 +16,11 @@ use Rattle.hs_coord.specs.Following.{AreAsks, first_of}
 use Rattle.hs_coord.specs.Kept.{Kept, HasTaken}
 use Rattle.hs_coord.specs.Messages.{Message, Messages, message, is_of}
 use Rattle.hs_coord.specs.declared.asks.Asks.{Asks}
-use Rattle.hs_lawful.specs.Following.{asks_to, asks_behind, ask_by, is_from}
+use Rattle.hs_lawful.specs.Following.{asks_to, ask_by, is_from}
+use Rattle.hs_lawful.proofs.Logs.{behind_more}
 use Rattle.hs_records.specs.Plain.{PlainWorkload}
 use Rattle.hs_desk.specs.Agents.{IsAskable, IsTellable}
 use Rattle.hs_desk.specs.Coordinators.{Coordinating, Tellings, Askings, IsCoordinating, IsHearable, Hears, HearsNode, IsMoved, AreFetched, IsPutBehind, heard_of, ask_for, asks_for}
-use Rattle.hs_desk.proofs.ByClient.{flat_more}
-use Rattle.hs_desk.proofs.Lists.{all_more}
 
 -- ---- lists
 
@@ -62,12 +63,6 @@ heard_other node other (x ∷ told) apart =
     ∙ heard_other node other told apart
 
 -- ---- asks
-
-behind_more : (node : ℕ) (before xs : Messages) (m : Message) → asks_behind node before (xs ++ m ∷ []) ≡ asks_behind node before xs ++ ask_by node (before ++ xs) m
-behind_more node before [] m = append-nil (ask_by node before m) ∙ ap (λ (l : Messages). ask_by node l m) (sym (append-nil before))
-behind_more node before (x ∷ xs) m =
-    ap (λ (l : List Ask). ask_by node before x ++ l) (behind_more node (before ++ x ∷ []) xs m ∙ ap (λ (l : Messages). asks_behind node (before ++ x ∷ []) xs ++ ask_by node l m) (append_assoc before (x ∷ []) xs))
-    ∙ sym (append_assoc (ask_by node before x) (asks_behind node (before ++ x ∷ []) xs) (ask_by node (before ++ x ∷ xs) m))
 
 -- the asks to which a message leads are those that were answered
 ask_is : (node : ℕ) (before : Messages) (m : Message) (asks : Asks) → AreAsks before m asks → ask_by node before m ≡ ask_for node asks
@@ -134,12 +129,12 @@ module _ (W : PlainWorkload) (heard : Messages) (moved : Tellings) (asked : Aski
           nodes = nodes ∙ is.nodes;
           count = length-set c.told node rest ∙ is.count;
           waits = waits_more;
-          hearable = all_more (IsHearable W) heard (m ∷ []) is.hearable (hearable, tt);
+          hearable = all_append (IsHearable W) heard (m ∷ []) is.hearable (hearable, tt);
           tellable = is.tellable;
-          askable = all_more (λ (a : Asks). IsAskable W a.ask) c.asks (asks ∷ []) is.askable (ap (λ g. is_declared W.settings.triggers g.trigger) are.group ∙ first.told.trigger, tt);
+          askable = all_append (λ (a : Asks). IsAskable W a.ask) c.asks (asks ∷ []) is.askable (ap (λ g. is_declared W.settings.triggers g.trigger) are.group ∙ first.told.trigger, tt);
           asks_are = λ n low.
               asks_more n heard m asks are ∙ ap (λ (l : List Ask). l ++ ask_for n asks) (is.asks_are n low) ∙ append_assoc (asked n) (asks_for n c.asks) (ask_for n asks)
-              ∙ ap (λ (l : List Ask). asked n ++ l) (sym (flat_more (ask_for n) c.asks (asks ∷ []) ∙ ap (λ (l : List Ask). asks_for n c.asks ++ l) (append-nil (ask_for n asks))));
+              ∙ ap (λ (l : List Ask). asked n ++ l) (sym (flat_map-append (ask_for n) c.asks (asks ∷ []) ∙ ap (λ (l : List Ask). asks_for n c.asks ++ l) (append-nil (ask_for n asks))));
         }
 
     pub hears_so : (kept : Kept) (asks : Asks) (told' : List (List Told)) (asks' : List Asks) → told' ≡ slice_set c.told node rest → asks' ≡ c.asks ++ asks ∷ [] → HasTaken kept (heard ++ m ∷ []) → kept.nodes ≡ c.kept.nodes → AreAsks heard m asks
@@ -280,7 +275,7 @@ module _ (W : PlainWorkload) (heard : Messages) (moved : Tellings) (asked : Aski
         tellable = λ other low. elim (same_or_not node other) [
           | inl e ↦
               let low_here : node < W.settings.nodes = omega (arith, e, low) in
-              subst (λ (l : List Told). AllByRecursion (IsTellable W) l) (sym more.here ∙ ap moved' e) (all_more (IsTellable W) (moved node) (told ∷ []) (is.tellable node low_here) (tellable, tt))
+              subst (λ (l : List Told). AllByRecursion (IsTellable W) l) (sym more.here ∙ ap moved' e) (all_append (IsTellable W) (moved node) (told ∷ []) (is.tellable node low_here) (tellable, tt))
           | inr apart ↦ subst (λ (l : List Told). AllByRecursion (IsTellable W) l) (sym (more.others other (λ e. apart (sym e)))) (is.tellable other low)
         ];
         askable = is.askable;

@@ -1,6 +1,5 @@
-pub mod Lists
 mod Admitted
-mod Taking
+pub mod Taking
 mod Handing
 mod Stages
 mod Loops

@@ -4,6 +4,7 @@ use Rattle.std.proofs.lemmas.List.{map-append}
 use Rattle.std.proofs.lemmas.Option.{same_Some}
 use Rattle.std.specs.List.{AllByRecursion}
 use Rattle.std.specs.Option.{option_map}
+use Rattle.hs_lists.proofs.Alls.{all_mid}
 use Rattle.hs_base.specs.declared.limits.TheConstants.{MAX_TAKEN}
 use Rattle.hs_base.specs.declared.told.Ask.{Ask}
 use Rattle.hs_base.specs.declared.told.Crumb.{Crumb}
@@ -286,10 +287,6 @@ module _ (W : PlainWorkload) (work : Work) (client : ℕ) (old : Lines) where
       each (item ∷ items) = let rest = each items in let both = triggered_more (trigger_event client item ∷ []) (map (trigger_event client) items) in omega (arith, rest, both)
 
 -- ---- asks
-
-all_mid : {A : Type 0} (P : A → Type 0) (xs ys : List A) (y : A) → AllByRecursion P (xs ++ y ∷ ys) → P y
-all_mid P [] ys y all = all.0
-all_mid P (x ∷ xs) ys y all = all_mid P xs ys y all.1
 
 module _ (W : PlainWorkload) (work : Work) (old : Desking) (lines : Lines) where
   -- so many asks were taken

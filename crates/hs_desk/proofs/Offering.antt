@@ -4,6 +4,7 @@ use Rattle.std.proofs.lemmas.Option.{same_Some, slice_get-map}
 use Rattle.std.specs.Prelude.{slice_get, slice_set, IsSome}
 use Rattle.std.specs.List.{AllByRecursion, flat_map}
 use Rattle.std.specs.Option.{option_and_then, option_map_or, option_map}
+use Rattle.hs_lists.proofs.Alls.{all_append, all_at}
 use Rattle.hs_words.specs.declared.token.TheConstants.{MAX_PUBLISHED}
 use Rattle.hs_actors.specs.Doings.{asks_in}
 use Rattle.hs_actors.specs.Facts.{IsStamped}
@@ -33,7 +34,6 @@ use Rattle.hs_desk.specs.Lines.{Line, Lines, AreLinesFor}
 use Rattle.hs_desk.specs.Stages.{Desking, Stands, OffersNext, stamps_of}
 use Rattle.hs_desk.specs.Turns.{Gives, IsOffer, lent_of, was_read}
 use Rattle.hs_desk.specs.Work.{Work, with_events}
-use Rattle.hs_desk.proofs.Lists.{all_at, all_more}
 use Rattle.hs_desk.proofs.Stages.{with_none, asks_more, turns_came}
 use Rattle.hs_desk.proofs.Taking.{brought_more, hands_gave}
 
@@ -148,9 +148,9 @@ module _ (W : PlainWorkload) (work : Work) (desk : Desking) (lines : Lines) (sta
           follows = follows;
           labels = labels ∙ stands.works.is.labels ∙ ap (map label_of) (sym (append-nil work.came));
           pooled = pooled;
-          pages = all_more (IsPageThere W work.node work.pool) work.came [] stands.works.is.pages tt;
+          pages = all_append (IsPageThere W work.node work.pool) work.came [] stands.works.is.pages tt;
           sheets = ap (λ (l : List (Buffer Leased)). map sheet_in l) (append-nil work.came) ∙ stands.works.is.sheets ∙ sym (append-nil (flat_map brought_by work.events)) ∙ sym (brought_more work.events (Gave answer ∷ []));
-          within = all_more (IsWithin W work.node) work.events (Gave answer ∷ []) stands.works.is.within (tt, tt);
+          within = all_append (IsWithin W work.node) work.events (Gave answer ∷ []) stands.works.is.within (tt, tt);
           hands = hands_gave W.settings work.node (start W.settings) work.events answer stands.works.is.hands (subst (λ (o : Option ℕ). IsSome o) (sym first.first) refl);
         }
 

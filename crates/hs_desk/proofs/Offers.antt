@@ -1,7 +1,8 @@
 -- The agent offers until its hand is empty or an offer is unread, and a whole pass.
-use Rattle.std.proofs.Common.{◌≡◌, ◌⊎◌, inl, inr, ℕ, suc, ◌-◌, ◌<◌, ◌≤◌, Bool, true, false, List, [], ◌∷◌, ◌++◌, length, map, refl, sym, ap, ap₂, subst, ◌∙◌, arith, append_assoc, append-nil, length-append}
+use Rattle.std.proofs.Common.{◌≡◌, ◌⊎◌, inl, inr, ℕ, ◌-◌, ◌<◌, ◌≤◌, Bool, true, false, List, [], ◌∷◌, ◌++◌, length, map, refl, sym, ap, subst, ◌∙◌, arith, append_assoc, append-nil, length-append}
 use Rattle.std.proofs.lemmas.List.{map-append}
 use Rattle.std.specs.List.{AllByRecursion}
+use Rattle.hs_lists.proofs.Alls.{all_each, all_append}
 use Rattle.hs_words.specs.declared.token.TheConstants.{MAX_PUBLISHED}
 use Rattle.hs_base.specs.declared.told.Ask.{Ask}
 use Rattle.hs_base.specs.declared.told.Crumb.{Crumb}
@@ -18,11 +19,11 @@ use Rattle.hs_words.specs.Ends.{answers_in}
 use Rattle.hs_desk.specs.Agents.{state_at}
 use Rattle.hs_desk.specs.Lines.{Line, Lines, HandOutFirst}
 use Rattle.hs_desk.specs.Passing.{MakesPass}
-use Rattle.hs_desk.specs.Stages.{Desking, Stands, TakesFirst, TakesAsks, Helping, Offers, OffersNext, OffersAll, stamps_of, events_from, events_of, chunks_of}
+use Rattle.hs_desk.specs.Stages.{Desking, Stands, TakesFirst, TakesAsks, Helping, Offers, OffersNext, OffersAll, stamps_of, events_from, chunks_of}
 use Rattle.hs_desk.specs.Turns.{Gives, IsOffer}
 use Rattle.hs_desk.specs.Work.{Work, with_events, chunk_event, crumb_event, trigger_event, ask_event, gave_event}
-use Rattle.hs_desk.proofs.Lists.{all_more, all_mapped}
 use Rattle.hs_desk.proofs.Stages.{with_none, with_more, asks_more}
+use Rattle.hs_desk.proofs.ByClient.{asks_of_none}
 
 stamps_more : (xs ys : List Answered) → stamps_of (xs ++ ys) ≡ stamps_of xs ++ stamps_of ys
 stamps_more [] ys = refl
@@ -56,10 +57,10 @@ gives_more a b c xs ys g h =
       floor = omega (arith, low, high);
       above =
           subst (AllByRecursion (λ (stamp : ℕ). a.floor ≤ stamp)) (sym (stamps_more xs ys))
-          (all_more (λ (stamp : ℕ). a.floor ≤ stamp) (stamps_of xs) (stamps_of ys) g.above
-          (all_mapped (λ (stamp : ℕ). b.floor ≤ stamp) (λ (stamp : ℕ). a.floor ≤ stamp) (stamps_of ys) (λ stamp above. omega (arith, above, low)) h.above));
+          (all_append (λ (stamp : ℕ). a.floor ≤ stamp) (stamps_of xs) (stamps_of ys) g.above
+          (all_each (λ (stamp : ℕ). b.floor ≤ stamp) (λ (stamp : ℕ). a.floor ≤ stamp) (stamps_of ys) (λ stamp above. omega (arith, above, low)) h.above));
       added = h.added ++ g.added;
-      offers = all_more IsOffer h.added g.added h.offers g.offers;
+      offers = all_append IsOffer h.added g.added h.offers g.offers;
       turns = h.turns ∙ ap (λ (l : List ends.Turn). h.added ++ l) g.turns ∙ sym (append_assoc h.added g.added a.turns);
     }
 
@@ -97,7 +98,7 @@ module _ (W : PlainWorkload) (work : Work) (old : Lines) where
     offer_more lines' desk' true e next =
         record {
           answers = so_far.answers ++ next.0 ∷ [];
-          stamped = all_more IsStamped so_far.answers (next.0 ∷ []) so_far.stamped (next.1, tt);
+          stamped = all_append IsStamped so_far.answers (next.0 ∷ []) so_far.stamped (next.1, tt);
           offers = offers_more so_far.answers (next.0 ∷ []) lines lines' desk desk' so_far.offers next.2;
         }
 
@@ -139,16 +140,6 @@ triggers_ask_none : (client : ℕ) (items : List Trigger) → asks_in (map (trig
 triggers_ask_none client [] = refl
 triggers_ask_none client (item ∷ items) = triggers_ask_none client items
 
-pub helping_asks_none : (client : ℕ) (helpings : List Helping) → asks_in (events_from client helpings) ≡ []
-helping_asks_none client [] = refl
-helping_asks_none client (h ∷ helpings) =
-    asks_more (events_of client h) (events_from (suc client) helpings)
-    ∙ ap₂ (λ (a b : List Ask). a ++ b)
-    (asks_more (map (chunk_event client) h.chunks ++ map (crumb_event client) h.crumbs) (map (trigger_event client) h.triggers)
-    ∙ ap₂ (λ (a b : List Ask). a ++ b) (asks_more (map (chunk_event client) h.chunks) (map (crumb_event client) h.crumbs) ∙ ap₂ (λ (a b : List Ask). a ++ b) (chunks_ask_none client h.chunks) (crumbs_ask_none client h.crumbs))
-    (triggers_ask_none client h.triggers))
-    (helping_asks_none (suc client) helpings)
-
 -- the work behind all stages
 all_stages : (work : Work) (a b c d : List Event) (came : List (Buffer Leased)) → with_events d [] (with_events c [] (with_events b [] (with_events a came work))) ≡ with_events (((a ++ b) ++ c) ++ d) came work
 all_stages work a b c d came =
@@ -168,7 +159,7 @@ pass_made W work old lines new desk1 desk2 desk3 desk4 first asks turn offers =
     let triggers : new.triggers ≡ lines.triggers = ap (λ (l : Lines). l.triggers) offers.offers.only in
     let waited = ap length first.stands.asks_are ∙ refl in
     let sum = length-append (asks_in (work.events ++ events_from 0 hs)) desk1.asks in
-    let taken : length (asks_in (work.events ++ events_from 0 hs)) ≡ length (asks_in work.events) = ap length (asks_more work.events (events_from 0 hs) ∙ ap (λ (l : List Ask). asks_in work.events ++ l) (helping_asks_none 0 hs) ∙ append-nil (asks_in work.events)) in
+    let taken : length (asks_in (work.events ++ events_from 0 hs)) ≡ length (asks_in work.events) = ap length (asks_more work.events (events_from 0 hs) ∙ ap (λ (l : List Ask). asks_in work.events ++ l) (asks_of_none 0 hs) ∙ append-nil (asks_in work.events)) in
     let all = asks.all in
     record {
       helpings = hs;

@@ -1,9 +1,12 @@
 -- A pass of an agent over its port.
 use Rattle.std.proofs.Common.{◌≡◌, ◌⊎◌, ℕ, zero, suc, ◌+◌, ◌≤◌, List, [], ◌∷◌, ◌++◌, length, map, filter, Some, None, refl, sym, ap, subst, ◌∙◌, arith, append_assoc, length-append}
+use Rattle.std.proofs.lemmas.Grind.{flat_map-append}
 use Rattle.std.proofs.lemmas.List.{length-map}
 use Rattle.std.proofs.lemmas.Option.{same_Some, slice_get_within}
 use Rattle.std.specs.Prelude.{slice_get}
 use Rattle.std.specs.List.{AllByRecursion}
+use Rattle.hs_lists.proofs.Alls.{all_front}
+use Rattle.hs_lists.proofs.Places.{get_there, get_map}
 use Rattle.hs_base.specs.declared.limits.TheConstants.{MAX_TAKEN}
 use Rattle.hs_base.specs.declared.told.Ask.{Ask}
 use Rattle.hs_base.specs.declared.told.Crumb.{Crumb}
@@ -26,8 +29,7 @@ use Rattle.hs_desk.specs.Passing.{CanPass, MakesPass, events_made}
 use Rattle.hs_desk.specs.Stages.{Desking, Helping, events_from, chunks_of, stamps_of}
 use Rattle.hs_desk.specs.Turns.{Gives}
 use Rattle.hs_desk.specs.Work.{Work, IsFew, with_events, came_of, is_of, chunk_event, crumb_event, trigger_event, ask_event, gave_event}
-use Rattle.hs_desk.proofs.ByClient.{flat_more, crumbs_made, triggers_made, asks_made, all_front, own_chunks, came_at, came_more, is_pass}
-use Rattle.hs_desk.proofs.Handing.{there}
+use Rattle.hs_desk.proofs.ByClient.{crumbs_made, triggers_made, asks_made, own_chunks, came_at, came_more, is_pass}
 use Rattle.hs_desk.proofs.Helping.{first_few}
 use Rattle.hs_desk.proofs.Ports.{lined, line_at, end_at}
 
@@ -76,18 +78,13 @@ module _ {T : Type 0} where
   out_count (x ∷ lists) (y ∷ old) [] first = absurd first
   out_count (x ∷ lists) (y ∷ old) (z ∷ new) first = ap suc (out_count lists old new first.1)
 
-  pub field_at : (field : Helping → List T) (helpings : List Helping) (i : ℕ) (h : Helping) → slice_get helpings i ≡ Some h → slice_get (map field helpings) i ≡ Some (field h)
-  field_at field [] i h at = let none : None ≡ Some h = at in absurd cc
-  field_at field (x ∷ helpings) zero h at = ap (λ (y : Helping). Some (field y)) (same_Some x h at)
-  field_at field (x ∷ helpings) (suc i) h at = field_at field helpings i h at
-
   module _ (field : Helping → List T) (helpings : List Helping) (old new : List (Incoming T Key)) (first : HandOutFirst (map field helpings) (lined old) (lined new)) where
     received_count : length new ≡ length old
     received_count = sym (length-map new (λ (r : Incoming T Key). linked r)) ∙ out_count (map field helpings) (lined old) (lined new) first ∙ length-map old (λ (r : Incoming T Key). linked r)
 
     received_at : (client : ℕ) (r : Incoming T Key) (h : Helping) → IsEnd client old r → slice_get helpings client ≡ Some h → (q : Incoming T Key) × IsEnd client new q × HandsOut (field h) (linked r) (linked q)
     received_at client r h end at =
-        let (k, there_k, out) = out_at (map field helpings) (lined old) (lined new) client (field h) (linked r) first (field_at field helpings client h at) (line_at old client r end) in
+        let (k, there_k, out) = out_at (map field helpings) (lined old) (lined new) client (field h) (linked r) first (get_map field helpings client h at) (line_at old client r end) in
         let (q, end_q, is) = end_at new client k there_k in
         (q, end_q, subst (λ (l : Line T). HandsOut (field h) (linked r) l) is out)
 
@@ -97,7 +94,7 @@ module _ {T : Type 0} where
           count = received_count;
           each = λ client r end.
               let low = slice_get_within old client r end in
-              let (h, at) = there helpings client (omega (arith, low, number)) in
+              let (h, at) = get_there helpings client (omega (arith, low, number)) in
               let (q, end_q, out) = received_at client r h end at in (
                 q,
                 end_q,
@@ -113,8 +110,8 @@ module _ {T : Type 0} where
     received_more number before behind was brings client q end =
         let count = received_count in
         let low = slice_get_within new client q end in
-        let (h, at) = there helpings client (omega (arith, low, number, count)) in
-        let (r, end_r) = there old client (omega (arith, low, count)) in
+        let (h, at) = get_there helpings client (omega (arith, low, number, count)) in
+        let (r, end_r) = get_there old client (omega (arith, low, count)) in
         let (p, end_p, out) = received_at client r h end_r at in
         let same : q ≡ p = same_Some q p (sym end ∙ end_p) in
         ap (λ (x : Incoming T Key). x.received) same ∙ out.hands.1 ∙ ap (λ (x : List T). x ++ field h) (was client r end_r) ∙ sym (brings client h at)
@@ -157,10 +154,10 @@ module _ (W : PlainWorkload) (work : Work) (old new : Lines) (desk : Desking) (m
   came_behind client h at = came_more client work.came came ∙ ap (λ (l : List (Buffer Leased)). came_of client work ++ l) (came_here client h at)
 
   pub crumbs_behind : (client : ℕ) (h : Helping) → slice_get made.helpings client ≡ Some h → crumbs_in client (work.events ++ pass) ≡ crumbs_in client work.events ++ h.crumbs
-  crumbs_behind client h at = flat_more (crumb_in client) work.events pass ∙ ap (λ (l : List Crumb). crumbs_in client work.events ++ l) (crumbs_made client made.helpings made.asks made.answers h at)
+  crumbs_behind client h at = flat_map-append (crumb_in client) work.events pass ∙ ap (λ (l : List Crumb). crumbs_in client work.events ++ l) (crumbs_made client made.helpings made.asks made.answers h at)
 
   pub triggers_behind : (client : ℕ) (h : Helping) → slice_get made.helpings client ≡ Some h → triggers_in client (work.events ++ pass) ≡ triggers_in client work.events ++ h.triggers
-  triggers_behind client h at = flat_more (trigger_in client) work.events pass ∙ ap (λ (l : List Trigger). triggers_in client work.events ++ l) (triggers_made client made.helpings made.asks made.answers h at)
+  triggers_behind client h at = flat_map-append (trigger_in client) work.events pass ∙ ap (λ (l : List Trigger). triggers_in client work.events ++ l) (triggers_made client made.helpings made.asks made.answers h at)
 
   pub ends_pass : EndsPass W (state_at W (with_events pass [] work)) pass
   ends_pass =
@@ -177,7 +174,7 @@ module _ (W : PlainWorkload) (work : Work) (old new : Lines) (desk : Desking) (m
 
   pub takes_asks : TakesItsAsks work pass
   takes_asks =
-      let both = ap length (flat_more ask_in work.events pass) ∙ length-append (asks_in work.events) (asks_in pass) in
+      let both = ap length (flat_map-append ask_in work.events pass) ∙ length-append (asks_in work.events) (asks_in pass) in
       let here = ap length (asks_made made.helpings made.asks made.answers) in
       let all = made.all_asks in
       omega (arith, both, here, all)

@@ -4,6 +4,7 @@ use Rattle.std.proofs.lemmas.Option.{same_Some}
 use Rattle.std.proofs.lemmas.List.{map-append}
 use Rattle.std.specs.Prelude.{slice_get, slice_set, IfSome, IfNone}
 use Rattle.std.specs.List.{AllByRecursion}
+use Rattle.hs_lists.proofs.Lent.{lent, lent_is, lent_from}
 use Rattle.hs_link.specs.Contents.{Incoming, Outgoing, Remaining, AreEnds, sent}
 use Rattle.hs_live.specs.Keys.{Key}
 use Rattle.hs_live.specs.Live.{outgoing, incoming}
@@ -13,7 +14,6 @@ use Rattle.hs_words.specs.declared.token.Held.{Held}
 use Rattle.hs_desk.specs.Lines.{Line, closed, HandsAt, IsAt}
 use Rattle.hs_desk.specs.Resting.{AreEndsOf, AreRests, GivesAt, is_given, are_given}
 use Rattle.hs_desk.specs.Shut.{remaining}
-use Rattle.hs_desk.proofs.Lists.{lent, lent_is, lent_from}
 use Rattle.hs_desk.proofs.Handing.{set_same}
 
 module _ {T F : Type 0} where

@@ -1,10 +1,12 @@
 -- An agent whose links are closed: closing them, passes over what is left, and the end.
 use Rattle.std.proofs.Common.{◌≡◌, ℕ, zero, suc, ◌<◌, Bool, true, false, ◌&&◌, List, [], ◌∷◌, ◌++◌, length, map, Option, Some, None, refl, sym, ap, ap₂, subst, ◌∙◌, arith, append_assoc, length-append, eqb, eqb-true, eq-eqb}
-use Rattle.std.proofs.lemmas.List.{length-map}
+use Rattle.std.proofs.lemmas.List.{length-map, nil_from_length}
 use Rattle.std.proofs.lemmas.Option.{same_Some, slice_get_within}
 use Rattle.std.specs.Prelude.{slice_get, IfSome, filter_map}
 use Rattle.std.specs.List.{AllByRecursion, cons_option}
 use Rattle.std.specs.Option.{option_map_or, option_to_list}
+use Rattle.hs_lists.proofs.Places.{get_there, get_map}
+use Rattle.hs_lists.proofs.Alls.{all_at}
 use Rattle.hs_base.specs.declared.told.Crumb.{Crumb}
 use Rattle.hs_base.specs.declared.told.Told.{Told}
 use Rattle.hs_base.specs.declared.told.Trigger.{Trigger}
@@ -32,9 +34,7 @@ use Rattle.hs_desk.specs.Shut.{Shut, AllSent, IsShut, IsBare, PassesShut, TakesL
 use Rattle.hs_desk.specs.Stages.{Desking, Helping, Stands}
 use Rattle.hs_desk.specs.Turns.{lent_of}
 use Rattle.hs_desk.specs.Work.{Work, IsFew, with_events, with_moved, came_of}
-use Rattle.hs_desk.proofs.Handing.{there}
-use Rattle.hs_desk.proofs.Lists.{all_at}
-use Rattle.hs_desk.proofs.Passed.{pass, came, came_behind, crumbs_behind, triggers_behind, ends_pass, gives_made, takes_asks, out_at, out_count, field_at}
+use Rattle.hs_desk.proofs.Passed.{pass, came, came_behind, crumbs_behind, triggers_behind, ends_pass, gives_made, takes_asks, out_at, out_count}
 use Rattle.hs_desk.proofs.Ports.{lined, line_at}
 use Rattle.hs_desk.proofs.Resting.{shut_list, rest_at, left_at, all_empty, all_are_given}
 use Rattle.hs_desk.proofs.Telling.{tells}
@@ -47,7 +47,7 @@ module _ {T : Type 0} (field : Helping → List T) (helpings : List Helping) (ol
 
   at_pass : (client : ℕ) (r : Remaining T Key) (h : Helping) → slice_get old client ≡ Some r → slice_get helpings client ≡ Some h → (q : Remaining T Key) × (slice_get new client ≡ Some q) × HandsOut (field h) (closed r) (closed q)
   at_pass client r h at helped =
-      let (k, there_k, out) = out_at (map field helpings) (shut_list old) (shut_list new) client (field h) (closed r) first (field_at field helpings client h helped) (rest_at old client r at) in
+      let (k, there_k, out) = out_at (map field helpings) (shut_list old) (shut_list new) client (field h) (closed r) first (get_map field helpings client h helped) (rest_at old client r at) in
       let (q, at_q, is) = left_at new client k there_k in
       (q, at_q, subst (λ (l : Line T). HandsOut (field h) (closed r) l) is out)
 
@@ -57,16 +57,16 @@ module _ {T : Type 0} (field : Helping → List T) (helpings : List Helping) (ol
     still_left client q at =
         let count = count_left in
         let low = slice_get_within new client q at in
-        let (h, helped) = there helpings client (omega (arith, low, number, count)) in
-        let (r, at_r) = there old client (omega (arith, low, count)) in
+        let (h, helped) = get_there helpings client (omega (arith, low, number, count)) in
+        let (r, at_r) = get_there old client (omega (arith, low, count)) in
         let (p, at_p, out) = at_pass client r h at_r helped in
         let same : q ≡ p = same_Some q p (sym at ∙ at_p) in
         ap₂ (λ (x : List T) (y : Remaining T Key). x ++ y.items) (brings client h helped) same ∙ append_assoc (before client) (field h) p.items ∙ ap (λ (l : List T). before client ++ l) (sym out.hands.1) ∙ was client r at_r
 
     pub takes_left : (client : ℕ) → client < length old → TakesLeft (all client) (before client) (behind client)
     takes_left client low =
-        let (h, helped) = there helpings client (omega (arith, low, number)) in
-        let (r, at_r) = there old client low in
+        let (h, helped) = get_there helpings client (omega (arith, low, number)) in
+        let (r, at_r) = get_there old client low in
         let (p, at_p, out) = at_pass client r h at_r helped in
         let sum = ap length (sym (was client r at_r)) ∙ length-append (before client) r.items in
         let more = ap length (brings client h helped) ∙ length-append (before client) (field h) in
@@ -259,10 +259,6 @@ pub nothing_waits : {A : Type 0} (items : List A) (count : ℕ) (flag : Bool) �
 nothing_waits [] count flag same e on = refl
 nothing_waits (x ∷ items) count flag same e on = let none = eqb-true count 0 (sym e ∙ on) in absurd (omega (arith, none, same))
 
-no_items : {A : Type 0} (items : List A) → length items ≡ 0 → items ≡ []
-no_items [] e = refl
-no_items (x ∷ items) e = absurd (omega (arith, e))
-
 module _ (W : PlainWorkload) (work : Work) (shut : Shut) where
   -- where something is left of a link
   pub not_bare : (are_given shut.chunks && are_given shut.crumbs && are_given shut.triggers) ≡ false → IsBare W work shut → ⊥
@@ -286,7 +282,7 @@ module _ (W : PlainWorkload) (work : Work) (shut : Shut) where
               triggers = all_empty shut.triggers c;
               asks = asks;
               said = said;
-              pinned = no_items (state_at W work).pinned (sym count ∙ none);
+              pinned = nil_from_length (state_at W work).pinned (sym count ∙ none);
             }),
         λ off bare. (let zero_pins : pins ≡ 0 = count ∙ ap length bare.pinned in let on = eq-eqb pins 0 zero_pins in absurd cc),
       )

@@ -4,6 +4,7 @@ use Rattle.std.proofs.lemmas.List.{map-append}
 use Rattle.std.specs.Prelude.{IsSome, slice_get}
 use Rattle.std.specs.List.{AllByRecursion, flat_map}
 use Rattle.std.specs.Option.{option_map_or, option_to_list}
+use Rattle.hs_lists.proofs.Alls.{all_append}
 use Rattle.hs_agent.specs.declared.input.Input.{Input}
 use Rattle.hs_agent.specs.declared.input.Input.TheVariants as inputs
 use Rattle.hs_agent.specs.Keeping.{Keeping}
@@ -21,7 +22,6 @@ use Rattle.hs_words.specs.Buffers.{Buffer, buffer_of}
 use Rattle.hs_words.specs.Pages.{Sheet}
 use Rattle.hs_desk.specs.Agents.{AgentIs, AgentWorks, IsPageThere, IsPooled, IsWithin, MayCome, Label, label_of, run_at, state_at, with_input}
 use Rattle.hs_desk.specs.Work.{Work}
-use Rattle.hs_desk.proofs.Lists.{all_more}
 use Rattle.hs_desk.proofs.Admitted.{admitted_few}
 
 -- ---- offers are made of what is in the hand
@@ -108,12 +108,12 @@ module _ (W : PlainWorkload) (work : Work) where
           follows = follows;
           labels =
               map-append label_of works.is.buffers (buffers_in input) ∙ ap (λ (l : List Label). l ++ map label_of (buffers_in input)) works.is.labels ∙ sym (map-append label_of work.came (buffers_in input));
-          pooled = all_more (IsPooled W work.pool) works.is.buffers (buffers_in input) works.is.pooled (brings_pooled input may);
-          pages = all_more (IsPageThere W work.node work.pool) work.came (buffers_in input) works.is.pages (brings_pages input may);
+          pooled = all_append (IsPooled W work.pool) works.is.buffers (buffers_in input) works.is.pooled (brings_pooled input may);
+          pages = all_append (IsPageThere W work.node work.pool) work.came (buffers_in input) works.is.pages (brings_pages input may);
           sheets =
               map-append sheet_in work.came (buffers_in input) ∙ ap (λ (l : List Sheet). l ++ map sheet_in (buffers_in input)) works.is.sheets
               ∙ ap (λ (l : List Sheet). flat_map brought_by work.events ++ l) (brought input) ∙ sym (brought_more work.events (Took (input_of input) ∷ []));
-          within = all_more (IsWithin W work.node) work.events (Took (input_of input) ∷ []) works.is.within (is_within input may, tt);
+          within = all_append (IsWithin W work.node) work.events (Took (input_of input) ∷ []) works.is.within (is_within input may, tt);
           hands = hands_took W.settings work.node (start W.settings) work.events (input_of input) works.is.hands;
         }
 

@@ -1,8 +1,9 @@
 -- What agents tell may be heard, and what is told and asked between rounds.
 use Rattle.std.proofs.Common.{◌≡◌, ℕ, Bool, true, false, cond, List, [], ◌∷◌, ◌++◌, filter, Option, Some, None, refl, sym, ap, subst, ◌∙◌, append_assoc}
-use Rattle.std.specs.Prelude.{find, IfSome}
+use Rattle.std.specs.Prelude.{IfSome}
 use Rattle.std.specs.List.{AllByRecursion}
 use Rattle.std.specs.Option.{option_and_then, option_to_list}
+use Rattle.hs_lists.proofs.Alls.{all_append, all_mid, all_find}
 use Rattle.hs_actors.specs.Doings.{asks_in, crumbs_in, triggers_in}
 use Rattle.hs_live.specs.Live.{Port}
 use Rattle.hs_base.specs.Rules.{is_declared}
@@ -22,20 +23,11 @@ use Rattle.hs_desk.specs.Manned.{Manned, IsManned, HasReceived, desk_of}
 use Rattle.hs_desk.specs.Stages.{Desking, Stands}
 use Rattle.hs_desk.specs.Lines.{Lines, lines_of}
 use Rattle.hs_desk.specs.Work.{Work, with_ask, with_moved, is_of}
-use Rattle.hs_desk.proofs.Lists.{all_more}
-
-all_mid : {A : Type 0} (P : A → Type 0) (xs ys : List A) (y : A) → AllByRecursion P (xs ++ y ∷ ys) → P y
-all_mid P [] ys y all = all.0
-all_mid P (x ∷ xs) ys y all = all_mid P xs ys y all.1
 
 -- what is found is one of the list
 found_step : {A : Type 0} (P : A → Type 0) (b : Bool) (x y : A) (rest : Option A) → P x → (rest ≡ Some y → P y) → cond b (Some x) rest ≡ Some y → P y
 found_step P true x y rest here later e = let same : x ≡ y = cc in subst P same here
 found_step P false x y rest here later e = later e
-
-found : {A : Type 0} (P : A → Type 0) (p : A → Bool) (xs : List A) (y : A) → AllByRecursion P xs → find p xs ≡ Some y → P y
-found P p [] y all e = let none : None ≡ Some y = e in absurd cc
-found P p (x ∷ xs) y all e = found_step P (p x) x y (find p xs) all.0 (λ later. found P p xs y all.1 later) e
 
 module _ (W : PlainWorkload) (node : ℕ) where
   -- whether a group's trigger id is declared
@@ -65,7 +57,7 @@ module _ (W : PlainWorkload) (node : ℕ) where
   told_declared : (state : AgentState) (input : Input) → AllPass test state.claims → IsWithin W node (Took input) → AllDeclared (told_by W.settings node state input)
   told_declared state (Chunk client sheet) claims within = tt
   told_declared state (Crumbed client crumb) claims within =
-      claim_told crumb state (claim_of state.claims crumb.trace) (λ claim e. found (λ (c : ClaimedTrace). test c.group ≡ true) (λ (c : ClaimedTrace). same_trace crumb.trace c.trace) state.claims claim claims e)
+      claim_told crumb state (claim_of state.claims crumb.trace) (λ claim e. all_find (λ (c : ClaimedTrace). test c.group ≡ true) (λ (c : ClaimedTrace). same_trace crumb.trace c.trace) state.claims claim claims e)
   told_declared state (Triggered client trigger) claims within = fired_told (admits W.settings state.tried trigger) _ within.1
   told_declared state (Asked ask) claims within = (within, tt)
   told_declared state Turn claims within = tt
@@ -99,7 +91,7 @@ module _ (W : PlainWorkload) (node : ℕ) where
     declared_from state [] claims said within = said
     declared_from state (Took input ∷ events) claims said within =
         declared_from (after_event W.settings node state (Took input)) events ((few W.settings node state).claims test input claims (claims_declared state input within.0))
-        (subst (λ (l : List Told). AllByRecursion IsDeclared l) (sym ((says W.settings node state).inputs input)) (all_more IsDeclared state.said (option_to_list (told_by W.settings node state input)) said (told_declared state input claims within.0))) within.1
+        (subst (λ (l : List Told). AllByRecursion IsDeclared l) (sym ((says W.settings node state).inputs input)) (all_append IsDeclared state.said (option_to_list (told_by W.settings node state input)) said (told_declared state input claims within.0))) within.1
     declared_from state (Gave answer ∷ events) claims said within =
         declared_from (after_event W.settings node state (Gave answer)) events (subst (λ (l : List ClaimedTrace). AllPass test l) (sym ((few W.settings node state).kept answer)) claims)
         (subst (λ (l : List Told). AllByRecursion IsDeclared l) (sym ((says W.settings node state).answers answer)) said) within.1
@@ -163,7 +155,7 @@ module _ (W : PlainWorkload) (work : Work) (lines : Lines) where
               said_is = stands.works.said_is;
             };
         asks_are = sym (append_assoc (asks_in work.events) desk.asks (ask ∷ [])) ∙ ap (λ (l : List Ask). l ++ ask ∷ []) stands.asks_are;
-        askable = all_more (IsAskable W) work.asked (ask ∷ []) stands.askable (askable, tt);
+        askable = all_append (IsAskable W) work.asked (ask ∷ []) stands.askable (askable, tt);
         lines_are = stands.lines_are;
         turns = stands.turns;
       }

@@ -1,5 +1,6 @@
 -- Where the parts of the nodes stand before anything was performed.
-use Rattle.std.proofs.Common.{◌≡◌, ◌⊎◌, inl, inr, ℕ, zero, suc, ◌+◌, ◌*◌, ◌/◌, ◌<◌, Bool, true, false, ◌&&◌, nat_eq, List, [], ◌∷◌, ◌++◌, length, map, drop, Some, None, refl, sym, ap, subst, ◌∙◌, arith, slice_get, unwrap_or, eqb-true, length-append, mul-le-mul_right}
+use Rattle.std.proofs.Common.{◌≡◌, ◌⊎◌, inl, inr, ℕ, zero, suc, ◌+◌, ◌*◌, ◌/◌, ◌<◌, Bool, true, ◌&&◌, nat_eq, List, [], ◌∷◌, ◌++◌, length, map, drop, Some, None, refl, sym, ap, subst, ◌∙◌, arith, slice_get, eqb-true, length-append, mul-le-mul_right}
+use Rattle.std.proofs.lemmas.Bool.{and_parts}
 use Rattle.std.proofs.lemmas.List.FromFn.{length-map-range_with_len}
 use Rattle.std.proofs.lemmas.Nat.{div-mul-add, mod-mul-add}
 use Rattle.std.proofs.lemmas.Option.{same_Some}
@@ -16,6 +17,7 @@ use Rattle.hs_lawful.specs.Following.{NodeRun, node_start, run_start, log_at}
 use Rattle.hs_lawful.specs.Orders.{Stays}
 use Rattle.hs_lawful.specs.Shape.{same_counts}
 use Rattle.hs_outcome.specs.Outcomes.{client_at}
+use Rattle.hs_outcome.proofs.Entries.{same_length, same_many}
 use Rattle.hs_records.specs.Pages.{pages_of}
 use Rattle.hs_records.specs.Plain.{Operation, PlainWorkload}
 use Rattle.hs_sent.specs.Sending.{draws_at, operations_at, place_of}
@@ -66,30 +68,6 @@ module _ {A : Type 0} (f : ℕ → A) where
   get_map start (suc count) (suc n) x at = let on : start + suc n ≡ (start + 1) + n = omega arith in ap f on ∙ get_map (start + 1) count n x at
 
 -- ---- the shape
-
-and_parts : (a b : Bool) → (a && b) ≡ true → (a ≡ true) × (b ≡ true)
-and_parts true true h = (refl, refl)
-and_parts true false h = let never : false ≡ true = h in absurd cc
-and_parts false true h = let never : false ≡ true = h in absurd cc
-and_parts false false h = let never : false ≡ true = h in absurd cc
-
-same_length : (draws : List (List Draw)) (clients : List (List Operation)) (size place : ℕ)
-    → same_counts (map length draws) (map (λ ops. length (pages_of size ops)) clients) ≡ true
-    → length (unwrap_or (slice_get draws place) []) ≡ length (pages_of size (unwrap_or (slice_get clients place) []))
-same_length [] [] size place h = refl
-same_length [] (ops ∷ clients) size place h = let never : false ≡ true = h in absurd cc
-same_length (drawn ∷ draws) [] size place h = let never : false ≡ true = h in absurd cc
-same_length (drawn ∷ draws) (ops ∷ clients) size zero h =
-    eqb-true (length drawn) (length (pages_of size ops)) (and_parts (nat_eq (length drawn) (length (pages_of size ops))) (same_counts (map length draws) (map (λ ops. length (pages_of size ops)) clients)) h).0
-same_length (drawn ∷ draws) (ops ∷ clients) size (suc place) h =
-    same_length draws clients size place (and_parts (nat_eq (length drawn) (length (pages_of size ops))) (same_counts (map length draws) (map (λ ops. length (pages_of size ops)) clients)) h).1
-
-same_many : (draws : List (List Draw)) (clients : List (List Operation)) (size : ℕ) → same_counts (map length draws) (map (λ ops. length (pages_of size ops)) clients) ≡ true → length draws ≡ length clients
-same_many [] [] size h = refl
-same_many [] (ops ∷ clients) size h = let never : false ≡ true = h in absurd cc
-same_many (drawn ∷ draws) [] size h = let never : false ≡ true = h in absurd cc
-same_many (drawn ∷ draws) (ops ∷ clients) size h =
-    ap suc (same_many draws clients size (and_parts (nat_eq (length drawn) (length (pages_of size ops))) (same_counts (map length draws) (map (λ ops. length (pages_of size ops)) clients)) h).1)
 
 module _ (W : PlainWorkload) (J : PlainJournal) (may : MayBegin W J) where
   abbrev counts : Bool

@@ -1,22 +1,14 @@
 -- What one step more takes from the queues, and what is left of them.
-use Rattle.std.proofs.Common.{◌≡◌, ℕ, zero, suc, ◌+◌, ◌<◌, ◌≤◌, true, false, Bool, cond, List, [], ◌∷◌, ◌++◌, map, drop, Some, None, refl, ap, ◌∙◌, arith}
-use Rattle.std.proofs.lemmas.List.Sums.{sum_by-append}
+use Rattle.std.proofs.Common.{◌≡◌, ℕ, zero, suc, ◌+◌, ◌≤◌, true, List, [], ◌∷◌, ◌++◌, map, drop, Some, None, refl, ap, arith}
 use Rattle.std.specs.Prelude.{slice_get}
 use Rattle.std.specs.List.{range_with_len}
+use Rattle.hs_lists.proofs.Counts.{one_if}
 use Rattle.hs_journal.specs.declared.journal.Step.{Step}
 use Rattle.hs_lawful.specs.Following.{Queue, takes, taken}
-
-abbrev pub one : Bool → ℕ
-one b = cond b 1 0
-
-pub taken_more : (queue : Queue) (log : List Step) (step : Step) → taken queue (log ++ step ∷ []) ≡ taken queue log + one (takes queue step)
-taken_more queue log step = let both = sum_by-append (λ (s : Step). one (takes queue s)) log (step ∷ []) in omega (arith, both)
-
-pub taken_still : (queue : Queue) (log : List Step) (step : Step) → takes queue step ≡ false → taken queue (log ++ step ∷ []) ≡ taken queue log
-taken_still queue log step other = let more = taken_more queue log step in let none = ap one other in omega (arith, more, none)
+use Rattle.hs_lawful.proofs.Logs.{taken_push}
 
 pub taken_once : (queue : Queue) (log : List Step) (step : Step) → takes queue step ≡ true → taken queue (log ++ step ∷ []) ≡ suc (taken queue log)
-taken_once queue log step own = let more = taken_more queue log step in let here = ap one own in omega (arith, more, here)
+taken_once queue log step own = let more = taken_push queue log step in let here = ap one_if own in omega (arith, more, here)
 
 module _ {A : Type 0} where
   pub drop_next : (xs : List A) (k : ℕ) (x : A) (rest : List A) → drop k xs ≡ x ∷ rest → (slice_get xs k ≡ Some x) × (drop (suc k) xs ≡ rest)
@@ -30,11 +22,6 @@ module _ {A : Type 0} where
   drop_none [] (suc k) e = refl
   drop_none (y ∷ xs) zero e = absurd cc
   drop_none (y ∷ xs) (suc k) e = drop_none xs k e
-
-  pub range_get : (f : ℕ → A) (start count place : ℕ) → place < count → slice_get (map f (range_with_len start count)) place ≡ Some (f (start + place))
-  range_get f start zero place low = absurd (omega arith)
-  range_get f start (suc count) zero low = ap (λ n. Some (f n)) (omega arith)
-  range_get f start (suc count) (suc place) low = range_get f (start + 1) count place (omega arith) ∙ ap (λ n. Some (f n)) (omega arith)
 
   pub range_past : (f : ℕ → A) (start count place : ℕ) → count ≤ place → slice_get (map f (range_with_len start count)) place ≡ None
   range_past f start zero place high = refl

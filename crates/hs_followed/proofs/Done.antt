@@ -1,7 +1,10 @@
 -- Whether a step is left anywhere.
 use Rattle.std.proofs.Common.{◌≡◌, inl, inr, ℕ, zero, suc, ◌+◌, ◌-◌, ◌<◌, ◌≤◌, Bool, true, false, ◌&&◌, nat_eq, leb, ne_eqb, eq-eqb, leb-true, leb-false, List, [], ◌∷◌, length, drop, Some, None, refl, sym, ap, ◌∙◌, arith, slice_get, unwrap_or, length-drop}
 use Rattle.std.specs.List.{list_all}
-use Rattle.std.proofs.lemmas.Option.{same_Some}
+use Rattle.std.proofs.Math.Bool.{and-false}
+use Rattle.std.proofs.lemmas.List.{drop_all}
+use Rattle.std.proofs.lemmas.Option.{same_Some, slice_get_within}
+use Rattle.hs_lists.proofs.Places.{get_there}
 use Rattle.hs_journal.specs.Views.{PlainJournal}
 use Rattle.hs_journal.specs.declared.journal.Step.{Step}
 use Rattle.hs_lawful.specs.Extending.{RunsAreOfTheJournal}
@@ -10,17 +13,9 @@ use Rattle.hs_records.specs.Plain.{PlainWorkload}
 use Rattle.hs_followed.specs.Whole.{AllAt}
 use Rattle.hs_followed.specs.declared.hearing.Hearing.{Hearing}
 use Rattle.hs_followed.specs.declared.tracked.Tracked.{Tracked}
-use Rattle.hs_followed.proofs.Heard.{get_low}
-use Rattle.hs_followed.proofs.Lists.{found_within}
 use Rattle.hs_followed.proofs.Steps.{number_is, below_last}
 
 module _ {A : Type 0} where
-  pub drop_past : (n : ℕ) (xs : List A) → length xs ≤ n → drop n xs ≡ []
-  drop_past zero [] h = refl
-  drop_past zero (x ∷ xs) h = absurd (omega (arith, h))
-  drop_past (suc n) [] h = refl
-  drop_past (suc n) (x ∷ xs) h = drop_past n xs (omega (arith, h))
-
   none_long : (xs : List A) → xs ≡ [] → nat_eq (length xs) 0 ≡ true
   none_long xs e = ap (λ (l : List A). nat_eq (length l) 0) e
 
@@ -39,14 +34,10 @@ all_through : (nodes : List NodeRun) → ((n : ℕ) (node : NodeRun) → slice_g
 all_through [] each = refl
 all_through (node ∷ nodes) each = ap (λ b. b && list_all is_through nodes) (none_long node.left (each 0 node refl)) ∙ all_through nodes (λ n other at. each (suc n) other at)
 
-and_never : (b : Bool) → (b && false) ≡ false
-and_never true = refl
-and_never false = refl
-
 one_left : (nodes : List NodeRun) (n : ℕ) (node : NodeRun) → slice_get nodes n ≡ Some node → 0 < length node.left → list_all is_through nodes ≡ false
 one_left [] n node at more = let never : None ≡ Some node = at in absurd cc
 one_left (first ∷ nodes) zero node at more = ap (λ b. b && list_all is_through nodes) (ap is_through (same_Some first node at) ∙ some_long node.left more)
-one_left (first ∷ nodes) (suc n) node at more = ap (λ b. is_through first && b) (one_left nodes n node at more) ∙ and_never (is_through first)
+one_left (first ∷ nodes) (suc n) node at more = ap (λ b. is_through first && b) (one_left nodes n node at more) ∙ and-false (is_through first)
 
 module _ (runs : RunsAreOfTheJournal) (W : PlainWorkload) (J : PlainJournal) (run : Run) (nodes : List Tracked) (h : Hearing) (a : AllAt W J run nodes h) where
   left_is : (n : ℕ) (t : Tracked) (log : List Step) → slice_get nodes n ≡ Some t → slice_get J.logs n ≡ Some log → (node : NodeRun) → slice_get run.nodes n ≡ Some node → node.left ≡ drop t.next log
@@ -56,7 +47,7 @@ module _ (runs : RunsAreOfTheJournal) (W : PlainWorkload) (J : PlainJournal) (ru
 
   -- the node's log is through
   pub through : (n : ℕ) (t : Tracked) (log : List Step) → slice_get nodes n ≡ Some t → slice_get J.logs n ≡ Some log → length log ≤ t.next → (node : NodeRun) → slice_get run.nodes n ≡ Some node → node.left ≡ []
-  through n t log t_at log_there high node at = left_is n t log t_at log_there node at ∙ drop_past t.next log high
+  through n t log t_at log_there high node at = left_is n t log t_at log_there node at ∙ drop_all t.next log high
 
   pub through_more : (first : ℕ) (t : Tracked) (log : List Step) → slice_get nodes first ≡ Some t → slice_get J.logs first ≡ Some log → length log ≤ t.next
       → ((n : ℕ) (node : NodeRun) → n < first → slice_get run.nodes n ≡ Some node → node.left ≡ []) → (n : ℕ) (node : NodeRun) → n < first + 1 → slice_get run.nodes n ≡ Some node → node.left ≡ []
@@ -70,18 +61,18 @@ module _ (runs : RunsAreOfTheJournal) (W : PlainWorkload) (J : PlainJournal) (ru
   pub not_through : (n : ℕ) (t : Tracked) (log : List Step) → slice_get nodes n ≡ Some t → slice_get J.logs n ≡ Some log → t.next < length log → false ≡ is_done run
   not_through n t log t_at log_there low =
       let n_low = found_low n t t_at in
-      let there = get_low run.nodes n (let count = a.nodes_are.count in omega (arith, n_low, count)) in
+      let there = get_there run.nodes n (let count = a.nodes_are.count in omega (arith, n_low, count)) in
       let long = ap length (left_is n t log t_at log_there there.0 there.1) ∙ length-drop t.next log in
       sym (ap (λ b. b && nat_eq (length run.left) 0) (one_left run.nodes n there.0 there.1 (omega (arith, long, low))))
     where
       found_low : (n : ℕ) (t : Tracked) → slice_get nodes n ≡ Some t → n < length nodes
-      found_low n t at = found_within nodes n t at
+      found_low n t at = slice_get_within nodes n t at
 
   -- all nodes are through
   all_through_here : ((n : ℕ) (node : NodeRun) → n < length nodes → slice_get run.nodes n ≡ Some node → node.left ≡ []) → list_all is_through run.nodes ≡ true
   all_through_here each =
       let count = a.nodes_are.count in
-      all_through run.nodes (λ n node at. let low = found_within run.nodes n node at in each n node (omega (arith, low, count)) at)
+      all_through run.nodes (λ n node at. let low = slice_get_within run.nodes n node at in each n node (omega (arith, low, count)) at)
 
   pub all_done : ((n : ℕ) (node : NodeRun) → n < length nodes → slice_get run.nodes n ≡ Some node → node.left ≡ []) → leb (length J.told) h.next ≡ is_done run
   all_done each =

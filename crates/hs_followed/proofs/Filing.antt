@@ -1,11 +1,8 @@
 -- Noting what is behind a pass.
 use Rattle.std.proofs.Common.{◌≡◌, ℕ, Bool, true, false, List, [], ◌∷◌, ◌++◌, refl, sym, ap, ◌∙◌}
+use Rattle.hs_lists.proofs.Parts.{nil_behind}
 use Rattle.hs_followed.specs.Noting.{Notes, noted_if, hand_of, said_of}
 use Rattle.hs_followed.specs.declared.tracked.Tracked.{Tracked}
-
-nil_behind : {A : Type 0} (xs : List A) → xs ≡ xs ++ []
-nil_behind [] = refl
-nil_behind {A = A} (x ∷ xs) = ap (λ (l : List A). x ∷ l) (nil_behind xs)
 
 pub nothing_noted : (t : Tracked) (last : Bool) → last ≡ false → Notes last t t
 nothing_noted t last is =

@@ -1,8 +1,11 @@
 -- What was found at the nodes is found of their runs.
-use Rattle.std.proofs.Common.{◌≡◌, ℕ, zero, suc, ◌+◌, ◌≤◌, Bool, true, false, ◌&&◌, nat_eq, List, [], ◌∷◌, ◌++◌, length, map, drop, Option, Some, None, refl, sym, ap, subst, ◌∙◌, arith, slice_get, option_map, eqb-true, append_assoc}
-use Rattle.std.proofs.lemmas.List.{map-append}
+use Rattle.std.proofs.Common.{◌≡◌, ℕ, zero, suc, ◌+◌, ◌≤◌, true, nat_eq, List, [], ◌∷◌, ◌++◌, length, map, drop, Option, Some, None, refl, sym, ap, subst, ◌∙◌, arith, slice_get, option_map, eqb-true, append_assoc}
+use Rattle.std.proofs.lemmas.Bool.{and_parts}
+use Rattle.std.proofs.lemmas.List.{map-append, nil_from_length}
 use Rattle.std.proofs.lemmas.Option.{same_Some, slice_get-map}
 use Rattle.std.specs.List.{list_all, range_with_len, flat_map}
+use Rattle.hs_lists.proofs.Parts.{nil_behind}
+use Rattle.hs_lists.proofs.Alls.{all_at}
 use Rattle.hs_clauses.specs.Finding.{AreAsked, AreFound, IsFound, IsFoundClient, IsFoundNode, given_name, named}
 use Rattle.hs_clauses.specs.declared.found.Found.{Found}
 use Rattle.hs_clauses.specs.declared.found.FoundNode.{FoundNode}
@@ -24,14 +27,9 @@ use Rattle.hs_followed.specs.Parting.{IsFoundOf, found_left}
 use Rattle.hs_followed.specs.Whole.{AllAt}
 use Rattle.hs_followed.specs.declared.hearing.Hearing.{Hearing}
 use Rattle.hs_followed.specs.declared.tracked.Tracked.{Tracked}
-use Rattle.hs_followed.proofs.Lists.{all_at}
 use Rattle.hs_followed.proofs.PassEnds.{all_noted}
 
 -- ---- lists
-
-pub nil_behind : {A : Type 0} (xs : List A) → xs ≡ xs ++ []
-nil_behind [] = refl
-nil_behind {A = A} (x ∷ xs) = ap (λ (l : List A). x ∷ l) (nil_behind xs)
 
 module _ {A B : Type 0} (IsOf : A → B → Type 0) where
   pub found_more : (xs : List A) (founds : List B) (x : A) (found : B) → AreFound IsOf xs founds → IsOf x found → AreFound IsOf (xs ++ x ∷ []) (founds ++ found ∷ [])
@@ -39,10 +37,6 @@ module _ {A B : Type 0} (IsOf : A → B → Type 0) where
   found_more [] (y ∷ founds) x found are is = absurd are
   found_more (z ∷ xs) [] x found are is = absurd are
   found_more (z ∷ xs) (y ∷ founds) x found are is = (are.0, found_more xs founds x found are.1 is)
-
-pub map_same : {A : Type 0} (xs : List A) → map (λ x. x) xs ≡ xs
-map_same [] = refl
-map_same {A = A} (x ∷ xs) = ap (λ (l : List A). x ∷ l) (map_same xs)
 
 -- a list that is read off another, with one more
 pub read_more : {A B : Type 0} (f : A → B) (xs : List A) (x : A) (old items : List B) (item : B) (new : List B) → new ≡ items ++ item ∷ [] → items ≡ old ++ map f xs → item ≡ f x → new ≡ old ++ map f (xs ++ x ∷ [])
@@ -89,12 +83,6 @@ named_alike run (given ∷ gives) =
 
 -- ---- nothing is left
 
-and_parts : (a b : Bool) → (a && b) ≡ true → (a ≡ true) × (b ≡ true)
-and_parts true true h = (refl, refl)
-and_parts true false h = let never : false ≡ true = h in absurd cc
-and_parts false true h = let never : false ≡ true = h in absurd cc
-and_parts false false h = let never : false ≡ true = h in absurd cc
-
 none_left : (nodes : List NodeRun) → list_all (λ (node : NodeRun). nat_eq (length node.left) 0) nodes ≡ true → (n : ℕ) (node : NodeRun) → slice_get nodes n ≡ Some node → length node.left ≡ 0
 none_left [] all n node at = let never : None ≡ Some node = at in absurd cc
 none_left (first ∷ nodes) all zero node at =
@@ -102,10 +90,6 @@ none_left (first ∷ nodes) all zero node at =
     ap (λ (r : NodeRun). length r.left) (sym (same_Some first node at)) ∙ eqb-true (length first.left) 0 both.0
 none_left (first ∷ nodes) all (suc n) node at =
     none_left nodes (and_parts (nat_eq (length first.left) 0) (list_all (λ (node : NodeRun). nat_eq (length node.left) 0) nodes) all).1 n node at
-
-nil_of_none : {A : Type 0} (xs : List A) → length xs ≡ 0 → xs ≡ []
-nil_of_none [] e = refl
-nil_of_none (x ∷ xs) e = absurd (omega (arith, e))
 
 drop_none : {A : Type 0} (n : ℕ) (xs : List A) → length (drop n xs) ≡ 0 → length xs ≤ n
 drop_none zero [] e = omega arith
@@ -124,7 +108,7 @@ module _ (runs : RunsAreOfTheJournal) (W : PlainWorkload) (J : PlainJournal) (ru
       let at = a.nodes_are.each n node t node_at t_at in
       let none = none_left run.nodes all_through n node node_at in
       let journal = all_at (IsOfJournal W J) run.nodes n node (runs W J run a.leads).each node_at in
-      let log_is : node.state.log ≡ log_at J node.node = nil_behind node.state.log ∙ ap (λ (l : List Step). node.state.log ++ l) (sym (nil_of_none node.left none)) ∙ journal.log in
+      let log_is : node.state.log ≡ log_at J node.node = nil_behind node.state.log ∙ ap (λ (l : List Step). node.state.log ++ l) (sym (nil_from_length node.left none)) ∙ journal.log in
       let past = drop_none t.next (log_at J node.node) (ap length (sym at.left) ∙ none) in
       record {
         clients =

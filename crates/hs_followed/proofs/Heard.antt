@@ -1,7 +1,10 @@
 -- The coordinator hears one message more, and asks what it leads to.
-use Rattle.std.proofs.Common.{◌≡◌, ◌≢◌, inl, inr, ℕ, zero, suc, ◌+◌, ◌<◌, ◌≤◌, Bool, true, false, cond, List, [], ◌∷◌, ◌++◌, length, drop, Option, Some, None, refl, sym, ap, subst, ◌∙◌, arith, option_map, slice_get, count_by, append_assoc, append-nil, length-set, eqb, eqb-true, eq-eqb}
+use Rattle.std.proofs.Common.{◌≡◌, ◌≢◌, inl, inr, ℕ, ◌+◌, ◌<◌, ◌≤◌, Bool, true, false, cond, List, [], ◌∷◌, ◌++◌, length, drop, Option, Some, None, refl, sym, ap, subst, ◌∙◌, arith, option_map, slice_get, count_by, append_assoc, append-nil, length-set, eqb, eqb-true, eq-eqb}
 use Rattle.std.specs.Option.{option_and_then}
-use Rattle.std.proofs.lemmas.List.Sums.{sum_by-cons, sum_by-append}
+use Rattle.std.proofs.lemmas.Option.{slice_get_past, slice_get_within}
+use Rattle.hs_lists.proofs.Places.{get_there, get_set_cases}
+use Rattle.hs_lists.proofs.Counts.{count_push}
+use Rattle.hs_lists.proofs.Alls.{all_at}
 use Rattle.hs_base.specs.NodeSets.{has_node}
 use Rattle.hs_base.specs.declared.ids.NodeId.{NodeId}
 use Rattle.hs_base.specs.declared.node_set.NodeSet.{NodeSet}
@@ -20,19 +23,7 @@ use Rattle.hs_records.specs.Plain.{PlainWorkload}
 use Rattle.hs_followed.specs.Whole.{MayHearAt, HasHeard, HasNotHeard, AreSent, sent_by}
 use Rattle.hs_followed.specs.declared.hearing.Hearing.{Hearing}
 use Rattle.hs_followed.specs.declared.tracked.Tracked.{Tracked}
-use Rattle.hs_followed.proofs.Lists.{all_at, found_in, found_within, get_past}
 use Rattle.hs_followed.proofs.Tracking.{drop_there, drop_past}
-
-pub get_low : {X : Type 0} (xs : List X) (i : ℕ) → i < length xs → (x : X) × (slice_get xs i ≡ Some x)
-get_low [] i low = absurd (omega (arith, low))
-get_low (x ∷ xs) zero low = (x, refl)
-get_low (x ∷ xs) (suc i) low = get_low xs i (omega (arith, low))
-
-count_last : {X : Type 0} (p : X → Bool) (xs : List X) (x : X) → count_by p (xs ++ x ∷ []) ≡ count_by p xs + cond {A = ℕ} (p x) 1 0
-count_last p xs x =
-    let both = sum_by-append (λ x. cond (p x) 1 0) xs (x ∷ []) in
-    let last = sum_by-cons (λ x. cond (p x) 1 0) x [] in
-    omega (arith, both, last)
 
 -- the nodes that are asked, one message more
 asked_more : (nodes : ℕ) (before heard : Messages) (m : Message) (asked : List NodeSet) (to : NodeSet) → AreAsked nodes before heard asked
@@ -65,12 +56,12 @@ module _ (W : PlainWorkload) (J : PlainJournal) (run : Run) (told : List NodeId)
     pub no_node : length nodes ≤ node.0 → HasNotHeard W J run h
     no_node high =
         let count = m.nodes_are.count in
-        let past = get_past run.nodes node.0 (omega (arith, high, count)) in
+        let past = slice_get_past run.nodes node.0 (omega (arith, high, count)) in
         record { none = hears None (ap (option_and_then (λ (run' : NodeRun). option_map (message node) (slice_get run'.state.said (count_by (is_from node) run.heard)))) past); hearing = m.hearing }
 
     module _ (t : Tracked) (t_there : slice_get nodes node.0 ≡ Some t) (count : ℕ) (count_there : slice_get h.counts.items node.0 ≡ Some count) where
       node_there : (r : NodeRun) × (slice_get run.nodes node.0 ≡ Some r)
-      node_there = let low = found_within nodes node.0 t t_there in let same = m.nodes_are.count in get_low run.nodes node.0 (omega (arith, low, same))
+      node_there = let low = slice_get_within nodes node.0 t t_there in let same = m.nodes_are.count in get_there run.nodes node.0 (omega (arith, low, same))
 
       r_said : t.follower.said.items ≡ node_there.0.state.said
       r_said = (m.nodes_are.each node.0 node_there.0 t node_there.1 t_there).stands.said
@@ -82,7 +73,7 @@ module _ (W : PlainWorkload) (J : PlainJournal) (run : Run) (told : List NodeId)
           ∙ ap (λ k. option_map (message node) (slice_get t.follower.said.items k)) (sym (m.hearing.counts node.0 count count_there)) ∙ ap (option_map (message node)) e
 
       pub not_told : length t.follower.said.items ≤ count → HasNotHeard W J run h
-      not_told high = record { none = hears None (next_message None (get_past t.follower.said.items count high)); hearing = m.hearing }
+      not_told high = record { none = hears None (next_message None (slice_get_past t.follower.said.items count high)); hearing = m.hearing }
 
       module _ (said : Told) (said_there : slice_get t.follower.said.items count ≡ Some said) where
         pub below : (n : ℕ) → has_node said.crumbs n ≡ true → n < h.coordinator.nodes
@@ -94,7 +85,7 @@ module _ (W : PlainWorkload) (J : PlainJournal) (run : Run) (told : List NodeId)
 
         pub node_low : node.0 < h.coordinator.nodes
         node_low =
-            let low = found_within nodes node.0 t t_there in
+            let low = slice_get_within nodes node.0 t t_there in
             let many = m.nodes_are.many in
             let same = m.hearing.nodes in
             omega (arith, low, many, same)
@@ -126,7 +117,7 @@ module _ (W : PlainWorkload) (J : PlainJournal) (run : Run) (told : List NodeId)
 
           other_count : (n : ℕ) → node.0 ≢ n → count_by (is_from (record { 0 = n })) heard ≡ count_by (is_from (record { 0 = n })) run.heard
           other_count n ne =
-              let all = count_last (is_from (record { 0 = n })) run.heard msg in
+              let all = count_push (is_from (record { 0 = n })) run.heard msg in
               let none = other (eqb node.0 n) refl in
               omega (arith, all, none)
             where
@@ -136,7 +127,7 @@ module _ (W : PlainWorkload) (J : PlainJournal) (run : Run) (told : List NodeId)
 
           own_count : (n : ℕ) → node.0 ≡ n → count_by (is_from (record { 0 = n })) heard ≡ count_by (is_from (record { 0 = n })) run.heard + 1
           own_count n same =
-              let all = count_last (is_from (record { 0 = n })) run.heard msg in
+              let all = count_push (is_from (record { 0 = n })) run.heard msg in
               let own = ap {B = ℕ} (λ b. cond b 1 0) (eq-eqb node.0 n same) in
               omega (arith, all, own)
 
@@ -154,14 +145,14 @@ module _ (W : PlainWorkload) (J : PlainJournal) (run : Run) (told : List NodeId)
                       lists = sent.count ∙ m.hearing.lists;
                       asks =
                           λ n list at.
-                          let low = found_within h'.asks.items n list at in
+                          let low = slice_get_within h'.asks.items n list at in
                           let same = sent.count in
                           let was = sent.before n list at (omega (arith, low, same)) in
                           was.2 ∙ ap (sent_by asks n) (m.hearing.asks n was.0 was.1) ∙ sent_is n;
                       many = ap length counted.set ∙ length-set h.counts.items node.0 counted.now ∙ m.hearing.many;
                       counts =
                           λ n k at.
-                          elim (found_in h.counts.items node.0 n counted.before counted.now k counted.stood (ap (λ (l : List ℕ). slice_get l n) (sym counted.set) ∙ at)) as (λ _. k ≡ count_by (is_from (record { 0 = n })) heard) [
+                          elim (get_set_cases h.counts.items node.0 n counted.before counted.now k counted.stood (ap (λ (l : List ℕ). slice_get l n) (sym counted.set) ∙ at)) as (λ _. k ≡ count_by (is_from (record { 0 = n })) heard) [
                             | inl own ↦
                                 let was = m.hearing.counts node.0 counted.before counted.stood in
                                 let same = ap (λ i. count_by (is_from (record { 0 = i })) run.heard) own.0 in

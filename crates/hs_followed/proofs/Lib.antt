@@ -6,7 +6,6 @@ pub mod Noting
 pub mod PassEnds
 pub mod FoundAll
 pub mod Lists
-pub mod Rows
 pub mod Popping
 pub mod Performing
 pub mod Readying

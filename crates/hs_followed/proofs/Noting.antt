@@ -1,6 +1,7 @@
 -- One step more, and what is noted behind the passes.
 use Rattle.std.proofs.Common.{◌≡◌, ℕ, zero, suc, ◌+◌, ◌<◌, ◌≤◌, Bool, true, false, cond, List, [], ◌∷◌, ◌++◌, length, map, take, drop, refl, sym, ap, ◌∙◌, arith, length-append}
 use Rattle.std.proofs.lemmas.List.{map-append}
+use Rattle.hs_lists.proofs.Parts.{take_whole}
 use Rattle.hs_journal.specs.declared.journal.Step.{Step}
 use Rattle.hs_lawful.specs.Following.{NodeRun}
 use Rattle.hs_model.specs.State.{AgentState}
@@ -52,12 +53,6 @@ take_front [] more zero low = refl
 take_front [] more (suc n) low = absurd (omega (arith, low))
 take_front (x ∷ xs) more zero low = refl
 take_front {A = A} (x ∷ xs) more (suc n) low = ap (λ (l : List A). x ∷ l) (take_front xs more n (omega (arith, low)))
-
-take_whole : {A : Type 0} (xs : List A) (n : ℕ) → length xs ≤ n → take n xs ≡ xs
-take_whole [] zero low = refl
-take_whole [] (suc n) low = refl
-take_whole (x ∷ xs) zero low = absurd (omega (arith, low))
-take_whole {A = A} (x ∷ xs) (suc n) low = ap (λ (l : List A). x ∷ l) (take_whole xs n (omega (arith, low)))
 
 -- ---- notes
 

@@ -1,6 +1,7 @@
 -- The passes of a log end where its steps say so.
 use Rattle.std.proofs.Common.{◌≡◌, ℕ, zero, suc, ◌+◌, ◌≤◌, Bool, true, false, cond, List, [], ◌∷◌, length, map, take, refl, sym, ap, ◌∙◌, arith, length-append}
 use Rattle.std.specs.List.{flat_map, range_with_len}
+use Rattle.hs_lists.proofs.Parts.{map_alike}
 use Rattle.hs_journal.specs.declared.journal.Step.{Step}
 use Rattle.hs_lawful.specs.Following.{NodeRun}
 use Rattle.hs_lawful.specs.Passes.{ends_between, put_step, passes_of, steps_in}
@@ -49,10 +50,6 @@ ends_are here (step ∷ next ∷ log) =
 map_shift : (f : ℕ → ℕ) (start count : ℕ) → map f (range_with_len (start + 1) count) ≡ map (λ k. f (k + 1)) (range_with_len start count)
 map_shift f start zero = refl
 map_shift f start (suc count) = ap (λ (l : List ℕ). f (start + 1) ∷ l) (map_shift f (start + 1) count)
-
-map_alike : (f g : ℕ → ℕ) (ns : List ℕ) → ((n : ℕ) → f n ≡ g n) → map f ns ≡ map g ns
-map_alike f g [] same = refl
-map_alike f g (n ∷ ns) same = λ i. same n i ∷ map_alike f g ns same i
 
 -- the passes end behind so many steps
 steps_are : (f : ℕ → ℕ) (here : ℕ) (passes : List (List Step)) → map (λ k. f (here + steps_in passes k)) (range_with_len 1 (length passes)) ≡ map f (ends_of here passes)

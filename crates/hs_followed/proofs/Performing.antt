@@ -5,12 +5,15 @@ use Rattle.std.proofs.lemmas.Option.{same_Some}
 use Rattle.std.specs.Prelude.{slice_get, slice_set, IfSome}
 use Rattle.std.specs.List.{AllByRecursion}
 use Rattle.std.specs.Option.{option_to_list, option_and_then, option_map_or}
+use Rattle.hs_lists.proofs.Places.{get_front, set_same}
+use Rattle.hs_lists.proofs.Alls.{all_at, all_append}
 use Rattle.hs_agent.specs.Keeping.{Keeping}
 use Rattle.hs_agent.specs.Points.{sheet_in}
 use Rattle.hs_agent.specs.Runs as agents
 use Rattle.hs_agent.specs.Runs.{Follows, IsTakable, Knows, after_input, after_offer, buffers_in, first_place, input_of, offered_next, point_of, state_of, told_in, with_back}
 use Rattle.hs_agent.specs.declared.input.Input.{Input}
 use Rattle.hs_agent.specs.declared.input.Input.TheVariants as inputs
+use Rattle.hs_agent.proofs.Brought.{sheets_brought}
 use Rattle.hs_base.specs.declared.told.Told.{Told}
 use Rattle.hs_clauses.specs.declared.found.FoundPage.{FoundPage}
 use Rattle.hs_coord.specs.Following.{Messages}
@@ -18,6 +21,7 @@ use Rattle.hs_journal.specs.Views.{PlainJournal}
 use Rattle.hs_journal.specs.declared.journal.Step.{Step}
 use Rattle.hs_journal.specs.declared.journal.Step.TheVariants as steps
 use Rattle.hs_lawful.specs.Following.{Asks, Chunks, Crumbs, Triggers, takes, taken, NodeRun, event_of, offered, perform}
+use Rattle.hs_lawful.proofs.Logs.{taken_still}
 use Rattle.hs_lockstep.specs.Conditions.{MayTake}
 use Rattle.hs_model.specs.Laws.{EventsGoOn, EventsAddThis, StepsSayWhatTheyTell, brought_by, sheets_of}
 use Rattle.hs_model.specs.State.{AgentState, GivenPlace}
@@ -28,19 +32,9 @@ use Rattle.hs_words.specs.Pages.{Sheet}
 use Rattle.hs_followed.specs.declared.follower.Follower.{Follower}
 use Rattle.hs_followed.specs.Clients.{ClientsStand}
 use Rattle.hs_followed.specs.Nodes.{AgentStands, FitsChunk, HasPerformed, IsOffer, IsReadied, MayTakeNext, Stands, agent_run, name_of, named_at}
-use Rattle.hs_followed.proofs.Counting.{taken_still}
-use Rattle.hs_followed.proofs.Lists.{all_at, all_both, get_front, set_same}
 use Rattle.hs_followed.proofs.Popping.{clients_as}
 
 -- ---- inputs
-
--- the pages that an input brings
-brought : {g : _} (input : Input (Unit {0}) g) → map sheet_in (buffers_in input) ≡ brought_by (Took (input_of input))
-brought (inputs.Chunk client held) = refl
-brought (inputs.Crumb client crumb) = refl
-brought (inputs.Trigger client trigger) = refl
-brought (inputs.Ask ask) = refl
-brought inputs.Turn = refl
 
 brings_page : {g : _} (settings : PlainSettings) (input : Input (Unit {0}) g) → FitsChunk settings input → AllByRecursion (λ (b : Unleased). IsSome b.chunk.page) (buffers_in input)
 brings_page settings (inputs.Chunk client held) fits = (fits.0, tt)
@@ -109,9 +103,9 @@ module _ (go_on : EventsGoOn) (adds : EventsAddThis) (says : StepsSayWhatTheyTel
           follows = follows;
           comes = next_comes event a.comes;
           sheets =
-              map-append sheet_in a.buffers (buffers_in input) ∙ ap (λ (l : List Sheet). l ++ map sheet_in (buffers_in input)) a.sheets ∙ ap (λ (l : List Sheet). sheets_of run.state.taken ++ l) (brought input)
+              map-append sheet_in a.buffers (buffers_in input) ∙ ap (λ (l : List Sheet). l ++ map sheet_in (buffers_in input)) a.sheets ∙ ap (λ (l : List Sheet). sheets_of run.state.taken ++ l) (sheets_brought input)
               ∙ sym sheets_are;
-          paged = all_both (λ (b : Unleased). IsSome b.chunk.page) a.buffers (buffers_in input) a.paged (brings_page W.settings input r.chunk);
+          paged = all_append (λ (b : Unleased). IsSome b.chunk.page) a.buffers (buffers_in input) a.paged (brings_page W.settings input r.chunk);
         }
 
     told_is : (told : Option Told) → told ≡ told_in at_run input → (next event).state.said ≡ run.state.said ++ option_to_list told

@@ -3,6 +3,8 @@ use Rattle.std.proofs.Common.{◌≡◌, inl, inr, ℕ, suc, ◌+◌, ◌<◌, �
 use Rattle.std.proofs.lemmas.List.{length-map, nil_from_length}
 use Rattle.std.specs.Prelude.{slice_get, MatchOption}
 use Rattle.std.specs.Option.{option_and_then}
+use Rattle.hs_lists.proofs.Ranges.{map_range_from}
+use Rattle.hs_lists.proofs.Places.{get_set_cases}
 use Rattle.hs_base.specs.declared.ids.ClientId.{ClientId}
 use Rattle.hs_clauses.specs.Finding.{IsFoundClient}
 use Rattle.hs_journal.specs.Books.{client_book_of}
@@ -13,14 +15,14 @@ use Rattle.hs_journal.specs.Views.{PlainJournal}
 use Rattle.hs_journal.specs.declared.journal.Step.{Step}
 use Rattle.hs_journal.specs.declared.journal.Step.TheVariants as steps
 use Rattle.hs_lawful.specs.Following.{Queue, Chunks, Crumbs, Triggers, takes, taken, NodeRun, next_of}
+use Rattle.hs_lawful.proofs.Logs.{taken_still}
 use Rattle.hs_model.specs.Stepping.{Event}
 use Rattle.hs_player.specs.Playing.{Unleased}
 use Rattle.hs_records.specs.Plain.{Operation, PlainWorkload}
 use Rattle.hs_sent.specs.OneMore.{items_of}
 use Rattle.hs_sent.specs.Sending.{Sent, ClientSends, client_sends, draws_at, node_sends, operations_at, place_of}
 use Rattle.hs_followed.specs.Clients.{IsLeft, ClientStands, ClientsStand, FillsAt, MayFillNext, MayFillAny, PopsChunk, SameBeside, own_operations}
-use Rattle.hs_followed.proofs.Counting.{taken_still, taken_once, drop_next, drop_none, range_get, range_past}
-use Rattle.hs_followed.proofs.Lists.{found_in}
+use Rattle.hs_followed.proofs.Counting.{taken_once, drop_next, drop_none, range_past}
 
 -- ---- one queue
 
@@ -117,7 +119,7 @@ module _ (W : PlainWorkload) (J : PlainJournal) (node : ℕ) (log : List Step) w
         count = length-set clients client now ∙ stand.count;
         each =
             λ other s at.
-            elim (found_in clients client other before now s stood at) [
+            elim (get_set_cases clients client other before now s stood at) [
               | inl h ↦ subst (λ (s : Sending). ClientStands W J node (log ++ step ∷ []) other s) h.1 (subst (λ c. ClientStands W J node (log ++ step ∷ []) c now) h.0 moved)
               | inr h ↦ let same = others other h.0 in client_as step other s same.0 same.1 same.2 (stand.each other s h.1)
             ];
@@ -131,7 +133,7 @@ module _ (W : PlainWorkload) (J : PlainJournal) (node : ℕ) (log : List Step) w
         count = length-set clients client now ∙ stand.count;
         each =
             λ other s at.
-            elim (found_in clients client other before now s stood at) [
+            elim (get_set_cases clients client other before now s stood at) [
               | inl h ↦ subst (λ (s : Sending). ClientStands W J node log other s) h.1 (subst (λ c. ClientStands W J node log c now) h.0 same)
               | inr h ↦ stand.each other s h.1
             ];
@@ -222,7 +224,7 @@ module _ (W : PlainWorkload) (J : PlainJournal) (run : NodeRun) (sends_are : run
   pub sends_there : (client : ℕ) → client < W.settings.clients → slice_get run.sends client ≡ Some (client_sends W J run.node client)
   sends_there client low =
       let zero_on : 0 + client ≡ client = omega arith in
-      ap (λ (s : List ClientSends). slice_get s client) sends_are ∙ range_get (client_sends W J run.node) 0 W.settings.clients client low ∙ ap (λ c. Some (client_sends W J run.node c)) zero_on
+      ap (λ (s : List ClientSends). slice_get s client) sends_are ∙ map_range_from (client_sends W J run.node) 0 W.settings.clients client low ∙ ap (λ c. Some (client_sends W J run.node c)) zero_on
 
   pub no_sends : (client : ℕ) → W.settings.clients ≤ client → slice_get run.sends client ≡ None
   no_sends client high = ap (λ (s : List ClientSends). slice_get s client) sends_are ∙ range_past (client_sends W J run.node) 0 W.settings.clients client high

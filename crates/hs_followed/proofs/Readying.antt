@@ -1,7 +1,9 @@
 -- The input of a step is taken out of its queue where the step is ready.
 use Rattle.std.proofs.Common.{◌≡◌, inl, inr, ℕ, ◌+◌, ◌<◌, ◌≤◌, false, List, [], ◌∷◌, ◌++◌, drop, Option, Some, None, IsSome, refl, sym, ap, subst, ◌∙◌, arith, option_map}
 use Rattle.std.proofs.lemmas.Bool.{ne_eqb}
+use Rattle.std.proofs.lemmas.Option.{slice_get_within}
 use Rattle.std.specs.Prelude.{slice_get}
+use Rattle.hs_lists.proofs.Parts.{nil_of_rest}
 use Rattle.hs_agent.specs.Points.{sheet_in}
 use Rattle.hs_agent.specs.declared.input.Input.{Input}
 use Rattle.hs_agent.specs.declared.input.Input.TheVariants as inputs
@@ -16,6 +18,7 @@ use Rattle.hs_journal.specs.Views.{PlainJournal}
 use Rattle.hs_journal.specs.declared.journal.Step.{Step}
 use Rattle.hs_journal.specs.declared.journal.Step.TheVariants as steps
 use Rattle.hs_lawful.specs.Following.{Asks, Chunks, Crumbs, Triggers, takes, taken, asks_to, NodeRun}
+use Rattle.hs_lawful.proofs.Logs.{taken_still}
 use Rattle.hs_model.specs.Stepping.{Took, Chunk, Crumbed, Triggered, Asked}
 use Rattle.hs_player.specs.Playing.{Unleased}
 use Rattle.hs_records.specs.Plain.{PlainWorkload}
@@ -26,8 +29,7 @@ use Rattle.hs_words.specs.declared.token.Held.{Held}
 use Rattle.hs_followed.specs.Clients.{ClientsStand, FillsAt, IsNoClient, Pops, PopsChunk, PopsCrumb, PopsTrigger}
 use Rattle.hs_followed.specs.Nodes.{IsNotReady, IsReadied, Stands}
 use Rattle.hs_followed.specs.declared.follower.Follower.{Follower}
-use Rattle.hs_followed.proofs.Counting.{taken_still, taken_once}
-use Rattle.hs_followed.proofs.Lists.{found_within, nil_of_rest}
+use Rattle.hs_followed.proofs.Counting.{taken_once}
 use Rattle.hs_followed.proofs.Popping.{next_item, none_left, fills_there, clients_as, one_moves, one_same, client_same, chunk_gone, crumb_gone, trigger_gone, event_there, event_none, event_past}
 
 module _ (W : PlainWorkload) (J : PlainJournal) (heard : Messages) (run : NodeRun) (f : Follower) (s : Stands W J run run.state.log f) where
@@ -36,7 +38,7 @@ module _ (W : PlainWorkload) (J : PlainJournal) (heard : Messages) (run : NodeRu
   with_clients clients = record f { clients = clients }
 
   low_client : (client : ℕ) (x : Sending) → slice_get f.clients.items client ≡ Some x → client < W.settings.clients
-  low_client client x at = let within = found_within f.clients.items client x at in let count = s.clients.count in omega (arith, within, count)
+  low_client client x at = let within = slice_get_within f.clients.items client x at in let count = s.clients.count in omega (arith, within, count)
 
   -- ---- where nothing is taken
 

@@ -1,24 +1,20 @@
 -- An ask goes to one node after another.
-use Rattle.std.proofs.Common.{◌≡◌, ◌⊎◌, inl, inr, ℕ, zero, suc, ◌+◌, ◌<◌, ◌≤◌, List, length, Some, refl, sym, ap, ◌∙◌, arith, length-set}
+use Rattle.std.proofs.Common.{◌≡◌, ◌⊎◌, inl, inr, ℕ, ◌+◌, ◌≤◌, List, length, Some, refl, sym, ap, ◌∙◌, arith, length-set}
 use Rattle.std.specs.Prelude.{slice_get}
+use Rattle.std.proofs.lemmas.Bool.{cases_lt}
+use Rattle.hs_lists.proofs.Places.{get_set_cases}
 use Rattle.hs_base.specs.Listing.{Listing}
 use Rattle.hs_base.specs.declared.told.Ask.{Ask}
 use Rattle.hs_base.specs.Changing.{ChangesAt}
 use Rattle.hs_coord.specs.declared.asks.Asks.{Asks}
 use Rattle.hs_followed.specs.Whole.{AreSent, sent_by}
-use Rattle.hs_followed.proofs.Lists.{found_in}
 
 pub sent_none : (asks : Asks) (lists : List (Listing Ask)) → AreSent asks 0 lists lists
 sent_none asks lists = record { count = refl; before = λ n list at low. absurd (omega (arith, low)); behind = λ n list at high. at }
 
-below_or : (a b : ℕ) → (a < b) ⊎ (b ≤ a)
-below_or a zero = inr (omega arith)
-below_or zero (suc b) = inl (omega arith)
-below_or (suc a) (suc b) = elim (below_or a b) as (λ _. (suc a < suc b) ⊎ (suc b ≤ suc a)) [ inl less ↦ inl (omega (arith, less)) | inr more ↦ inr (omega (arith, more)) ]
-
 module _ (asks : Asks) (node : ℕ) (old middle new : List (Listing Ask)) (are : AreSent asks node old middle) (changes : ChangesAt node middle new (λ old new. new.items ≡ sent_by asks node old.items)) where
   there : (n : ℕ) (list : Listing Ask) → slice_get new n ≡ Some list → ((node ≡ n) × (changes.now ≡ list)) ⊎ ((node ≡ n → ⊥) × (slice_get middle n ≡ Some list))
-  there n list at = found_in middle node n changes.before changes.now list changes.stood (ap (λ (l : List (Listing Ask)). slice_get l n) (sym changes.set) ∙ at)
+  there n list at = get_set_cases middle node n changes.before changes.now list changes.stood (ap (λ (l : List (Listing Ask)). slice_get l n) (sym changes.set) ∙ at)
 
   own : (n : ℕ) (list : Listing Ask) → node ≡ n → changes.now ≡ list → (was : Listing Ask) × (slice_get old n ≡ Some was) × (list.items ≡ sent_by asks n was.items)
   own n list same is =
@@ -34,7 +30,7 @@ module _ (asks : Asks) (node : ℕ) (old middle new : List (Listing Ask)) (are :
             elim (there n list at) as (λ _. (was : Listing Ask) × (slice_get old n ≡ Some was) × (list.items ≡ sent_by asks n was.items)) [
               | inl h ↦ own n list h.0 h.1
               | inr h ↦
-                  elim (below_or n node) as (λ _. (was : Listing Ask) × (slice_get old n ≡ Some was) × (list.items ≡ sent_by asks n was.items)) [
+                  elim (cases_lt n node) as (λ _. (was : Listing Ask) × (slice_get old n ≡ Some was) × (list.items ≡ sent_by asks n was.items)) [
                     | inl less ↦ are.before n list h.1 less
                     | inr more ↦ let same : node ≡ n = omega (arith, more, low) in absurd (h.0 same)
                   ]

@@ -1,7 +1,9 @@
 -- All nodes and the coordinator, where one of them goes on.
 use Rattle.std.proofs.Common.{◌≡◌, ◌⊎◌, inl, inr, ℕ, zero, suc, ◌+◌, ◌-◌, ◌<◌, Bool, true, false, List, [], ◌∷◌, length, set, Option, Some, None, refl, sym, ap, subst, ◌∙◌, arith, option_map, slice_get, unwrap_or, length-set}
 use Rattle.std.specs.List.{range_with_len}
-use Rattle.std.proofs.lemmas.Option.{same_Some, slice_get-map}
+use Rattle.std.proofs.lemmas.Option.{same_Some, slice_get-map, slice_get_within}
+use Rattle.hs_lists.proofs.Places.{get_there, get_set_cases}
+use Rattle.hs_lists.proofs.Ranges.{range_found}
 use Rattle.hs_base.specs.Listing.{Listing}
 use Rattle.hs_base.specs.declared.ids.NodeId.{NodeId}
 use Rattle.hs_base.specs.declared.told.Ask.{Ask}
@@ -16,8 +18,6 @@ use Rattle.hs_followed.specs.Whole.{NodeAt, NodesAt, AllAt, MayStepAt, HasSteppe
 use Rattle.hs_followed.specs.declared.following.Following.{Following}
 use Rattle.hs_followed.specs.declared.hearing.Hearing.{Hearing}
 use Rattle.hs_followed.specs.declared.tracked.Tracked.{Tracked}
-use Rattle.hs_followed.proofs.Heard.{get_low}
-use Rattle.hs_followed.proofs.Lists.{found_in, found_within}
 use Rattle.hs_followed.proofs.Tracking.{steps_fall, steps_stay}
 
 -- ---- runs
@@ -27,18 +27,13 @@ pub leads_on : (settings : PlainSettings) (a b c : Run) → Leads settings a b �
 leads_on settings a b c (Stays r) p = Goes b c c p (Stays c)
 leads_on settings a b c (Goes r next l q leads) p = Goes a next c q (leads_on settings next b c leads p)
 
-range_find : (start count i n : ℕ) → slice_get (range_with_len start count) i ≡ Some n → n ≡ start + i
-range_find start zero i n h = let no_item : None ≡ Some n = h in absurd cc
-range_find start (suc count) zero n h = let same = same_Some start n h in omega (arith, same)
-range_find start (suc count) (suc i) n h = let rest = range_find (start + 1) count i n h in omega (arith, rest)
-
 pub number_is : RunsAreOfTheJournal → (W : PlainWorkload) (J : PlainJournal) (run : Run) → Leads W.settings (run_start W J) run → (n : ℕ) (node : NodeRun) → slice_get run.nodes n ≡ Some node → node.node ≡ n
 number_is runs W J run leads n node at =
     let numbers = (runs W J run leads).numbers in
     let found : slice_get (range_with_len 0 W.settings.nodes) n ≡ Some node.node =
     ap (λ (l : List ℕ). slice_get l n) (sym numbers) ∙ slice_get-map (λ (r : NodeRun). r.node) run.nodes n ∙ ap (option_map (λ (r : NodeRun). r.node)) at
     in
-    let is = range_find 0 W.settings.nodes n node.node found in
+    let is = range_found 0 W.settings.nodes n node.node found in
     omega (arith, is)
 
 module _ (fit : RunsFit) (runs : RunsAreOfTheJournal) (W : PlainWorkload) (J : PlainJournal) (run : Run) (nodes : List Tracked) (h : Hearing) (a : AllAt W J run nodes h) where
@@ -46,7 +41,7 @@ module _ (fit : RunsFit) (runs : RunsAreOfTheJournal) (W : PlainWorkload) (J : P
   number = number_is runs W J run a.leads
 
   node_there : (n : ℕ) (t : Tracked) → slice_get nodes n ≡ Some t → (node : NodeRun) × (slice_get run.nodes n ≡ Some node)
-  node_there n t at = let low = found_within nodes n t at in let count = a.nodes_are.count in get_low run.nodes n (omega (arith, low, count))
+  node_there n t at = let low = slice_get_within nodes n t at in let count = a.nodes_are.count in get_there run.nodes n (omega (arith, low, count))
 
   -- ---- what a node's next step needs
 
@@ -67,7 +62,7 @@ module _ (fit : RunsFit) (runs : RunsAreOfTheJournal) (W : PlainWorkload) (J : P
       )
 
   pub log_there : (n : ℕ) → n < length nodes → (log : List Step) × (slice_get J.logs n ≡ Some log)
-  log_there n low = let many = a.nodes_are.many in let logs = a.logs in get_low J.logs n (omega (arith, low, many, logs))
+  log_there n low = let many = a.nodes_are.many in let logs = a.logs in get_there J.logs n (omega (arith, low, many, logs))
 
   -- ---- a node went on
 
@@ -83,14 +78,14 @@ module _ (fit : RunsFit) (runs : RunsAreOfTheJournal) (W : PlainWorkload) (J : P
           many = ap length nodes_are ∙ length-set nodes n t' ∙ a.nodes_are.many;
           each =
               λ i r u r_at u_at.
-              elim (found_in nodes n i t t' u at (ap (λ (l : List Tracked). slice_get l i) (sym nodes_are) ∙ u_at)) as (λ _. NodeAt W J r u) [
+              elim (get_set_cases nodes n i t t' u at (ap (λ (l : List Tracked). slice_get l i) (sym nodes_are) ∙ u_at)) as (λ _. NodeAt W J r u) [
                 | inl mine ↦
-                    elim (found_in run.nodes n i node next r there (ap (λ (l : List NodeRun). slice_get l i) (sym runs_are) ∙ r_at)) as (λ _. NodeAt W J r u) [
+                    elim (get_set_cases run.nodes n i node next r there (ap (λ (l : List NodeRun). slice_get l i) (sym runs_are) ∙ r_at)) as (λ _. NodeAt W J r u) [
                       | inl same ↦ subst (λ (r : NodeRun). NodeAt W J r u) same.1 (subst (NodeAt W J next) mine.1 now)
                       | inr other ↦ absurd (other.0 mine.0)
                     ]
                 | inr apart ↦
-                    elim (found_in run.nodes n i node next r there (ap (λ (l : List NodeRun). slice_get l i) (sym runs_are) ∙ r_at)) as (λ _. NodeAt W J r u) [
+                    elim (get_set_cases run.nodes n i node next r there (ap (λ (l : List NodeRun). slice_get l i) (sym runs_are) ∙ r_at)) as (λ _. NodeAt W J r u) [
                       | inl same ↦ absurd (apart.0 same.0)
                       | inr other ↦ a.nodes_are.each i r u other.1 apart.1
                     ]
@@ -246,7 +241,7 @@ heard_done fit runs W J run old middle tried told same h' false on f nodes heari
     let s = on.1 W J run (may_hear fit runs W J run middle.nodes.items middle.hearing tried.at told same) in
     let long = tried.count in
     let each = tried.at.nodes_are.count in
-    let w = heard_nothing fit runs W J run middle.nodes.items middle.hearing tried.at h' s (λ n node there. let low = found_within run.nodes n node there in tried.none n node (omega (arith, low, long, each)) there) in
+    let w = heard_nothing fit runs W J run middle.nodes.items middle.hearing tried.at h' s (λ n node there. let low = slice_get_within run.nodes n node there in tried.none n node (omega (arith, low, long, each)) there) in
     record { at = subst (λ (l : Listing Tracked). AllAt W J run l.items f.hearing) (sym nodes) (subst (AllAt W J run middle.nodes.items) (sym hearing) w.0); rests = w.1 }
 
 -- at rest all stand where following leads

@@ -1,6 +1,8 @@
 -- What a story does, as doings told pass by pass.
 use Rattle.std.proofs.Common.{◌≡◌, ℕ, suc, ◌+◌, ◌<◌, ◌≤◌, Bool, true, false, List, [], ◌∷◌, length, refl, sym, ap, subst, ◌∙◌, Option, Some, unwrap_or, arith, map, filter, slice_get, count_by, nat_lt, ltb-true, ltb-false}
 use Rattle.std.specs.List.{AllByRecursion, range_with_len}
+use Rattle.hs_lists.proofs.Ranges.{map_range_at}
+use Rattle.hs_lists.proofs.Alls.{all_each, all_by_place}
 use Rattle.hs_coord.specs.Messages.{message}
 use Rattle.hs_journal.specs.declared.journal.Draw.{Draw}
 use Rattle.hs_journal.specs.Views.{PlainJournal}
@@ -20,9 +22,8 @@ use Rattle.hs_actors.specs.Turns.{AreTurns}
 use Rattle.hs_gathered.specs.Ends.{GoesOn}
 use Rattle.hs_gathered.specs.Stories.{NodeStory, Story, added, node_doings, doings_of, draws_of, sends_at, state_by, IsQueueStory, sent_by, TakesFrom, TalksWith, PoolsWith, IsNodeStory, IsStory}
 use Rattle.hs_gathered.specs.Stories as stories
-use Rattle.hs_gathered.proofs.Lists.{all_each, each_at}
 use Rattle.hs_gathered.proofs.PoolOf.{IsDrawnFor, IsPoolOf}
-use Rattle.hs_gathered.proofs.Grown.{mapped_at, mapped_long, unmapped_at, grown, grown_all, grown_beyond}
+use Rattle.hs_gathered.proofs.Grown.{mapped_long, unmapped_at, grown, grown_all, grown_beyond}
 use Rattle.hs_gathered.proofs.Workloads.{place_low}
 
 module _ (W : PlainWorkload) (s : Story) (story : IsStory W s) where
@@ -41,7 +42,7 @@ module _ (W : PlainWorkload) (s : Story) (story : IsStory W s) where
   -- ---- draws
 
   pub draws_are : (place : ℕ) → place < length W.clients → draws_at (journal_of W (doings_of W s)) place ≡ s.draws place
-  draws_are place low = ap (λ (o : Option (List Draw)). unwrap_or o []) (mapped_at s.draws (length W.clients) place low)
+  draws_are place low = ap (λ (o : Option (List Draw)). unwrap_or o []) (map_range_at s.draws (length W.clients) place low)
 
   pub own_draws : IsValid W → (node client : ℕ) → node < W.settings.nodes → client < W.settings.clients → draws_at (journal_of W (doings_of W s)) (place_of W.settings.clients node client) ≡ draws_of W s node client
   own_draws valid node client low few = draws_are (place_of W.settings.clients node client) (place_low W valid node client low few)
@@ -136,7 +137,7 @@ module _ (W : PlainWorkload) (s : Story) (story : IsStory W s) where
 
     pub each_pass : AllByRecursion (IsPass W) (node_doings s node).passes
     each_pass =
-        each_at (IsPass W) (node_doings s node).passes
+        all_by_place (IsPass W) (node_doings s node).passes
         (λ k pass h. let at = unmapped_at (added (s.nodes node).events) s.passes k pass h in subst (IsPass W) at.is ((story.each node low).ends k at.low).is_pass)
 
     offers_from : (place : ℕ) (passes : List (List Event)) → ((i : ℕ) (pass : List Event) → slice_get passes i ≡ Some pass → EndsPass W (state_after W.settings (node_doings s node) (suc (place + i))) pass) → EndOffersFrom W (node_doings s node) place passes

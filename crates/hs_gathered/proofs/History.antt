@@ -3,6 +3,7 @@ use Rattle.std.proofs.Common.{◌≡◌, ℕ, zero, suc, ◌+◌, ◌-◌, ◌<�
 use Rattle.std.specs.List.{AllByRecursion}
 use Rattle.std.proofs.lemmas.List.{length-reverse, reverse-append}
 use Rattle.std.proofs.lemmas.Option.{slice_get-map}
+use Rattle.hs_lists.proofs.Alls.{all_append, all_each, all_reverse, all_at, all_by_place}
 use Rattle.hs_journal.specs.declared.journal.Draw.{Draw}
 use Rattle.hs_journal.specs.Views.{PlainJournal}
 use Rattle.hs_records.specs.Plain.{Operation, PlainWorkload}
@@ -17,7 +18,7 @@ use Rattle.hs_actors.specs.Doings.{NodeDoings}
 use Rattle.hs_actors.specs.Pools.{draw_answer}
 use Rattle.hs_gathered.specs.Ends.{done_by}
 use Rattle.hs_gathered.proofs.PoolOf.{IsPoolOf}
-use Rattle.hs_gathered.proofs.Lists.{all_both, all_each, all_get, all_back_to_front, each_at, get_low, get_high}
+use Rattle.hs_gathered.proofs.Lists.{get_low, get_high}
 use Rattle.hs_gathered.proofs.Rounds.{IsFit, split_at, all_start, page_at, round_within, round_behind}
 
 module _ (timely : TimedPagesAreTimely) (W : PlainWorkload) (fit : IsFit W) (J : PlainJournal) (n : NodeDoings) (rounds : ℕ) (p : IsPoolOf W J n rounds) where
@@ -39,7 +40,7 @@ module _ (timely : TimedPagesAreTimely) (W : PlainWorkload) (fit : IsFit W) (J :
       record {
         more = next.more ++ met.more;
         answers = next.answers ∙ ap (λ xs. next.more ++ xs) met.answers ∙ sym (append_assoc next.more met.more ((p.at k).answers client));
-        high = all_both (λ (a : Answer). (p.at k).floors client ≤ a.stamp) next.more met.more
+        high = all_append (λ (a : Answer). (p.at k).floors client ≤ a.stamp) next.more met.more
             (all_each (λ (a : Answer). (p.at (suc k)).floors client ≤ a.stamp) (λ (a : Answer). (p.at k).floors client ≤ a.stamp) next.more (λ a above. omega (arith, above, rises)) next.high) met.high;
       }
 
@@ -65,7 +66,7 @@ module _ (timely : TimedPagesAreTimely) (W : PlainWorkload) (fit : IsFit W) (J :
       let both : slice_get (reverse (answers_at k client) ++ reverse l.more) i ≡ Some (draw_answer page.draw) =
       ap (λ xs. slice_get xs i) (sym (ap reverse l.answers ∙ reverse-append l.more (answers_at k client))) ∙ drawn in
       let split = split_at 0 (length ops) done (timed_pages W.settings.size ops) (timely W.settings.size ops fit.least bracketed) i at.timed at.there in
-      let starts = all_get (λ (t : TimedPage). t.started < length ops) (timed_pages W.settings.size ops) i at.timed (all_start 0 (length ops) (timed_pages W.settings.size ops) (timely W.settings.size ops fit.least bracketed)) at.there in
+      let starts = all_at (λ (t : TimedPage). t.started < length ops) (timed_pages W.settings.size ops) i at.timed (all_start 0 (length ops) (timed_pages W.settings.size ops) (timely W.settings.size ops fit.least bracketed)) at.there in
       let is = at.started in
       let long = length-reverse (answers_at k client) in
       let count = p.started k client low few in
@@ -104,14 +105,14 @@ module _ (timely : TimedPagesAreTimely) (W : PlainWorkload) (fit : IsFit W) (J :
   pub early_pages : (P : Answer → Type 0) (k client : ℕ) → k ≤ rounds → client < W.settings.clients → AllByRecursion P ((p.at k).answers client)
       → AllByRecursion (λ (page : DrawnPage). round_of W.settings.stride page.started ≤ k → P (draw_answer page.draw)) (pages_of_client client)
   early_pages P k client low few all =
-      each_at (λ (page : DrawnPage). round_of W.settings.stride page.started ≤ k → P (draw_answer page.draw)) (pages_of_client client)
-      (λ i page h within. all_get P (reverse (answers_at k client)) i (draw_answer page.draw) (all_back_to_front P (answers_at k client) all) ((stands k client low few (later k client low few) i page h).early within))
+      all_by_place (λ (page : DrawnPage). round_of W.settings.stride page.started ≤ k → P (draw_answer page.draw)) (pages_of_client client)
+      (λ i page h within. all_at P (reverse (answers_at k client)) i (draw_answer page.draw) (all_reverse P (answers_at k client) all) ((stands k client low few (later k client low few) i page h).early within))
 
   pub late_pages : (k client : ℕ) → k ≤ rounds → client < W.settings.clients
       → AllByRecursion (λ (page : DrawnPage). k < round_of W.settings.stride page.started → (p.at k).floors client ≤ (draw_answer page.draw).stamp) (pages_of_client client)
   late_pages k client low few =
       let l = later k client low few in
-      each_at (λ (page : DrawnPage). k < round_of W.settings.stride page.started → (p.at k).floors client ≤ (draw_answer page.draw).stamp) (pages_of_client client)
+      all_by_place (λ (page : DrawnPage). k < round_of W.settings.stride page.started → (p.at k).floors client ≤ (draw_answer page.draw).stamp) (pages_of_client client)
       (λ i page h behind.
       let at = (stands k client low few l i page h).late behind in
-      all_get (λ (a : Answer). (p.at k).floors client ≤ a.stamp) (reverse l.more) at.0 (draw_answer page.draw) (all_back_to_front (λ (a : Answer). (p.at k).floors client ≤ a.stamp) l.more l.high) at.1)
+      all_at (λ (a : Answer). (p.at k).floors client ≤ a.stamp) (reverse l.more) at.0 (draw_answer page.draw) (all_reverse (λ (a : Answer). (p.at k).floors client ≤ a.stamp) l.more l.high) at.1)

@@ -3,6 +3,8 @@ use Rattle.std.proofs.Common.{◌≡◌, ℕ, zero, suc, ◌+◌, ◌*◌, ◌<�
 use Rattle.std.specs.List.{AllByRecursion, range_with_len}
 use Rattle.std.proofs.lemmas.List.{length-map, length-reverse}
 use Rattle.std.proofs.lemmas.Simd.{map-map}
+use Rattle.hs_lists.proofs.Alls.{all_each, all_by_place}
+use Rattle.hs_lists.proofs.Filters.{filter_few}
 use Rattle.hs_coord.specs.Messages.{Message}
 use Rattle.hs_model.specs.Laws.{EventsAddThis}
 use Rattle.hs_model.specs.State.{AgentState}
@@ -24,7 +26,6 @@ use Rattle.hs_actors.specs.Unread.{IsPooledUnread, ArePooledUnread}
 use Rattle.hs_gathered.specs.Ends.{done_by}
 use Rattle.hs_gathered.specs.Laws.{agent_of, agent_behind}
 use Rattle.hs_gathered.specs.Stories.{Story, added, node_doings, doings_of, draws_of, sends_at, IsQueueStory, sent_by, IsStory}
-use Rattle.hs_gathered.proofs.Lists.{all_each, each_at, few_kept}
 use Rattle.hs_gathered.proofs.Rounds.{IsFit, all_start, all_counted}
 use Rattle.hs_gathered.proofs.Grown.{mapped_long, all_mapped_range}
 use Rattle.hs_gathered.proofs.Workloads.{fit_of, rounds_low, node_client}
@@ -62,7 +63,7 @@ module _ (known : Known) (W : PlainWorkload) (valid : IsValid W) (s : Story) (st
         (λ k within. ap (λ (events : List Event). length (taken events)) (events_are W s story node low k within))
         (λ k beyond. ap (λ (events : List Event). length (taken events)) (events_beyond W s story node low k beyond))
         (λ k. ap (λ (sends : ClientSends). length (sent_within (k * W.settings.stride) (part sends))) (own_sends W s story valid node client low few) ∙ within_round (part (sends_at W s node client)) whole k)
-        (λ k. few_kept (λ (item : Sent A). nat_lt item.number (done_by W node client k)) (part (sends_at W s node client)))
+        (λ k. filter_few (λ (item : Sent A). nat_lt item.number (done_by W node client k)) (part (sends_at W s node client)))
         (length (node_doings s node).passes) (long W s story node low)
 
     takes_in_pace : TakesInPace W (journal_of W (doings_of W s)) (node_doings s node) client
@@ -158,7 +159,7 @@ module _ (known : Known) (W : PlainWorkload) (valid : IsValid W) (s : Story) (st
       let enough = story.enough in
       let most =
       rounds_low W (fit_of W valid) s.rounds
-      (each_at (λ (ops : List Operation). length ops ≤ s.rounds * W.settings.stride) W.clients
+      (all_by_place (λ (ops : List Operation). length ops ≤ s.rounds * W.settings.stride) W.clients
       (λ i ops h.
       let at = node_client W valid i ops h in
       subst (λ (list : List Operation). length list ≤ s.rounds * W.settings.stride) (ap (λ (o : Option (List Operation)). unwrap_or o []) (ap (slice_get W.clients) (sym at.place_is) ∙ h)) ((story.each at.node at.low).done at.client at.few))) in

@@ -3,8 +3,10 @@ use Rattle.std.proofs.Common.{◌≡◌, ℕ, zero, suc, ◌+◌, ◌-◌, ◌<�
 use Rattle.std.specs.List.{AllByRecursion, filter_map}
 use Rattle.std.proofs.lemmas.List.{map-append}
 use Rattle.std.proofs.lemmas.List.Elements.{filter_map-append}
-use Rattle.hs_journal.specs.declared.journal.Draw.{Draw}
-use Rattle.hs_journal.specs.declared.journal.Draw.TheVariants as draws
+use Rattle.std.proofs.lemmas.Option.{slice_get_within}
+use Rattle.hs_lists.proofs.Alls.{all_front, all_back, all_each, all_mapped, all_reverse, all_at, all_by_place}
+use Rattle.hs_lists.proofs.Places.{get_some}
+use Rattle.hs_lists.proofs.Parts.{take_length}
 use Rattle.hs_journal.specs.Views.{PlainJournal}
 use Rattle.hs_model.specs.Laws.{noted_as}
 use Rattle.hs_model.specs.Stepping.{Event}
@@ -19,15 +21,11 @@ use Rattle.hs_lawful.specs.Unreads.{round_of}
 use Rattle.hs_actors.specs.Doings.{joined, NodeDoings, all_events, events_in, steps_of}
 use Rattle.hs_actors.specs.Facts.{MeetsInRounds}
 use Rattle.hs_actors.specs.Pools.{draw_answer}
+use Rattle.hs_actors.proofs.Pools.{stamp_same}
 use Rattle.hs_gathered.proofs.PoolOf.{IsPoolOf}
-use Rattle.hs_gathered.proofs.Lists.{all_each, all_get, all_front, all_back, all_mapped, all_back_to_front, each_at, get_some, get_within, take_whole}
 use Rattle.hs_gathered.proofs.Rounds.{IsFit, all_start, page_at, all_pages_at, round_behind}
 use Rattle.hs_gathered.proofs.History.{early_pages, late_pages}
 use Rattle.hs_gathered.proofs.Turns.{turns_stamps}
-
-pub same_stamp : (draw : Draw) → (draw_answer draw).stamp ≡ stamp_of draw
-same_stamp (draws.Got buffer stamp) = refl
-same_stamp (draws.Empty stamp) = refl
 
 -- a number above all of these
 pub record HasBound (list : List ℕ) : Type 0 where
@@ -88,7 +86,7 @@ module _ (timely : TimedPagesAreTimely) (W : PlainWorkload) (fit : IsFit W) (J :
   pub stamps_below : (k : ℕ) → k ≤ length n.passes → (bound : ℕ) → AllByRecursion (λ (a : Answer). a.stamp < bound) (answers_in (p.at k).turns) → AllByRecursion (λ stamp. stamp < bound) (log_stamps (steps_of (events_in n k)))
   stamps_below k low bound all =
       subst (AllByRecursion (λ stamp. stamp < bound)) (sym (stamps_at k low))
-      (all_mapped (λ (a : Answer). a.stamp) (λ stamp. stamp < bound) (reverse (answers_in (p.at k).turns)) (all_back_to_front (λ (a : Answer). a.stamp < bound) (answers_in (p.at k).turns) all))
+      (all_mapped (λ (a : Answer). a.stamp) (λ stamp. stamp < bound) (reverse (answers_in (p.at k).turns)) (all_reverse (λ (a : Answer). a.stamp < bound) (answers_in (p.at k).turns) all))
 
   -- ---- the numbers that each knows
 
@@ -110,12 +108,12 @@ module _ (timely : TimedPagesAreTimely) (W : PlainWorkload) (fit : IsFit W) (J :
   -- of each page its round is that of an operation of its client
   pub starts_in_rounds : (client : ℕ) → client < W.settings.clients → AllByRecursion (λ (page : DrawnPage). round_of W.settings.stride page.started ≤ rounds) (client_sends W J n.node client).drawn
   starts_in_rounds client few =
-      each_at (λ (page : DrawnPage). round_of W.settings.stride page.started ≤ rounds) (client_sends W J n.node client).drawn
+      all_by_place (λ (page : DrawnPage). round_of W.settings.stride page.started ≤ rounds) (client_sends W J n.node client).drawn
       (λ i page h.
       let at = page_at (record { node = n.node; number = client }) 0 (timed_pages W.settings.size (ops_of W n.node client)) (draws_at J (place_of W.settings.clients n.node client)) i page h in
       let ops = ops_of W n.node client in
       let starts =
-      all_get (λ t. t.started < length ops) (timed_pages W.settings.size ops) i at.timed
+      all_at (λ t. t.started < length ops) (timed_pages W.settings.size ops) i at.timed
       (all_start 0 (length ops) (timed_pages W.settings.size ops) (timely W.settings.size ops fit.least (fit.bracketed (place_of W.settings.clients n.node client)))) at.there in
       let done = p.done client few in
       let is = at.started in
@@ -123,7 +121,7 @@ module _ (timely : TimedPagesAreTimely) (W : PlainWorkload) (fit : IsFit W) (J :
 
   pub owner_is : (client : ℕ) → AllByRecursion (λ (page : DrawnPage). page.client.number ≡ client) (client_sends W J n.node client).drawn
   owner_is client =
-      each_at (λ (page : DrawnPage). page.client.number ≡ client) (client_sends W J n.node client).drawn
+      all_by_place (λ (page : DrawnPage). page.client.number ≡ client) (client_sends W J n.node client).drawn
       (λ i page h.
       ap (λ owner. owner.number)
       (page_at (record { node = n.node; number = client }) 0 (timed_pages W.settings.size (ops_of W n.node client)) (draws_at J (place_of W.settings.clients n.node client)) i page h).owner)
@@ -135,10 +133,10 @@ module _ (timely : TimedPagesAreTimely) (W : PlainWorkload) (fit : IsFit W) (J :
       let pages = (client_sends W J n.node client).drawn in
       let early = early_pages timely W fit J n rounds p P (min round rounds) client (omega arith) few all in
       let starts = starts_in_rounds client few in
-      each_at (λ (page : DrawnPage). round_of W.settings.stride page.started ≤ round → P (draw_answer page.draw)) pages
+      all_by_place (λ (page : DrawnPage). round_of W.settings.stride page.started ≤ round → P (draw_answer page.draw)) pages
       (λ i page h low.
-      let last = all_get (λ (page : DrawnPage). round_of W.settings.stride page.started ≤ rounds) pages i page starts h in
-      all_get (λ (page : DrawnPage). round_of W.settings.stride page.started ≤ min round rounds → P (draw_answer page.draw)) pages i page early h (omega (arith, low, last)))
+      let last = all_at (λ (page : DrawnPage). round_of W.settings.stride page.started ≤ rounds) pages i page starts h in
+      all_at (λ (page : DrawnPage). round_of W.settings.stride page.started ≤ min round rounds → P (draw_answer page.draw)) pages i page early h (omega (arith, low, last)))
 
   drawn_low : (round client : ℕ) → client < W.settings.clients → AllByRecursion (λ (a : Answer). a.stamp < giver_knows round) ((p.at (min round rounds)).answers client)
   drawn_low round client few = either (min round rounds) refl
@@ -164,7 +162,7 @@ module _ (timely : TimedPagesAreTimely) (W : PlainWorkload) (fit : IsFit W) (J :
       whole_below : AllByRecursion (λ stamp. stamp < all_stamps.bound) (log_stamps (steps_of pass))
       whole_below =
           all_within (λ stamp. stamp < all_stamps.bound) (all_events n) pass
-          (subst (λ (list : List Event). StandsIn list pass) (ap joined (take_whole n.passes)) (stands_in n.passes place (length n.passes) pass there (get_within n.passes place pass there))) all_stamps.below
+          (subst (λ (list : List Event). StandsIn list pass) (ap joined (take_length n.passes)) (stands_in n.passes place (length n.passes) pass there (slice_get_within n.passes place pass there))) all_stamps.below
 
       either : (a : Bool) → nat_lt client W.settings.clients ≡ a → (b : Bool) → nat_lt (suc k) (suc rounds) ≡ b
           → AllByRecursion (λ stamp. stamp < cond (a && b) ((p.at (suc k)).floors client) all_stamps.bound) (log_stamps (steps_of pass))
@@ -186,25 +184,25 @@ module _ (timely : TimedPagesAreTimely) (W : PlainWorkload) (fit : IsFit W) (J :
             (λ client few.
             all_each (λ (page : DrawnPage). round_of W.settings.stride page.started ≤ round → (draw_answer page.draw).stamp < giver_knows round)
             (λ (page : DrawnPage). round_of W.settings.stride page.started ≤ round → stamp_of page.draw < giver_knows round) (client_sends W J n.node client).drawn
-            (λ page below low. subst (λ stamp. stamp < giver_knows round) (same_stamp page.draw) (below low))
+            (λ page below low. subst (λ stamp. stamp < giver_knows round) (stamp_same page.draw) (below low))
             (early_or_all (λ (a : Answer). a.stamp < giver_knows round) round client few (drawn_low round client few)));
         given_above = λ round place pass low there.
-            let within = get_within n.passes place pass there in
+            let within = slice_get_within n.passes place pass there in
             let rises = floor_rises (min round rounds) place (omega (arith, low)) (omega (arith, within)) in
             all_each (λ stamp. (p.at place).floor ≤ stamp) (λ stamp. giver_knows round ≤ stamp) (log_stamps (steps_of pass)) (λ stamp high. omega (arith, high, rises)) (p.passes place pass there).high;
         given_below = given_low;
         drawn_above = λ round.
             all_pages_at (λ (page : DrawnPage). round < round_of W.settings.stride page.started → drawer_knows page.client.number round ≤ stamp_of page.draw) W J n.node
             (λ client few.
-            each_at (λ (page : DrawnPage). round < round_of W.settings.stride page.started → drawer_knows page.client.number round ≤ stamp_of page.draw) (client_sends W J n.node client).drawn
+            all_by_place (λ (page : DrawnPage). round < round_of W.settings.stride page.started → drawer_knows page.client.number round ≤ stamp_of page.draw) (client_sends W J n.node client).drawn
             (λ i page h behind.
-            let last = all_get (λ (page : DrawnPage). round_of W.settings.stride page.started ≤ rounds) (client_sends W J n.node client).drawn i page (starts_in_rounds client few) h in
+            let last = all_at (λ (page : DrawnPage). round_of W.settings.stride page.started ≤ rounds) (client_sends W J n.node client).drawn i page (starts_in_rounds client few) h in
             let low : round ≤ rounds = omega (arith, behind, last) in
-            let owner = all_get (λ (page : DrawnPage). page.client.number ≡ client) (client_sends W J n.node client).drawn i page (owner_is client) h in
+            let owner = all_at (λ (page : DrawnPage). page.client.number ≡ client) (client_sends W J n.node client).drawn i page (owner_is client) h in
             let above =
-            all_get (λ (page : DrawnPage). round < round_of W.settings.stride page.started → (p.at round).floors client ≤ (draw_answer page.draw).stamp) (client_sends W J n.node client).drawn i page
+            all_at (λ (page : DrawnPage). round < round_of W.settings.stride page.started → (p.at round).floors client ≤ (draw_answer page.draw).stamp) (client_sends W J n.node client).drawn i page
             (late_pages timely W fit J n rounds p round client low few) h behind in
             let knows = ap (λ c. drawer_knows c round) owner ∙ known client round few low in
-            let stamp = same_stamp page.draw in
+            let stamp = stamp_same page.draw in
             omega (arith, above, knows, stamp)));
       }

@@ -1,27 +1,19 @@
 -- Where an unread offer stands: in a pass, behind the turn of that pass.
-use Rattle.std.proofs.Common.{◌≡◌, ◌⊎◌, inl, inr, ℕ, zero, suc, ◌+◌, ◌<◌, ◌≤◌, Bool, true, false, cond, List, [], ◌∷◌, ◌++◌, length, refl, sym, ap, ◌∙◌, Some, arith, map, slice_get, take, replicate, count_by, append_assoc}
+use Rattle.std.proofs.Common.{◌≡◌, ◌⊎◌, inl, inr, ℕ, zero, suc, ◌<◌, ◌≤◌, true, false, List, [], ◌∷◌, ◌++◌, length, refl, sym, ap, ◌∙◌, Some, arith, map, slice_get, take, replicate, count_by, append_assoc}
 use Rattle.std.specs.List.{AllByRecursion, flat_map}
 use Rattle.std.proofs.lemmas.List.{map-append}
-use Rattle.std.proofs.lemmas.List.Sums.{sum_by-cons, sum_by-append}
+use Rattle.hs_lists.proofs.Alls.{all_append}
+use Rattle.hs_lists.proofs.Counts.{one_if, count_cons, count_append}
 use Rattle.hs_journal.specs.declared.journal.Step.{Step}
 use Rattle.hs_journal.specs.declared.journal.Step.TheVariants as steps
 use Rattle.hs_model.specs.Laws.{noted_as}
-use Rattle.hs_model.specs.Stepping.{Answered, Given, Missed, Unread, Event, Gave, step_of_answer}
+use Rattle.hs_model.specs.Stepping.{Answered, Unread, Event, Gave, step_of_answer}
 use Rattle.hs_records.specs.Plain.{PlainWorkload}
 use Rattle.hs_lawful.specs.Following.{Queue, Chunks, Crumbs, Triggers, Asks}
 use Rattle.hs_lawful.specs.Passes.{is_turn, is_unread, queues_of}
 use Rattle.hs_actors.specs.Doings.{joined, steps_of}
 use Rattle.hs_actors.specs.Facts.{step_from, IsPass}
-use Rattle.hs_gathered.proofs.Lists.{all_both}
-
-abbrev pub one : Bool → ℕ
-one b = cond b 1 0
-
-pub count_cons : {X : Type 0} (p : X → Bool) (x : X) (xs : List X) → count_by p (x ∷ xs) ≡ one (p x) + count_by p xs
-count_cons p x xs = sum_by-cons (λ x. one (p x)) x xs
-
-pub count_both : {X : Type 0} (p : X → Bool) (xs ys : List X) → count_by p (xs ++ ys) ≡ count_by p xs + count_by p ys
-count_both p xs ys = sum_by-append (λ x. one (p x)) xs ys
+use Rattle.hs_actors.proofs.Passes.{is_no_turn}
 
 -- ---- lists
 
@@ -105,34 +97,29 @@ all_same P step h (suc count) = (h, all_same P step h count)
 all_taking : (counts : Queue → ℕ) (queues : List Queue) → AllByRecursion IsTaking (flat_map (λ queue. replicate (counts queue) (step_from queue)) queues)
 all_taking counts [] = tt
 all_taking counts (queue ∷ queues) =
-    all_both IsTaking (replicate (counts queue) (step_from queue)) (flat_map (λ queue. replicate (counts queue) (step_from queue)) queues) (all_same IsTaking (step_from queue) (takes_from queue) (counts queue))
+    all_append IsTaking (replicate (counts queue) (step_from queue)) (flat_map (λ queue. replicate (counts queue) (step_from queue)) queues) (all_same IsTaking (step_from queue) (takes_from queue) (counts queue))
     (all_taking counts queues)
 
 no_turn : (step : Step) (list : List Step) → is_turn step ≡ false → count_by is_turn (step ∷ list) ≡ count_by is_turn list
-no_turn step list h = let first = count_cons is_turn step list in let none = ap one h in omega (arith, first, none)
+no_turn step list h = let first = count_cons is_turn step list in let none = ap one_if h in omega (arith, first, none)
 
 taking_turns : (list : List Step) → AllByRecursion IsTaking list → count_by is_turn list ≡ 0
 taking_turns [] all = refl
 taking_turns (step ∷ list) all = no_turn step list all.0.0 ∙ taking_turns list all.1
 
-answer_is_no_turn : (answer : Answered) → is_turn (step_of_answer answer) ≡ false
-answer_is_no_turn (Given stamp) = refl
-answer_is_no_turn (Missed stamp) = refl
-answer_is_no_turn Unread = refl
-
 offered_turns : (offers : List Answered) → count_by is_turn (map step_of_answer offers) ≡ 0
 offered_turns [] = refl
-offered_turns (offer ∷ offers) = no_turn (step_of_answer offer) (map step_of_answer offers) (answer_is_no_turn offer) ∙ offered_turns offers
+offered_turns (offer ∷ offers) = no_turn (step_of_answer offer) (map step_of_answer offers) (is_no_turn offer) ∙ offered_turns offers
 
 pub pass_turns : (W : PlainWorkload) (pass : List Event) → IsPass W pass → count_by is_turn (steps_of pass) ≡ 1
 pass_turns W pass is =
     let takes = flat_map (λ queue. replicate (is.counts queue) (step_from queue)) (queues_of W) in
     let all = ap (count_by is_turn) is.steps_are in
-    let both = count_both is_turn takes (steps.Turn ∷ map step_of_answer is.offers) in
+    let both = count_append is_turn takes (steps.Turn ∷ map step_of_answer is.offers) in
     let none = taking_turns takes (all_taking is.counts (queues_of W)) in
     let turn = count_cons is_turn steps.Turn (map step_of_answer is.offers) in
     let last = offered_turns is.offers in
-    let first : one (is_turn steps.Turn) ≡ 1 = refl in
+    let first : one_if (is_turn steps.Turn) ≡ 1 = refl in
     omega (arith, all, both, none, turn, last, first)
 
 -- the steps of a pass before an unread one have its turn
@@ -143,10 +130,10 @@ front_turns [] offers [] rest all h = let no : steps.Turn ≡ steps.Unread = hea
     head_of e = cc
 front_turns [] offers (f ∷ front) rest all h =
     let first = count_cons is_turn f front in
-    let turn = ap (λ s. one (is_turn s)) (sym (head_of h)) in
-    let both = ap (count_by is_turn) (tail_of h) ∙ count_both is_turn front (steps.Unread ∷ rest) in
+    let turn = ap (λ s. one_if (is_turn s)) (sym (head_of h)) in
+    let both = ap (count_by is_turn) (tail_of h) ∙ count_append is_turn front (steps.Unread ∷ rest) in
     let none = offered_turns offers in
-    let is : one (is_turn steps.Turn) ≡ 1 = refl in
+    let is : one_if (is_turn steps.Turn) ≡ 1 = refl in
     omega (arith, first, turn, both, none, is)
   where
     head_of : steps.Turn ∷ map step_of_answer offers ≡ f ∷ front ++ steps.Unread ∷ rest → steps.Turn ≡ f
@@ -170,7 +157,7 @@ passes_turns : (W : PlainWorkload) (passes : List (List Event)) (k : ℕ) → Al
 passes_turns W passes zero all low = refl
 passes_turns W [] (suc k) all low = absurd (omega (arith, low))
 passes_turns W (pass ∷ passes) (suc k) all low =
-    let both = ap (count_by is_turn) (map-append noted_as pass (joined (take k passes))) ∙ count_both is_turn (steps_of pass) (steps_of (joined (take k passes))) in
+    let both = ap (count_by is_turn) (map-append noted_as pass (joined (take k passes))) ∙ count_append is_turn (steps_of pass) (steps_of (joined (take k passes))) in
     let first = pass_turns W pass all.0 in
     let rest = passes_turns W passes k all.1 (omega (arith, low)) in
     omega (arith, both, first, rest)
@@ -178,7 +165,7 @@ passes_turns W (pass ∷ passes) (suc k) all low =
 pub turns_before : (W : PlainWorkload) (passes : List (List Event)) (before : List Event) (s : InPass passes before) → AllByRecursion (IsPass W) passes → s.place < length passes → IsPass W s.pass → count_by is_turn (steps_of before) ≡ suc s.place
 turns_before W passes before s all low is =
     let both = ap (λ events. count_by is_turn (steps_of events)) s.before_is ∙ ap (count_by is_turn) (map-append noted_as (joined (take s.place passes)) s.front)
-    ∙ count_both is_turn (steps_of (joined (take s.place passes))) (steps_of s.front) in
+    ∙ count_append is_turn (steps_of (joined (take s.place passes))) (steps_of s.front) in
     let earlier = passes_turns W passes s.place all (omega (arith, low)) in
     let steps_are = sym is.steps_are ∙ ap steps_of s.pass_is ∙ map-append noted_as s.front (Gave Unread ∷ s.rest) in
     let here = front_turns (flat_map (λ queue. replicate (is.counts queue) (step_from queue)) (queues_of W)) is.offers (steps_of s.front) (steps_of s.rest) (all_taking is.counts (queues_of W)) steps_are in

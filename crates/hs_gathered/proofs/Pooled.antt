@@ -3,7 +3,12 @@ use Rattle.std.proofs.Common.{◌≡◌, ◌⊎◌, ℕ, zero, suc, ◌+◌, ◌
 use Rattle.std.specs.List.{AllByRecursion, range_with_len}
 use Rattle.std.specs.Option.{option_and_then}
 use Rattle.std.proofs.lemmas.List.{length-map, length-reverse}
-use Rattle.std.proofs.lemmas.Option.{slice_get-map}
+use Rattle.std.proofs.lemmas.List.FromFn.{length-range_with_len}
+use Rattle.std.proofs.lemmas.Option.{slice_get-map, same_Some}
+use Rattle.hs_lists.proofs.Alls.{all_at}
+use Rattle.hs_lists.proofs.Filters.{filter_few}
+use Rattle.hs_lists.proofs.Ranges.{range_at}
+use Rattle.hs_lists.proofs.Parts.{take_length}
 use Rattle.hs_journal.specs.declared.journal.Draw.TheVariants as draws
 use Rattle.hs_journal.specs.Views.{PlainJournal}
 use Rattle.hs_model.specs.Laws.{EventsAddThis}
@@ -24,7 +29,6 @@ use Rattle.hs_actors.specs.Pools.{draw_answer, give_of, give_at, answers_to, IsP
 use Rattle.hs_actors.specs.Turns.{Lent, AreTurns}
 use Rattle.hs_gathered.specs.Ends.{done_by}
 use Rattle.hs_gathered.proofs.PoolOf.{IsDrawnFor, IsPoolOf}
-use Rattle.hs_gathered.proofs.Lists.{all_get, few_kept, range_at, range_long, take_whole, some_same}
 use Rattle.hs_gathered.proofs.Rounds.{starts_before, drawn_draws, page_of_draw}
 use Rattle.hs_gathered.proofs.Turns.{turns_stamps, turns_misses, turns_kinds, turns_gives, turns_known, IsNamed}
 
@@ -47,7 +51,7 @@ module _ (adds : EventsAddThis) (W : PlainWorkload) (J : PlainJournal) (n : Node
   run = node_at_end W J n
 
   pub whole : events_in n (length n.passes) ≡ all_events n
-  whole = ap joined (take_whole n.passes)
+  whole = ap joined (take_length n.passes)
 
   pub last_turns : AreTurns W.settings n.node p.lents (all_events n) (p.at (length n.passes)).turns
   last_turns = subst (λ (events : List Event). AreTurns W.settings n.node p.lents events (p.at (length n.passes)).turns) whole (p.turns (length n.passes) (omega arith))
@@ -56,12 +60,12 @@ module _ (adds : EventsAddThis) (W : PlainWorkload) (J : PlainJournal) (n : Node
   answers_are client few = answers_there p.log (p.at rounds).answers 0 W.settings.clients p.together.draws client (omega arith) (omega (arith, few))
 
   drawers : length (map (p.at rounds).answers (range_with_len 0 W.settings.clients)) ≡ W.settings.clients
-  drawers = length-map (range_with_len 0 W.settings.clients) (p.at rounds).answers ∙ range_long 0 W.settings.clients
+  drawers = length-map (range_with_len 0 W.settings.clients) (p.at rounds).answers ∙ length-range_with_len 0 W.settings.clients
 
   few_draws : (client : ℕ) → client < W.settings.clients → length (draws_at J (place_of W.settings.clients n.node client)) ≤ length (timed_pages W.settings.size (ops_of W n.node client))
   few_draws client few =
       let long = sym (length-map (draws_at J (place_of W.settings.clients n.node client)) draw_answer) ∙ ap length (p.drawn client few) ∙ length-reverse ((p.at rounds).answers client) ∙ p.started rounds client (omega arith) few in
-      let kept = few_kept (starts_before (done_by W n.node client rounds)) (timed_pages W.settings.size (ops_of W n.node client)) in
+      let kept = filter_few (starts_before (done_by W n.node client rounds)) (timed_pages W.settings.size (ops_of W n.node client)) in
       omega (arith, long, kept)
 
   -- ---- what is given
@@ -91,10 +95,10 @@ module _ (adds : EventsAddThis) (W : PlainWorkload) (J : PlainJournal) (n : Node
           → give_at run (record { place = place; stamp = stamp }) ≡ Some (record { stamp = stamp; event = pool.Given lent.buffer; draw = lent.draw })
       by_chunk None is h = let no : None ≡ Some lent.sheet = h in absurd cc
       by_chunk (Some chunk) is h =
-          let sheet_is = some_same chunk.sheet lent.sheet h in
+          let sheet_is = same_Some chunk.sheet lent.sheet h in
           ap (λ (o : Option Taken). option_and_then (λ (page : DrawnPage). give_of stamp page.draw) (option_and_then (λ (chunk : Taken). page_of run chunk.sheet) o)) is
           ∙ ap (λ (sheet : Sheet). option_and_then (λ (page : DrawnPage). give_of stamp page.draw) (page_of run sheet)) sheet_is
-          ∙ page_given lent stamp (all_get (IsDrawnFor W J n.node) p.lents place lent p.leases there)
+          ∙ page_given lent stamp (all_at (IsDrawnFor W J n.node) p.lents place lent p.leases there)
 
   -- ---- the pool
 

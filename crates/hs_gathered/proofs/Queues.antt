@@ -1,25 +1,21 @@
 -- A queue keeps pace where in each pass its receiver takes what it was told of.
 use Rattle.std.proofs.Common.{◌≡◌, ◌⊎◌, inl, inr, ℕ, suc, ◌+◌, ◌<◌, ◌≤◌, min, Bool, true, false, cond, List, [], ◌∷◌, length, refl, sym, ap, ◌∙◌, arith, filter, nat_lt, ltb-true, ltb-false, lt-ltb, eq-or-lt_of_le}
 use Rattle.std.specs.List.{AllByRecursion}
+use Rattle.hs_lists.proofs.Filters.{filter_few, filter_all}
 use Rattle.hs_base.specs.declared.limits.TheConstants.{MAX_TAKEN}
 use Rattle.hs_records.specs.Plain.{PlainSettings}
 use Rattle.hs_sent.specs.Sending.{Sent, sent_within}
 use Rattle.hs_actors.specs.Facts.{IsToldInRounds}
 use Rattle.hs_gathered.specs.Stories.{IsQueueStory}
-use Rattle.hs_gathered.proofs.Lists.{few_kept}
 
 -- what a filter leaves whole, it keeps
 keeps_each : {X : Type 0} (p : X → Bool) (xs : List X) → filter p xs ≡ xs → AllByRecursion (λ x. p x ≡ true) xs
 keeps_each p [] h = tt
-keeps_each p (x ∷ xs) h = either (p x) refl h (few_kept p xs) (λ g. keeps_each p xs g)
+keeps_each p (x ∷ xs) h = either (p x) refl h (filter_few p xs) (λ g. keeps_each p xs g)
   where
     either : (b : Bool) → p x ≡ b → cond b (x ∷ filter p xs) (filter p xs) ≡ x ∷ xs → length (filter p xs) ≤ length xs → (filter p xs ≡ xs → AllByRecursion (λ x. p x ≡ true) xs) → AllByRecursion (λ x. p x ≡ true) (x ∷ xs)
     either true e g few rest = let tail_is : filter p xs ≡ xs = cc in (e, rest tail_is)
     either false e g few rest = let long = ap length g in absurd (omega (arith, few, long))
-
-keeps_whole : {X : Type 0} (p : X → Bool) (xs : List X) → AllByRecursion (λ x. p x ≡ true) xs → filter p xs ≡ xs
-keeps_whole p [] all = refl
-keeps_whole p (x ∷ xs) all = ap (λ b. cond b (x ∷ filter p xs) (filter p xs)) all.0 ∙ ap (λ rest. x ∷ rest) (keeps_whole p xs all.1)
 
 later_too : {A : Type 0} (m k : ℕ) (items : List (Sent A)) → m ≤ k → AllByRecursion (λ (item : Sent A). nat_lt item.number m ≡ true) items → AllByRecursion (λ (item : Sent A). nat_lt item.number k ≡ true) items
 later_too m k [] low all = tt
@@ -33,7 +29,7 @@ within_all {A} k count items whole = either (nat_lt count k) refl
     either true e =
         let low = ltb-true count k e in
         let least : count ≡ min k count = omega (arith, low) in
-        keeps_whole (λ (item : Sent A). nat_lt item.number k) items (later_too count k items (omega (arith, low)) (keeps_each (λ (item : Sent A). nat_lt item.number count) items whole))
+        filter_all (λ (item : Sent A). nat_lt item.number k) items (later_too count k items (omega (arith, low)) (keeps_each (λ (item : Sent A). nat_lt item.number count) items whole))
         ∙ sym whole ∙ ap (λ m. sent_within m items) least
     either false e = let high = ltb-false count k e in let least : k ≡ min k count = omega (arith, high) in ap (λ m. sent_within m items) least
 

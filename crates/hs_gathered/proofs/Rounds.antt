@@ -2,6 +2,8 @@
 use Rattle.std.proofs.Common.{◌≡◌, ℕ, zero, suc, ◌+◌, ◌*◌, ◌<◌, ◌≤◌, Bool, true, false, cond, List, [], ◌∷◌, length, refl, sym, ap, subst, ◌∙◌, Some, None, arith, map, filter, slice_get, nat_lt, ltb-true, ltb-false, lt-ltb}
 use Rattle.std.proofs.Math.Nat.{div-lt_iff_lt-mul}
 use Rattle.std.specs.List.{AllByRecursion, flat_map, range_with_len}
+use Rattle.std.proofs.lemmas.Option.{same_Some}
+use Rattle.hs_lists.proofs.Alls.{all_append}
 use Rattle.hs_base.specs.declared.ids.ClientId.{ClientId}
 use Rattle.hs_base.specs.declared.limits.TheConstants.{MIN_SIZE}
 use Rattle.hs_journal.specs.declared.journal.Draw.{Draw}
@@ -14,7 +16,6 @@ use Rattle.hs_sent.specs.Sending.{ClientSends, client_sends, operations_at}
 use Rattle.hs_sent.specs.Timing.{TimedPage}
 use Rattle.hs_lawful.specs.Unreads.{round_of}
 use Rattle.hs_actors.specs.Facts.{pages_at}
-use Rattle.hs_gathered.proofs.Lists.{all_both, some_same}
 
 -- what is needed of a workload
 pub record IsFit (W : PlainWorkload) : Type 0 where
@@ -60,7 +61,7 @@ split_at from to m (p ∷ pages) timely i page h = either (nat_lt p.started m) r
     either : (b : Bool) → nat_lt p.started m ≡ b → (i : ℕ) → slice_get (p ∷ pages) i ≡ Some page → ((j : ℕ) → slice_get pages j ≡ Some page → IsSplitAt m pages j page)
         → IsSplitAt m (p ∷ pages) i page
     either true e zero h earlier =
-        let same = some_same p page h in
+        let same = same_Some p page h in
         let low = subst (λ (q : TimedPage). q.started < m) same (ltb-true p.started m e) in
         record { early = λ _. subst (λ b. 0 < length (cond b (p ∷ filter (starts_before m) pages) (filter (starts_before m) pages))) (sym e) (omega arith); late = λ _. low }
     either true e (suc j) h earlier =
@@ -70,7 +71,7 @@ split_at from to m (p ∷ pages) timely i page h = either (nat_lt p.started m) r
           late = λ low. let less : suc j < suc (length (filter (starts_before m) pages)) = subst (λ b. suc j < length (cond b (p ∷ filter (starts_before m) pages) (filter (starts_before m) pages))) e low in s.late (omega (arith, less));
         }
     either false e zero h earlier =
-        let same = some_same p page h in
+        let same = same_Some p page h in
         let high = ltb-false p.started m e in
         let none = none_of high in
         record {
@@ -110,7 +111,7 @@ pub page_at : (client : ClientId) (number : ℕ) (pages : List TimedPage) (list 
 page_at client number [] list i page h = let no : None ≡ Some page = h in absurd cc
 page_at client number (timed ∷ pages) [] i page h = let no : None ≡ Some page = h in absurd cc
 page_at client number (timed ∷ pages) (draw ∷ list) zero page h =
-    let is = sym (some_same _ page h) in
+    let is = sym (same_Some _ page h) in
     record {
       timed = timed;
       there = refl;
@@ -136,7 +137,7 @@ page_of_draw client number (timed ∷ pages) (d ∷ list) zero draw few h =
     record {
       page = record { client = client; number = number; page = timed.page; started = timed.started; sent = timed.sent; draw = d };
       there = refl;
-      draw_is = some_same d draw h;
+      draw_is = same_Some d draw h;
     }
 page_of_draw client number (timed ∷ pages) (d ∷ list) (suc i) draw few h =
     let s = page_of_draw client (number + 1) pages list i draw (omega (arith, few)) h in record { page = s.page; there = s.there; draw_is = s.draw_is }
@@ -160,7 +161,7 @@ all_pages_at P W J node each = from 0 W.settings.clients (λ client low high. ea
         → AllByRecursion P (flat_map (λ (sends : ClientSends). sends.drawn) (map (client_sends W J node) (range_with_len start count)))
     from start zero each = tt
     from start (suc count) each =
-        all_both P (client_sends W J node start).drawn (flat_map (λ (sends : ClientSends). sends.drawn) (map (client_sends W J node) (range_with_len (start + 1) count)))
+        all_append P (client_sends W J node start).drawn (flat_map (λ (sends : ClientSends). sends.drawn) (map (client_sends W J node) (range_with_len (start + 1) count)))
         (each start (omega arith) (omega arith)) (from (start + 1) count (λ client low high. each client (omega (arith, low)) (omega (arith, high))))
 
 -- ---- rounds

@@ -3,6 +3,8 @@ use Rattle.std.proofs.Common.{◌≡◌, ◌⊎◌, inl, inr, ℕ, ◌+◌, true
 use Rattle.std.specs.List.{AllByRecursion, filter_map, cons_option}
 use Rattle.std.proofs.lemmas.List.{map-append}
 use Rattle.std.proofs.lemmas.List.Elements.{filter-append, filter_map-append}
+use Rattle.hs_lists.proofs.Parts.{reverse_cons}
+use Rattle.hs_lists.proofs.Alls.{all_append}
 use Rattle.hs_model.specs.Laws.{noted_as, EventsAddThis}
 use Rattle.hs_model.specs.State.{AgentState, GivenPlace, start}
 use Rattle.hs_model.specs.Stepping.{Chunk, Crumbed, Triggered, Asked, Turn as Turned, Input, Answered, Given, Missed, Unread, Event, Took, Gave, step_of, step_of_answer, give_back, after, after_from, after_event}
@@ -14,7 +16,7 @@ use Rattle.hs_lawful.specs.Shape.{step_stamp, log_stamps}
 use Rattle.hs_actors.specs.Doings.{steps_of}
 use Rattle.hs_actors.specs.Pools.{miss_in}
 use Rattle.hs_actors.specs.Turns.{Lent, IsOffered, AreTurns, Begins, Takes, Offers, Meets}
-use Rattle.hs_gathered.proofs.Lists.{reverse_on, filter_map_last, all_both, last_or_earlier, StandsEarlier}
+use Rattle.hs_gathered.proofs.Lists.{filter_map_last, last_or_earlier, StandsEarlier}
 
 pub after_last : (settings : PlainSettings) (node : ℕ) (events : List Event) (event : Event) → after settings node (events ++ event ∷ []) ≡ after_event settings node (after settings node events) event
 after_last settings node events event = from (start settings) events
@@ -49,7 +51,7 @@ abbrev pub answer_in : Turn → List Answer
 answer_in turn = answers_in (turn ∷ [])
 
 turn_answers : (turn : Turn) (turns : List Turn) → reverse (answers_in (turn ∷ turns)) ≡ reverse (answers_in turns) ++ answer_in turn
-turn_answers (answered a) turns = reverse_on a (answers_in turns)
+turn_answers (answered a) turns = reverse_cons a (answers_in turns)
 turn_answers unread turns = sym (append-nil (reverse (answers_in turns)))
 turn_answers (met stamps) turns = sym (append-nil (reverse (answers_in turns)))
 
@@ -178,7 +180,7 @@ module _ (settings : PlainSettings) (node : ℕ) (lents : List Lent) where
             let same : Some place ≡ Some first.place = sym (ap (λ hand. slice_get hand 0) some) ∙ first.first in
             let place_is : place ≡ first.place = cc in
             subst (λ (h : List ℕ). AllByRecursion (λ (given : GivenPlace). (a : Answer) × (give given ≡ Some a)) (give_back stamp h state).given) (sym some)
-            (all_both (λ (given : GivenPlace). (a : Answer) × (give given ≡ Some a)) state.given (record { place = place; stamp = stamp } ∷ []) all
+            (all_append (λ (given : GivenPlace). (a : Answer) × (give given ≡ Some a)) state.given (record { place = place; stamp = stamp } ∷ []) all
             ((record { stamp = stamp; event = pool.Given lent.buffer; draw = lent.draw }, ap (λ p. give (record { place = p; stamp = stamp })) place_is ∙ named first.place lent stamp first.came), tt))
 
     pub turns_known : (events : List Event) (turns : List Turn) → AreTurns settings node lents events turns → AllByRecursion (λ (given : GivenPlace). (a : Answer) × (give given ≡ Some a)) (after settings node events).given

@@ -1,6 +1,9 @@
 -- What an unread offer shows, by what is known in the end.
 use Rattle.std.proofs.Common.{◌≡◌, ℕ, zero, suc, ◌+◌, ◌-◌, ◌<◌, ◌≤◌, Bool, true, false, ◌==◌, ◌||◌, List, [], ◌∷◌, ◌++◌, length, refl, sym, ap, subst, ◌∙◌, arith, take, min, count_by, append_assoc}
 use Rattle.std.specs.List.{AllByRecursion, list_any}
+use Rattle.std.proofs.lemmas.Option.{slice_get_within}
+use Rattle.hs_lists.proofs.Alls.{all_front, all_each, all_at, all_by_place}
+use Rattle.hs_lists.proofs.Places.{get_some}
 use Rattle.hs_journal.specs.Views.{PlainJournal}
 use Rattle.hs_model.specs.Laws.{EventsAddThis}
 use Rattle.hs_model.specs.Stepping.{Unread, Event, Gave}
@@ -16,12 +19,12 @@ use Rattle.hs_actors.specs.Doings.{joined, NodeDoings, all_events, events_in, st
 use Rattle.hs_actors.specs.Facts.{IsPass, pages_at}
 use Rattle.hs_actors.specs.Pools.{draw_answer, give_at}
 use Rattle.hs_actors.specs.Unread.{IsUnreadAt, IsPooledUnread}
+use Rattle.hs_actors.proofs.Pools.{stamp_same}
+use Rattle.hs_actors.proofs.Following.{take_next}
 use Rattle.hs_gathered.proofs.PoolOf.{IsPoolOf}
-use Rattle.hs_gathered.proofs.Grown.{joined_next}
-use Rattle.hs_gathered.proofs.Lists.{all_each, all_get, all_front, each_at, get_some, get_within}
 use Rattle.hs_gathered.proofs.Rounds.{IsFit, all_pages_at}
 use Rattle.hs_gathered.proofs.History.{late_pages}
-use Rattle.hs_gathered.proofs.Meeting.{same_stamp, stamps_both, stamps_below, starts_in_rounds, early_or_all}
+use Rattle.hs_gathered.proofs.Meeting.{stamps_both, stamps_below, starts_in_rounds, early_or_all}
 use Rattle.hs_gathered.proofs.Places.{InPass, in_pass, turns_before}
 use Rattle.hs_gathered.proofs.Pooled.{named, last_turns, is_pooled, log_is}
 use Rattle.hs_gathered.proofs.Turns.{offers_among, offer_turns, offers_both, offer_turns_both, turns_stamps, turns_gives, turns_count, turns_split, SplitAt}
@@ -42,7 +45,7 @@ any_behind q (x ∷ xs) ys h = or_right (q x) (list_any q (xs ++ ys)) (any_behin
     or_right true b h = refl
     or_right false b h = h
 
-told_more : (q : ℕ → Bool) (later earlier : List Turn) → list_any q (told_in earlier) ≡ true → list_any q (told_in (later ++ earlier)) ≡ true
+pub told_more : (q : ℕ → Bool) (later earlier : List Turn) → list_any q (told_in earlier) ≡ true → list_any q (told_in (later ++ earlier)) ≡ true
 told_more q [] earlier h = h
 told_more q (answered a ∷ later) earlier h = told_more q later earlier h
 told_more q (unread ∷ later) earlier h = told_more q later earlier h
@@ -106,27 +109,27 @@ module _ (adds : EventsAddThis) (timely : TimedPagesAreTimely) (W : PlainWorkloa
 
     module _ (before : List Event) (s : SplitAt W.settings n.node p.lents before (p.at (length n.passes)).turns) (at : InPass n.passes before) where
       within : at.place < length n.passes
-      within = get_within n.passes at.place at.pass at.there
+      within = slice_get_within n.passes at.place at.pass at.there
 
       turns_is : count_by is_turn (steps_of before) ≡ suc at.place
-      turns_is = turns_before W n.passes before at passes (get_within n.passes at.place at.pass at.there) (all_get (IsPass W) n.passes at.place at.pass passes at.there)
+      turns_is = turns_before W n.passes before at passes (slice_get_within n.passes at.place at.pass at.there) (all_at (IsPass W) n.passes at.place at.pass passes at.there)
 
       -- the events up to this pass are those before the offer, and more
       in_front : events_in n (suc at.place) ≡ before ++ Gave Unread ∷ at.rest
       in_front =
-          joined_next n.passes at.place at.pass at.there ∙ ap (λ list. joined (take at.place n.passes) ++ list) at.pass_is
+          take_next n.passes at.place at.pass at.there ∙ ap (λ list. joined (take at.place n.passes) ++ list) at.pass_is
           ∙ sym (append_assoc (joined (take at.place n.passes)) at.front (Gave Unread ∷ at.rest)) ∙ ap (λ list. list ++ Gave Unread ∷ at.rest) (sym at.before_is)
 
       stamps_low : (bound : ℕ) → AllByRecursion (λ (a : Answer). a.stamp < bound) (answers_in (p.at (suc at.place)).turns) → AllByRecursion (λ stamp. stamp < bound) (log_stamps (steps_of before))
       stamps_low bound all =
           all_front (λ stamp. stamp < bound) (log_stamps (steps_of before)) (log_stamps (steps_of (Gave Unread ∷ at.rest)))
           (subst (AllByRecursion (λ stamp. stamp < bound)) (ap (λ events. log_stamps (steps_of events)) in_front ∙ stamps_both before (Gave Unread ∷ at.rest))
-          (stamps_below timely W fit J n rounds p (suc at.place) (get_within n.passes at.place at.pass at.there) bound all))
+          (stamps_below timely W fit J n rounds p (suc at.place) (slice_get_within n.passes at.place at.pass at.there) bound all))
 
       -- the turns before the offer go on from those of earlier rounds
       earlier_turns : (k : ℕ) → k ≤ at.place → GoOn s.earlier (p.at k).turns
       earlier_turns k low =
-          let inside = get_within n.passes at.place at.pass at.there in
+          let inside = slice_get_within n.passes at.place at.pass at.there in
           let whole = turns_go_on k (omega (arith, low, inside)) in
           let count = turns_count W.settings n.node p.lents (events_in n k) (p.at k).turns (p.turns k (omega (arith, low, inside))) in
           let mine = turns_count W.settings n.node p.lents before s.earlier s.are in
@@ -138,15 +141,15 @@ module _ (adds : EventsAddThis) (timely : TimedPagesAreTimely) (W : PlainWorkloa
       above =
           all_pages_at (λ (page : DrawnPage). count_by is_turn (steps_of before) < round_of W.settings.stride page.started → AllByRecursion (λ stamp. stamp < stamp_of page.draw) (log_stamps (steps_of before))) W J n.node
           (λ client few.
-          each_at (λ (page : DrawnPage). count_by is_turn (steps_of before) < round_of W.settings.stride page.started → AllByRecursion (λ stamp. stamp < stamp_of page.draw) (log_stamps (steps_of before))) (client_sends W J n.node client).drawn
+          all_by_place (λ (page : DrawnPage). count_by is_turn (steps_of before) < round_of W.settings.stride page.started → AllByRecursion (λ stamp. stamp < stamp_of page.draw) (log_stamps (steps_of before))) (client_sends W J n.node client).drawn
           (λ i page h behind.
-          let last = all_get (λ (page : DrawnPage). round_of W.settings.stride page.started ≤ rounds) (client_sends W J n.node client).drawn i page (starts_in_rounds timely W fit J n rounds p client few) h in
+          let last = all_at (λ (page : DrawnPage). round_of W.settings.stride page.started ≤ rounds) (client_sends W J n.node client).drawn i page (starts_in_rounds timely W fit J n rounds p client few) h in
           let m = turns_is in
           let met = p.meets at.place client (omega (arith, behind, last, m)) few in
           let high =
-          all_get (λ (page : DrawnPage). suc at.place < round_of W.settings.stride page.started → (p.at (suc at.place)).floors client ≤ (draw_answer page.draw).stamp) (client_sends W J n.node client).drawn i page
+          all_at (λ (page : DrawnPage). suc at.place < round_of W.settings.stride page.started → (p.at (suc at.place)).floors client ≤ (draw_answer page.draw).stamp) (client_sends W J n.node client).drawn i page
           (late_pages timely W fit J n rounds p (suc at.place) client (omega (arith, behind, last, m)) few) h (omega (arith, behind, m)) in
-          let same = same_stamp page.draw in
+          let same = stamp_same page.draw in
           all_each (λ stamp. stamp < (p.at (suc at.place)).floors client) (λ stamp. stamp < stamp_of page.draw) (log_stamps (steps_of before)) (λ stamp low. omega (arith, low, high, same)) (stamps_low ((p.at (suc at.place)).floors client) met.given_below)))
 
       told : AllByRecursion (λ (page : DrawnPage). round_of W.settings.stride page.started < count_by is_turn (steps_of before) → list_any (λ told. told == stamp_of page.draw) (told_in s.earlier) ≡ true) (pages_at W J n.node)
@@ -158,7 +161,7 @@ module _ (adds : EventsAddThis) (timely : TimedPagesAreTimely) (W : PlainWorkloa
           all_each (λ (page : DrawnPage). round_of W.settings.stride page.started ≤ at.place → list_any (λ told. told == (draw_answer page.draw).stamp) (told_in (p.at (min at.place rounds)).turns) ≡ true)
           (λ (page : DrawnPage). round_of W.settings.stride page.started < count_by is_turn (steps_of before) → list_any (λ told. told == stamp_of page.draw) (told_in s.earlier) ≡ true) (client_sends W J n.node client).drawn
           (λ page h low.
-          subst (λ stamp. list_any (λ told. told == stamp) (told_in s.earlier) ≡ true) (same_stamp page.draw)
+          subst (λ stamp. list_any (λ told. told == stamp) (told_in s.earlier) ≡ true) (stamp_same page.draw)
           (subst (λ turns. list_any (λ told. told == (draw_answer page.draw).stamp) (told_in turns) ≡ true) (sym go.turns_are)
           (told_more (λ told. told == (draw_answer page.draw).stamp) go.more (p.at (min at.place rounds)).turns (h (omega (arith, low, m))))))
           (early_or_all timely W fit J n rounds p (λ (a : Answer). list_any (λ told. told == a.stamp) (told_in (p.at (min at.place rounds)).turns) ≡ true) at.place client few (told_by at.place client few)))

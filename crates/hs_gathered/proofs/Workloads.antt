@@ -2,13 +2,14 @@
 use Rattle.std.proofs.Common.{◌≡◌, ℕ, suc, ◌+◌, ◌-◌, ◌*◌, ◌/◌, ◌%◌, ◌<◌, ◌≤◌, max, false, List, [], ◌∷◌, length, refl, Option, Some, None, unwrap_or, fold, arith, map, slice_get}
 use Rattle.std.specs.List.{AllByRecursion}
 use Rattle.std.proofs.Math.Nat.{div-lt_iff_lt-mul, mul-le-mul_right, mod-lt, mod-eq-sub-div-mul, div-mul-le_self}
+use Rattle.std.proofs.lemmas.Option.{slice_get_within}
+use Rattle.hs_lists.proofs.Alls.{all_at}
 use Rattle.hs_records.specs.Plain.{Operation, PlainWorkload}
 use Rattle.hs_records.specs.Records.{AreBracketed}
 use Rattle.hs_sent.specs.Sending.{place_of}
 use Rattle.hs_workload.specs.Validity.{IsClient, IsValid}
 use Rattle.hs_workload.specs.declared.word.Setting.TheVariants as settings
 use Rattle.hs_lawful.specs.Ends.{rounds_for, rounds_of}
-use Rattle.hs_gathered.proofs.Lists.{all_get, get_within}
 use Rattle.hs_gathered.proofs.Rounds.{IsFit}
 
 pub fit_of : (W : PlainWorkload) → IsValid W → IsFit W
@@ -19,7 +20,7 @@ fit_of W valid =
   where
     either : (place : ℕ) (o : Option (List Operation)) → slice_get W.clients place ≡ o → AreBracketed false (unwrap_or o [])
     either place None h = refl
-    either place (Some ops) h = (all_get (IsClient W.version W.settings) W.clients place ops valid.each h).bracketed
+    either place (Some ops) h = (all_at (IsClient W.version W.settings) W.clients place ops valid.each h).bracketed
 
 pub place_low : (W : PlainWorkload) → IsValid W → (node client : ℕ) → node < W.settings.nodes → client < W.settings.clients → place_of W.settings.clients node client < length W.clients
 place_low W valid node client low few =
@@ -62,7 +63,7 @@ pub record NodeClient (W : PlainWorkload) (place : ℕ) : Type 0 where
 pub node_client : (W : PlainWorkload) → IsValid W → (place : ℕ) (ops : List Operation) → slice_get W.clients place ≡ Some ops → NodeClient W place
 node_client W valid place ops h =
     let count = valid.count in
-    let within = get_within W.clients place ops h in
+    let within = slice_get_within W.clients place ops h in
     let some = (valid.head settings.Clients).0 in
     let positive : 0 < W.settings.clients = omega (arith, some) in
     let below : place < W.settings.nodes * W.settings.clients = omega (arith, within, count) in

@@ -3,6 +3,7 @@ use Rattle.std.proofs.Common.{◌≡◌, ℕ, zero, suc, ◌+◌, ◌≤◌, Boo
 use Rattle.std.proofs.lemmas.Bool.{lt-ltb}
 use Rattle.std.proofs.lemmas.List.{append-nil, length-map, map-append, nil_from_length}
 use Rattle.std.specs.Prelude.{slice_get}
+use Rattle.hs_lists.proofs.Places.{get_front}
 use Rattle.hs_base.specs.declared.ids.ClientId.{ClientId}
 use Rattle.hs_journal.specs.declared.journal.Draw.{Draw}
 use Rattle.hs_player.specs.Places.{IsAt}
@@ -59,11 +60,6 @@ more_behind client number (page ∷ pages) (x ∷ a) more = let on = more_behind
         (filter (λ (d : DrawnPage). has_buffer d.draw) (drawn_from client (number + 1) pages a))) ++ rest
     step true rest on = ap (λ (l : List (Sent Sheet)). record { number = page.sent; item = sheet_of (record { client = client; number = number; page = page.page; started = page.started; sent = page.sent; draw = x }) } ∷ l) on
     step false rest on = on
-
-get_front : {A : Type 0} (xs more : List A) (place : ℕ) (x : A) → slice_get xs place ≡ Some x → slice_get (xs ++ more) place ≡ Some x
-get_front [] more place x e = let none : None ≡ Some x = e in absurd cc
-get_front (y ∷ xs) more zero x e = e
-get_front (y ∷ xs) more (suc place) x e = get_front xs more place x e
 
 get_past : {A : Type 0} (xs : List A) (place : ℕ) → place ≡ length xs → slice_get xs place ≡ None
 get_past [] place high = refl

@@ -1,22 +1,19 @@
 -- What one operation more sends of a kind, and taking it item by item.
 use Rattle.std.proofs.Common.{◌≡◌, ℕ, zero, suc, ◌+◌, ◌<◌, ◌≤◌, Bool, true, false, cond, List, [], ◌∷◌, ◌++◌, length, take, Some, None, refl, sym, ap, subst, ◌∙◌, arith}
-use Rattle.std.proofs.lemmas.Bool.{ltb-true, ltb-false, lt-ltb, le-ltb}
+use Rattle.std.proofs.lemmas.Bool.{ltb-true, ltb-false, lt-ltb}
 use Rattle.std.proofs.lemmas.List.{map-append}
 use Rattle.std.proofs.lemmas.Option.{same_Some}
 use Rattle.std.specs.Prelude.{slice_get, nat_lt}
+use Rattle.hs_lists.proofs.Parts.{take_length}
 use Rattle.hs_clauses.specs.Finding.{numbers_of}
 use Rattle.hs_player.specs.Playing.{Playing}
+use Rattle.hs_player.proofs.Lists.{later_none}
 use Rattle.hs_sent.specs.OneMore.{items_of}
 use Rattle.hs_sent.specs.Order.{AreInOrder}
 use Rattle.hs_sent.specs.Sending.{Sent, sent_within}
 use Rattle.hs_given.specs.Gathering.{HasItems, AreNumbers, count_within, Was, Is}
 
 module _ {A : Type 0} where
-  -- what is sent later is not sent within
-  pub later_none : (n from : ℕ) (items : List (Sent A)) → AreInOrder from items → n ≤ from → sent_within n items ≡ []
-  later_none n from [] is low = refl
-  later_none n from (item ∷ items) is low = let late : n ≤ item.number = omega (arith, is.0, low) in rw (le-ltb item.number n late) (later_none n item.number items is.1 late)
-
   -- what fewer operations send comes first
   pub first_within : (n from : ℕ) (items : List (Sent A)) → AreInOrder from items → take (count_within n items) (sent_within (n + 1) items) ≡ sent_within n items
   first_within n from [] is = refl
@@ -60,10 +57,6 @@ module _ {A : Type 0} where
       go (y ∷ ys) zero at = ap (λ (y : Sent A). y ∷ []) (same_Some y x at)
       go (y ∷ ys) (suc k) at = ap (λ (l : List (Sent A)). y ∷ l) (go ys k at)
 
-  take_whole : (xs : List (Sent A)) → take (length xs) xs ≡ xs
-  take_whole [] = refl
-  take_whole (x ∷ xs) = ap (λ (l : List (Sent A)). x ∷ l) (take_whole xs)
-
   -- ---- amid the items of an operation
 
   -- So many items were taken, of those that were sent by now; they have all that earlier operations sent.
@@ -101,7 +94,7 @@ module _ {A : Type 0} where
   ends At Holds items number player next m all at =
       record {
         at = subst (λ k. At k next) all at;
-        holds = subst Holds (ap (λ k. take k (sent_within (number + 1) items)) all ∙ take_whole (sent_within (number + 1) items)) m.holds;
+        holds = subst Holds (ap (λ k. take k (sent_within (number + 1) items)) all ∙ take_length (sent_within (number + 1) items)) m.holds;
       }
 
   -- the operation sends none
@@ -111,7 +104,7 @@ module _ {A : Type 0} where
       record {
         at = subst (λ k. At k player) all was.at;
         holds =
-            subst Holds (ap (λ k. take k (sent_within (number + 1) items)) all ∙ take_whole (sent_within (number + 1) items))
+            subst Holds (ap (λ k. take k (sent_within (number + 1) items)) all ∙ take_length (sent_within (number + 1) items))
             (subst Holds (sym (first_within number 0 items order)) was.holds);
       }
 

@@ -1,11 +1,13 @@
 -- An event leads on with another limit on pins as it does with the own one, as far as all may be pinned; then abandonment follows,
 -- and where it stops no more is pinned than may be, since nothing more is behind any event.
-use Rattle.std.proofs.Common.{◌≡◌, inl, inr, ℕ, zero, suc, ◌<◌, ◌≤◌, Bool, true, false, ◌&&◌, ◌||◌, cond, List, [], ◌∷◌, ◌++◌, length, refl, sym, ap, subst, ◌∙◌, arith, Option, Some, None, take, filter, nat_eq}
+use Rattle.std.proofs.Common.{◌≡◌, inl, inr, ℕ, zero, suc, ◌<◌, ◌≤◌, Bool, true, false, ◌||◌, cond, List, [], ◌∷◌, ◌++◌, length, refl, sym, ap, subst, ◌∙◌, arith, Option, Some, None, take, filter}
 use Rattle.std.specs.Prelude.{fold, nat_lt, slice_get}
 use Rattle.std.specs.List.{AllByRecursion, list_any}
 use Rattle.std.specs.Option.{option_map_or}
-use Rattle.std.proofs.lemmas.Bool.{le-ltb, ltb-true, and_parts, eqb-true}
+use Rattle.std.proofs.lemmas.Bool.{le-ltb, ltb-true}
 use Rattle.std.proofs.lemmas.List.{take_all}
+use Rattle.hs_lists.proofs.Places.{take_more}
+use Rattle.hs_lists.proofs.Alls.{all_each}
 use Rattle.hs_base.specs.declared.ids.TraceId.{TraceId}
 use Rattle.hs_base.specs.declared.told.Ask.{Ask}
 use Rattle.hs_base.specs.declared.told.Crumb.{Crumb}
@@ -28,6 +30,7 @@ use Rattle.hs_model.specs.Stepping.{Input, Chunk, Crumbed, Triggered, Asked, Tur
 use Rattle.hs_model.specs.Laws.{TheLeastGoes, LimitsHold, EventsGoOn, MatchNextToGo, Abandons, Remains, Leaves}
 use Rattle.hs_lawful.specs.Following.{NodeRun, followed}
 use Rattle.hs_lawful.specs.Laws.{ComesByEvents, AgentsComeByEvents}
+use Rattle.hs_pins.proofs.Order.{same_group-true}
 use Rattle.hs_headline.specs.Abandonment.{AbandonsTheLeast, IsOneToGo, WasChosen, StandsForChosen, GivesWayInOrder, OnlyTheLeastIsAbandoned}
 
 -- ---- abandonment, where it ends within the limit
@@ -101,17 +104,6 @@ visits_none settings (share ∷ shares) s = visits_none settings shares (visit s
 
 -- ---- what stands abandoned
 
-same_is : (a b : Group) → same_group a b ≡ true → a ≡ b
-same_is a b e =
-    let first = and_parts (nat_eq a.id.node b.id.node) (nat_eq a.id.number b.id.number && (nat_eq a.trigger.0 b.trigger.0 && nat_eq a.lead.0 b.lead.0)) e in
-    let second = and_parts (nat_eq a.id.number b.id.number) (nat_eq a.trigger.0 b.trigger.0 && nat_eq a.lead.0 b.lead.0) first.1 in
-    let third = and_parts (nat_eq a.trigger.0 b.trigger.0) (nat_eq a.lead.0 b.lead.0) second.1 in
-    λ i. record {
-      id = record { node = eqb-true a.id.node b.id.node first.0 i; number = eqb-true a.id.number b.id.number second.0 i };
-      trigger = record { 0 = eqb-true a.trigger.0 b.trigger.0 third.0 i };
-      lead = record { 0 = eqb-true a.lead.0 b.lead.0 third.1 i };
-    }
-
 module _ (C : Group → Type 0) where
   abbrev AllMarked : List Taken → Type 0
   AllMarked taken = AllByRecursion (λ (chunk : Taken). StandsForChosen C chunk.standing) taken
@@ -148,7 +140,7 @@ module _ (C : Group → Type 0) where
   any_group : (group : Group) (groups : List Group) → AllByRecursion C groups → list_any (same_group group) groups ≡ true → C group
   any_group group [] all h = let no : false ≡ true = h in absurd cc
   any_group group (other ∷ groups) all h =
-      any_if (same_group group other) refl h (λ here. subst C (sym (same_is group other here)) all.0) (any_group group groups all.1)
+      any_if (same_group group other) refl h (λ here. subst C (sym (same_group-true group other here)) all.0) (any_group group groups all.1)
     where
       any_if : (b : Bool) → same_group group other ≡ b → (b || list_any (same_group group) groups) ≡ true → (same_group group other ≡ true → C group) → (list_any (same_group group) groups ≡ true → C group) → C group
       any_if true e h here later = here e
@@ -286,19 +278,10 @@ module _ (least : TheLeastGoes) (settings : PlainSettings) (node : ℕ) (s : Age
 
 -- ---- a journal
 
-take_more : {X : Type 0} (xs : List X) (n : ℕ) (x : X) → slice_get xs n ≡ Some x → take (suc n) xs ≡ take n xs ++ x ∷ []
-take_more [] n x h = absurd cc
-take_more (y ∷ xs) zero x h = let same : y ≡ x = cc in ap (λ z. z ∷ []) same
-take_more (y ∷ xs) (suc n) x h = ap (λ rest. y ∷ rest) (take_more xs n x h)
-
 none_there : {X : Type 0} (xs : List X) (n : ℕ) → slice_get xs n ≡ None → length xs ≤ n
 none_there [] n h = omega arith
 none_there (x ∷ xs) zero h = let no : Some x ≡ None = h in absurd cc
 none_there (x ∷ xs) (suc n) h = omega (arith, none_there xs n h)
-
-pub all_each : {X : Type 0} (P Q : X → Type 0) (xs : List X) → ((x : X) → P x → Q x) → AllByRecursion P xs → AllByRecursion Q xs
-all_each P Q [] on all = tt
-all_each P Q (x ∷ xs) on all = (on x all.0, all_each P Q xs on all.1)
 
 module _ (least : TheLeastGoes) (limits : LimitsHold) (goes : EventsGoOn) (settings : PlainSettings) (run : NodeRun) where
   abbrev before : ℕ → AgentState

@@ -1,44 +1,20 @@
 -- Message by message a node has at most one ask more for a group, and only where it had none.
-use Rattle.std.proofs.Common.{◌≡◌, ℕ, ◌+◌, Bool, true, false, cond, not, ◌||◌, ◌&&◌, List, [], ◌∷◌, ◌++◌, Option, Some, None, find, refl, sym, ap, ◌∙◌, append-nil, append_assoc, arith, nat_eq}
-use Rattle.std.specs.Prelude.{unwrap_or, count_by}
+use Rattle.std.proofs.Common.{◌≡◌, ℕ, ◌+◌, Bool, true, false, cond, not, ◌||◌, ◌&&◌, [], ◌∷◌, ◌++◌, Option, Some, None, find, refl, sym, ap, ◌∙◌, append-nil, append_assoc, arith, nat_eq}
+use Rattle.std.specs.Prelude.{count_by}
 use Rattle.std.specs.Option.{option_map_or, option_or}
 use Rattle.std.proofs.Math.Bool.{or-false}
-use Rattle.std.proofs.lemmas.Bool.{and_parts, and_from, eqb-true}
+use Rattle.std.proofs.lemmas.Bool.{and_parts, and_from}
 use Rattle.std.proofs.lemmas.List.Folds.{find-append, list_any-append}
 use Rattle.std.proofs.lemmas.List.Sums.{sum_by-append}
+use Rattle.hs_lists.proofs.Counts.{one_if}
 use Rattle.hs_base.specs.declared.ids.GroupId.{GroupId}
 use Rattle.hs_base.specs.declared.told.Ask.{Ask}
 use Rattle.hs_base.specs.NodeSets.{has_node}
 use Rattle.hs_coord.specs.Following.{Message, Messages, same_group, is_of, has_crumb, has_ask, is_first_sender, first_of, is_newly_asked}
+use Rattle.hs_coord.proofs.KeptLemmas.{same_group-true}
 use Rattle.hs_lawful.specs.Following.{ask_by, asks_behind}
+use Rattle.hs_orderly.proofs.Asked.{first_id}
 use Rattle.hs_headline.specs.Asking.{NobodyIsAskedTwice}
-
-abbrev one : Bool → ℕ
-one b = cond b 1 0
-
--- ---- groups
-
-same_id : (a b : GroupId) → same_group a b ≡ true → a ≡ b
-same_id a b e =
-    let parts = and_parts (nat_eq a.node b.node) (nat_eq a.number b.number) e in
-    λ i. record { node = eqb-true a.node b.node parts.0 i; number = eqb-true a.number b.number parts.1 i }
-
--- what is found passes the test
-found : {X : Type 0} (p : X → Bool) (xs : List X) (x : X) → find p xs ≡ Some x → p x ≡ true
-found p [] x h = let no : None ≡ Some x = h in absurd cc
-found p (y ∷ xs) x h = found_if p y x (p y) (find p xs) refl h (found p xs x)
-  where
-    found_if : {X : Type 0} (p : X → Bool) (y x : X) (b : Bool) (o : Option X) → p y ≡ b → cond b (Some y) o ≡ Some x → (o ≡ Some x → p x ≡ true) → p x ≡ true
-    found_if p y x true o e h rest = let same : y ≡ x = cc in ap p (sym same) ∙ e
-    found_if p y x false o e h rest = rest h
-
--- the first message of a message's group is of that group
-first_id : (before : Messages) (m : Message) → (first_of before m).told.group.id ≡ m.told.group.id
-first_id before m = by (find (is_of m.told.group.id) before) refl
-  where
-    by : (o : Option Message) → find (is_of m.told.group.id) before ≡ o → (unwrap_or o m).told.group.id ≡ m.told.group.id
-    by None e = refl
-    by (Some x) e = sym (same_id m.told.group.id x.told.group.id (found (is_of m.told.group.id) before x e))
 
 -- ---- one message more
 
@@ -92,50 +68,50 @@ module _ (group : GroupId) (node : ℕ) where
     keeps = keeps_if (find (is_of group) before) refl
 
     -- what it is sent for the group
-    count_if : (b : Bool) (ask : Ask) → count_by mine (cond b (ask ∷ []) []) ≡ one (b && mine ask)
+    count_if : (b : Bool) (ask : Ask) → count_by mine (cond b (ask ∷ []) []) ≡ one_if (b && mine ask)
     count_if true ask = omega arith
     count_if false ask = refl
 
-    one_more : (had has : Bool) → (had ≡ true → has ≡ true) → one ((has && not had) && true) + one had ≡ one has
+    one_more : (had has : Bool) → (had ≡ true → has ≡ true) → one_if ((has && not had) && true) + one_if had ≡ one_if has
     one_more true true stays = refl
     one_more true false stays = let no : false ≡ true = stays refl in absurd cc
     one_more false true stays = refl
     one_more false false stays = refl
 
-    none_more : (newly : Bool) → one (newly && false) ≡ 0
+    none_more : (newly : Bool) → one_if (newly && false) ≡ 0
     none_more true = refl
     none_more false = refl
 
     abbrev first_ask : Ask
     first_ask = record { group = (first_of before m).told.group; laterals = (first_of before m).told.laterals }
 
-    step_if : (b : Bool) → is_of group m ≡ b → count_by mine (ask_by node before m) + one (has_ask group before node) ≡ one (has_ask group (before ++ m ∷ []) node)
+    step_if : (b : Bool) → is_of group m ≡ b → count_by mine (ask_by node before m) + one_if (has_ask group before node) ≡ one_if (has_ask group (before ++ m ∷ []) node)
     step_if true h =
-        let same : m.told.group.id ≡ group = sym (same_id group m.told.group.id h) in
+        let same : m.told.group.id ≡ group = sym (same_group-true group m.told.group.id h) in
         let own : mine first_ask ≡ true = ap (same_group group) (first_id before m) ∙ h in
         let newly : is_newly_asked before m node ≡ (has_ask group (before ++ m ∷ []) node && not (has_ask group before node)) =
         ap (λ (g : GroupId). has_ask g (before ++ m ∷ []) node && not (has_ask g before node)) same
         in
-        ap (λ n. n + one (has_ask group before node)) (count_if (is_newly_asked before m node) first_ask ∙ ap (λ b. one (is_newly_asked before m node && b)) own ∙ ap (λ b. one (b && true)) newly)
+        ap (λ n. n + one_if (has_ask group before node)) (count_if (is_newly_asked before m node) first_ask ∙ ap (λ b. one_if (is_newly_asked before m node && b)) own ∙ ap (λ b. one_if (b && true)) newly)
         ∙ one_more (has_ask group before node) (has_ask group (before ++ m ∷ []) node) keeps
     step_if false h =
         let others : mine first_ask ≡ false = ap (same_group group) (first_id before m) ∙ h in
-        let none = count_if (is_newly_asked before m node) first_ask ∙ ap (λ b. one (is_newly_asked before m node && b)) others ∙ none_more (is_newly_asked before m node) in
-        let still = ap one (other h) in
+        let none = count_if (is_newly_asked before m node) first_ask ∙ ap (λ b. one_if (is_newly_asked before m node && b)) others ∙ none_more (is_newly_asked before m node) in
+        let still = ap one_if (other h) in
         omega (arith, none, still)
 
-    step : count_by mine (ask_by node before m) + one (has_ask group before node) ≡ one (has_ask group (before ++ m ∷ []) node)
+    step : count_by mine (ask_by node before m) + one_if (has_ask group before node) ≡ one_if (has_ask group (before ++ m ∷ []) node)
     step = step_if (is_of group m) refl
 
   -- ---- all messages
 
-  all_asks : (before later : Messages) → count_by mine (asks_behind node before later) + one (has_ask group before node) ≡ one (has_ask group (before ++ later) node)
-  all_asks before [] = let same = ap (λ (l : Messages). one (has_ask group l node)) (append-nil before) in omega (arith, same)
+  all_asks : (before later : Messages) → count_by mine (asks_behind node before later) + one_if (has_ask group before node) ≡ one_if (has_ask group (before ++ later) node)
+  all_asks before [] = let same = ap (λ (l : Messages). one_if (has_ask group l node)) (append-nil before) in omega (arith, same)
   all_asks before (m ∷ later) =
       let rest = all_asks (before ++ m ∷ []) later in
-      let same = ap (λ (l : Messages). one (has_ask group l node)) (append_assoc before (m ∷ []) later) in
+      let same = ap (λ (l : Messages). one_if (has_ask group l node)) (append_assoc before (m ∷ []) later) in
       let both : count_by mine (asks_behind node before (m ∷ later)) ≡ count_by mine (ask_by node before m) + count_by mine (asks_behind node (before ++ m ∷ []) later) =
-      sum_by-append (λ (ask : Ask). one (mine ask)) (ask_by node before m) (asks_behind node (before ++ m ∷ []) later)
+      sum_by-append (λ (ask : Ask). one_if (mine ask)) (ask_by node before m) (asks_behind node (before ++ m ∷ []) later)
       in
       omega (arith, rest, same, both, step before m)
 

@@ -1,24 +1,21 @@
 -- What a valid workload is, and a journal of which nothing is left when it was followed.
-use Rattle.std.proofs.Common.{◌≡◌, ℕ, true, false, List, [], ◌∷◌, ◌++◌, length, sym, ap, subst, ◌∙◌, append-nil, nat_eq}
+use Rattle.std.proofs.Common.{◌≡◌, ℕ, true, List, [], ◌∷◌, ◌++◌, length, sym, ap, subst, ◌∙◌, append-nil, nat_eq}
 use Rattle.std.specs.List.{AllByRecursion, list_all}
 use Rattle.std.proofs.lemmas.Bool.{and_parts, eqb-true}
 use Rattle.std.proofs.lemmas.List.{nil_from_length}
+use Rattle.hs_lists.proofs.Alls.{all_each}
 use Rattle.hs_journal.specs.Views.{PlainJournal}
-use Rattle.hs_records.specs.Plain.{Operation, PlainSettings, PlainWorkload}
-use Rattle.hs_records.specs.Records.{AreBracketed}
+use Rattle.hs_records.specs.Plain.{PlainWorkload}
 use Rattle.hs_words.specs.PoolHistory.{IsPoolHistory}
-use Rattle.hs_workload.specs.Validity.{IsClient, IsValid}
+use Rattle.hs_workload.specs.Validity.{IsValid}
 use Rattle.hs_workload.specs.declared.word.Setting.TheVariants as settings
+use Rattle.hs_workload.proofs.Sizes.{bracketed}
 use Rattle.hs_lawful.specs.Extending.{IsOfJournal}
 use Rattle.hs_lawful.specs.Following.{NodeRun, Run, log_at, is_done}
 use Rattle.hs_lawful.specs.Pooled.{pool_history}
 use Rattle.hs_outcome.specs.Causes.{NoBufferIsOutTwice}
 use Rattle.hs_outcome.specs.Records.{EndsItsTraces}
 use Rattle.hs_headline.specs.Headline.{DidItsLog, HaveOneWriter}
-use Rattle.hs_headline.proofs.Abandonment.{all_each}
-
-bracketed : (version : ℕ) (set : PlainSettings) (clients : List (List Operation)) → AllByRecursion (IsClient version set) clients → AllByRecursion (AreBracketed false) clients
-bracketed version set clients all = all_each (IsClient version set) (AreBracketed false) clients (λ ops client. client.bracketed) all
 
 pub ends_its_traces : (W : PlainWorkload) → IsValid W → EndsItsTraces W
 ends_its_traces W valid = record { size = (valid.head settings.Size).0; ends = bracketed W.version W.settings W.clients valid.each }

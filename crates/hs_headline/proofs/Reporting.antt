@@ -4,6 +4,8 @@ use Rattle.std.specs.Prelude.{nat_lt}
 use Rattle.std.specs.List.{AllByRecursion, list_any, flat_map}
 use Rattle.std.proofs.lemmas.Bool.{ltb-true, ltb-false, eqb-true}
 use Rattle.std.proofs.lemmas.List.Folds.{list_any-append}
+use Rattle.hs_lists.proofs.Bools.{or_twice, or_swap}
+use Rattle.hs_lists.proofs.Tests.{list_any_map}
 use Rattle.hs_base.specs.declared.ids.TraceId.{TraceId}
 use Rattle.hs_base.specs.Ids.{same_trace}
 use Rattle.hs_journal.specs.Views.{PlainJournal}
@@ -19,20 +21,6 @@ use Rattle.hs_headline.specs.Headline.{is_claimed_in, has_record}
 
 -- ---- which traces there are
 
-once_or : (a r : Bool) → (a || r) ≡ (a || (a || r))
-once_or true r = refl
-once_or false r = refl
-
-or_swap : (a b r : Bool) → (a || (b || r)) ≡ (b || (a || r))
-or_swap true true r = refl
-or_swap true false r = refl
-or_swap false true r = refl
-or_swap false false r = refl
-
-any_map : {X Y : Type 0} (p : Y → Bool) (f : X → Y) (xs : List X) → list_any p (map f xs) ≡ list_any (λ x. p (f x)) xs
-any_map p f [] = refl
-any_map p f (x ∷ xs) = ap (λ b. p (f x) || b) (any_map p f xs)
-
 module _ (trace : TraceId) where
   abbrev among : List TraceId → Bool
   among traces = list_any (same_trace trace) traces
@@ -40,7 +28,7 @@ module _ (trace : TraceId) where
   put_same : (t other : TraceId) (traces : List TraceId) (b : Bool) → nat_eq t.0 other.0 ≡ b → among (put_trace t traces) ≡ (same_trace trace t || among traces)
       → among (cond b (other ∷ traces) (other ∷ put_trace t traces)) ≡ (same_trace trace t || (same_trace trace other || among traces))
   put_same t other traces true e rest =
-      once_or (same_trace trace other) (among traces) ∙ ap (λ (n : ℕ). nat_eq trace.0 n || (same_trace trace other || among traces)) (sym (eqb-true t.0 other.0 e))
+      or_twice (same_trace trace other) (among traces) ∙ ap (λ (n : ℕ). nat_eq trace.0 n || (same_trace trace other || among traces)) (sym (eqb-true t.0 other.0 e))
   put_same t other traces false e rest = ap (λ b. same_trace trace other || b) rest ∙ or_swap (same_trace trace other) (same_trace trace t) (among traces)
 
   put_less : (t other : TraceId) (traces : List TraceId) (b : Bool) → among (put_trace t traces) ≡ (same_trace trace t || among traces)
@@ -60,7 +48,7 @@ module _ (trace : TraceId) where
   among_claimed [] = refl
   among_claimed (run ∷ nodes) =
       list_any-append (same_trace trace) (claimed_at run) (flat_map claimed_at nodes)
-      ∙ ap (λ b. b || among (flat_map claimed_at nodes)) (any_map (same_trace trace) (λ (claim : ClaimedTrace). claim.trace) run.state.claims)
+      ∙ ap (λ b. b || among (flat_map claimed_at nodes)) (list_any_map (same_trace trace) (λ (claim : ClaimedTrace). claim.trace) run.state.claims)
       ∙ ap (λ b. is_claimed run.state.claims trace || b) (among_claimed nodes)
 
   and_none : (a : Bool) → (a && false) ≡ false
@@ -160,11 +148,11 @@ module _ (W : PlainWorkload) (J : PlainJournal) where
   pub reports_are_of_claimed : map name_of (outcome_of W J).entries ≡ all_records W → (trace : TraceId)
       → list_any (λ (report : Report). same_trace trace report.trace) (reports_of W J) ≡ (is_claimed_in (followed W J).nodes trace && has_record W trace)
   reports_are_of_claimed named trace =
-      any_map (λ (report : Report). same_trace trace report.trace) (report_of W entries) (reported_traces (outcome_of W J))
+      list_any_map (λ (report : Report). same_trace trace report.trace) (report_of W entries) (reported_traces (outcome_of W J))
       ∙ among_filter trace has_entry (rising_traces (flat_map claimed_at nodes))
       ∙ ap (λ b. b && has_entry trace) (among_rising trace (flat_map claimed_at nodes) ∙ among_claimed trace nodes)
       ∙ ap (λ b. is_claimed_in nodes trace && b)
-      (sym (any_map (λ (r : Named). nat_eq r.trace.0 trace.0) name_of entries) ∙ ap (λ (records : List Named). list_any (λ (r : Named). nat_eq r.trace.0 trace.0) records) named)
+      (sym (list_any_map (λ (r : Named). nat_eq r.trace.0 trace.0) name_of entries) ∙ ap (λ (records : List Named). list_any (λ (r : Named). nat_eq r.trace.0 trace.0) records) named)
 
   numbered : (traces : List TraceId) → AreRising (numbers traces) → AreRising (map (λ (report : Report). report.trace.0) (map (report_of W entries) traces))
   numbered traces r = same traces r

@@ -1,4 +1,3 @@
-pub mod Outcomes
 pub mod Listed
 pub mod Touching
 pub mod Evicting

@@ -1,5 +1,5 @@
 -- What the entries of a cache, the one used last first, say of the indexed traces, the one touched longest ago first.
-use Rattle.std.proofs.Common.{◌≡◌, ℕ, ◌+◌, Bool, true, false, cond, not, List, [], ◌∷◌, ◌++◌, length, map, Option, Some, None, unwrap_or, option_map, refl, sym, ap, ◌∙◌, arith, append-nil}
+use Rattle.std.proofs.Common.{◌≡◌, ℕ, ◌+◌, true, false, cond, not, List, [], ◌∷◌, ◌++◌, length, map, Option, Some, None, unwrap_or, option_map, refl, sym, ap, ◌∙◌, arith, append-nil}
 use Rattle.std.specs.Prelude.{find, filter, sum_by}
 use Rattle.std.specs.List.{IsDistinct}
 use Rattle.std.specs.Option.{option_map_or, option_or}
@@ -15,14 +15,11 @@ use Rattle.std.proofs.lemmas.Map.Entries.{none_past_head}
 use Rattle.std.proofs.lemmas.Map.Keys.{IsDistinct-tail}
 use borrow.Author.Tests.{eqb-true}
 use Rattle.lru.specs.LruCache.{promoted}
+use Rattle.hs_lists.proofs.Bools.{by_answer}
 use Rattle.hs_base.specs.declared.ids.TraceId.{TraceId}
 use Rattle.hs_base.specs.Ids.{same_trace}
 use Rattle.hs_index.specs.Index.{Noted, Indexed, is_of, is_other, nothing, noted_of, others, chunk_count, count_chunks}
 use Rattle.hs_index.specs.Touched.{indexed, listed}
-
-pub by_answer : {P : Type 0} (b : Bool) → (b ≡ true → P) → (b ≡ false → P) → P
-by_answer true p q = p refl
-by_answer false p q = q refl
 
 pub same_trace_equiv : IsEquivalence same_trace
 same_trace_equiv = record {

@@ -1,5 +1,5 @@
 -- After any calls an index holds what they say when one looks back over them.
-use Rattle.std.proofs.Common.{◌≡◌, ℕ, suc, ◌<◌, ◌≤◌, Bool, true, false, cond, not, ◌||◌, ◌&&◌, nat_eq, List, [], ◌∷◌, ◌++◌, length, Option, Some, None, is_some, refl, sym, ap, subst, ◌∙◌, arith, append-nil, true≢false}
+use Rattle.std.proofs.Common.{◌≡◌, ℕ, suc, ◌<◌, ◌≤◌, Bool, true, false, cond, not, ◌||◌, ◌&&◌, nat_eq, List, [], ◌∷◌, ◌++◌, length, Some, None, is_some, refl, sym, ap, subst, ◌∙◌, arith, append-nil, true≢false}
 use Rattle.std.specs.Prelude.{find}
 use Rattle.std.specs.Option.{option_map_or, option_or}
 use Rattle.std.proofs.lemmas.List.Folds.{find-append}
@@ -9,7 +9,7 @@ use Rattle.hs_base.specs.NodeSets.{has_node}
 use Rattle.hs_index.specs.Index.{Noted, Indexed, trace_of, is_of, nothing, noted_of, others, touch, with_chunk, with_crumb, is_over, kept}
 use Rattle.hs_words.specs.Buffers.{Buffer}
 use Rattle.hs_index.specs.Calls.{Call, Arrived, Crumbed, Claimed, after, touches, last_touch, chunk_in, is_crumb, is_in, is_indexed, chunks_since, has_crumb_since, AreLater, AreInTurn, LooksBack}
-use Rattle.hs_index.proofs.Listed.{by_answer, same_trace_equiv, same_from_test}
+use Rattle.hs_index.proofs.Listed.{same_trace_equiv, same_from_test}
 use Rattle.hs_base.specs.NodeSetLaws.{has-with_node, has-no_nodes}
 use Rattle.hs_base.specs.Ids.{same_trace}
 use Rattle.hs_index.proofs.Evicting.{within-not-over, all-stay, first-leaves, count-others, length-others}
@@ -17,6 +17,8 @@ use Rattle.hs_index.proofs.LongestEnd.{within}
 use Rattle.std.proofs.lemmas.Bool.{ltb-false, or_parts}
 use Rattle.std.proofs.Math.Bool.{or-false}
 use Rattle.std.proofs.Common.{nat_lt}
+use Rattle.hs_lists.proofs.Bools.{by_answer}
+use Rattle.hs_lists.proofs.Options.{option_or_none, is_some_false}
 use Rattle.hs_index.specs.Index.{count_chunks}
 
 bit-step : (b now before since brought : Bool) → before ≡ since → (b ≡ true → now ≡ (before || brought)) → (b ≡ false → now ≡ false) → now ≡ cond b (since || brought) false
@@ -26,14 +28,6 @@ bit-step false now before since brought e y n = n refl
 -- ---- what one look-up finds
 
 module _ {L : Type 0} where
-  or-none : (o : Option (Indexed L)) → option_or o None ≡ o
-  or-none None = refl
-  or-none (Some x) = refl
-
-  none-from-test : (o : Option (Indexed L)) → is_some o ≡ false → o ≡ None
-  none-from-test None h = refl
-  none-from-test (Some x) h = absurd (true≢false h)
-
   some-is-not-none : (t : Indexed L) → Some t ≡ None → ⊥
   some-is-not-none t h = true≢false (ap is_some h)
 
@@ -69,7 +63,7 @@ module _ {L : Type 0} where
         ap (λ o. option_map_or (λ (t : Indexed L). t.noted) o nothing)
         (find-append (is_of trace) (others u ts) (record { trace = u; noted = w } ∷ [])
         ∙ ap (λ o. option_or (find (is_of trace) (others u ts)) o) (ap (λ b. cond b (Some (record { trace = u; noted = w })) None) other)
-        ∙ or-none (find (is_of trace) (others u ts))
+        ∙ option_or_none (find (is_of trace) (others u ts))
         ∙ find-others-other other ts)
 
     noted-others-other : same_trace trace u ≡ false → (ts : List (Indexed L)) → noted_of trace (others u ts) ≡ noted_of trace ts
@@ -79,7 +73,7 @@ module _ {L : Type 0} where
     others-this-out same ts = ap is_some (find-others-this same ts)
 
   noted-out : (trace : TraceId) (ts : List (Indexed L)) → is_in trace ts ≡ false → noted_of trace ts ≡ nothing
-  noted-out trace ts h = ap (λ o. option_map_or (λ (t : Indexed L). t.noted) o nothing) (none-from-test (find (is_of trace) ts) h)
+  noted-out trace ts h = ap (λ o. option_map_or (λ (t : Indexed L). t.noted) o nothing) (is_some_false (find (is_of trace) ts) h)
 
   -- ---- traces in turn
 

@@ -10,13 +10,14 @@ use Rattle.std.proofs.lemmas.List.Sums.{sum_by-cons, sum_by_push}
 use Rattle.std.proofs.lemmas.Option.{slice_get_within, get_or_from_slice_get, none-some}
 use Rattle.std.proofs.lemmas.Map.Entries.{sum_by-remove_entry}
 use Rattle.lru.specs.LruCache.{lru_cache, promoted, put_entries}
+use Rattle.hs_lists.proofs.Bools.{by_answer}
 use Rattle.hs_base.specs.declared.ids.TraceId.{TraceId}
 use Rattle.hs_base.specs.declared.ids.NodeId.{NodeId}
 use Rattle.hs_base.specs.Ids.{same_trace}
 use Rattle.hs_words.specs.Buffers.{Buffer}
 use Rattle.hs_index.specs.Index.{Noted, Indexed, is_of, nothing, noted_of, others, touch, with_chunk, with_crumb, chunk_count, count_chunks}
 use Rattle.hs_index.specs.Touched.{indexed, listed}
-use Rattle.hs_index.proofs.Listed.{by_answer, listed-cons, count-listed, find-cons, found-here, find-missing, others-missing, others-listed, noted-listed, promoted-set}
+use Rattle.hs_index.proofs.Listed.{listed-cons, count-listed, find-cons, found-here, find-missing, others-missing, others-listed, noted-listed, promoted-set}
 
 module _ {L : Type 0} (trace : TraceId) where
   pub noted-found : (es : List (TraceId × Noted L)) (v : Noted L) → IsDistinct same_trace (keys_of es) → lookup (same_trace trace) es ≡ Some v → noted_of trace (listed es) ≡ v

@@ -7,10 +7,8 @@ use Rattle.hs_journal.specs.declared.word.Keyword.TheVariants as keywords
 use Rattle.hs_journal.specs.Statements.{Statement, draw_statement, step_statement}
 use Rattle.hs_journal.specs.Grammar.{draw_statements, log_statements}
 use Rattle.hs_journal.specs.Forward.{onto_last}
-
-pub map_push : {A B : Type 0} (f : A → B) (xs : List A) (x : A) → map f (xs ++ x ∷ []) ≡ map f xs ++ f x ∷ []
-map_push f [] x = refl
-map_push f (y ∷ xs) x = ap (λ ys. f y ∷ ys) (map_push f xs x)
+pub use Rattle.std.proofs.lemmas.List.{map_push}
+use Rattle.hs_lists.proofs.Alls.{all_push}
 
 pub onto_current : {A : Type 0} (finished : List (List A)) (current : List A) (x : A) → onto_last (finished ++ current ∷ []) x ≡ finished ++ (current ++ x ∷ []) ∷ []
 onto_current [] current x = refl
@@ -23,10 +21,6 @@ length-onto_last (xs ∷ []) x = refl
 length-onto_last (xs ∷ ys ∷ more) x = ap suc (length-onto_last (ys ∷ more) x)
 
 -- ---- what all items of such lists have in common
-
-pub all_push : {A : Type 0} (P : A → Type 0) (xs : List A) (x : A) → AllByRecursion P xs → P x → AllByRecursion P (xs ++ x ∷ [])
-all_push P [] x all here = (here, tt)
-all_push P (y ∷ xs) x all here = (all.0, all_push P xs x all.1 here)
 
 pub all_onto_last : {A : Type 0} (P : A → Type 0) (lists : List (List A)) (x : A) → AllByRecursion (AllByRecursion P) lists → P x → AllByRecursion (AllByRecursion P) (onto_last lists x)
 all_onto_last P [] x all here = tt

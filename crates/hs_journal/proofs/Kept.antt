@@ -1,7 +1,10 @@
 -- Each line that is taken keeps what was read, and adds what it says.
 use Rattle.std.proofs.Common.{◌≡◌, ℕ, ◌/◌, ◌<◌, ◌≤◌, ◌^◌, ◌&&◌, ◌||◌, nat_eq, nat_le, not, true, false, List, [], ◌∷◌, ◌++◌, length, get_or, refl, sym, ap, subst, ◌∙◌, append_assoc, arith}
 use Rattle.std.proofs.lemmas.Bool.{and_parts}
+use Rattle.std.proofs.lemmas.List.{map_push}
 use Rattle.std.specs.List.{AllByRecursion}
+use Rattle.hs_lists.proofs.Alls.{all_push}
+use Rattle.hs_lists.proofs.Numbers.{nat_le_past, nat_eq_from}
 use Rattle.hs_base.specs.declared.limits.TheConstants.{MAX_NODES, MAX_CLIENTS}
 use Rattle.hs_base.specs.declared.ids.NodeId.{NodeId}
 use Rattle.hs_base.specs.Ranges.{is_out}
@@ -16,7 +19,6 @@ use Rattle.hs_journal.specs.Grammar.{head_statement, draw_statements, log_statem
 use Rattle.hs_journal.specs.Faults.{numbers_at, may_stand, is_out_of_range, is_out_of_order, is_in_logs, is_ended}
 use Rattle.hs_journal.specs.Forward.{Draft, past_of, after, journal_drafted}
 use Rattle.hs_journal.proofs.Lines.{IsSmall, Taken}
-use Rattle.hs_journal.proofs.Drafts.{map_push, all_push}
 use Rattle.hs_journal.proofs.Keeps.{HasBoth, Counts, Keeps, lists_statements, statements_at, draft_statements, Kept, in_logs, in_order, at_start, at_most, draw_kept, step_kept, draws_kept, log_kept}
 
 -- ---- numbers by their places
@@ -55,9 +57,6 @@ three_numbers (a ∷ b ∷ c ∷ d ∷ ns) count = absurd (omega (arith, count))
 said_of : (d next : Draft) (k : Keyword) (ns ms : List ℕ) → ns ≡ ms → Kept d next (record { keyword = k; numbers = ms }) → Kept d next (record { keyword = k; numbers = ns })
 said_of d next k ns ms same kept = subst (λ numbers. Kept d next (record { keyword = k; numbers = numbers })) (sym same) kept
 
-not_at_most : (a b : ℕ) → nat_le a b ≡ false → b < a
-not_at_most a b is = grind arith
-
 record IsHead (version nodes clients : ℕ) : Type 0 where
   pub is_first : version ≡ 1
   pub some_nodes : 0 < nodes
@@ -70,9 +69,6 @@ head_within version nodes clients is = record { is_first = grind arith; some_nod
 
 both_equal : (a b c d : ℕ) → (not (nat_eq a b) || not (nat_eq c d)) ≡ false → (a ≡ b) × (c ≡ d)
 both_equal a b c d is = (grind arith, grind arith)
-
-equal : (a b : ℕ) → not (nat_eq a b) ≡ false → a ≡ b
-equal a b is = grind arith
 
 -- ---- the other words
 
@@ -180,18 +176,18 @@ kept d keywords.Draws ns keeps stands count small within ordered =
     said_of d _ keywords.Draws ns _ ((two_numbers ns small count).are ∙ ap (λ a. a ∷ get_or ns 1 0 ∷ []) same.0 ∙ ap (λ b. length d.draws / d.clients ∷ b ∷ []) same.1) (draws_kept d.place d keeps refl stands)
 kept d keywords.Got ns keeps stands count small within ordered =
     let two = two_numbers ns small count in
-    said_of d _ keywords.Got ns _ two.are (draw_kept d (draws.Got (get_or ns 0 0) (get_or ns 1 0)) keeps stands (not_at_most _ _ within, two.second))
+    said_of d _ keywords.Got ns _ two.are (draw_kept d (draws.Got (get_or ns 0 0) (get_or ns 1 0)) keeps stands (nat_le_past _ _ within, two.second))
 kept d keywords.Empty ns keeps stands count small within ordered =
     let one = one_number ns small count in
     said_of d _ keywords.Empty ns _ one.are (draw_kept d (draws.Empty (get_or ns 0 0)) keeps stands one.first)
 kept d keywords.Log ns keeps stands count small within ordered =
-    said_of d _ keywords.Log ns _ ((one_number ns small count).are ∙ ap (λ a. a ∷ []) (equal _ _ ordered)) (log_kept d.place d keeps refl stands)
+    said_of d _ keywords.Log ns _ ((one_number ns small count).are ∙ ap (λ a. a ∷ []) (nat_eq_from _ _ ordered)) (log_kept d.place d keeps refl stands)
 kept d keywords.Chunk ns keeps stands count small within ordered =
-    said_of d _ keywords.Chunk ns _ (one_number ns small count).are (step_kept d (steps.Chunk (get_or ns 0 0)) keeps stands (not_at_most _ _ within))
+    said_of d _ keywords.Chunk ns _ (one_number ns small count).are (step_kept d (steps.Chunk (get_or ns 0 0)) keeps stands (nat_le_past _ _ within))
 kept d keywords.Crumb ns keeps stands count small within ordered =
-    said_of d _ keywords.Crumb ns _ (one_number ns small count).are (step_kept d (steps.Crumb (get_or ns 0 0)) keeps stands (not_at_most _ _ within))
+    said_of d _ keywords.Crumb ns _ (one_number ns small count).are (step_kept d (steps.Crumb (get_or ns 0 0)) keeps stands (nat_le_past _ _ within))
 kept d keywords.Trigger ns keeps stands count small within ordered =
-    said_of d _ keywords.Trigger ns _ (one_number ns small count).are (step_kept d (steps.Trigger (get_or ns 0 0)) keeps stands (not_at_most _ _ within))
+    said_of d _ keywords.Trigger ns _ (one_number ns small count).are (step_kept d (steps.Trigger (get_or ns 0 0)) keeps stands (nat_le_past _ _ within))
 kept d keywords.Ask ns keeps stands count small within ordered = said_of d _ keywords.Ask ns _ (no_number ns count) (step_kept d steps.Ask keeps stands tt)
 kept d keywords.Turn ns keeps stands count small within ordered = said_of d _ keywords.Turn ns _ (no_number ns count) (step_kept d steps.Turn keeps stands tt)
 kept d keywords.Given ns keeps stands count small within ordered =
@@ -203,7 +199,7 @@ kept d keywords.Missed ns keeps stands count small within ordered =
 kept d keywords.Unread ns keeps stands count small within ordered = said_of d _ keywords.Unread ns _ (no_number ns count) (step_kept d steps.Unread keeps stands tt)
 kept d keywords.Coordinator ns keeps stands count small within ordered = said_of d _ keywords.Coordinator ns _ (no_number ns count) (coordinator_kept d keeps stands)
 kept d keywords.Told ns keeps stands count small within ordered =
-    said_of d _ keywords.Told ns _ (one_number ns small count).are (told_kept d (get_or ns 0 0) keeps stands (not_at_most _ _ within))
+    said_of d _ keywords.Told ns _ (one_number ns small count).are (told_kept d (get_or ns 0 0) keeps stands (nat_le_past _ _ within))
 kept d keywords.End ns keeps stands count small within ordered = said_of d _ keywords.End ns _ (no_number ns count) (end_kept d keeps stands)
 
 pub taken_kept : (d next : Draft) (line : List ℕ) (keeps : Keeps d) (taken : Taken d line next) → Kept d next (record { keyword = taken.keyword; numbers = taken.numbers })

@@ -3,6 +3,8 @@ use Rattle.std.proofs.Common.{◌≡◌, ◌<◌, ◌≤◌, ◌^◌, ℕ, suc, 
 use borrow.Author.Tests.{leb-true}
 use Rattle.std.specs.Prelude.{decimal, option_and_then, option_map, is_none}
 use Rattle.std.specs.List.{list_all, AllByRecursion}
+use Rattle.std.proofs.lemmas.Bool.{not-false}
+use Rattle.hs_lists.proofs.Numbers.{nat_eq_from}
 use Rattle.hs_text.specs.Text.{line_of, number_of, has_bad_byte, numbers_of}
 use Rattle.hs_text.specs.TextLaws.{is_word, number_of-decimal, decimal-number_of, is_word-decimal, words_of-line_of, line_of-words_of}
 use Rattle.hs_text.specs.Steps.{◌>>=◌, first_that_holds}
@@ -92,9 +94,6 @@ three_numbers-is (a ∷ b ∷ []) few = two_numbers a b (number_of a) (number_of
 three_numbers-is (a ∷ b ∷ c ∷ []) few = all_numbers a b c (number_of a) (number_of b) (number_of c) refl refl refl
 three_numbers-is (a ∷ b ∷ c ∷ d ∷ more) few = absurd (omega (arith, few))
 
-count_is : (a b : ℕ) → not (nat_eq a b) ≡ false → a ≡ b
-count_is a b is = grind arith
-
 -- ---- a step agrees with the reasons, and with what is said
 
 -- what a word says with these numbers
@@ -117,7 +116,7 @@ keyword_agrees d k words =
     agrees_unless (after_said d) (not (may_stand (past_of d) k)) reasons.Word _ _ (says k words) (λ _.
     agrees_unless (after_said d) (not (nat_eq (length words) (number_count k))) reasons.Count _ _ (says k words) (λ counted.
     let few = few_numbers k in
-    let count = count_is (length words) (number_count k) counted in
+    let count = nat_eq_from (length words) (number_count k) counted in
     let same : nat_eq (length words) (number_count k) ≡ true = grind arith in
     let numbers = three_numbers-is words (omega (arith, few, count)) in
     rw (numbers, same) (numbers_agree d k (numbers_of words))))
@@ -153,10 +152,6 @@ said_numbers k words s true (Some ns) are is = record { numbers = ns; are = are;
 said_numbers k words s true None are is = cc
 said_numbers k words s false o are is = cc
 
-not_false : (b : Bool) → not b ≡ false → b ≡ true
-not_false true is = refl
-not_false false is = cc
-
 length-decimals : (ns : List ℕ) → length (map decimal ns) ≡ length ns
 length-decimals [] = refl
 length-decimals (n ∷ ns) = ap suc (length-decimals ns)
@@ -184,8 +179,8 @@ line_taken d next line is =
       prints = none.0;
       spelled = sym (line_of-words_of line) ∙ ap line_of (parts ∙ ap (λ w. w ∷ words) (spelled-text keyword_text all_keywords found.first k begun) ∙ ap (λ ws. keyword_text k ∷ ws) decimals.words_are);
       says = taken.says ∙ ap Some said.is;
-      stands = not_false (may_stand past k) found.none.0;
-      count = sym (length-decimals ns) ∙ ap length (sym decimals.words_are) ∙ count_is (length words) (number_count k) found.none.1.0;
+      stands = not-false (may_stand past k) found.none.0;
+      count = sym (length-decimals ns) ∙ ap length (sym decimals.words_are) ∙ nat_eq_from (length words) (number_count k) found.none.1.0;
       small = decimals.small;
       within = reasons.0;
       ordered = reasons.1.0;

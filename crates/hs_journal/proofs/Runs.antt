@@ -3,6 +3,7 @@ use Rattle.std.proofs.Common.{◌≡◌, ℕ, ◌+◌, ◌*◌, ◌/◌, ◌%◌
 use Rattle.std.proofs.lemmas.List.{append-nil}
 use Rattle.std.proofs.Math.Nat.{mul-le-mul, div-le_self}
 use Rattle.std.specs.List.{AllByRecursion}
+use Rattle.hs_lists.proofs.Numbers.{nat_le_false}
 use Rattle.hs_base.specs.declared.limits.TheConstants.{MAX_NODES, MAX_CLIENTS, MAX_BUFFERS}
 use Rattle.hs_base.specs.declared.ids.NodeId.{NodeId}
 use Rattle.hs_journal.specs.declared.refusal.JournalReason.{JournalReason}
@@ -71,9 +72,6 @@ below a b is = grind arith
 at_most : (a b : ℕ) → a ≤ b → nat_le a b ≡ true
 at_most a b is = grind arith
 
-past : (a b : ℕ) → b < a → nat_le a b ≡ false
-past a b is = grind arith
-
 same : (a : ℕ) → nat_eq a a ≡ true
 same a = grind arith
 
@@ -87,7 +85,7 @@ run_draws nodes clients finished current [] all = ap (λ list. Ok (draws_draft n
 run_draws nodes clients finished current (draws.Got buffer stamp ∷ more) all =
     let d = draws_draft nodes clients (finished ++ current ∷ []) in
     first_run d (draws_draft nodes clients (finished ++ (current ++ draws.Got buffer stamp ∷ []) ∷ [])) _ (draw_statement (draws.Got buffer stamp)) (map draw_statement more)
-    (statement_taken d keywords.Got (buffer ∷ stamp ∷ []) (omega (arith, all.0.0), (all.0.1, tt)) refl refl (past MAX_BUFFERS buffer all.0.0) refl
+    (statement_taken d keywords.Got (buffer ∷ stamp ∷ []) (omega (arith, all.0.0), (all.0.1, tt)) refl refl (nat_le_false MAX_BUFFERS buffer all.0.0) refl
     ∙ ap (λ lists. Ok (draws_draft nodes clients lists)) (onto_current finished current (draws.Got buffer stamp)))
     (run_draws nodes clients finished (current ++ draws.Got buffer stamp ∷ []) more all.1 ∙ ap (λ list. Ok (draws_draft nodes clients (finished ++ list ∷ []))) (append_assoc current (draws.Got buffer stamp ∷ []) more))
 run_draws nodes clients finished current (draws.Empty stamp ∷ more) all =
@@ -167,9 +165,9 @@ step_fits clients steps.Unread fits few = tt
 
 step_taken : (nodes clients : ℕ) (lists : List (List Draw)) (logs : List (List Step)) (step : Step) → IsStep clients step → clients ≤ MAX_CLIENTS
     → line_step (logs_draft nodes clients lists logs) (statement_line (step_statement step)) ≡ Ok (logs_draft nodes clients lists (onto_last logs step))
-step_taken nodes clients lists logs (steps.Chunk client) fits few = statement_taken (logs_draft nodes clients lists logs) keywords.Chunk (client ∷ []) (step_fits clients (steps.Chunk client) fits few) refl refl (past clients client fits) refl
-step_taken nodes clients lists logs (steps.Crumb client) fits few = statement_taken (logs_draft nodes clients lists logs) keywords.Crumb (client ∷ []) (step_fits clients (steps.Crumb client) fits few) refl refl (past clients client fits) refl
-step_taken nodes clients lists logs (steps.Trigger client) fits few = statement_taken (logs_draft nodes clients lists logs) keywords.Trigger (client ∷ []) (step_fits clients (steps.Trigger client) fits few) refl refl (past clients client fits) refl
+step_taken nodes clients lists logs (steps.Chunk client) fits few = statement_taken (logs_draft nodes clients lists logs) keywords.Chunk (client ∷ []) (step_fits clients (steps.Chunk client) fits few) refl refl (nat_le_false clients client fits) refl
+step_taken nodes clients lists logs (steps.Crumb client) fits few = statement_taken (logs_draft nodes clients lists logs) keywords.Crumb (client ∷ []) (step_fits clients (steps.Crumb client) fits few) refl refl (nat_le_false clients client fits) refl
+step_taken nodes clients lists logs (steps.Trigger client) fits few = statement_taken (logs_draft nodes clients lists logs) keywords.Trigger (client ∷ []) (step_fits clients (steps.Trigger client) fits few) refl refl (nat_le_false clients client fits) refl
 step_taken nodes clients lists logs steps.Ask fits few = statement_taken (logs_draft nodes clients lists logs) keywords.Ask [] tt refl refl refl refl
 step_taken nodes clients lists logs steps.Turn fits few = statement_taken (logs_draft nodes clients lists logs) keywords.Turn [] tt refl refl refl refl
 step_taken nodes clients lists logs (steps.Given stamp) fits few = statement_taken (logs_draft nodes clients lists logs) keywords.Given (stamp ∷ []) (fits, tt) refl refl refl refl
@@ -228,7 +226,7 @@ run_told nodes clients lists logs told [] few all = ap (λ nodes_told. Ok (order
 run_told nodes clients lists logs told (node ∷ more) few all =
     let d = order_draft nodes clients lists logs told in
     first_run d (order_draft nodes clients lists logs (told ++ node ∷ [])) _ (told_statement node) (map told_statement more)
-    (statement_taken d keywords.Told (node.0 ∷ []) (small_client nodes node.0 few all.0, tt) refl refl (past nodes node.0 all.0) refl)
+    (statement_taken d keywords.Told (node.0 ∷ []) (small_client nodes node.0 few all.0, tt) refl refl (nat_le_false nodes node.0 all.0) refl)
     (run_told nodes clients lists logs (told ++ node ∷ []) more few all.1 ∙ ap (λ nodes_told. Ok (order_draft nodes clients lists logs nodes_told)) (append_assoc told (node ∷ []) more))
 
 limits_of : (J : PlainJournal) → IsJournal J → HasLimits J.nodes J.clients

@@ -1,6 +1,7 @@
 -- What a reader of journals sees of the lines that it took, so that it reads a text as the text's lines are judged.
 use Rattle.std.proofs.Common.{◌≡◌, ℕ, suc, true, List, [], ◌∷◌, ◌++◌, length, map, None, Ok, refl, sym, ap, subst, ◌∙◌, length-append, arith}
 use Rattle.std.specs.List.{cons_option}
+use Rattle.std.proofs.lemmas.List.{map_push}
 use Rattle.hs_text.specs.Judging.{onto}
 use Rattle.hs_text.specs.JudgingLaws.{Reader, onto-append}
 use Rattle.hs_text.specs.Agreement.{agrees_err}
@@ -14,7 +15,7 @@ use Rattle.hs_journal.specs.LookBack.{Past, said, past_said}
 use Rattle.hs_journal.specs.Faults.{numbers_at, fault_at, fault_of, may_stand, is_ended, judging}
 use Rattle.hs_journal.specs.Forward.{Draft, fresh, past_of, after, line_step, onto_last}
 use Rattle.hs_journal.proofs.Lines.{Taken, after_said, line_agrees, line_taken}
-use Rattle.hs_journal.proofs.Drafts.{map_push, length-onto_last}
+use Rattle.hs_journal.proofs.Drafts.{length-onto_last}
 use Rattle.hs_journal.proofs.Keeps.{Keeps, Kept, draft_statements, keeps_fresh, in_draws, in_logs, in_order}
 use Rattle.hs_journal.proofs.Kept.{taken_kept, ended_place}
 

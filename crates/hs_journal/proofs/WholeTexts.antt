@@ -1,6 +1,6 @@
 -- A text is read up to the first fault, or to the end as the journal that it is; what begins with a journal begins with
 -- that one only.
-use Rattle.std.proofs.Common.{◌≡◌, ◌&&◌, ℕ, Bool, true, false, List, [], ◌++◌, map, None, Some, refl, sym, ap, ◌∙◌}
+use Rattle.std.proofs.Common.{◌≡◌, ℕ, List, [], ◌++◌, map, None, Some, refl, sym, ap, ◌∙◌}
 use Rattle.std.proofs.lemmas.List.{append-nil}
 use Rattle.hs_text.specs.Text.{text_of}
 use Rattle.hs_text.specs.Judging.{first_fault_in}
@@ -59,11 +59,3 @@ no_beginning J K more is_J is_K text =
 -- a text that reads as a journal is not refused
 pub never_refused : (text : List ℕ) (J : PlainJournal) (refusal : JournalRefusal) → Reads text J → first_fault text ≡ Some refusal → ⊥
 never_refused text J refusal reads fault = let none = journal_has_no_fault text J reads in cc
-
--- where something is left, or the end was not read, a text may not end
-pub cut_within : (a b : Bool) → a ≡ false → (a && b) ≡ false
-cut_within a b is = rw is refl
-
-pub cut_short : (a b : Bool) → b ≡ false → (a && b) ≡ false
-cut_short true b is = is
-cut_short false b is = refl

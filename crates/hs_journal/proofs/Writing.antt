@@ -1,5 +1,5 @@
 -- The text of what is said, a line after the other.
-use Rattle.std.proofs.Common.{◌≡◌, ℕ, ◌+◌, ◌≤◌, ◌<◌, suc, List, [], ◌∷◌, ◌++◌, length, drop, drop-cons, add-one, get_or, refl, sym, ap, ◌∙◌, append_assoc}
+use Rattle.std.proofs.Common.{◌≡◌, ℕ, ◌≤◌, List, [], ◌∷◌, ◌++◌, length, drop, refl, sym, ap, ◌∙◌, append_assoc}
 use Rattle.std.proofs.lemmas.List.{append-nil, drop_all}
 use Rattle.hs_journal.specs.Statements.{Statement, statement_line}
 use Rattle.hs_journal.specs.Grammar.{statements_text, head_statement, coordinator_statement, end_statement}
@@ -26,10 +26,6 @@ next_lines first these more out text new whole so_far begun is =
     ∙ append_assoc out line (statements_text these ++ statements_text more)
     ∙ ap (λ t. out ++ (line ++ t)) (sym (statements_text-append these more))
     ∙ so_far
-
--- where one is left, those that are left begin with it
-pub drop_next : {A : Type 0} (items : List A) (i : ℕ) (x : A) → i < length items → x ≡ get_or items i x → drop i items ≡ x ∷ drop (i + 1) items
-drop_next items i x within is = drop-cons items i x within ∙ ap (λ y. y ∷ drop (suc i) items) (sym is) ∙ ap (λ n. x ∷ drop n items) (sym (add-one i))
 
 regroup : (h d l c t e : List ℕ) → ((((h ++ d) ++ l) ++ c) ++ t) ++ e ≡ h ++ (d ++ (l ++ (c ++ (t ++ e))))
 regroup h d l c t e = simp append_assoc

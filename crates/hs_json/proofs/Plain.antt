@@ -2,11 +2,13 @@
 use Rattle.std.proofs.Common.{◌≡◌, ℕ, zero, suc, ◌/◌, ◌%◌, ◌<◌, Bool, true, false, cond, eqb, List, [], ◌∷◌, ◌++◌, get_or, decimal, codes, ap, ◌∙◌, refl, lit<, arith}
 use Rattle.std.specs.Fmt.{digits, digits_onto, digit_glyph}
 use Rattle.std.specs.List.{list_all, All, AllByRecursion}
+use Rattle.std.proofs.lemmas.Bool.{and_from}
 use Rattle.std.proofs.lemmas.Bool.Decides.{nat_tests}
 use Rattle.std.proofs.lemmas.List.Elements.{All-head, All-tail}
 use Rattle.std.proofs.lemmas.List.Sums.{AllPass-from_list_all}
 use Rattle.hex.specs.Hex.{encode_with, lower_digits}
 use Rattle.json.specs.Print.{escape_byte, escape, quoted}
+use Rattle.hs_lists.proofs.Bools.{first_true, second_true}
 use Rattle.hs_base.specs.declared.ids.TraceId.{TraceId}
 use Rattle.hs_base.specs.declared.told.Fate.{Fate}
 use Rattle.hs_base.specs.declared.told.Fate.TheVariants.{Null, Live, Reported, Evicted, Abandoned}
@@ -14,11 +16,10 @@ use Rattle.hs_outcome.specs.OutcomeText.{fate_words, json_text}
 use Rattle.hs_text.specs.Text.{line_of, hex_text, payload_text, trace_digits}
 use Rattle.hs_text.specs.Writing.{trace_word}
 use Rattle.hs_json.specs.Spelling.{is_plain, ArePlain}
-use Rattle.hs_report.proofs.Basics.{both_true, first_true, second_true}
 
 pub plain_append : (xs ys : List ℕ) → ArePlain xs → ArePlain ys → ArePlain (xs ++ ys)
 plain_append [] ys p q = q
-plain_append (x ∷ xs) ys p q = both_true (is_plain x) (list_all is_plain (xs ++ ys)) (first_true (is_plain x) (list_all is_plain xs) p) (plain_append xs ys (second_true (is_plain x) (list_all is_plain xs) p) q)
+plain_append (x ∷ xs) ys p q = and_from (is_plain x) (list_all is_plain (xs ++ ys)) (first_true (is_plain x) (list_all is_plain xs) p) (plain_append xs ys (second_true (is_plain x) (list_all is_plain xs) p) q)
 
 glyph_plain : (d : ℕ) → d < 10 → is_plain (digit_glyph false d) ≡ true
 glyph_plain d small = grind (arith, nat_tests)
@@ -30,7 +31,7 @@ onto_more false front rest p q = q
 onto_plain : (k n : ℕ) (acc : List ℕ) → ArePlain acc → ArePlain (digits_onto k 10 false n acc)
 onto_plain zero n acc p = p
 onto_plain (suc k) n acc p =
-    let all : ArePlain (digit_glyph false (n % 10) ∷ acc) = both_true (is_plain (digit_glyph false (n % 10))) (list_all is_plain acc) (glyph_plain (n % 10) (omega arith)) p in
+    let all : ArePlain (digit_glyph false (n % 10) ∷ acc) = and_from (is_plain (digit_glyph false (n % 10))) (list_all is_plain acc) (glyph_plain (n % 10) (omega arith)) p in
     onto_more (eqb (n / 10) 0) (digit_glyph false (n % 10) ∷ acc) (digits_onto k 10 false (n / 10) (digit_glyph false (n % 10) ∷ acc)) all
     (onto_plain k (n / 10) (digit_glyph false (n % 10) ∷ acc) all)
 
@@ -45,15 +46,15 @@ pub plain_hex : (count n : ℕ) → ArePlain (hex_text count n)
 plain_hex zero n = refl
 plain_hex (suc count) n =
     plain_append (hex_text count (n / 16)) (get_or lower_digits (n % 16) 0 ∷ []) (plain_hex count (n / 16))
-    (both_true (is_plain (get_or lower_digits (n % 16) 0)) true (digit_plain (n % 16) (omega arith)) refl)
+    (and_from (is_plain (get_or lower_digits (n % 16) 0)) true (digit_plain (n % 16) (omega arith)) refl)
 
 plain_pairs : (bytes : List ℕ) → All (λ b. b < 256) bytes → ArePlain (encode_with lower_digits bytes)
 unfolding encode_with
 plain_pairs [] fit = refl
 plain_pairs (b ∷ bytes) fit =
     let low = All-head (λ (b : ℕ). b < 256) b bytes fit in
-    both_true (is_plain (get_or lower_digits (b / 16) 0)) _ (digit_plain (b / 16) (omega arith))
-    (both_true (is_plain (get_or lower_digits (b % 16) 0)) _ (digit_plain (b % 16) (omega arith)) (plain_pairs bytes (All-tail (λ (b : ℕ). b < 256) b bytes fit)))
+    and_from (is_plain (get_or lower_digits (b / 16) 0)) _ (digit_plain (b / 16) (omega arith))
+    (and_from (is_plain (get_or lower_digits (b % 16) 0)) _ (digit_plain (b % 16) (omega arith)) (plain_pairs bytes (All-tail (λ (b : ℕ). b < 256) b bytes fit)))
 
 pub plain_payload : (bytes : List ℕ) → All (λ b. b < 256) bytes → ArePlain (payload_text bytes)
 plain_payload [] fit = refl

@@ -1,12 +1,14 @@
 -- The texts of lists of JSON values.
-use Rattle.std.proofs.Common.{◌≡◌, ℕ, ◌+◌, ◌<◌, ◌≤◌, Bool, true, false, ◌||◌, List, [], ◌∷◌, ◌++◌, length, get_or, take, map, codes, decimal, sym, ap, ◌∙◌, refl, subst, append_assoc}
+use Rattle.std.proofs.Common.{◌≡◌, ℕ, ◌+◌, ◌<◌, ◌≤◌, true, false, List, [], ◌∷◌, ◌++◌, length, get_or, take, map, codes, decimal, sym, ap, ◌∙◌, refl, subst, append_assoc}
 use Rattle.std.specs.List.{join_with_byte}
+use Rattle.std.proofs.lemmas.Bool.{or_from}
 use Rattle.std.proofs.lemmas.List.{map-append, take_all}
 use Rattle.json.specs.Print.{escape_byte}
 use Rattle.serde_json.specs.Data.{Data, number, unsigned, string, array, object, member, no_members}
 use Rattle.serde_json.specs.View.{view, items_of, items_view}
 use Rattle.serde_json.specs.Written.{has_float, items_have_float, compact_text, items_text}
 use Rattle.serde_json.specs.declared.value.Value.{Value}
+use Rattle.hs_lists.proofs.Bools.{first_false, second_false}
 use Rattle.hs_base.specs.declared.ids.RecordId.{RecordId}
 use Rattle.hs_collect.specs.Collected.{Placed}
 use Rattle.hs_ledger.specs.declared.ledger.Entry.{Entry}
@@ -27,23 +29,11 @@ pub list_text : (ds : List Data) → compact_text (array (items_of ds)) ≡ json
 list_text [] = refl
 list_text (d ∷ ds) = ap (λ t. 91 ∷ t) (items_behind d ds)
 
-neither : (a b : Bool) → a ≡ false → b ≡ false → (a || b) ≡ false
-neither true b p q = p
-neither false b p q = q
-
-left_false : (a b : Bool) → (a || b) ≡ false → a ≡ false
-left_false true b h = h
-left_false false b h = refl
-
-right_false : (a b : Bool) → (a || b) ≡ false → b ≡ false
-right_false true b h = absurd cc
-right_false false b h = h
-
 items_float_push : (ds : List Data) (d : Data) → items_have_float (items_of ds) ≡ false → has_float d ≡ false → items_have_float (items_of (ds ++ d ∷ [])) ≡ false
-items_float_push [] d p q = neither (has_float d) false q refl
+items_float_push [] d p q = or_from (has_float d) false q refl
 items_float_push (e ∷ ds) d p q =
-    neither (has_float e) (items_have_float (items_of (ds ++ d ∷ []))) (left_false (has_float e) (items_have_float (items_of ds)) p)
-    (items_float_push ds d (right_false (has_float e) (items_have_float (items_of ds)) p) q)
+    or_from (has_float e) (items_have_float (items_of (ds ++ d ∷ []))) (first_false (has_float e) (items_have_float (items_of ds)) p)
+    (items_float_push ds d (second_false (has_float e) (items_have_float (items_of ds)) p) q)
 
 -- ---- values
 
@@ -115,7 +105,7 @@ spell_report gaps records one two trace report a b c all both text is1 is2 is =
     let first = spell_list gaps a one all is1 in
     let second = spell_list records b two both is2 in
     record {
-      whole = ap has_float is ∙ neither (has_float (view one)) _ first.whole (neither (has_float (view two)) _ second.whole (neither (has_float (view trace)) false text.whole refl));
+      whole = ap has_float is ∙ or_from (has_float (view one)) _ first.whole (or_from (has_float (view two)) _ second.whole (or_from (has_float (view trace)) false text.whole refl));
       is = ap compact_text is ∙ fields_text (view one) (view two) (view trace) (json_list a) (json_list b) (json_text c) first.is second.is text.is;
     }
 

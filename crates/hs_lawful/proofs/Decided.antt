@@ -3,6 +3,7 @@ use Rattle.std.proofs.Common.{◌≡◌, ℕ, Bool, true, false, cond, List, [],
 use Rattle.std.specs.Prelude.{not, find, option_map, reverse}
 use Rattle.std.specs.List.{AllByRecursion, list_all}
 use Rattle.std.specs.Cmp.Derive.{both_true}
+use Rattle.std.proofs.lemmas.Bool.{and_parts}
 use Rattle.hs_journal.specs.Views.{PlainJournal}
 use Rattle.hs_records.specs.Plain.{PlainWorkload}
 use Rattle.hs_words.specs.PoolHistory.{IsPoolHistory}
@@ -11,7 +12,7 @@ use Rattle.hs_lawful.specs.Lawful.{IsLawful, Clause, clauses}
 use Rattle.hs_lawful.specs.Laws.{LawfulIsDecided}
 use Rattle.hs_lawful.specs.Played.{Played, played}
 use Rattle.hs_lawful.specs.Pooled.{is_history, pool_history}
-use Rattle.hs_lawful.proofs.Histories.{and_parts, back_from, back_to}
+use Rattle.hs_lawful.proofs.Histories.{back_from, back_to}
 
 -- the number of a clause that was found, if one was
 abbrev number_of : Option Clause → Option ℕ

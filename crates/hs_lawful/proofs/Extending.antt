@@ -4,7 +4,10 @@ use Rattle.std.specs.List.{AllByRecursion, range_with_len}
 use Rattle.std.specs.Option.{option_and_then}
 use Rattle.std.proofs.lemmas.List.{map-append}
 use Rattle.std.proofs.lemmas.List.Elements.{filter-append}
-use Rattle.std.proofs.lemmas.Option.{slice_get-map}
+use Rattle.std.proofs.lemmas.Option.{slice_get-map, same_Some}
+use Rattle.hs_lists.proofs.Places.{map_set, get_front}
+use Rattle.hs_lists.proofs.Alls.{all_set, all_at}
+use Rattle.hs_lists.proofs.Options.{mapped_from}
 use Rattle.hs_base.specs.declared.ids.ClientId.{ClientId}
 use Rattle.hs_base.specs.declared.ids.NodeId.{NodeId}
 use Rattle.hs_coord.specs.Following.{Message, Messages, message}
@@ -21,7 +24,7 @@ use Rattle.hs_sent.specs.Timing.{TimedPage, timed_pages}
 use Rattle.hs_lawful.specs.Following.{Queue, Chunks, Crumbs, Triggers, Asks, taken, asks_to, NodeRun, Run, is_from, next_of, event_of, step_node, message_of, log_at, node_start, run_start, followed}
 use Rattle.hs_lawful.specs.Extending.{HasMore, GoesOn, node_behind, run_behind, JournalsGoOn, IsOfJournal, NodesAreOfJournal, RunsAreOfTheJournal, IsNoted, StepsAreNoted}
 use Rattle.hs_lawful.specs.Orders.{Performs, Leads, Stays, Goes, FollowingPlaysOut}
-use Rattle.hs_lawful.proofs.Steps.{some_same, get_front, mapped_from, step_from, step_to, heard_from, heard_to}
+use Rattle.hs_lawful.proofs.Steps.{step_from, step_to, heard_from, heard_to}
 
 -- ---- lists
 
@@ -31,23 +34,6 @@ more_dropped {A = A} list longer h = ap (λ (l : List A). list ++ drop (length l
     dropped : (xs ys : List A) → drop (length xs) (xs ++ ys) ≡ ys
     dropped [] ys = refl
     dropped (x ∷ xs) ys = dropped xs ys
-
-module _ {X Y : Type 0} (f : X → Y) where
-  map_set : (xs : List X) (i : ℕ) (x : X) → map f (set xs i x) ≡ set (map f xs) i (f x)
-  map_set [] i x = refl
-  map_set (y ∷ xs) zero x = refl
-  map_set (y ∷ xs) (suc i) x = ap (λ rest. f y ∷ rest) (map_set xs i x)
-
-module _ {X : Type 0} (P : X → Type 0) where
-  pub all_set : (xs : List X) (i : ℕ) (x : X) → AllByRecursion P xs → P x → AllByRecursion P (set xs i x)
-  all_set [] i x all h = tt
-  all_set (y ∷ xs) zero x all h = (h, all.1)
-  all_set (y ∷ xs) (suc i) x all h = (all.0, all_set xs i x all.1 h)
-
-  pub all_get : (xs : List X) (i : ℕ) (x : X) → AllByRecursion P xs → slice_get xs i ≡ Some x → P x
-  all_get [] i x all h = let no : None ≡ Some x = h in absurd cc
-  all_get (y ∷ xs) zero x all h = subst P (some_same y x h) all.0
-  all_get (y ∷ xs) (suc i) x all h = all_get xs i x all.1 h
 
 -- ---- what clients send, with more draws
 
@@ -214,7 +200,7 @@ module _ (W : PlainWorkload) (J K : PlainJournal) (goes : GoesOn J K) where
         node = node_behind W J K s.node;
         stepped = node_behind W J K s.stepped;
         stands = slice_get-map (node_behind W J K) run.nodes s.place ∙ ap (option_map (node_behind W J K)) s.stands;
-        ready = step_behind run.heard s.node s.stepped (all_get HasSends run.nodes s.place s.node sends s.stands) s.ready;
+        ready = step_behind run.heard s.node s.stepped (all_at HasSends run.nodes s.place s.node sends s.stands) s.ready;
         result = ap (run_behind W J K) s.result ∙ ap (λ (nodes : List NodeRun). record (run_behind W J K run) { nodes = nodes }) (map_set (node_behind W J K) run.nodes s.place s.stepped);
       })
   performs_behind run next sends (inr k) =
@@ -232,7 +218,7 @@ module _ (W : PlainWorkload) (J K : PlainJournal) (goes : GoesOn J K) where
   performs_sends : (run next : Run) → AllByRecursion HasSends run.nodes → Performs W.settings run next → AllByRecursion HasSends next.nodes
   performs_sends run next sends (inl s) =
       subst (λ (r : Run). AllByRecursion HasSends r.nodes) (sym s.result)
-      (all_set HasSends run.nodes s.place s.stepped sends (keeps_sends run.heard s.node s.stepped (all_get HasSends run.nodes s.place s.node sends s.stands) s.ready))
+      (all_set HasSends run.nodes s.place s.stepped sends (keeps_sends run.heard s.node s.stepped (all_at HasSends run.nodes s.place s.node sends s.stands) s.ready))
   performs_sends run next sends (inr k) = let s = heard_from run next k in subst (λ (r : Run). AllByRecursion HasSends r.nodes) (sym s.is) sends
 
   leads_behind : (run last : Run) → AllByRecursion HasSends run.nodes → Leads W.settings run last → Leads W.settings (run_behind W J K run) (run_behind W J K last)
@@ -266,7 +252,7 @@ journals_go_on plays W J K goes =
 module _ (run : NodeRun) (heard : Messages) (event : Event) where
   offer_step : (step : Step) (answer : Answered) (hand : List ℕ) → step_of_answer answer ≡ step → option_map (λ _. Gave answer) (slice_get hand 0) ≡ Some event → noted_as event ≡ step
   offer_step step answer [] same h = let no : None ≡ Some event = h in absurd cc
-  offer_step step answer (place ∷ hand) same h = ap (noted_as) (sym (some_same (Gave answer) event h)) ∙ same
+  offer_step step answer (place ∷ hand) same h = ap (noted_as) (sym (same_Some (Gave answer) event h)) ∙ same
 
   item_step : {A : Type 0} (f : A → Event) (step : Step) (queue : Queue) (pick : ClientSends → List (Sent A)) (client : ℕ) → ((a : A) → noted_as (f a) ≡ step)
       → (o : Option ClientSends) → option_and_then (λ (sends : ClientSends). option_map f (next_of queue run.state (pick sends))) o ≡ Some event → noted_as event ≡ step
@@ -283,7 +269,7 @@ module _ (run : NodeRun) (heard : Messages) (event : Event) where
       item_step (λ trigger. Took (Triggered client trigger)) (steps.Trigger client) (Triggers client) (λ (s : ClientSends). s.triggers) client (λ a. refl) (slice_get run.sends client) h
   noted_step steps.Ask h =
       let m = mapped_from (λ ask. Took (Asked ask)) (slice_get (asks_to run.node heard) (taken Asks run.state.log)) event h in ap (noted_as) m.is
-  noted_step steps.Turn h = ap (noted_as) (sym (some_same (Took Turn) event h))
+  noted_step steps.Turn h = ap (noted_as) (sym (same_Some (Took Turn) event h))
   noted_step (steps.Given stamp) h = offer_step (steps.Given stamp) (Given stamp) run.state.hand refl h
   noted_step (steps.Missed stamp) h = offer_step (steps.Missed stamp) (Missed stamp) run.state.hand refl h
   noted_step steps.Unread h = offer_step steps.Unread Unread run.state.hand refl h
@@ -313,7 +299,7 @@ module _ (adds : EventsAddThis) (W : PlainWorkload) (J : PlainJournal) where
 
   set_same : {X : Type 0} (xs : List X) (i : ℕ) (x : X) → slice_get xs i ≡ Some x → set xs i x ≡ xs
   set_same [] i x h = refl
-  set_same (y ∷ xs) zero x h = ap (λ z. z ∷ xs) (sym (some_same y x h))
+  set_same (y ∷ xs) zero x h = ap (λ z. z ∷ xs) (sym (same_Some y x h))
   set_same (y ∷ xs) (suc i) x h = ap (λ rest. y ∷ rest) (set_same xs i x h)
 
   numbers_keep : (runs : List NodeRun) (place : ℕ) (run stepped : NodeRun) → slice_get runs place ≡ Some run → stepped.node ≡ run.node → numbers_of (set runs place stepped) ≡ numbers_of runs
@@ -329,7 +315,7 @@ module _ (adds : EventsAddThis) (W : PlainWorkload) (J : PlainJournal) where
       (record {
         each =
             all_set (IsOfJournal W J) run.nodes s.place s.stepped o.each
-            (step_keeps run.heard s.node s.stepped (all_get (IsOfJournal W J) run.nodes s.place s.node o.each s.stands) s.ready);
+            (step_keeps run.heard s.node s.stepped (all_at (IsOfJournal W J) run.nodes s.place s.node o.each s.stands) s.ready);
         numbers = numbers_keep run.nodes s.place s.node s.stepped s.stands (ap (λ (node : NodeRun). node.node) step.is) ∙ o.numbers;
       })
   performs_keeps run next o (inr k) =

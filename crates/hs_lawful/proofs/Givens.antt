@@ -4,6 +4,7 @@ use Rattle.std.proofs.Common.{◌≡◌, ℕ, ◌<◌, List, [], ◌∷◌, ◌+
 use Rattle.std.specs.List.{AllByRecursion, cons_option, range_with_len}
 use Rattle.std.proofs.lemmas.List.{map-append}
 use Rattle.std.proofs.lemmas.List.Elements.{filter_map-append}
+use Rattle.hs_lists.proofs.Alls.{all_set, all_at}
 use Rattle.hs_coord.specs.Following.{Messages}
 use Rattle.hs_journal.specs.declared.journal.Step.{Step}
 use Rattle.hs_journal.specs.declared.journal.Step.TheVariants as steps
@@ -12,7 +13,7 @@ use Rattle.hs_records.specs.Plain.{PlainSettings, PlainWorkload}
 use Rattle.hs_lawful.specs.Following.{NodeRun, Run, event_of, step_node, node_start, run_start}
 use Rattle.hs_lawful.specs.Gives.{given_stamp, GivesAsNoted, GivesAreNoted}
 use Rattle.hs_lawful.specs.Orders.{Performs, Leads, Stays, Goes}
-use Rattle.hs_lawful.proofs.Extending.{all_get, all_set, noted_step}
+use Rattle.hs_lawful.proofs.Extending.{noted_step}
 use Rattle.hs_lawful.proofs.Steps.{step_from, heard_from}
 use Rattle.hs_model.specs.Laws.{EventsAddThis}
 use Rattle.hs_model.specs.State.{AgentState, GivenPlace}
@@ -74,7 +75,7 @@ step_gives adds settings heard run stepped g h =
 performs_gives : EventsAddThis → (settings : PlainSettings) (run next : Run) → AllByRecursion GivesAsNoted run.nodes → Performs settings run next → AllByRecursion GivesAsNoted next.nodes
 performs_gives adds settings run next all (inl s) =
     subst (λ (r : Run). AllByRecursion GivesAsNoted r.nodes) (sym s.result)
-    (all_set GivesAsNoted run.nodes s.place s.stepped all (step_gives adds settings run.heard s.node s.stepped (all_get GivesAsNoted run.nodes s.place s.node all s.stands) s.ready))
+    (all_set GivesAsNoted run.nodes s.place s.stepped all (step_gives adds settings run.heard s.node s.stepped (all_at GivesAsNoted run.nodes s.place s.node all s.stands) s.ready))
 performs_gives adds settings run next all (inr k) = let s = heard_from run next k in subst (λ (r : Run). AllByRecursion GivesAsNoted r.nodes) (sym s.is) all
 
 leads_gives : EventsAddThis → (settings : PlainSettings) (run last : Run) → AllByRecursion GivesAsNoted run.nodes → Leads settings run last → AllByRecursion GivesAsNoted last.nodes

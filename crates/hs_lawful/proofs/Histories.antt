@@ -1,19 +1,13 @@
 -- The test of a pool's history, event by event.
-use Rattle.std.proofs.Common.{◌≡◌, ℕ, Bool, true, false, ◌&&◌, List, [], ◌∷◌, length, refl, sym, ap, subst, Option, Some, None}
+use Rattle.std.proofs.Common.{◌≡◌, ℕ, true, false, List, [], ◌∷◌, length, refl, sym, ap, subst, Option, Some, None}
 use Rattle.std.specs.Prelude.{◌==◌, reverse, count_by, slice_get}
 use Rattle.std.specs.Option.{option_map_or}
 use Rattle.std.specs.Cmp.Derive.{both_true}
-use Rattle.std.proofs.lemmas.Bool.{eqb-true, eq-eqb, ltb-true, lt-ltb}
+use Rattle.std.proofs.lemmas.Bool.{eqb-true, eq-eqb, ltb-true, lt-ltb, and_parts}
 use Rattle.std.proofs.lemmas.List.{nil_from_length}
 use Rattle.hs_words.specs.PoolHistory.{Event, Got, Empty, Given, Missed, is_got, is_empty, is_given, is_missed, queue_after, MayFollow, IsHistoryBack}
 use Rattle.hs_lawful.specs.Laws.{HistoriesAreDecided}
 use Rattle.hs_lawful.specs.Pooled.{may_follow, is_history_back}
-
-pub and_parts : (a b : Bool) → (a && b) ≡ true → (a ≡ true) × (b ≡ true)
-and_parts true true h = (refl, refl)
-and_parts true false h = let no : false ≡ true = h in absurd cc
-and_parts false true h = let no : false ≡ true = h in absurd cc
-and_parts false false h = let no : false ≡ true = h in absurd cc
 
 front_is : (buffer : ℕ) (o : Option ℕ) → option_map_or (λ front. front == buffer) o false ≡ true → o ≡ Some buffer
 front_is buffer None h = let no : false ≡ true = h in absurd cc

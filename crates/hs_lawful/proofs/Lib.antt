@@ -7,3 +7,4 @@ pub mod Extending
 pub mod Supplied
 pub mod Taking
 pub mod Givens
+pub mod Logs

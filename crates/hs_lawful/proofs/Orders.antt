@@ -2,9 +2,10 @@
 -- that lead to rest come to one run; and each step leaves one step less.
 use Rattle.std.proofs.Common.{◌≡◌, ◌≢◌, ◌⊎◌, inl, inr, ℕ, zero, suc, ◌+◌, ◌≤◌, true, List, [], ◌∷◌, ◌++◌, length, set, drop, refl, sym, ap, subst, ◌∙◌, Option, Some, None, arith, map, option_map, slice_get, unwrap_or, sum_by, eqb, eqb-true, get_or}
 use Rattle.std.specs.List.{list_all, range_with_len}
+use Rattle.std.proofs.lemmas.Bool.{and_parts, cases_eq}
 use Rattle.std.proofs.lemmas.List.{nil_from_length}
 use Rattle.std.proofs.lemmas.List.Sums.{sum_by-set, sum_by-cons}
-use Rattle.std.proofs.lemmas.Option.{slice_get_within, get_or_from_slice_get}
+use Rattle.std.proofs.lemmas.Option.{slice_get_within, get_or_from_slice_get, same_Some}
 use Rattle.hs_base.specs.declared.ids.NodeId.{NodeId}
 use Rattle.hs_coord.specs.Following.{Message, Messages, message}
 use Rattle.hs_journal.specs.declared.journal.Step.{Step}
@@ -13,32 +14,15 @@ use Rattle.hs_model.specs.Laws.{StepsSayWhatTheyTell}
 use Rattle.hs_records.specs.Plain.{PlainSettings, PlainWorkload}
 use Rattle.hs_lawful.specs.Following.{NodeRun, Run, is_from, node_start, run_start, step_of, step_node, step_lowest, message_of, hear, step_run, follow, step_count}
 use Rattle.hs_lawful.specs.Orders.{with_node, StepsNode, Hears, Performs, Leads, Stays, Goes, IsAtRest, FollowingPlaysOut, OrdersAgree, DoneIsAtRest}
-use Rattle.hs_lawful.proofs.Histories.{and_parts}
-use Rattle.hs_lawful.proofs.Steps.{some_same, mapped_from, step_from, step_stays, said_stays, heard_from, heard_to}
+use Rattle.hs_lawful.proofs.Steps.{step_from, step_stays, said_stays, heard_from, heard_to}
 use Rattle.std.specs.Option.{option_and_then}
 use Rattle.std.specs.Prelude.{count_by}
+use Rattle.hs_lists.proofs.Places.{get_set, get_other}
+use Rattle.hs_lists.proofs.Options.{mapped_from}
 
 -- ---- places
 
-pub same_or : (i j : ℕ) → (i ≡ j) ⊎ (i ≢ j)
-same_or zero zero = inl refl
-same_or zero (suc j) = inr (λ e. let no : zero ≡ suc j = e in absurd (omega (arith, no)))
-same_or (suc i) zero = inr (λ e. let no : suc i ≡ zero = e in absurd (omega (arith, no)))
-same_or (suc i) (suc j) = elim (same_or i j) as (λ _. (suc i ≡ suc j) ⊎ (suc i ≢ suc j)) [ inl e ↦ inl (ap suc e) | inr ne ↦ inr (λ e. ne (omega (arith, e))) ]
-
 module _ {X : Type 0} where
-  pub get_set : (xs : List X) (i : ℕ) (x y : X) → slice_get xs i ≡ Some x → slice_get (set xs i y) i ≡ Some y
-  get_set [] i x y h = let no : None ≡ Some x = h in absurd cc
-  get_set (z ∷ xs) zero x y h = refl
-  get_set (z ∷ xs) (suc i) x y h = get_set xs i x y h
-
-  pub get_other : (xs : List X) (i j : ℕ) (y : X) → i ≢ j → slice_get (set xs i y) j ≡ slice_get xs j
-  get_other [] i j y ne = refl
-  get_other (z ∷ xs) zero zero y ne = absurd (ne refl)
-  get_other (z ∷ xs) zero (suc j) y ne = refl
-  get_other (z ∷ xs) (suc i) zero y ne = refl
-  get_other (z ∷ xs) (suc i) (suc j) y ne = get_other xs i j y (λ e. ne (ap suc e))
-
   set_apart : (xs : List X) (i j : ℕ) (a b : X) → i ≢ j → set (set xs i a) j b ≡ set (set xs j b) i a
   set_apart [] i j a b ne = refl
   set_apart (z ∷ xs) zero zero a b ne = absurd (ne refl)
@@ -71,10 +55,10 @@ module _ (says : StepsSayWhatTheyTell) (settings : PlainSettings) where
 
   nodes_meet : (run b c : Run) → StepsNode settings run b → StepsNode settings run c → Meets b c
   nodes_meet run b c h k =
-      elim (same_or h.place k.place) as (λ _. Meets b c) [
+      elim (cases_eq h.place k.place) as (λ _. Meets b c) [
         | inl e ↦
-            let node : h.node ≡ k.node = some_same h.node k.node (sym h.stands ∙ ap (slice_get run.nodes) e ∙ k.stands) in
-            let stepped : h.stepped ≡ k.stepped = some_same h.stepped k.stepped (sym h.ready ∙ ap (step_node settings run.heard) node ∙ k.ready) in
+            let node : h.node ≡ k.node = same_Some h.node k.node (sym h.stands ∙ ap (slice_get run.nodes) e ∙ k.stands) in
+            let stepped : h.stepped ≡ k.stepped = same_Some h.stepped k.stepped (sym h.ready ∙ ap (step_node settings run.heard) node ∙ k.ready) in
             inl (h.result ∙ ap (λ place. with_node run place h.stepped) e ∙ ap (with_node run k.place) stepped ∙ sym k.result)
         | inr ne ↦
             inr (record {
@@ -117,7 +101,7 @@ module _ (says : StepsSayWhatTheyTell) (settings : PlainSettings) where
               left = ap (λ (r : Run). r.left) h.result ∙ s.left;
               told =
                   ap (λ (r : Run). message_of r.nodes r.heard s.node) h.result
-                  ∙ told_case run.nodes run.heard s.node s.heard h.place h.node h.stepped h.stands h.ready (same_or s.node.0 h.place) s.told;
+                  ∙ told_case run.nodes run.heard s.node s.heard h.place h.node h.stepped h.stands h.ready (cases_eq s.node.0 h.place) s.told;
               is =
                   ap (λ (r : Run). with_node r h.place h.stepped) s.is
                   ∙ ap (λ (r : Run). record r { left = s.rest; heard = r.heard ++ s.heard ∷ [] }) (sym h.result);
@@ -140,7 +124,7 @@ module _ (says : StepsSayWhatTheyTell) (settings : PlainSettings) where
   meet run b c (inl h) (inl k) = nodes_meet run b c h k
   meet run b c (inl h) (inr k) = inr (node_meets_coordinator run b c h k)
   meet run b c (inr h) (inl k) = swapped c b (node_meets_coordinator run c b k h)
-  meet run b c (inr h) (inr k) = inl (some_same b c (sym h ∙ k))
+  meet run b c (inr h) (inr k) = inl (same_Some b c (sym h ∙ k))
 
   -- behind any first step the rest can still be reached
   still_leads : (run next last : Run) → Performs settings run next → Leads settings run last → IsAtRest settings last → Leads settings next last
@@ -172,7 +156,7 @@ module _ (settings : PlainSettings) where
         stepped = stepped;
         stands = refl;
         ready = e;
-        is = sym (some_same (stepped ∷ runs) nodes h);
+        is = sym (same_Some (stepped ∷ runs) nodes h);
       }
   lowest_case heard run runs nodes rest None e h =
       let m = mapped_from (λ later. run ∷ later) (step_lowest settings heard runs) nodes h in
@@ -196,7 +180,7 @@ module _ (settings : PlainSettings) where
       → elim o as (λ _. Option (List NodeRun)) [ Some stepped ↦ Some (stepped ∷ runs) | None ↦ option_map (λ later. run ∷ later) (step_lowest settings heard runs) ] ≡ None
       → (place : ℕ) (node : NodeRun) → slice_get (run ∷ runs) place ≡ Some node → step_node settings heard node ≡ None
   none_case heard run runs rest (Some stepped) e h place node stands = let no : Some (stepped ∷ runs) ≡ None = h in absurd cc
-  none_case heard run runs rest None e h zero node stands = ap (step_node settings heard) (sym (some_same run node stands)) ∙ e
+  none_case heard run runs rest None e h zero node stands = ap (step_node settings heard) (sym (same_Some run node stands)) ∙ e
   none_case heard run runs rest None e h (suc place) node stands = rest (unmapped (step_lowest settings heard runs) h) place node stands
     where
       unmapped : (o : Option (List NodeRun)) → option_map (λ later. run ∷ later) o ≡ None → o ≡ None
@@ -217,7 +201,7 @@ module _ (settings : PlainSettings) where
         stepped = l.stepped;
         stands = l.stands;
         ready = l.ready;
-        result = sym (some_same (record run { nodes = nodes }) next h) ∙ ap (λ (nodes : List NodeRun). record run { nodes = nodes }) l.is;
+        result = sym (same_Some (record run { nodes = nodes }) next h) ∙ ap (λ (nodes : List NodeRun). record run { nodes = nodes }) l.is;
       })
   run_case run next None e h = inr h
 
@@ -337,7 +321,7 @@ each_done : (runs : List NodeRun) → list_all (λ (node : NodeRun). eqb (length
 each_done [] all place node stands = let no : None ≡ Some node = stands in absurd cc
 each_done (run ∷ runs) all zero node stands =
     let both = and_parts (eqb (length run.left) 0) (list_all (λ (node : NodeRun). eqb (length node.left) 0) runs) all in
-    ap (λ (n : NodeRun). n.left) (sym (some_same run node stands)) ∙ none_of run.left both.0
+    ap (λ (n : NodeRun). n.left) (sym (same_Some run node stands)) ∙ none_of run.left both.0
 each_done (run ∷ runs) all (suc place) node stands =
     let both = and_parts (eqb (length run.left) 0) (list_all (λ (node : NodeRun). eqb (length node.left) 0) runs) all in
     each_done runs both.1 place node stands

@@ -1,7 +1,9 @@
 -- A step that is ready at a node, taken apart, and what it leaves alone: the node's name, what its clients send, and the messages
 -- that its agent said before. More messages heard make no step less ready.
-use Rattle.std.proofs.Common.{◌≡◌, ℕ, zero, suc, List, [], ◌∷◌, ◌++◌, refl, sym, ap, ◌∙◌, Option, Some, None, append_assoc, append-nil, option_map, slice_get}
+use Rattle.std.proofs.Common.{◌≡◌, ℕ, List, [], ◌∷◌, ◌++◌, refl, sym, ap, ◌∙◌, Option, Some, None, append_assoc, append-nil, option_map, slice_get}
 use Rattle.std.specs.Option.{option_to_list}
+use Rattle.hs_lists.proofs.Places.{get_front}
+use Rattle.hs_lists.proofs.Options.{mapped_from}
 use Rattle.hs_base.specs.declared.ids.NodeId.{NodeId}
 use Rattle.hs_base.specs.declared.told.Ask.{Ask}
 use Rattle.hs_base.specs.declared.told.Told.{Told}
@@ -15,25 +17,6 @@ use Rattle.hs_records.specs.Plain.{PlainSettings}
 use Rattle.hs_lawful.specs.Following.{Asks, taken, ask_by, asks_behind, asks_to, NodeRun, Run, event_of, perform, step_of, step_node, message_of, hear}
 
 -- ---- options
-
-pub some_same : {X : Type 0} (a b : X) → Some a ≡ Some b → a ≡ b
-some_same a b h = cc
-
--- an item that stands in a list stands at its place in a longer one
-pub get_front : {X : Type 0} (xs ys : List X) (place : ℕ) (x : X) → slice_get xs place ≡ Some x → slice_get (xs ++ ys) place ≡ Some x
-get_front [] ys place x h = let no : None ≡ Some x = h in absurd cc
-get_front (y ∷ xs) ys zero x h = h
-get_front (y ∷ xs) ys (suc place) x h = get_front xs ys place x h
-
--- what a mapped option holds
-pub record IsMapped {X Y : Type 0} (f : X → Y) (o : Option X) (y : Y) : Type 0 where
-  pub item : X
-  pub there : o ≡ Some item
-  pub is : y ≡ f item
-
-pub mapped_from : {X Y : Type 0} (f : X → Y) (o : Option X) (y : Y) → option_map f o ≡ Some y → IsMapped f o y
-mapped_from f None y h = let no : None ≡ Some y = h in absurd cc
-mapped_from f (Some x) y h = record { item = x; there = refl; is = sym (some_same (f x) y h) }
 
 mapped_on : {X Y : Type 0} (f : X → Y) (o more : Option X) (y : Y) → ((x : X) → o ≡ Some x → more ≡ Some x) → option_map f o ≡ Some y → option_map f more ≡ Some y
 mapped_on f o more y on h = let m = mapped_from f o y h in ap (option_map f) (on m.item m.there) ∙ ap Some (sym m.is)

@@ -1,8 +1,14 @@
 -- A step takes an item that is there, so what was taken grows with it up to what is there; and what is there only grows.
-use Rattle.std.proofs.Common.{◌≡◌, ◌⊎◌, inl, inr, ℕ, zero, suc, ◌+◌, ◌<◌, ◌≤◌, Bool, true, false, cond, List, [], ◌∷◌, ◌++◌, length, set, refl, sym, ap, subst, ◌∙◌, Option, Some, None, arith, map, option_map, slice_get, count_by, eqb, eqb-true, length-append}
+use Rattle.std.proofs.Common.{◌≡◌, ◌⊎◌, inl, inr, ℕ, zero, suc, ◌+◌, ◌<◌, ◌≤◌, Bool, true, false, List, [], ◌∷◌, ◌++◌, length, set, refl, sym, ap, subst, ◌∙◌, Option, Some, None, arith, map, option_map, slice_get, count_by, eqb, eqb-true, length-append}
 use Rattle.std.specs.List.{AllByRecursion, range_with_len}
 use Rattle.std.specs.Option.{option_and_then, option_map_or}
+use Rattle.std.proofs.lemmas.Bool.{cases_eq}
 use Rattle.std.proofs.lemmas.List.Sums.{sum_by-cons, sum_by-append}
+use Rattle.std.proofs.lemmas.Option.{slice_get_within}
+use Rattle.hs_lists.proofs.Alls.{all_set, all_at}
+use Rattle.hs_lists.proofs.Places.{get_set, get_other}
+use Rattle.hs_lists.proofs.Options.{mapped_from}
+use Rattle.hs_lists.proofs.Counts.{one_if}
 use Rattle.hs_base.specs.declared.ids.NodeId.{NodeId}
 use Rattle.hs_base.specs.declared.told.Told.{Told}
 use Rattle.hs_coord.specs.Following.{Message, Messages, message}
@@ -16,17 +22,8 @@ use Rattle.hs_sent.specs.Sending.{Sent, ClientSends}
 use Rattle.hs_lawful.specs.Following.{Queue, Chunks, Crumbs, Triggers, Asks, takes, taken, asks_behind, asks_to, is_from, NodeRun, Run, next_of, event_of, step_node, node_start, run_start}
 use Rattle.hs_lawful.specs.Orders.{Performs, Leads, Stays, Goes}
 use Rattle.hs_lawful.specs.Supply.{sent_to, supply, said_at, TakesWhatIsThere, NothingIsTakenUnsent}
-use Rattle.hs_lawful.proofs.Extending.{all_get, all_set, steps_are_noted}
-use Rattle.hs_lawful.proofs.Orders.{get_set, get_other, same_or}
-use Rattle.hs_lawful.proofs.Steps.{mapped_from, asks_more, step_from, said_stays, heard_from}
-
-abbrev one : Bool → ℕ
-one b = cond b 1 0
-
-within : {X : Type 0} (xs : List X) (i : ℕ) (x : X) → slice_get xs i ≡ Some x → i < length xs
-within [] i x h = let no : None ≡ Some x = h in absurd cc
-within (y ∷ xs) zero x h = omega arith
-within (y ∷ xs) (suc i) x h = let rest = within xs i x h in omega (arith, rest)
+use Rattle.hs_lawful.proofs.Extending.{steps_are_noted}
+use Rattle.hs_lawful.proofs.Steps.{asks_more, step_from, said_stays, heard_from}
 
 -- ---- a queue
 
@@ -37,13 +34,13 @@ item_there f queue pick run event None h = let no : None ≡ Some event = h in a
 item_there {A = A} f queue pick run event (Some sends) h =
     let m = mapped_from f (next_of queue run.state (pick sends)) event h in
     let i = mapped_from (λ (item : Sent A). item.item) (slice_get (pick sends) (taken queue run.state.log)) m.item m.there in
-    within (pick sends) (taken queue run.state.log) i.item i.there
+    slice_get_within (pick sends) (taken queue run.state.log) i.item i.there
 
 abbrev MayTake : NodeRun → Messages → Step → Queue → Type 0
-MayTake run heard step queue = taken queue run.state.log + one (takes queue step) ≤ supply run heard queue
+MayTake run heard step queue = taken queue run.state.log + one_if (takes queue step) ≤ supply run heard queue
 
 same_queue : (make : ℕ → Queue) (run : NodeRun) (heard : Messages) (client other : ℕ) (b : Bool) → eqb other client ≡ b → taken (make other) run.state.log < supply run heard (make other)
-    → taken (make client) run.state.log ≤ supply run heard (make client) → taken (make client) run.state.log + one b ≤ supply run heard (make client)
+    → taken (make client) run.state.log ≤ supply run heard (make client) → taken (make client) run.state.log + one_if b ≤ supply run heard (make client)
 same_queue make run heard client other true e less few =
     let there = subst (λ (c : ℕ). taken (make c) run.state.log < supply run heard (make c)) (eqb-true other client e) less in omega (arith, there)
 same_queue make run heard client other false e less few = omega (arith, few)
@@ -74,7 +71,7 @@ module _ (run : NodeRun) (heard : Messages) (event : Event) (few : (queue : Queu
   may_take steps.Ask h (Triggers client) = no_take (Triggers client)
   may_take steps.Ask h Asks =
       let m = mapped_from (λ ask. Took (Asked ask)) (slice_get (asks_to run.node heard) (taken Asks run.state.log)) event h in
-      let less = within (asks_to run.node heard) (taken Asks run.state.log) m.item m.there in
+      let less = slice_get_within (asks_to run.node heard) (taken Asks run.state.log) m.item m.there in
       omega (arith, less)
   may_take steps.Turn h (Chunks client) = no_take (Chunks client)
   may_take steps.Turn h (Crumbs client) = no_take (Crumbs client)
@@ -108,7 +105,7 @@ supply_grows run heard more Asks =
     let both = length-append (asks_to run.node heard) (asks_behind run.node heard more) in
     omega (arith, whole, both)
 
-same_supply : (a b : NodeRun) (heard : Messages) (queue : Queue) → a.sends ≡ b.sends → a.node ≡ b.node → supply a heard queue ≡ supply b heard queue
+pub same_supply : (a b : NodeRun) (heard : Messages) (queue : Queue) → a.sends ≡ b.sends → a.node ≡ b.node → supply a heard queue ≡ supply b heard queue
 same_supply a b heard (Chunks client) e f = ap (λ (sends : List ClientSends). option_map_or (sent_to (Chunks client)) (slice_get sends client) 0) e
 same_supply a b heard (Crumbs client) e f = ap (λ (sends : List ClientSends). option_map_or (sent_to (Crumbs client)) (slice_get sends client) 0) e
 same_supply a b heard (Triggers client) e f = ap (λ (sends : List ClientSends). option_map_or (sent_to (Triggers client)) (slice_get sends client) 0) e
@@ -120,9 +117,9 @@ step_few adds settings heard run stepped few h queue =
     let noted = steps_are_noted adds settings heard run stepped h in
     let left : stepped.left ≡ s.rest = ap (λ (n : NodeRun). n.left) s.is in
     let whole : taken queue (stepped.state.log ++ stepped.left) ≡ taken queue (run.state.log ++ run.left) = ap (taken queue) noted.log in
-    let now = sum_by-append (λ (step : Step). one (takes queue step)) stepped.state.log stepped.left in
-    let was = sum_by-append (λ (step : Step). one (takes queue step)) run.state.log run.left in
-    let front = sum_by-cons (λ (step : Step). one (takes queue step)) s.step s.rest in
+    let now = sum_by-append (λ (step : Step). one_if (takes queue step)) stepped.state.log stepped.left in
+    let was = sum_by-append (λ (step : Step). one_if (takes queue step)) run.state.log run.left in
+    let front = sum_by-cons (λ (step : Step). one_if (takes queue step)) s.step s.rest in
     let both : taken queue run.left ≡ taken queue (s.step ∷ s.rest) = ap (taken queue) s.left in
     let rest : taken queue stepped.left ≡ taken queue s.rest = ap (taken queue) left in
     let may = may_take run heard s.event few s.step s.met queue in
@@ -132,7 +129,7 @@ step_few adds settings heard run stepped few h queue =
 -- ---- messages
 
 said_set : (runs : List NodeRun) (place : ℕ) (node stepped : NodeRun) (from : NodeId) → slice_get runs place ≡ Some node → length node.state.said ≤ length stepped.state.said → said_at runs from ≤ said_at (set runs place stepped) from
-said_set runs place node stepped from stands longer = either (same_or from.0 place)
+said_set runs place node stepped from stands longer = either (cases_eq from.0 place)
   where
     either : (from.0 ≡ place) ⊎ (from.0 ≡ place → ⊥) → said_at runs from ≤ said_at (set runs place stepped) from
     either (inl e) =
@@ -152,7 +149,7 @@ message_case : (heard : Messages) (from : NodeId) (m : Message) (o : Option Node
 message_case heard from m None h = let no : None ≡ Some m = h in absurd cc
 message_case heard from m (Some run) h =
     let told = mapped_from (message from) (slice_get run.state.said (count_by (is_from from) heard)) m h in
-    (within run.state.said (count_by (is_from from) heard) told.item told.there, ap (λ (m : Message). m.node) told.is)
+    (slice_get_within run.state.said (count_by (is_from from) heard) told.item told.there, ap (λ (m : Message). m.node) told.is)
 
 module _ (says : StepsSayWhatTheyTell) (adds : EventsAddThis) (settings : PlainSettings) where
   longer : (heard : Messages) (run stepped : NodeRun) → step_node settings heard run ≡ Some stepped → length run.state.said ≤ length stepped.state.said
@@ -164,13 +161,13 @@ module _ (says : StepsSayWhatTheyTell) (adds : EventsAddThis) (settings : PlainS
       get_there (told ∷ said) (suc i) below = get_there said i (omega (arith, below))
 
       kept : (i : ℕ) → (told : Told) × (slice_get run.state.said i ≡ Some told) → i < length stepped.state.said
-      kept i found = within stepped.state.said i found.0 (said_stays settings says heard run stepped i found.0 h found.1)
+      kept i found = slice_get_within stepped.state.said i found.0 (said_stays settings says heard run stepped i found.0 h found.1)
 
       at_most : (n : ℕ) → ((i : ℕ) → i < n → i < length stepped.state.said) → n ≤ length stepped.state.said
       at_most zero each = omega arith
       at_most (suc n) each = let last = each n (omega arith) in omega (arith, last)
 
-  hear_case : (from v : NodeId) (heard : ℕ) (said : NodeId → ℕ) (b : Bool) → eqb from.0 v.0 ≡ b → heard < said from → ((from.0 ≡ v.0) → from ≡ v) → (n : ℕ) → n ≤ said v → (from.0 ≡ v.0 → n ≡ heard) → n + one b ≤ said v
+  hear_case : (from v : NodeId) (heard : ℕ) (said : NodeId → ℕ) (b : Bool) → eqb from.0 v.0 ≡ b → heard < said from → ((from.0 ≡ v.0) → from ≡ v) → (n : ℕ) → n ≤ said v → (from.0 ≡ v.0 → n ≡ heard) → n + one_if b ≤ said v
   hear_case from v heard said true e less same n few is =
       let equal = eqb-true from.0 v.0 e in
       let there = subst (λ (u : NodeId). heard < said u) (same equal) less in
@@ -183,7 +180,7 @@ module _ (says : StepsSayWhatTheyTell) (adds : EventsAddThis) (settings : PlainS
       (record {
         items =
             all_set (Few run.heard) run.nodes s.place s.stepped t.items
-            (step_few adds settings run.heard s.node s.stepped (all_get (Few run.heard) run.nodes s.place s.node t.items s.stands) s.ready);
+            (step_few adds settings run.heard s.node s.stepped (all_at (Few run.heard) run.nodes s.place s.node t.items s.stands) s.ready);
         messages = λ v.
             let few = t.messages v in
             let grows = said_set run.nodes s.place s.node s.stepped v s.stands (longer run.heard s.node s.stepped s.ready) in
@@ -197,9 +194,9 @@ module _ (says : StepsSayWhatTheyTell) (adds : EventsAddThis) (settings : PlainS
         items = grown run.nodes t.items (s.heard ∷ []);
         messages = λ v.
             let few = t.messages v in
-            let whole = sum_by-append (λ (m : Message). one (is_from v m)) run.heard (s.heard ∷ []) in
-            let last = sum_by-cons (λ (m : Message). one (is_from v m)) s.heard [] in
-            let from : one (is_from v s.heard) ≡ one (eqb s.node.0 v.0) = ap (λ (n : NodeId). one (eqb n.0 v.0)) m.1 in
+            let whole = sum_by-append (λ (m : Message). one_if (is_from v m)) run.heard (s.heard ∷ []) in
+            let last = sum_by-cons (λ (m : Message). one_if (is_from v m)) s.heard [] in
+            let from : one_if (is_from v s.heard) ≡ one_if (eqb s.node.0 v.0) = ap (λ (n : NodeId). one_if (eqb n.0 v.0)) m.1 in
             let case =
             hear_case s.node v (count_by (is_from s.node) run.heard) (said_at run.nodes) (eqb s.node.0 v.0) refl m.0 (λ e. ap (λ (n : ℕ). record { 0 = n }) e) (count_by (is_from v) run.heard) few
             (λ e. ap (λ (n : ℕ). count_by (is_from (record { 0 = n })) run.heard) (sym e))

@@ -4,7 +4,11 @@ use Rattle.std.specs.List.{AllByRecursion, range_with_len}
 use Rattle.std.specs.Option.{option_and_then, option_map_or}
 use Rattle.std.proofs.lemmas.List.Elements.{filter-append}
 use Rattle.std.proofs.lemmas.List.Sums.{sum_by-cons, sum_by-append}
-use Rattle.std.proofs.lemmas.Option.{slice_get-map}
+use Rattle.std.proofs.lemmas.Option.{slice_get-map, same_Some}
+use Rattle.hs_lists.proofs.Alls.{all_set, all_take, all_at}
+use Rattle.hs_lists.proofs.Options.{mapped_from}
+use Rattle.hs_lists.proofs.Ranges.{range_found}
+use Rattle.hs_lists.proofs.Counts.{one_if}
 use Rattle.hs_base.specs.declared.ids.ClientId.{ClientId}
 use Rattle.hs_coord.specs.Following.{Messages}
 use Rattle.hs_journal.specs.declared.journal.Draw.{Draw}
@@ -22,8 +26,8 @@ use Rattle.hs_words.specs.Pages.{Sheet}
 use Rattle.hs_lawful.specs.Following.{Chunks, Crumbs, Triggers, Asks, takes, taken, asks_to, NodeRun, Run, next_of, event_of, step_node, perform, node_start, run_start}
 use Rattle.hs_lawful.specs.Orders.{Performs, Leads, Stays, Goes}
 use Rattle.hs_lawful.specs.Taking.{is_by, sheets_sent, TakesInOrder, ChunksAreTakenInOrder, TakenPagesRise}
-use Rattle.hs_lawful.proofs.Extending.{all_get, all_set, steps_are_noted}
-use Rattle.hs_lawful.proofs.Steps.{some_same, mapped_from, step_from, heard_from}
+use Rattle.hs_lawful.proofs.Extending.{steps_are_noted}
+use Rattle.hs_lawful.proofs.Steps.{step_from, heard_from}
 
 -- ---- what a client sends
 
@@ -65,15 +69,10 @@ sent_rises client k (page ∷ timed) (Empty stamp ∷ draws) =
     let rest = sent_rises client (k + 1) timed draws in
     record { above = above_more k (items (sent_chunks (drawn_from client (k + 1) timed draws))) rest.above; rises = rest.rises }
 
-all_taken : (P : Sheet → Type 0) (n : ℕ) (sheets : List Sheet) → AllByRecursion P sheets → AllByRecursion P (take n sheets)
-all_taken P zero sheets all = tt
-all_taken P (suc n) [] all = tt
-all_taken P (suc n) (sheet ∷ sheets) all = (all.0, all_taken P n sheets all.1)
-
 taken_rises : (n : ℕ) (sheets : List Sheet) → Rises sheets → Rises (take n sheets)
 taken_rises zero sheets h = tt
 taken_rises (suc n) [] h = tt
-taken_rises (suc n) (sheet ∷ sheets) h = (all_taken (λ (later : Sheet). sheet.header.page < later.header.page) n sheets h.0, taken_rises n sheets h.1)
+taken_rises (suc n) (sheet ∷ sheets) h = (all_take (λ (later : Sheet). sheet.header.page < later.header.page) n sheets h.0, taken_rises n sheets h.1)
 
 -- ---- pages of all clients
 
@@ -110,31 +109,18 @@ take_next sheets n sheet h = let up : n + 1 ≡ suc n = omega arith in ap (λ (n
   where
     go : (sheets : List Sheet) (n : ℕ) (sheet : Sheet) → slice_get sheets n ≡ Some sheet → take (suc n) sheets ≡ take n sheets ++ sheet ∷ []
     go [] n sheet h = let no : None ≡ Some sheet = h in absurd cc
-    go (first ∷ sheets) zero sheet h = ap (λ (s : Sheet). s ∷ []) (some_same first sheet h)
+    go (first ∷ sheets) zero sheet h = ap (λ (s : Sheet). s ∷ []) (same_Some first sheet h)
     go (first ∷ sheets) (suc n) sheet h = ap (λ (rest : List Sheet). first ∷ rest) (go sheets n sheet h)
-
-all_at : (P : Sheet → Type 0) (sheets : List Sheet) (n : ℕ) (sheet : Sheet) → AllByRecursion P sheets → slice_get sheets n ≡ Some sheet → P sheet
-all_at P [] n sheet all h = let no : None ≡ Some sheet = h in absurd cc
-all_at P (first ∷ sheets) zero sheet all h = subst P (some_same first sheet h) all.0
-all_at P (first ∷ sheets) (suc n) sheet all h = all_at P sheets n sheet all.1 h
-
-in_range : (start count i n : ℕ) → slice_get (range_with_len start count) i ≡ Some n → n ≡ start + i
-in_range start zero i n h = let no : None ≡ Some n = h in absurd cc
-in_range start (suc count) zero n h = let same = some_same start n h in omega (arith, same)
-in_range start (suc count) (suc i) n h = let rest = in_range (start + 1) count i n h in omega (arith, rest)
-
-abbrev one : Bool → ℕ
-one b = cond b 1 0
 
 -- A step takes no chunk of a client.
 record TakesNone (step : Step) (brought : List Sheet) (client : ℕ) : Type 0 where
-  count : one (takes (Chunks client) step) ≡ 0
+  count : one_if (takes (Chunks client) step) ≡ 0
   none : filter (is_by client) brought ≡ []
 
 -- A step takes the next chunk of a client.
 record TakesNext (run : NodeRun) (step : Step) (brought : List Sheet) (client : ℕ) : Type 0 where
   sheet : Sheet
-  count : one (takes (Chunks client) step) ≡ 1
+  count : one_if (takes (Chunks client) step) ≡ 1
   is : filter (is_by client) brought ≡ sheet ∷ []
   there : slice_get (sheets_sent run client) (taken (Chunks client) run.state.log) ≡ Some sheet
 
@@ -142,7 +128,7 @@ abbrev TakesSo : NodeRun → Step → List Sheet → Type 0
 TakesSo run step brought = (client : ℕ) → TakesNone step brought client ⊎ TakesNext run step brought client
 
 none_so : (run : NodeRun) (step : Step) (brought : List Sheet) → ((client : ℕ) → takes (Chunks client) step ≡ false) → brought ≡ [] → TakesSo run step brought
-none_so run step brought quiet none client = inl (record { count = ap one (quiet client); none = ap (filter (is_by client)) none })
+none_so run step brought quiet none client = inl (record { count = ap one_if (quiet client); none = ap (filter (is_by client)) none })
 
 chunk_case : (run : NodeRun) (other client : ℕ) (sheet : Sheet) (b : Bool) → eqb other client ≡ b → sheet.header.client.number ≡ other
     → slice_get (sheets_sent run other) (taken (Chunks other) run.state.log) ≡ Some sheet → TakesNone (steps.Chunk other) (sheet ∷ []) client ⊎ TakesNext run (steps.Chunk other) (sheet ∷ []) client
@@ -150,12 +136,12 @@ chunk_case run other client sheet true e own there =
     let same = eqb-true other client e in
     inr (record {
       sheet = sheet;
-      count = ap one e;
+      count = ap one_if e;
       is = ap (λ (b : Bool). cond b (sheet ∷ []) []) (eq-eqb sheet.header.client.number client (own ∙ same));
       there = subst (λ (c : ℕ). slice_get (sheets_sent run c) (taken (Chunks c) run.state.log) ≡ Some sheet) same there;
     })
 chunk_case run other client sheet false e own there =
-    inl (record { count = ap one e; none = ap (λ (b : Bool). cond b (sheet ∷ []) []) (ap (λ (n : ℕ). eqb n client) own ∙ e) })
+    inl (record { count = ap one_if e; none = ap (λ (b : Bool). cond b (sheet ∷ []) []) (ap (λ (n : ℕ). eqb n client) own ∙ e) })
 
 module _ (W : PlainWorkload) (J : PlainJournal) where
   abbrev timed_at : ℕ → ℕ → List TimedPage
@@ -172,7 +158,7 @@ module _ (W : PlainWorkload) (J : PlainJournal) where
       sym (slice_get-map (client_sends W J run.node) (range_with_len 0 W.settings.clients) client) ∙ ap (λ (all : List ClientSends). slice_get all client) (sym are) ∙ there
       in
       let m = mapped_from (client_sends W J run.node) (slice_get (range_with_len 0 W.settings.clients) client) sends found in
-      let number : m.item ≡ client = let is = in_range 0 W.settings.clients client m.item m.there in omega (arith, is) in
+      let number : m.item ≡ client = let is = range_found 0 W.settings.clients client m.item m.there in omega (arith, is) in
       let is : sends ≡ client_sends W J run.node client = m.is ∙ ap (client_sends W J run.node) number in
       let own = own_pages (record { node = run.node; number = client }) 0 (timed_at run.node client) (drawn_at run.node client) in
       ap (λ (c : ClientId). c.number)
@@ -206,7 +192,7 @@ module _ (W : PlainWorkload) (J : PlainJournal) where
       client_so run (steps.Trigger client) (λ trigger. Took (Triggered client trigger)) event (λ (s : ClientSends). next_of (Triggers client) run.state s.triggers) (slice_get run.sends client) (λ c. refl) (λ a. refl) met
   takes_so heard run are steps.Ask event met =
       other_so run steps.Ask (λ ask. Took (Asked ask)) event (slice_get (asks_to run.node heard) (taken Asks run.state.log)) (λ c. refl) (λ a. refl) met
-  takes_so heard run are steps.Turn event met = none_so run steps.Turn (brought_by event) (λ c. refl) (ap brought_by (sym (some_same (Took Turn) event met)))
+  takes_so heard run are steps.Turn event met = none_so run steps.Turn (brought_by event) (λ c. refl) (ap brought_by (sym (same_Some (Took Turn) event met)))
   takes_so heard run are (steps.Given stamp) event met = other_so run (steps.Given stamp) (λ _. Gave _) event (slice_get run.state.hand 0) (λ c. refl) (λ a. refl) met
   takes_so heard run are (steps.Missed stamp) event met = other_so run (steps.Missed stamp) (λ _. Gave _) event (slice_get run.state.hand 0) (λ c. refl) (λ a. refl) met
   takes_so heard run are steps.Unread event met = other_so run steps.Unread (λ _. Gave _) event (slice_get run.state.hand 0) (λ c. refl) (λ a. refl) met
@@ -220,14 +206,14 @@ module _ (W : PlainWorkload) (J : PlainJournal) where
   -- one list more, where a step takes so
   in_order : (run : NodeRun) (step : Step) (brought : List Sheet) (client : ℕ) → filter (is_by client) (sheets_of run.state.taken) ≡ take (taken (Chunks client) run.state.log) (sheets_sent run client)
       → TakesNone step brought client ⊎ TakesNext run step brought client
-      → filter (is_by client) (sheets_of run.state.taken ++ brought) ≡ take (taken (Chunks client) run.state.log + one (takes (Chunks client) step)) (sheets_sent run client)
+      → filter (is_by client) (sheets_of run.state.taken ++ brought) ≡ take (taken (Chunks client) run.state.log + one_if (takes (Chunks client) step)) (sheets_sent run client)
   in_order run step brought client was (inl n) =
       let k = taken (Chunks client) run.state.log in
-      let same : k ≡ k + one (takes (Chunks client) step) = let count = n.count in omega (arith, count) in
+      let same : k ≡ k + one_if (takes (Chunks client) step) = let count = n.count in omega (arith, count) in
       filter-append (is_by client) (sheets_of run.state.taken) brought ∙ ap₂ (λ a b. a ++ b) was n.none ∙ append-nil (take k (sheets_sent run client)) ∙ ap (λ (k : ℕ). take k (sheets_sent run client)) same
   in_order run step brought client was (inr n) =
       let k = taken (Chunks client) run.state.log in
-      let more : k + 1 ≡ k + one (takes (Chunks client) step) = let count = n.count in omega (arith, count) in
+      let more : k + 1 ≡ k + one_if (takes (Chunks client) step) = let count = n.count in omega (arith, count) in
       filter-append (is_by client) (sheets_of run.state.taken) brought ∙ ap₂ (λ a b. a ++ b) was n.is ∙ sym (take_next (sheets_sent run client) k n.sheet n.there) ∙ ap (λ (k : ℕ). take k (sheets_sent run client)) more
 
   module _ (adds : EventsAddThis) where
@@ -239,11 +225,11 @@ module _ (W : PlainWorkload) (J : PlainJournal) where
         let counted = λ (client : ℕ).
         let whole : taken (Chunks client) (after.state.log ++ s.rest) ≡ taken (Chunks client) (run.state.log ++ run.left) =
         ap (λ (r : NodeRun). taken (Chunks client) (r.state.log ++ r.left)) (sym s.is) ∙ ap (taken (Chunks client)) noted.log in
-        let now = sum_by-append (λ (step : Step). one (takes (Chunks client) step)) after.state.log s.rest in
-        let was = sum_by-append (λ (step : Step). one (takes (Chunks client) step)) run.state.log run.left in
-        let first = sum_by-cons (λ (step : Step). one (takes (Chunks client) step)) s.step s.rest in
+        let now = sum_by-append (λ (step : Step). one_if (takes (Chunks client) step)) after.state.log s.rest in
+        let was = sum_by-append (λ (step : Step). one_if (takes (Chunks client) step)) run.state.log run.left in
+        let first = sum_by-cons (λ (step : Step). one_if (takes (Chunks client) step)) s.step s.rest in
         let left = ap (taken (Chunks client)) s.left in
-        let all : taken (Chunks client) run.state.log + one (takes (Chunks client) s.step) ≡ taken (Chunks client) after.state.log = omega (arith, whole, now, was, first, left) in
+        let all : taken (Chunks client) run.state.log + one_if (takes (Chunks client) s.step) ≡ taken (Chunks client) after.state.log = omega (arith, whole, now, was, first, left) in
         all
         in
         subst Keeps (sym s.is)
@@ -258,7 +244,7 @@ module _ (W : PlainWorkload) (J : PlainJournal) where
     performs_keeps : (run next : Run) → AllByRecursion Keeps run.nodes → Performs W.settings run next → AllByRecursion Keeps next.nodes
     performs_keeps run next all (inl s) =
         subst (λ (r : Run). AllByRecursion Keeps r.nodes) (sym s.result)
-        (all_set Keeps run.nodes s.place s.stepped all (step_keeps run.heard s.node s.stepped (all_get Keeps run.nodes s.place s.node all s.stands) s.ready))
+        (all_set Keeps run.nodes s.place s.stepped all (step_keeps run.heard s.node s.stepped (all_at Keeps run.nodes s.place s.node all s.stands) s.ready))
     performs_keeps run next all (inr k) = let s = heard_from run next k in subst (λ (r : Run). AllByRecursion Keeps r.nodes) (sym s.is) all
 
     leads_keeps : (run last : Run) → AllByRecursion Keeps run.nodes → Leads W.settings run last → AllByRecursion Keeps last.nodes

@@ -5,6 +5,7 @@ use Rattle.std.proofs.lemmas.List.{map-append}
 use Rattle.std.proofs.lemmas.List.Elements.{All-tail}
 use Rattle.std.proofs.lemmas.Bool.{cases_lt}
 use Rattle.std.proofs.lemmas.Bool.Decides.{nat_tests}
+use Rattle.hs_lists.proofs.Filters.{find_passes}
 use Rattle.hs_base.specs.declared.ids.ClientId.{ClientId}
 use Rattle.hs_base.specs.declared.told.Fate.{Fate}
 use Rattle.hs_journal.specs.declared.books.PageNote.{PageNote}
@@ -100,17 +101,6 @@ find-more test (fate ∷ fates) more other = by_test (test fate) (find-more test
     by_test true later = refl
     by_test false later = later
 
-find-passes : (test : Fate → Bool) (fates : List Fate) (fate : Fate) → find test fates ≡ Some fate → test fate ≡ true
-find-passes test [] fate found = absurd (cc)
-find-passes test (first ∷ fates) fate found = by_test (test first) refl (find-passes test fates fate)
-  where
-    by_test : (b : Bool) → test first ≡ b → (find test fates ≡ Some fate → test fate ≡ true) → test fate ≡ true
-    by_test true passes later =
-        let e : Some first ≡ Some fate = sym (ap (λ b. cond b (Some first) (find test fates)) passes) ∙ found in
-        let same : first ≡ fate = cc in
-        ap test (sym same) ∙ passes
-    by_test false fails later = later (sym (ap (λ b. cond b (Some first) (find test fates)) fails) ∙ found)
-
 find-none : (test : Fate → Bool) (first : Fate) (fates : List Fate) → find test (first ∷ fates) ≡ None → test first ≡ false
 find-none test first fates none = by_test (test first) refl
   where
@@ -127,7 +117,7 @@ fate-join first others more = by_found (find is_discarded (first ∷ others)) re
     by_found (Some fate) found =
         find-more is_discarded (first ∷ others) more first
         ∙ ap (λ o. unwrap_or o (cond (is_discarded more) more first)) found
-        ∙ sym (ap (λ o. joined_fate (unwrap_or o first) more) found ∙ ap (λ b. cond b fate (cond (is_discarded more) more fate)) (find-passes is_discarded (first ∷ others) fate found))
+        ∙ sym (ap (λ o. joined_fate (unwrap_or o first) more) found ∙ ap (λ b. cond b fate (cond (is_discarded more) more fate)) (find_passes is_discarded (first ∷ others) fate found))
     by_found None none =
         find-more is_discarded (first ∷ others) more first
         ∙ ap (λ o. unwrap_or o (cond (is_discarded more) more first)) none

@@ -1,5 +1,5 @@
 -- Lists read place by place, and places of a ring.
-use Rattle.std.proofs.Common.{◌≡◌, ℕ, zero, suc, ◌+◌, ◌%◌, ◌<◌, ◌≤◌, ◌≢◌, ◌⊎◌, subst, Bool, List, [], ◌∷◌, ◌++◌, length, take, drop, append_assoc, sym, refl, ap, ◌∙◌, inl, inr, ⊎_elim, lt_of_not-le, le_refl, mod-lt, add-one, arith, eqb, eq-eqb, ne_eqb, MatchBool, Option, Some, None, IfSome, length-append}
+use Rattle.std.proofs.Common.{◌≡◌, ℕ, zero, suc, ◌+◌, ◌%◌, ◌<◌, ◌≤◌, ◌≢◌, subst, Bool, List, [], ◌∷◌, ◌++◌, length, take, drop, append_assoc, sym, refl, ap, ◌∙◌, inl, inr, ⊎_elim, lt_of_not-le, le_refl, mod-lt, add-one, arith, eqb, eq-eqb, ne_eqb, MatchBool, Option, Some, None, IfSome, length-append}
 use native.Mathlib.Nat.{suc-mod, mod-eq_of_lt, mod_self}
 use mathlib.Core.Option.{some, some-injective, some-ne-none}
 use mathlib.Core.Logic.{dite}
@@ -11,15 +11,9 @@ use Rattle.atomic_table.proofs.Lists.{at_longer, one_turn}
 use Rattle.hs_link.specs.Contents.{IsBeginning, OneBegins, HasContents}
 use Rattle.hs_link.specs.Ring.{Begins, AllHold}
 use Rattle.std.specs.Option.{option_to_list}
+use Rattle.hs_lists.proofs.Places.{elem_push_cases}
 
 module _ {T : Type 0} where
-  -- an item of a list that grew by one is an old one, or the new one at the end
-  pub at_grown : (xs : List T) (x y : T) (j : ℕ) → get_elem? (xs ++ x ∷ []) j ≡ some y → (get_elem? xs j ≡ some y) ⊎ ((j ≡ length xs) × (x ≡ y))
-  at_grown [] x y zero e = inr (refl, some-injective x y e)
-  at_grown [] x y (suc j) e = absurd (some-ne-none y (sym e))
-  at_grown (z ∷ zs) x y zero e = inl e
-  at_grown (z ∷ zs) x y (suc j) e = ⊎_elim inl (λ (t : (j ≡ length zs) × (x ≡ y)). let h = t.0 in inr (omega arith, t.1)) (at_grown zs x y j e)
-
   -- a place with an item is below the length
   pub at_below : (xs : List T) (x : T) (j : ℕ) → get_elem? xs j ≡ some x → j < length xs
   at_below [] x j e = absurd (some-ne-none x (sym e))
@@ -35,7 +29,7 @@ module _ {T : Type 0} where
   begins_grown xs ys y b p x e = at_longer ys (y ∷ []) p x (b p x e)
 
   pub grown_begins : (xs ys : List T) (x : T) → Begins xs ys → get_elem? ys (length xs) ≡ some x → Begins (xs ++ x ∷ []) ys
-  grown_begins xs ys x b next p y e = ⊎_elim (b p y) (λ (t : (p ≡ length xs) × (x ≡ y)). ap (get_elem? ys) t.0 ∙ (next ∙ ap some t.1)) (at_grown xs x y p e)
+  grown_begins xs ys x b next p y e = ⊎_elim (b p y) (λ (t : (p ≡ length xs) × (x ≡ y)). ap (get_elem? ys) t.0 ∙ (next ∙ ap some t.1)) (elem_push_cases xs x y p e)
 
   pub begins_length : (xs ys : List T) → Begins xs ys → length xs ≤ length ys
   begins_length [] ys b = omega arith

@@ -9,10 +9,11 @@ use lib.ListN.{get_elem?}
 use lib.Seq.{set-get_or}
 use Rattle.atomic_table.specs.Table.{State, Me, step, keeps, takes, gives, stepped, Allows}
 use Rattle.atomic_table.proofs.Lists.{set_here, set_else, at_last}
+use Rattle.hs_lists.proofs.Places.{elem_push_cases}
 use Rattle.hs_link.specs.declared.board.View.{View}
 use Rattle.hs_link.specs.declared.board.View.TheVariants.{Sending, Laying, Receiving, Taking}
 use Rattle.hs_link.specs.Ring.{EntryOk, Knows, Ring, looked_to_put, did_put, looked_to_take, did_take}
-use Rattle.hs_link.proofs.Lists.{at_grown, at_below, at_place, begins_grown, grown_begins, begins_length, shorter_begins, one_begins, apart}
+use Rattle.hs_link.proofs.Lists.{at_below, at_place, begins_grown, grown_begins, begins_length, shorter_begins, one_begins, apart}
 use Rattle.hs_link.proofs.Stays.{beside_sender, beside_receiver, seats_stay, unmoved}
 
 module _ {T F : Type 0} (holds : F → T → Type 0) (key : F) where
@@ -113,7 +114,7 @@ module _ {T F : Type 0} (holds : F → T → Type 0) (key : F) where
           behind = omega arith;
           within = omega arith;
           few = omega arith;
-          all_hold = λ p y e. elim (at_grown r.log x y p e) [ inl old ↦ r.all_hold p y old | inr new ↦ subst (holds key) new.1 (ok_item kn.1) ];
+          all_hold = λ p y e. elim (elem_push_cases r.log x y p e) [ inl old ↦ r.all_hold p y old | inr new ↦ subst (holds key) new.1 (ok_item kn.1) ];
           each_entry = λ p low high. let high' : p < t + n = omega arith in let old = r.each_entry p low high' in
               subst (λ (m : ℕ). EntryOk m log' t 0 r.taking words' homes' p) (sym same) (dite (ℕ_discrete p a)
               (λ here. let there : p % n ≡ i = ap (λ (z : ℕ). z % n) here ∙ sym at_a in record {
@@ -126,7 +127,7 @@ module _ {T F : Type 0} (holds : F → T → Type 0) (key : F) where
               let word = get_or-set_other s.words (16 * i) (16 * (p % n)) 1 0 (λ e. away (omega arith)) in record {
                 full = λ lt. word ∙ old.full (omega arith);
                 free = λ le. word ∙ old.free (omega arith);
-                item = λ le y e. elim (at_grown r.log x y p e) [ inl there ↦ still ∙ old.item le y there | inr new ↦ absurd (other new.0) ];
+                item = λ le y e. elim (elem_push_cases r.log x y p e) [ inl there ↦ still ∙ old.item le y there | inr new ↦ absurd (other new.0) ];
                 empty = λ le. still ∙ old.empty (omega arith);
               }));
           each_seat = seats_stay (Knows key log' t 0 r.taking r.sender r.receiver) s.views id w (kn.0, kn.1, ap (λ (z : List T). z ++ x ∷ []) kn.2, kn.3, refl)

@@ -5,10 +5,10 @@ use lib.ListN.{get_elem?}
 use lib.Seq.{set-get_or}
 use Rattle.atomic_table.specs.Table.{State, keeps, stepped}
 use Rattle.atomic_table.proofs.Lists.{at_set}
+use Rattle.hs_lists.proofs.Places.{elem_push_cases}
 use Rattle.hs_link.specs.declared.board.View.{View}
 use Rattle.hs_link.specs.declared.board.View.TheVariants.{Nobody, Whole, Sending, Laying, Meeting, Receiving, Taking, TellsPut, TellsTaken}
 use Rattle.hs_link.specs.Ring.{Begins, Knows, Ring}
-use Rattle.hs_link.proofs.Lists.{at_grown}
 
 module _ {T F : Type 0} where
   -- a step of the sender: more may be put
@@ -57,7 +57,7 @@ module _ {V : Type 0} (K : ℕ → V → Type 0) where
 
   -- a seat more
   pub seats_grow : (vs : List V) (w : V) → K (length vs) w → ((j : ℕ) (v : V) → get_elem? vs j ≡ some v → K j v) → (j : ℕ) (v : V) → get_elem? (vs ++ w ∷ []) j ≡ some v → K j v
-  seats_grow vs w mine others j v e = ⊎_elim (others j v) (λ (t : (j ≡ length vs) × (w ≡ v)). subst (λ (x : ℕ × V). K x.0 x.1) (λ i. (sym t.0 i, t.1 i)) mine) (at_grown vs w v j e)
+  seats_grow vs w mine others j v e = ⊎_elim (others j v) (λ (t : (j ≡ length vs) × (w ≡ v)). subst (λ (x : ℕ × V). K x.0 x.1) (λ i. (sym t.0 i, t.1 i)) mine) (elem_push_cases vs w v j e)
 
 module _ {T F : Type 0} (holds : F → T → Type 0) (key : F) where
   abbrev St : Type 0

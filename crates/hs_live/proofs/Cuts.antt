@@ -4,6 +4,7 @@ use Rattle.std.specs.List.{AllByRecursion}
 use Rattle.std.specs.Option.{option_to_list}
 use Rattle.hs_base.specs.declared.limits.TheConstants.{MIN_SIZE}
 use Rattle.hs_records.specs.Records.{Piece, Segment, piece_limit, payload_pieces, piece_count, record_pieces}
+use Rattle.hs_records.proofs.Payloads.{AreCut}
 use Rattle.hs_words.specs.declared.token.Drawn.{Drawn}
 use Rattle.hs_words.specs.declared.token.Drawn.TheVariants as drawn
 use Rattle.hs_words.specs.PoolHistory.{Event, Got, Empty}
@@ -19,20 +20,13 @@ use Rattle.hs_live.proofs.Senders.{goes_trans, goes_same}
 use Rattle.hs_live.proofs.Sound.{one_at_most}
 use Rattle.hs_live.proofs.Steps.{piece_of}
 
--- what is known of the pieces of a payload
-pub record AreCut : Type 0 where
-  pub fits : (size : ℕ) (payload : List ℕ) → length payload ≤ piece_limit size → payload_pieces size payload ≡ payload ∷ []
-  pub cut : (size : ℕ) (payload : List ℕ) → MIN_SIZE ≤ size → piece_limit size < length payload
-      → payload_pieces size payload ≡ take (piece_limit size) payload ∷ payload_pieces size (drop (piece_limit size) payload)
-  pub counted : (size : ℕ) (payload : List ℕ) → length (payload_pieces size payload) ≡ piece_count size (length payload)
-
 -- answers above a floor are above a lower one, too
 all_above : (low floor : ℕ) (later earlier : List Answer) → low ≤ floor → AllByRecursion (λ (x : Answer). floor ≤ x.stamp) later → AllByRecursion (λ (x : Answer). low ≤ x.stamp) earlier
     → AllByRecursion (λ (x : Answer). low ≤ x.stamp) (later ++ earlier)
 all_above low floor [] earlier lower h k = k
 all_above low floor (answer ∷ later) earlier lower h k = (omega (arith, lower, h.0), all_above low floor later earlier lower h.1 k)
 
-all_drawn : (later earlier : List Answer) → AllByRecursion IsDrawn later → AllByRecursion IsDrawn earlier → AllByRecursion IsDrawn (later ++ earlier)
+pub all_drawn : (later earlier : List Answer) → AllByRecursion IsDrawn later → AllByRecursion IsDrawn earlier → AllByRecursion IsDrawn (later ++ earlier)
 all_drawn [] earlier h k = k
 all_drawn (answer ∷ later) earlier h k = (h.0, all_drawn later earlier h.1 k)
 

@@ -1,8 +1,7 @@
 -- A client that has done some operations does one more.
-use Rattle.std.proofs.Common.{◌≡◌, ℕ, zero, suc, ◌+◌, Bool, true, false, List, [], ◌∷◌, ◌++◌, reverse, Option, Some, None, IsSome, refl, sym, ap, ap₂, ◌∙◌, subst, append_assoc}
+use Rattle.std.proofs.Common.{◌≡◌, ℕ, ◌+◌, Bool, false, List, [], ◌∷◌, ◌++◌, reverse, Option, Some, None, IsSome, refl, sym, ap, ap₂, ◌∙◌, subst, append_assoc}
 use Rattle.std.proofs.lemmas.List.{append-nil, reverse-append}
-use Rattle.std.proofs.lemmas.Option.{same_Some}
-use Rattle.std.specs.Prelude.{slice_get, is_some}
+use Rattle.std.specs.Prelude.{is_some}
 use Rattle.hs_base.specs.declared.ids.ClientId.{ClientId}
 use Rattle.hs_base.specs.declared.ids.TraceId.{TraceId}
 use Rattle.hs_base.specs.declared.ids.NodeId.{NodeId}
@@ -23,8 +22,10 @@ use Rattle.hs_live.specs.Live.{Live}
 use Rattle.hs_live.specs.Writing.{Made, Writing, IsWriting, WritesPieces, WritesEnd, writing_of}
 use Rattle.hs_live.specs.Done.{HasDone}
 use Rattle.hs_sent.specs.OneMore.{next_behind, AreWatching}
-use Rattle.hs_sent.proofs.Adding.{OneMore, open_more, page_more, at, unseen, begin_unseen, point_unseen, end_unseen, crumb_unseen, fire_unseen, begin_no_crumb, begin_no_trigger, some_trace, point_no_crumb, point_no_trigger, end_no_crumb, end_no_trigger, coming_crumb, crumb_no_trigger, coming_fire, fire_no_crumb, trigger_of_fire}
-use Rattle.std.specs.List.{AllByRecursion}
+use Rattle.hs_sent.proofs.Adding.{OneMore, page_more, at, unseen, begin_unseen, point_unseen, end_unseen, crumb_unseen, fire_unseen, begin_no_crumb, begin_no_trigger, point_no_crumb, point_no_trigger, end_no_crumb, end_no_trigger, coming_crumb, crumb_no_trigger, coming_fire, fire_no_crumb, trigger_of_fire}
+use Rattle.hs_sent.proofs.OneMore.{open_push}
+use Rattle.hs_lists.proofs.Options.{is_some_true, some_item}
+use Rattle.hs_lists.proofs.Alls.{all_everywhere}
 use Rattle.hs_live.specs.declared.called.Called.{Called}
 use Rattle.hs_live.specs.declared.called.Called.TheVariants as called
 use Rattle.hs_live.specs.Done.{Does, DoesNothing}
@@ -48,7 +49,7 @@ done_now laws made ops op old new h d =
     let earlier : reverse (numbered_of (ops ++ op ∷ [])) ≡ next_behind ops op ∷ reverse (numbered_of ops) = ap reverse (laws.numbered ops op) ∙ reverse-append (numbered_of ops) (next_behind ops op ∷ []) in
     record {
       writes = λ rest. subst (λ (all : List Operation). Writes made all rest new) (sym (append_assoc ops (op ∷ []) rest)) (d.writes rest);
-      trace = d.trace ∙ ap (λ (trace : Option TraceId). open_behind trace op) h.trace ∙ sym (open_more None ops op);
+      trace = d.trace ∙ ap (λ (trace : Option TraceId). open_behind trace op) h.trace ∙ sym (open_push None ops op);
       page = d.page ∙ ap (λ (page : Bool). has_open_page page (op ∷ [])) h.page ∙ sym (page_more false ops op);
       crumbs = d.crumbs ∙ ap₂ (λ (l : List Crumb) (trace : Option TraceId). l ++ crumb_in trace op) h.crumbs h.trace ∙ sym (laws.crumbs ops op);
       triggers = d.triggers ∙ ap₂ (λ (l : List Trigger) (trace : Option TraceId). l ++ trigger_in made.autos (reverse (numbered_of ops)) trace op) h.triggers h.trace ∙ sym (laws.triggers made.autos ops op);
@@ -101,16 +102,12 @@ begins laws books trace called.TooWide old new may is = is
 
 -- ---- point
 
-pub is_some_true : {A : Type 0} (o : Option A) → IsSome o → is_some o ≡ true
-is_some_true None some = absurd cc
-is_some_true (Some x) some = refl
-
 pub point_done : OneMore → (moment : ℕ) (payload : List ℕ) (old new : Live) → IsSome old.core.trace → new.core.trace ≡ old.core.trace → new.core.number ≡ old.core.number + 1 → IsSome new.core.current
     → WritesPieces (record_pieces old.core.size old.core.number moment payload) (writing_of old) (writing_of new) → WritesOnly old new → Does (Point moment payload) called.Done old new
 point_done laws moment payload old new some trace number page written only = λ made ops h.
     let size = made.size in
     let op : Operation = Point moment payload in
-    let t = some_trace old.core.trace some in
+    let t = some_item old.core.trace some in
     let same : old.core.size ≡ size = made_size made _ _ _ (writing_of old) (h.writes []) in
     let pieces : WritesPieces (record_pieces size old.core.number moment payload) (writing_of old) (writing_of new) =
     subst (λ (n : ℕ). WritesPieces (record_pieces n old.core.number moment payload) (writing_of old) (writing_of new)) same written in
@@ -139,7 +136,7 @@ point_done laws moment payload old new some trace number page written only = λ 
 pub end_done : OneMore → (old new : Live) → IsSome old.core.trace → new.core.trace ≡ None → new.core.current ≡ None → new.core.number ≡ old.core.number → WritesEnd (writing_of old) (writing_of new) → WritesOnly old new → Does End called.Done old new
 end_done laws old new some trace page number written only = λ made ops h.
     let size = made.size in
-    let t = some_trace old.core.trace some in
+    let t = some_item old.core.trace some in
     done_now laws made ops End old new h
     (record {
       writes = λ rest.
@@ -219,11 +216,6 @@ nothing_done old new core autos answers pool size chunks crumbs triggers = λ ma
 
 -- ---- a new client
 
-all_at : {A : Type 0} (P : A → Type 0) (xs : List A) → AllByRecursion P xs → (place : ℕ) (x : A) → slice_get xs place ≡ Some x → P x
-all_at P [] all place x found = absurd cc
-all_at P (y ∷ xs) all zero x found = subst P (same_Some y x found) all.0
-all_at P (y ∷ xs) all (suc place) x found = all_at P xs all.1 place x found
-
 pub new_done : (client : Live) → IsNew client → HasDone (made_of client) [] client
 new_done client is =
     let size = client.core.size in
@@ -249,5 +241,5 @@ new_done client is =
       page = ap (λ (c : Core Leased). is_some c.current) is.core;
       crumbs = is.crumbs.nothing;
       triggers = is.triggers.nothing;
-      autos = record { rules_are = refl; each = λ auto watch found. all_at (λ (w : Watch). HasSampled w []) client.autos is.autos auto watch found };
+      autos = record { rules_are = refl; each = λ auto watch found. all_everywhere (λ (w : Watch). HasSampled w []) client.autos is.autos auto watch found };
     }

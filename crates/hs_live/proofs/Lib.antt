@@ -3,7 +3,6 @@ pub mod Steps
 pub mod Sound
 pub mod Cuts
 pub mod Doing
-pub mod Lists
 pub mod Samples
 pub mod Ports
 pub mod Sending

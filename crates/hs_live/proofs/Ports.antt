@@ -6,6 +6,8 @@ use Rattle.std.proofs.lemmas.List.{set-get_or}
 use Rattle.std.specs.Prelude.{IfSome, IfNone}
 use Rattle.std.specs.Prelude.{slice_get}
 use Rattle.std.specs.Option.{option_map}
+use Rattle.hs_lists.proofs.Lent.{lent, lent_is, lent_from}
+use Rattle.hs_lists.proofs.Places.{get_set_cases, map_set}
 use Rattle.hs_words.specs.declared.token.Held.{Held}
 use Rattle.hs_words.specs.Buffers.{Buffer, buffer_of, buffer_in}
 use Rattle.hs_link.specs.Contents.{Outgoing, Incoming, IsBeginning, OneBegins, IsSameReceiver, Contains}
@@ -13,7 +15,6 @@ use Rattle.hs_ring.specs.Parts.{Leased, Giving}
 use Rattle.hs_live.specs.Keys.{Key}
 use Rattle.hs_live.specs.Live.{outgoing, incoming, hears, is_told, IsEnd, IsMate, MeetAt, ReceivesAt}
 use Rattle.hs_live.specs.Calls.{IsOf, AreOf}
-use Rattle.hs_live.proofs.Lists.{lent, lent_is, lent_from, found_in, map-set}
 use Rattle.hs_live.proofs.Senders.{map_begins, map_one_begins}
 
 -- ---- a receiver that was lent
@@ -51,7 +52,7 @@ module _ {T F : Type 0} where
 
 of_set : {T : Type 0} (giver : Giving) (receivers : List (Incoming T Key)) (number : ℕ) (r r' : Incoming T Key) → IsEnd number receivers r → r'.key ≡ r.key → AreOf giver receivers → AreOf giver (set receivers number r')
 of_set {T} giver receivers number r r' end key are = λ other x found.
-    elim (found_in receivers number other r r' x end found) [
+    elim (get_set_cases receivers number other r r' x end found) [
       | inl h ↦
           let same : x.key ≡ r.key = ap (λ (y : Incoming T Key). y.key) (sym h.1) ∙ key in
           let there : IsEnd other receivers r = ap (λ n. slice_get receivers n) (sym h.0) ∙ end in
@@ -92,7 +93,7 @@ received_buffers receivers receivers' number (Some item) h = (
   incoming h.0,
   incoming h.1,
   end_buffers receivers number h.0 h.2,
-  ap (map incoming) h.3 ∙ map-set incoming receivers number h.1,
+  ap (map incoming) h.3 ∙ map_set incoming receivers number h.1,
   (h.4.0, h.4.1, ap (map buffer_of) h.4.2),
   ap (map buffer_of) h.5 ∙ map-append buffer_of h.0.received (item ∷ []),
   map_one_begins buffer_of h.1.received h.1.told h.6,
@@ -117,7 +118,7 @@ met_buffers receivers receivers' number s s' h =
     record {
       receiver = incoming h.receiver;
       end = end_buffers receivers number h.receiver h.end;
-      receivers_are = ap (map incoming) h.receivers_are ∙ map-set incoming receivers number (is_told h.receiver s);
+      receivers_are = ap (map incoming) h.receivers_are ∙ map_set incoming receivers number (is_told h.receiver s);
       sender_is = ap outgoing h.sender_is ∙ ap (λ n. let o : Outgoing (Buffer Leased) Key = record (outgoing s) { taken = n } in o) (sym count);
       contents = contains_buffers s h.receiver h.contents;
       keys = h.keys;

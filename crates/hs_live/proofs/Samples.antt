@@ -4,6 +4,7 @@ use Rattle.std.proofs.lemmas.List.{append-nil}
 use Rattle.std.proofs.lemmas.Option.{same_Some, slice_get-map, slice_get_within}
 use Rattle.std.specs.Prelude.{slice_get}
 use Rattle.std.specs.Option.{option_map_or, option_map}
+use Rattle.hs_lists.proofs.Lent.{lent_from}
 use Rattle.hs_base.specs.declared.ids.TraceId.{TraceId}
 use Rattle.hs_base.specs.declared.ids.TriggerId.{TriggerId}
 use Rattle.hs_base.specs.declared.told.Crumb.{Crumb}
@@ -26,7 +27,6 @@ use Rattle.hs_live.specs.Keys.{Key}
 use Rattle.hs_live.specs.Live.{Live}
 use Rattle.hs_live.specs.Writing.{IsWriting, writing_of}
 use Rattle.hs_live.specs.Done.{Does}
-use Rattle.hs_live.proofs.Lists.{lent_from}
 use Rattle.hs_live.proofs.Doing.{done_now}
 
 -- ---- the autotriggers

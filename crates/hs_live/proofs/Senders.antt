@@ -1,20 +1,14 @@
 -- Senders that go on, and what is seen of chunks with their leases.
-use Rattle.std.proofs.Common.{◌≡◌, ℕ, ◌<◌, ◌≤◌, List, [], ◌∷◌, ◌++◌, length, map, take, refl, sym, ap, ◌∙◌, inl, inr, arith, length-append, length-take, take-take}
+use Rattle.std.proofs.Common.{◌≡◌, ℕ, ◌<◌, ◌≤◌, List, [], ◌∷◌, ◌++◌, length, map, take, refl, sym, ap, ◌∙◌, inl, inr, arith, length-append}
 use Rattle.std.proofs.Math.Seq.{take-length}
 use Rattle.std.proofs.lemmas.List.{map-append, take-map, length-map}
 use Rattle.hs_link.specs.Contents.{Outgoing, sent, IsBeginning, OneBegins, IsSameSender, SeemsFull}
+use Rattle.hs_link.proofs.Lists.{beginning_trans}
 use Rattle.hs_words.specs.declared.token.Held.{Held}
 use Rattle.hs_words.specs.Buffers.{Buffer, buffer_of}
 use Rattle.hs_ring.specs.Parts.{Leased}
 use Rattle.hs_live.specs.Keys.{Key}
 use Rattle.hs_live.specs.Live.{GoesOn, Flushes, outgoing}
-
-module _ {T : Type 0} where
-  fits_in : (xs ys : List T) → IsBeginning xs ys → length xs ≤ length ys
-  fits_in xs ys h = omega (arith, length-take (length xs) ys, ap length h)
-
-  pub begins_trans : (xs ys zs : List T) → IsBeginning xs ys → IsBeginning ys zs → IsBeginning xs zs
-  begins_trans xs ys zs h k = sym (take-take (length xs) (length ys) zs (fits_in xs ys h)) ∙ ap (take (length xs)) k ∙ h
 
 module _ {T F : Type 0} where
   pub goes_same : (s : Outgoing T F) → GoesOn s s
@@ -24,7 +18,7 @@ module _ {T F : Type 0} where
   goes_trans s t u h k =
       record {
         same = (k.same.0 ∙ h.same.0, k.same.1 ∙ h.same.1, k.same.2 ∙ h.same.2, k.same.3 ∙ h.same.3, k.same.4 ∙ h.same.4);
-        put = begins_trans s.put t.put u.put h.put k.put;
+        put = beginning_trans s.put t.put u.put h.put k.put;
       }
 
 module _ {A B : Type 0} (f : A → B) where

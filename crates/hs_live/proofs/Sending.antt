@@ -9,8 +9,9 @@ use Rattle.hs_base.specs.declared.ids.TraceId.{TraceId}
 use Rattle.hs_journal.specs.declared.journal.Draw.{Draw}
 use Rattle.hs_records.specs.Plain.{Operation, Begin, Point, End, Fire, Sample}
 use Rattle.hs_records.specs.Plain as plain
-use Rattle.hs_records.specs.Records.{AreBracketed, segments_of, coming}
+use Rattle.hs_records.specs.Records.{AreBracketed, segments_of}
 use Rattle.hs_records.specs.Pages.{PlainPage, segment_pages, pages_of}
+use Rattle.hs_records.proofs.Payloads.{nothing_comes}
 use Rattle.hs_words.specs.Pages.{Sheet}
 use Rattle.hs_words.specs.PoolHistory.{Event, Got, Empty, Given, Missed}
 use Rattle.hs_words.specs.Ends.{Answer}
@@ -27,10 +28,6 @@ use Rattle.hs_sent.specs.OneMore.{open_after, items_of}
 use Rattle.hs_live.specs.Live.{Live}
 use Rattle.hs_live.specs.Writing.{Made, new_of, noted, draws_by, buffer_got, buffers_by}
 use Rattle.hs_live.specs.Done.{HasDone, HasSent, HasSentAll}
-
-nothing_comes : (size number : ℕ) (trace : Option TraceId) → coming size number trace [] ≡ []
-nothing_comes size number None = refl
-nothing_comes size number (Some trace) = refl
 
 pub has_sent : (made : Made) (ops : List Operation) (client : Live) (h : HasDone made ops client) → ((steps : List (Step Leased)) → AreSteps (new_of made) steps → IsBook (new_of made) steps) → HasSent made ops client
 has_sent made ops client h books =

@@ -1,6 +1,6 @@
 -- What each call of a client's parts does to the steps of its core.
 use Rattle.std.proofs.Common.{◌≡◌, ℕ, Bool, List, [], ◌∷◌, ◌++◌, reverse, Option, Some, None, refl, sym, ap, ap₂, ◌∙◌, subst, append_assoc}
-use Rattle.std.proofs.lemmas.List.{append-nil, reverse-append}
+use Rattle.std.proofs.lemmas.List.{reverse-append}
 use Rattle.std.specs.Option.{option_to_list}
 use Rattle.hs_base.specs.declared.ids.TraceId.{TraceId}
 use Rattle.hs_records.specs.Records.{Piece, Segment}
@@ -12,6 +12,7 @@ use Rattle.hs_words.specs.Ends.{Answer}
 use Rattle.hs_words.specs.Buffers.{Buffer, buffer_of}
 use Rattle.hs_client.specs.Core.{Core, Step, Began, Wrote, Needed, Supplied, Ended_, Refused, after_step, handed, draw_of, number_after, supplied}
 use Rattle.hs_client.specs.Calls.{May, after, next_number, segments_of_steps, with_last, chunks_supplied, draws_supplied, handed_out, with_all}
+use Rattle.hs_client.proofs.AllSteps.{with_all-open}
 use Rattle.hs_link.specs.Contents.{sent}
 use Rattle.hs_ring.specs.Parts.{Leased, Drawing, Draws, after_draw}
 use Rattle.hs_live.specs.Writing.{Made, Writing, new_of, noted, buffer_got, buffers_by, ComesBy, IsWriting}
@@ -105,13 +106,6 @@ drew made pieces later all old new (drawn.Empty stamp) moment payload more draws
     supplied_page made pieces later all old new None Empty stamp moment payload more may core draws.0 refl refl chunks is
 
 -- ---- begins and ends
-
-with_all-open : (trace : TraceId) (before pieces : List Piece) (segments : List Segment)
-    → with_all pieces (record { trace = trace; pieces = before } ∷ segments) ≡ record { trace = trace; pieces = before ++ pieces } ∷ segments
-with_all-open trace before [] segments = ap (λ (pieces : List Piece). let s : Segment = record { trace = trace; pieces = pieces } in s ∷ segments) (sym (append-nil before))
-with_all-open trace before (piece ∷ pieces) segments =
-    with_all-open trace (before ++ piece ∷ []) pieces segments
-    ∙ ap (λ (pieces : List Piece). let s : Segment = record { trace = trace; pieces = pieces } in s ∷ segments) (append_assoc before (piece ∷ []) pieces)
 
 pub began_trace : (made : Made) (pieces : List Piece) (later all : List Segment) (old new : Writing) (trace : TraceId) → May old.core (Began trace) → new.core ≡ after_step old.core (Began trace) → new.drawer ≡ old.drawer
     → sent new.chunks ≡ sent old.chunks → IsWriting made [] (record { trace = trace; pieces = pieces } ∷ later) all old → IsWriting made pieces later all new

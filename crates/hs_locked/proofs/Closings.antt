@@ -6,6 +6,7 @@ use Rattle.hs_words.specs.Pools.{PoolName}
 use Rattle.hs_words.specs.Plans.{Plan}
 use Rattle.hs_ring.specs.Parts.{Drawing, AreInOrder, answers_of_all}
 use Rattle.hs_ring.specs.Seats.{name_of}
+use Rattle.hs_ring.proofs.Closings.{one_table, answers_length, in_order_at}
 use Rattle.hs_locked.specs.Views.{nothing, Post, away, nobody, drawing, desk_of, post_of, having_closed}
 use Rattle.hs_locked.specs.Rule.{Locked}
 use Rattle.hs_locked.specs.Seats.{Place, IsFree, drawing_of}
@@ -23,19 +24,7 @@ back_name : (t : TableId) → back (name_of t) ≡ t
 unfolding back
 back_name t = refl
 
--- two tables with one name are one
-pub one_table : (t u : TableId) → name_of t ≡ name_of u → t ≡ u
-one_table t u e = sym (back_name t) ∙ ap back e ∙ back_name u
-
 -- ---- the drawers, the last first
-
-pub answers_length : (drawers : List Drawing) → length (answers_of_all drawers) ≡ length drawers
-answers_length [] = refl
-answers_length (x ∷ xs) = ap suc (answers_length xs)
-
-in_order_at : (pool : PoolName) (number : ℕ) (xs : List Drawing) (d : Drawing) (done : List Drawing) → AreInOrder pool number ((xs ++ d ∷ []) ++ done) → (d.pool ≡ pool) × (d.number ≡ number + length xs)
-in_order_at pool number [] d done order = (order.0, (let e = order.1 in omega arith))
-in_order_at pool number (x ∷ xs) d done order = let r = in_order_at pool (suc number) xs d done order.2 in (r.0, (let e = r.1 in omega arith))
 
 -- the last drawer that is still open
 pub record IsLast (table : TableId) (seat : Place) (closed made : ℕ) : Type 0 where

@@ -6,10 +6,12 @@ use lib.ListN.{get_elem?}
 use Rattle.std.specs.List.{AllByRecursion}
 use Rattle.atomic_table.specs.Table.{step, gives, stepped, Allows}
 use Rattle.atomic_table.proofs.Lists.{set_here, at_longer, at_last}
+use Rattle.hs_lists.proofs.Places.{elem_push_cases}
+use Rattle.hs_lists.proofs.Counts.{count_cons}
 use Rattle.hs_words.specs.PoolHistory.{Got, Empty, Given}
 use Rattle.hs_words.specs.Ends.{Deed, Answer, answered, got_by, empty_by, given_of, events_of, answer_to, is_any_got, Spends, queue_of}
 use Rattle.hs_words.proofs.Deeds.{none_yet, answers_and, answers_below, are_answers_more, unread_more}
-use Rattle.hs_words.proofs.Waiting.{counted, waiting_below}
+use Rattle.hs_words.proofs.Waiting.{waiting_below}
 use Rattle.hs_words.specs.Plans.{total, Plan}
 use Rattle.hs_words.specs.Seats.{AtSeat}
 use Rattle.hs_words.specs.Spots.{Spot, in_queue, with_drawer, leased, with_giver, HasLease}
@@ -23,7 +25,7 @@ use Rattle.hs_locked.specs.Steps.{did_leave}
 use Rattle.hs_locked.proofs.Updates.{put, put_cases, put_here, put_else, left_set}
 use Rattle.hs_locked.proofs.Stores.{events_are, line, lawful, goes}
 use Rattle.hs_locked.proofs.Spots.{spot_stays}
-use Rattle.hs_locked.proofs.Stays.{at_end, IsEnd, drawers_end, givers_end, Moves, facts_after, hand_stays, in_palm_stays, knows_stays, reseated}
+use Rattle.hs_locked.proofs.Stays.{IsEnd, drawers_end, givers_end, Moves, facts_after, hand_stays, in_palm_stays, knows_stays, reseated}
 use Rattle.hs_locked.proofs.Turns.{St, one_more, few_tickets, gone_stays}
 
 at_rest : (xs : List ℕ) (i x : ℕ) → get_elem? (drop 1 xs) i ≡ some x → get_elem? xs (suc i) ≡ some x
@@ -155,14 +157,14 @@ module _ (plan : Plan) (s : St) (f : Facts) (k : Kept plan s f) (id : ℕ) (desk
     empty_spots : (buffer : ℕ) → buffer < plan.buffers → SpotOk plan.buffers (none_got ∷ f.log) f.seats f.giver (set s.views id w₁) buffer (f.spots buffer)
     empty_spots buffer low =
         spot_stays plan.buffers f.log (none_got ∷ f.log) f.seats f.giver s.views (set s.views id w₁) buffer
-        (λ number is. (is.0, (let c = counted is_any_got Empty (events_of f.log) in let e = is.1 in omega arith), is.2))
+        (λ number is. (is.0, (let c = count_cons is_any_got Empty (events_of f.log) in let e = is.1 in omega arith), is.2))
         (still_with s.views id v₀ w₁ at (Has buffer) (λ none. none)) (f.spots buffer) (k.each_spot buffer low)
 
     pub empty_kept : Kept plan (stepped s 1 x id ((0, new) ∷ []) w₁ gives) after_empty
     empty_kept =
         leave_kept plan s f k id v₀ w₁ at (suc d₀) ender old own.stand_is none_got refl new f.spots f.hands f.palm (in_queue 0) empty_moves x x_is
         (goes plan f.log old new none_got old_ok goes_on refl) tt
-        (λ i buffer seen. k.each_queued i buffer seen ∙ ap in_queue (let c = counted is_any_got Empty (events_of f.log) in let e : gots_in f.log + i ≡ gots_in (none_got ∷ f.log) + i = omega arith in e))
+        (λ i buffer seen. k.each_queued i buffer seen ∙ ap in_queue (let c = count_cons is_any_got Empty (events_of f.log) in let e : gots_in f.log + i ≡ gots_in (none_got ∷ f.log) + i = omega arith in e))
         (λ d. hand_stays plan f (none_got ∷ []) f.tickets f.holder new home (put f.stands (suc d₀) away) f.spots f.hands f.palm (suc d₀) (in_queue 0) empty_moves d (λ e. cc) (f.hands d) (k.each_hand d))
         (in_palm_stays plan f (none_got ∷ []) f.tickets f.holder new home (put f.stands (suc d₀) away) f.spots f.hands f.palm (suc d₀) (in_queue 0) empty_moves (λ e. cc) f.palm k.in_palm)
         empty_spots (omega arith) (λ j _ e. cc) empty_desk
@@ -221,7 +223,7 @@ module _ (plan : Plan) (s : St) (f : Facts) (k : Kept plan s f) (id : ℕ) (desk
         }
 
     one_got : gots_in (got ∷ f.log) ≡ suc (gots_in f.log)
-    one_got = let c = counted is_any_got (Got b) (events_of f.log) in omega arith
+    one_got = let c = count_cons is_any_got (Got b) (events_of f.log) in omega arith
 
     got_queue : (i buffer : ℕ) → get_elem? (queue_of plan.buffers (got ∷ f.log)) i ≡ some buffer → spots' buffer ≡ in_queue (gots_in (got ∷ f.log) + i)
     got_queue i buffer seen =
@@ -364,20 +366,20 @@ module _ (plan : Plan) (s : St) (f : Facts) (k : Kept plan s f) (id : ℕ) (post
 
     give_queue : (i buffer : ℕ) → get_elem? (queue_of plan.buffers (deed ∷ f.log)) i ≡ some buffer → spots₃ buffer ≡ in_queue (gots_in (deed ∷ f.log) + i)
     give_queue i buffer seen =
-        let same : (m : ℕ) → gots_in f.log + m ≡ gots_in (deed ∷ f.log) + m = λ m. let c = counted is_any_got (Given b) (events_of f.log) in omega arith in
+        let same : (m : ℕ) → gots_in f.log + m ≡ gots_in (deed ∷ f.log) + m = λ m. let c = count_cons is_any_got (Given b) (events_of f.log) in omega arith in
         ⊎_elim
         (λ (before : get_elem? (queue_of plan.buffers f.log) i ≡ some buffer).
         let was = k.each_queued i buffer before in
         give_moves.spots_stay buffer (λ e. let both = sym was ∙ e in absurd cc) ∙ was ∙ ap in_queue (same i))
         (λ (last : (i ≡ length (queue_of plan.buffers f.log)) × (b ≡ buffer)).
         ap spots₃ (sym last.1) ∙ put_here f.spots b (in_queue place) ∙ ap in_queue (ap (λ (m : ℕ). gots_in f.log + m) (sym last.0) ∙ same i))
-        (at_end (queue_of plan.buffers f.log) b buffer i seen)
+        (elem_push_cases (queue_of plan.buffers f.log) b buffer i seen)
 
     -- the buffer is the last that waits now, and each other is where it was
     give_spots : (buffer : ℕ) → buffer < plan.buffers → SpotOk plan.buffers (deed ∷ f.log) f.seats f.giver (set s.views id w₃) buffer (spots₃ buffer)
     give_spots buffer low =
         let queue = queue_of plan.buffers f.log in
-        let same : (m : ℕ) → gots_in f.log + m ≡ gots_in (deed ∷ f.log) + m = λ m. let c = counted is_any_got (Given b) (events_of f.log) in omega arith in
+        let same : (m : ℕ) → gots_in f.log + m ≡ gots_in (deed ∷ f.log) + m = λ m. let c = count_cons is_any_got (Given b) (events_of f.log) in omega arith in
         put_cases (SpotOk plan.buffers (deed ∷ f.log) f.seats f.giver (set s.views id w₃) buffer) f.spots b (in_queue place) buffer
         (λ here. (length queue, same (length queue), at_last queue b (length queue) refl ∙ ap some (sym here)))
         (λ other. spot_stays plan.buffers f.log (deed ∷ f.log) f.seats f.giver s.views (set s.views id w₃) buffer

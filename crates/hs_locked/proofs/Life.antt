@@ -9,8 +9,9 @@ use Rattle.atomic_table.proofs.Lists.{at_set, set_else}
 use Rattle.hs_ring.proofs.Spots.{still_with, with_more}
 use Rattle.hs_words.specs.Ends.{Deed, Answer, AreAnswers}
 use Rattle.hs_words.proofs.Deeds.{all_of, no_answers}
-use Rattle.hs_words.specs.Plans.{first_of, rest_of, total, Plan, Within}
+use Rattle.hs_words.specs.Plans.{total, Plan, Within}
 use Rattle.hs_words.specs.Spots.{in_queue}
+use Rattle.hs_words.proofs.Plans.{total_parts}
 use Rattle.hs_locked.specs.declared.store.Store.{Store}
 use Rattle.hs_locked.specs.Views.{Desk, nothing, Post, bare, Stand, away, queued, inside, closing, View, nobody, drawing, leasing, giving, drawer_note, giver_note, with_drawer, new_drawer, having_closed, Has, HasStore, all_left}
 use Rattle.hs_locked.specs.Rule.{home, Facts, StoreOk, StandOk, DeskOk, PostOk, Knows, Kept, Locked, first_post, first_view}
@@ -21,10 +22,6 @@ use Rattle.hs_locked.proofs.Turns.{St}
 use Rattle.hs_locked.proofs.Places.{spot_reseated}
 
 -- ---- a drawer is made
-
-total_parts : (l : List ℕ) → total (rest_of l) + first_of l ≡ total l
-total_parts [] = refl
-total_parts (x ∷ xs) = omega arith
 
 module _ (plan : Plan) (s : St) (f : Facts) (k : Kept plan s f) (id : ℕ) (post : Post) (at : get_elem? s.views id ≡ some (giving post bare away)) (none_closed : post.closed ≡ []) where
   own : PostOk plan f id post bare away

@@ -1,15 +1,15 @@
 -- The table of a new locked pool is as the rule wants it, and so are its drawers.
-use Rattle.std.proofs.Common.{◌≡◌, ℕ, zero, suc, ◌+◌, ◌≤◌, List, [], ◌∷◌, ◌++◌, length, map, Some, refl, sym, ap, ap₂, ◌∙◌, subst, arith, add-one}
-use Rattle.std.specs.Prelude.{sum, slice_get}
+use Rattle.std.proofs.Common.{◌≡◌, ℕ, suc, ◌+◌, ◌≤◌, List, [], ◌∷◌, ◌++◌, length, map, refl, sym, ap, ap₂, ◌∙◌, subst, arith, add-one}
+use Rattle.std.specs.Prelude.{sum}
 use Rattle.std.specs.List.{AllByRecursion, range_with_len}
-use Rattle.std.proofs.lemmas.List.Recursion.{is_sum_by}
 use Rattle.atomic_table.specs.Table.{opening, Splits}
 use Rattle.atomic_table.specs.Seated.{TableId}
 use Rattle.hs_base.specs.declared.limits.TheConstants.{MAX_BUFFERS, MAX_OPERATIONS}
 use Rattle.hs_words.specs.Chunks.{Contents, clear_chunk, clear_chunks}
 use Rattle.hs_words.specs.Pools.{PoolName}
 use Rattle.hs_words.specs.declared.token.Tally.{Tally}
-use Rattle.hs_words.specs.Plans.{total, Plan, Within}
+use Rattle.hs_words.specs.Plans.{Plan, Within}
+use Rattle.hs_words.proofs.Plans.{total_is_sum}
 use Rattle.hs_pool.specs.Pool.{IsAfter}
 use Rattle.hs_ring.specs.Parts.{Drawing, new_drawers}
 use Rattle.hs_ring.specs.Seats.{name_of, IsSameSeat}
@@ -31,9 +31,6 @@ pub at_there : (table : TableId) (s t : Place) → IsAt table s → IsSameSeat s
 at_there table s t at same = (same.0 ∙ at.0, at.1, at.2)
 
 -- ---- the start
-
-total_is_sum : (l : List ℕ) → total l ≡ sum l
-total_is_sum l = is_sum_by total (λ x. x) refl (λ x xs. refl) l
 
 all_sized : (size : ℕ) (numbers : List ℕ) → AllByRecursion (λ (chunk : Contents). chunk.size ≡ size) (map (clear_chunk size) numbers)
 all_sized size [] = tt
@@ -70,13 +67,6 @@ new_locked plan words slots store chunks some_there few buffers draws clear new 
     } in
     subst (λ (ws : List ℕ). Locked plan (opening ws slots (first_view plan))) (sym words_are) (subst (λ (xs : List Store). Locked plan (opening (0 ∷ 0 ∷ []) xs (first_view plan))) (sym slots_are) (starts plan within store ok))
 
-pub first_size : (chunks : List Contents) (size : ℕ) (first : Contents) → chunks ≡ clear_chunks (length chunks) size → 1 ≤ length chunks → Some first ≡ slice_get chunks 0 → first.size ≡ size
-first_size chunks size first clear some_there is = go (length chunks) some_there (is ∙ ap (λ (l : List Contents). slice_get l 0) clear)
-  where
-    go : (n : ℕ) → 1 ≤ n → Some first ≡ slice_get (clear_chunks n size) 0 → first.size ≡ size
-    go zero one e = absurd (omega arith)
-    go (suc n) one e = let same : first ≡ clear_chunk size 0 = cc in ap (λ (c : Contents). c.size) same
-
 -- the giver's seat at a new table
 pub new_making : (table : TableId) (s : Place) (plan : Plan) (buffers size : ℕ) (allowances : List ℕ) → s.table_id ≡ table → table.words ≡ 2 → table.slots ≡ 1 → s.me ≡ (first_view plan, [])
     → plan.buffers ≡ buffers → plan.size ≡ size → plan.allowances ≡ allowances → IsMaking table s buffers size 0 allowances
@@ -99,10 +89,6 @@ new_drawers_and pool buffers size number [] left = ap (λ (k : ℕ). new_drawer_
 new_drawers_and pool buffers size number (x ∷ xs) left =
     ap (λ (l : List Drawing). new_drawer_of pool buffers size number x ∷ l)
     (new_drawers_and pool buffers size (suc number) xs left ∙ ap (λ (k : ℕ). new_drawers pool buffers size (suc number) xs ++ new_drawer_of pool buffers size k left ∷ []) (let e : suc number + length xs ≡ number + suc (length xs) = omega arith in e))
-
-pub new_drawers_length : (pool : PoolName) (buffers size number : ℕ) (lefts : List ℕ) → length (new_drawers pool buffers size number lefts) ≡ length lefts
-new_drawers_length pool buffers size number [] = refl
-new_drawers_length pool buffers size number (x ∷ xs) = ap suc (new_drawers_length pool buffers size (suc number) xs)
 
 there : (table : TableId) (s : Place) (buffers size made : ℕ) (spare : List ℕ) → IsMaking table s buffers size made spare → s.me ≡ (giving (making_post buffers size made spare) bare away, [])
 there table s buffers size made spare is = is.free ∙ ap (λ (p : Post). let m : Mine = (giving p bare away, []) in m) is.post_is

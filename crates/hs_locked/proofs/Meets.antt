@@ -4,6 +4,7 @@ use mathlib.Core.Option.{some}
 use lib.ListN.{get_elem?}
 use Rattle.atomic_table.specs.Table.{Splits, Joins}
 use Rattle.atomic_table.proofs.Lists.{set_else}
+use Rattle.hs_lists.proofs.Numbers.{max_le}
 use Rattle.hs_ring.proofs.Spots.{still_with, with_more}
 use Rattle.hs_words.specs.Ends.{met, stamps_in}
 use Rattle.hs_words.specs.Plans.{Plan}
@@ -70,9 +71,6 @@ giver_writes plan id post palm stand s (f, k) at =
 both_seats : (plan : Plan) (s : St) (f : Facts) (k : Kept plan s f) (id other : ℕ) (w x : View) → Knows plan f id w → Knows plan f other x → (j : ℕ) (v : View) → get_elem? (set (set s.views id w) other x) j ≡ some v → Knows plan f j v
 both_seats plan s f k id other w x one two =
     reseated plan f (set s.views id w) other x two (λ j v far seen. reseated plan f s.views id w one (λ j' v' _ seen'. k.each_seat j' v' seen') j v seen)
-
-max_le : (a b c : ℕ) → a ≤ c → b ≤ c → max a b ≤ c
-max_le a b c p q = omega arith
 
 pub giver_hears : (plan : Plan) (id : ℕ) (post : Post) (palm : Palm) (stand : Stand) (other floor : ℕ) (stamps : List ℕ)
     → Joins (Locked plan) id (giving post palm stand) other (drawer_note floor stamps) (giving (post_after post (met stamps) (max post.floor floor)) palm stand) nobody

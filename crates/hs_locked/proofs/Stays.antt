@@ -1,9 +1,10 @@
 -- What a step leaves as it was. A step is made by one end, and touches at most one buffer, and what that end has in hand.
-use Rattle.std.proofs.Common.{◌≡◌, ◌≢◌, ◌⊎◌, ℕ, zero, suc, ◌<◌, ◌≤◌, List, [], ◌∷◌, ◌++◌, length, set, refl, sym, ap, ◌∙◌, subst, ⊎_elim, inl, inr, arith, length-append}
-use mathlib.Core.Option.{some, some-injective, some-ne-none}
+use Rattle.std.proofs.Common.{◌≡◌, ◌≢◌, ℕ, suc, ◌<◌, ◌≤◌, List, [], ◌∷◌, ◌++◌, length, set, sym, ap, ◌∙◌, subst, ⊎_elim, arith, length-append}
+use mathlib.Core.Option.{some}
 use lib.ListN.{get_elem?}
 use Rattle.std.specs.List.{AllByRecursion}
 use Rattle.atomic_table.proofs.Lists.{at_set}
+use Rattle.hs_lists.proofs.Places.{elem_push_cases}
 use Rattle.hs_words.specs.Ends.{Deed, Answer, answers_by, Names}
 use Rattle.hs_words.proofs.Deeds.{all_of, got_more, none_more, answers_more, answers_below, are_answers_more, unread_more}
 use Rattle.hs_words.specs.Plans.{Plan}
@@ -11,16 +12,6 @@ use Rattle.hs_words.specs.Spots.{Spot, with_drawer, leased, with_giver, HasLease
 use Rattle.hs_locked.specs.declared.store.Store.{Store}
 use Rattle.hs_locked.specs.Views.{Desk, Hand, nothing, kept, Post, Palm, bare, holds, Stand, View, nobody, drawing, leasing, giving, drawer_note, giver_note}
 use Rattle.hs_locked.specs.Rule.{Slot, Facts, HandOk, PalmOk, DeskOk, PostOk, Knows}
-
--- ---- lists
-
-module _ {A : Type 0} where
-  -- an element of a list with one more, and its place
-  pub at_end : (xs : List A) (y x : A) (i : ℕ) → get_elem? (xs ++ y ∷ []) i ≡ some x → (get_elem? xs i ≡ some x) ⊎ ((i ≡ length xs) × (y ≡ x))
-  at_end [] y x zero at = inr (refl, some-injective y x at)
-  at_end [] y x (suc i) at = absurd (some-ne-none x (sym at))
-  at_end (z ∷ zs) y x zero at = inl at
-  at_end (z ∷ zs) y x (suc i) at = ⊎_elim (λ old. inl old) (λ new. inr (ap suc new.0, new.1)) (at_end zs y x i at)
 
 -- ---- seats
 
@@ -35,7 +26,7 @@ reseated plan f views id w mine others j v at =
 pub seated_too : (plan : Plan) (f : Facts) (views : List View) (w : View) → Knows plan f (length views) w → ((j : ℕ) (v : View) → get_elem? views j ≡ some v → Knows plan f j v)
     → (j : ℕ) (v : View) → get_elem? (views ++ w ∷ []) j ≡ some v → Knows plan f j v
 seated_too plan f views w new others j v at =
-    ⊎_elim (λ old. others j v old) (λ (last : (j ≡ length views) × (w ≡ v)). subst (λ (x : View). Knows plan f j x) last.1 (subst (λ (i : ℕ). Knows plan f i w) (sym last.0) new)) (at_end views w v j at)
+    ⊎_elim (λ old. others j v old) (λ (last : (j ≡ length views) × (w ≡ v)). subst (λ (x : View). Knows plan f j x) last.1 (subst (λ (i : ℕ). Knows plan f i w) (sym last.0) new)) (elem_push_cases views w v j at)
 
 -- ---- a step
 

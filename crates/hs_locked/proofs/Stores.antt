@@ -2,11 +2,12 @@
 use Rattle.std.proofs.Common.{◌≡◌, ℕ, List, [], ◌∷◌, length, reverse, refl, sym, ap, ◌∙◌, subst, arith}
 use lib.ListN.{length-map}
 use Rattle.std.proofs.lemmas.List.{length-reverse, reverse-append, reverse-reverse}
+use Rattle.hs_lists.proofs.Counts.{count_cons as counted}
 use Rattle.hs_words.specs.PoolHistory.{Event, Got, Empty, Given, Missed, is_empty, is_missed, queue_after, IsHistoryBack}
 use Rattle.hs_words.specs.Ends.{Deed, event_in, events_of, is_any_got, is_any_given, Counts, queue_of}
 use Rattle.hs_words.specs.declared.token.Tally.{Tally}
 use Rattle.hs_words.proofs.Deeds.{stamp_is}
-use Rattle.hs_words.proofs.Waiting.{counted, drawn_kinds, given_kinds}
+use Rattle.hs_words.proofs.Waiting.{drawn_kinds, given_kinds}
 use Rattle.hs_words.specs.Plans.{Plan}
 use Rattle.hs_pool.specs.Pool.{IsAfter, waiting}
 use Rattle.hs_locked.specs.declared.store.Store.{Store}

@@ -4,7 +4,11 @@ use Rattle.std.proofs.Common.{◌≡◌, ◌⊎◌, inl, inr, ℕ, zero, suc, �
 use Rattle.std.specs.List.{flat_map, range_with_len}
 use Rattle.std.specs.Option.{option_map_or}
 use Rattle.std.proofs.lemmas.Bool.{leb-true}
-use Rattle.std.proofs.lemmas.Option.{slice_get-map}
+use Rattle.std.proofs.lemmas.Option.{slice_get-map, slice_get_within, same_Some}
+use Rattle.hs_lists.proofs.Alls.{all_by_place}
+use Rattle.hs_lists.proofs.Ranges.{list_all_range}
+use Rattle.hs_lists.proofs.Counts.{one_if, count_cons, count_append}
+use Rattle.hs_lists.proofs.Tests.{list_all_from}
 use Rattle.hs_base.specs.declared.ids.NodeId.{NodeId}
 use Rattle.hs_base.specs.declared.limits.TheConstants.{MAX_TAKEN}
 use Rattle.hs_coord.specs.Following.{Messages}
@@ -20,9 +24,8 @@ use Rattle.hs_lawful.specs.Passes.{passes_of, taken_in, steps_in}
 use Rattle.hs_lockstep.specs.Clauses.{IsLaidOut}
 use Rattle.hs_lockstep.specs.Known.{Known}
 use Rattle.hs_lockstep.specs.Lockstep.{Machine, machine_start, done_at, draws_in, pages_started, client_goes, pass_steps, agents_take, agents_give, told_of, coordinator_hears, passes, lockstep}
-use Rattle.hs_lockstep.proofs.Followed.{number_is, count_nodes, nodes_of_journal, fits, all_places, within, take_there, give_there, hear_there, draws_are, starts_at, IsDone}
-use Rattle.hs_lockstep.proofs.Items.{passes_from, taken_before, taken_whole, taken_last, asks_taken}
-use Rattle.hs_lockstep.proofs.Lists.{one, some_same, count_cons, count_append, passes_all}
+use Rattle.hs_lockstep.proofs.Followed.{number_is, count_nodes, nodes_of_journal, fits, take_there, give_there, hear_there, draws_are, starts_at, IsDone}
+use Rattle.hs_lockstep.proofs.Items.{taken_before, taken_whole, taken_last, asks_taken}
 use Rattle.hs_lockstep.proofs.Offers.{joined, take_front, take_all, steps_within, steps_of_all, done_given, done_taken}
 use Rattle.hs_lockstep.proofs.Passing.{gives}
 use Rattle.hs_lockstep.proofs.Rounds.{Going, PassOf, pass_of, schedule_ends}
@@ -109,7 +112,7 @@ module _ (run : Run) where
           none_of zero e = refl
           none_of (suc n) e =
               let first = count_cons (is_node v) (record { 0 = node.node }) (replicate n (record { 0 = node.node })) in
-              let here = ap one e in
+              let here = ap one_if e in
               let rest = none_of n e in
               omega (arith, first, here, rest)
 
@@ -117,7 +120,7 @@ module _ (run : Run) where
   all_of zero node = refl
   all_of (suc n) node =
       let first = count_cons (is_node (record { 0 = node.node })) (record { 0 = node.node }) (replicate n (record { 0 = node.node })) in
-      let here = ap one (eq-eqb node.node node.node refl) in
+      let here = ap one_if (eq-eqb node.node node.node refl) in
       let rest = all_of n node in
       omega (arith, first, here, rest)
 
@@ -132,7 +135,7 @@ module _ (run : Run) where
       let both = count_append (is_node v) (told_of run first) (flat_map (told_of run) nodes) in
       let here = all_of (min (length first.state.said - count_by (is_from v) run.heard) MAX_TAKEN) first in
       let rest = told_none nodes (start + 1) v tail (omega (arith, head)) in
-      subst (λ (node : NodeRun). told_count (record { 0 = node.node }) (first ∷ nodes) ≡ min (length node.state.said - count_by (is_from (record { 0 = node.node })) run.heard) MAX_TAKEN) (some_same first node h)
+      subst (λ (node : NodeRun). told_count (record { 0 = node.node }) (first ∷ nodes) ≡ min (length node.state.said - count_by (is_from (record { 0 = node.node })) run.heard) MAX_TAKEN) (same_Some first node h)
       (omega (arith, both, here, rest))
   told_own (first ∷ nodes) start (suc i) node numbers h =
       let head : first.node ≡ start = cc in
@@ -148,7 +151,7 @@ module _ (run : Run) where
       number_at [] start i node numbers h = let never : None ≡ Some node = h in absurd cc
       number_at (x ∷ nodes) start zero node numbers h =
           let head : x.node ≡ start = cc in
-          let same = ap (λ (n : NodeRun). n.node) (some_same x node h) in
+          let same = ap (λ (n : NodeRun). n.node) (same_Some x node h) in
           omega (arith, head, same)
       number_at (x ∷ nodes) start (suc i) node numbers h =
           let tail : map (λ (n : NodeRun). n.node) nodes ≡ range_with_len (start + 1) (length nodes) = cc in
@@ -163,7 +166,7 @@ module _ (run : Run) where
       not_of zero e = refl
       not_of (suc n) e =
           let head = count_cons (is_node (record { 0 = node.node })) (record { 0 = first.node }) (replicate n (record { 0 = first.node })) in
-          let here = ap one e in
+          let here = ap one_if e in
           let rest = not_of n e in
           omega (arith, head, here, rest)
 
@@ -209,7 +212,7 @@ module _ (k : Known) (W : PlainWorkload) (laid : IsLaidOut W) where
 
   unmapped : {X Y : Type 0} (f : X → Y) (o : Option X) (y : Y) → option_map f o ≡ Some y → (x : X) × (o ≡ Some x) × (f x ≡ y)
   unmapped f None y h = let never : None ≡ Some y = h in absurd cc
-  unmapped f (Some x) y h = (x, refl, some_same (f x) y h)
+  unmapped f (Some x) y h = (x, refl, same_Some (f x) y h)
 
   -- ---- a client draws
 
@@ -280,7 +283,7 @@ module _ (k : Known) (W : PlainWorkload) (laid : IsLaidOut W) where
         where
           node_low : i < W.settings.nodes
           node_low =
-              let low = within before.nodes i step.node step.stands in
+              let low = slice_get_within before.nodes i step.node step.stands in
               let count = count_nodes k W m.journal in
               omega (arith, low, count)
 
@@ -469,8 +472,8 @@ module _ (k : Known) (W : PlainWorkload) (laid : IsLaidOut W) where
     -- what was heard by a mark has what is due
     due_heard : (n : ℕ) → n ≤ made → has_due W.settings r (n + 1) (take (h.marks n) r.heard) ≡ true
     due_heard n few =
-        passes_all (λ (node : NodeRun). nat_le (due_by W.settings (n + 1) node) (count_by (is_from (record { 0 = node.node })) (take (h.marks n) r.heard))) r.nodes
-        (all_places (λ (node : NodeRun). nat_le (due_by W.settings (n + 1) node) (count_by (is_from (record { 0 = node.node })) (take (h.marks n) r.heard)) ≡ true) r.nodes
+        list_all_from (λ (node : NodeRun). nat_le (due_by W.settings (n + 1) node) (count_by (is_from (record { 0 = node.node })) (take (h.marks n) r.heard))) r.nodes
+        (all_by_place (λ (node : NodeRun). nat_le (due_by W.settings (n + 1) node) (count_by (is_from (record { 0 = node.node })) (take (h.marks n) r.heard)) ≡ true) r.nodes
         (λ i node stands.
         let own_count = ap (λ (v : ℕ). count_by (is_from (record { 0 = v })) (take (h.marks n) r.heard)) (numbered i node stands) in
         let is = h.heard n few i node stands in
@@ -480,7 +483,7 @@ module _ (k : Known) (W : PlainWorkload) (laid : IsLaidOut W) where
 
     asks_node : (i : ℕ) (node : NodeRun) → slice_get r.nodes i ≡ Some node → length (passes_of node.state.log) ≡ made → asks_in_pace W.settings r node ≡ true
     asks_node i node stands count =
-        passes_from (asks_enough W.settings r node (passes_of node.state.log)) 1 (length (passes_of node.state.log) - 1)
+        list_all_range (asks_enough W.settings r node (passes_of node.state.log)) 1 (length (passes_of node.state.log) - 1)
         (λ n low high. pass_case n low high)
       where
         pass_case : (n : ℕ) → 1 ≤ n → n < 1 + (length (passes_of node.state.log) - 1) → asks_enough W.settings r node (passes_of node.state.log) n ≡ true

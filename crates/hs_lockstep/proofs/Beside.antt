@@ -4,11 +4,13 @@ use Rattle.std.specs.List.{AllByRecursion, flat_map, range_with_len, list_all, c
 use Rattle.std.specs.Option.{option_map_or}
 use Rattle.std.specs.Cmp.Derive.{both_true}
 use Rattle.std.proofs.Math.Nat.{div-lt_iff_lt-mul}
-use Rattle.std.proofs.lemmas.List.Elements.{filter_map-append}
 use Rattle.std.proofs.lemmas.List.{length-map}
 use Rattle.std.proofs.lemmas.List.FromFn.{length-range_with_len}
 use Rattle.std.proofs.lemmas.Nat.{div-mul-add, mul-add-lt}
-use Rattle.std.proofs.lemmas.Option.{slice_get-map}
+use Rattle.std.proofs.lemmas.Option.{slice_get-map, slice_get_within, same_Some}
+use Rattle.hs_lists.proofs.Alls.{all_by_place, all_append, all_at}
+use Rattle.hs_lists.proofs.Tests.{list_all_from}
+use Rattle.hs_lists.proofs.Ranges.{range_at}
 use Rattle.hs_base.specs.declared.ids.ClientId.{ClientId}
 use Rattle.hs_base.specs.declared.limits.TheConstants.{MIN_SIZE}
 use Rattle.hs_journal.specs.declared.journal.Draw.{Draw}
@@ -26,19 +28,18 @@ use Rattle.hs_lawful.specs.Passes.{passes_of}
 use Rattle.hs_lawful.specs.Pooled.{node_pages}
 use Rattle.hs_lawful.specs.Shape.{step_stamp, log_stamps}
 use Rattle.hs_lawful.specs.Unreads.{round_of}
+use Rattle.hs_lawful.proofs.Logs.{stamps_both}
 use Rattle.hs_lockstep.specs.Clauses.{IsLaidOut}
 use Rattle.hs_lockstep.specs.Known.{Known}
 use Rattle.hs_lockstep.specs.Lockstep.{Machine, machine_start, done_at, next_draws, draws_by, draws_in, pages_started, client_goes, pass_steps, passes, lockstep}
-use Rattle.hs_lockstep.proofs.Followed.{log_of}
+use Rattle.hs_lockstep.proofs.Followed.{log_of, none_at}
 use Rattle.hs_lockstep.proofs.Held.{node_events, IsHeld}
-use Rattle.hs_lockstep.proofs.Holding.{InFront, Behind, in_either, in_all, below_given}
+use Rattle.hs_lockstep.proofs.Holding.{InFront, Behind, in_either, below_given}
 use Rattle.hs_lockstep.proofs.Items.{timely_at, draws_here, draws_other, not_yet}
 use Rattle.hs_lockstep.proofs.Keeping.{more_pages, next_of_node}
-use Rattle.hs_lockstep.proofs.Lists.{some_same, all_append, all_get, passes_all}
 use Rattle.hs_lockstep.proofs.Offers.{joined, passes_joined}
 use Rattle.hs_lockstep.proofs.Passing.{gives}
-use Rattle.hs_lockstep.proofs.Pools.{range_at}
-use Rattle.hs_lockstep.proofs.Rounds.{Going, PassOf, pass_of, later_at, is_before, none_logged, schedule_ends}
+use Rattle.hs_lockstep.proofs.Rounds.{Going, PassOf, pass_of, later_at, is_before, schedule_ends}
 use Rattle.hs_lockstep.proofs.Takes.{before_turn, all_takes}
 
 -- ---- lists
@@ -66,7 +67,7 @@ pub drawn_at : (client : ClientId) (k : ℕ) (pages : List TimedPage) (draws : L
 drawn_at client k [] draws j d h = let never : None ≡ Some d = h in absurd cc
 drawn_at client k (page ∷ pages) [] j d h = let never : None ≡ Some d = h in absurd cc
 drawn_at client k (page ∷ pages) (draw ∷ draws) zero d h =
-    let same = some_same _ d h in
+    let same = same_Some _ d h in
     record {
       page = page;
       there = refl;
@@ -75,11 +76,6 @@ drawn_at client k (page ∷ pages) (draw ∷ draws) zero d h =
       draw = ap (λ (d : DrawnPage). Some d.draw) same;
     }
 drawn_at client k (page ∷ pages) (draw ∷ draws) (suc j) d h = let rest = drawn_at client (k + 1) pages draws j d h in record { page = rest.page; there = rest.there; plain = rest.plain; started = rest.started; draw = rest.draw }
-
-pub get_low : {X : Type 0} (xs : List X) (i : ℕ) (x : X) → slice_get xs i ≡ Some x → i < length xs
-get_low [] i x h = let never : None ≡ Some x = h in absurd cc
-get_low (y ∷ xs) zero x h = omega arith
-get_low (y ∷ xs) (suc i) x h = let rest = get_low xs i x h in omega (arith, rest)
 
 -- ---- stamps
 
@@ -99,13 +95,10 @@ next_stamps (suc count) stamp (buffer ∷ queue) = (omega arith, weaker (next_dr
     weaker [] all = tt
     weaker (draw ∷ draws) all = let first = all.0 in (omega (arith, first), weaker draws all.1)
 
-stamps_both : (a b : List Step) → log_stamps (a ++ b) ≡ log_stamps a ++ log_stamps b
-stamps_both a b = filter_map-append step_stamp a b
-
 -- what holds of the stamps of a log holds of those of a pass
 of_pass : (P : ℕ → Type 0) (ps : List (List Step)) (n : ℕ) (pass : List Step) → AllByRecursion P (log_stamps (joined ps)) → slice_get ps n ≡ Some pass → AllByRecursion P (log_stamps pass)
 of_pass P [] n pass all h = let never : None ≡ Some pass = h in absurd cc
-of_pass P (p ∷ ps) zero pass all h = subst (λ (p : List Step). AllByRecursion P (log_stamps p)) (some_same p pass h) (front (log_stamps p) (log_stamps (joined ps)) (subst (AllByRecursion P) (stamps_both p (joined ps)) all))
+of_pass P (p ∷ ps) zero pass all h = subst (λ (p : List Step). AllByRecursion P (log_stamps p)) (same_Some p pass h) (front (log_stamps p) (log_stamps (joined ps)) (subst (AllByRecursion P) (stamps_both p (joined ps)) all))
   where
     front : (xs ys : List ℕ) → AllByRecursion P (xs ++ ys) → AllByRecursion P xs
     front [] ys all = tt
@@ -126,7 +119,7 @@ gives_stamped (stamp ∷ stamps) = ap (λ (rest : List ℕ). stamp ∷ rest) (gi
 
 range_low : (start count q t : ℕ) → slice_get (range_with_len start count) q ≡ Some t → start ≤ t
 range_low start zero q t h = let never : None ≡ Some t = h in absurd cc
-range_low start (suc count) zero t h = let same = some_same start t h in omega (arith, same)
+range_low start (suc count) zero t h = let same = same_Some start t h in omega (arith, same)
 range_low start (suc count) (suc q) t h = let rest = range_low (start + 1) count q t h in omega (arith, rest)
 
 -- ---- beside
@@ -188,8 +181,8 @@ module _ (k : Known) (W : PlainWorkload) (laid : IsLaidOut W) (least : MIN_SIZE 
 
   beside_start : AllBeside 0 (machine_start W)
   beside_start i client low few n pass at q t found j d drawn =
-      let none : length (passes_of (log_at (machine_start W).journal i)) ≡ 0 = ap (λ (log : List Step). length (passes_of log)) (none_logged W.settings.nodes i) in
-      let some = get_low (passes_of (log_at (machine_start W).journal i)) n pass at in
+      let none : length (passes_of (log_at (machine_start W).journal i)) ≡ 0 = ap (λ (log : List Step). length (passes_of log)) (none_at W.settings.nodes i) in
+      let some = slice_get_within (passes_of (log_at (machine_start W).journal i)) n pass at in
       absurd (omega (arith, none, some))
 
   -- ---- a client draws
@@ -215,7 +208,7 @@ module _ (k : Known) (W : PlainWorkload) (laid : IsLaidOut W) (least : MIN_SIZE 
       run = here.0
 
       held : IsHeld W.settings run
-      held = all_get (IsHeld W.settings) (followed W old).nodes i run g.keeps.held here.1
+      held = all_at (IsHeld W.settings) (followed W old).nodes i run g.keeps.held here.1
 
       log_is : run.state.log ≡ log_at old i
       log_is = log_of k W m g.offers.done i run here.1
@@ -258,12 +251,12 @@ module _ (k : Known) (W : PlainWorkload) (laid : IsLaidOut W) (least : MIN_SIZE 
           fresh page high started p in_drew =
               let round = round_high made page.started high in
               let same = ap (round_of every) started in
-              let some = get_low (passes_of (log_at old i)) n pass at in
+              let some = slice_get_within (passes_of (log_at old i)) n pass at in
               let made_is = g.count i low in
               let stamped = of_pass (λ t. t < length (node_events run)) (passes_of (log_at old i)) n pass
               (subst (λ (log : List Step). AllByRecursion (λ t. t < length (node_events run)) (log_stamps log)) (sym (passes_joined (log_at old i))) given_low) at in
-              let t_low = all_get (λ t. t < length (node_events run)) (log_stamps pass) q t stamped found in
-              let d_high = all_get (λ (draw : Draw). length (node_events run) ≤ stamp_of draw) drew p d.draw drew_high in_drew in
+              let t_low = all_at (λ t. t < length (node_events run)) (log_stamps pass) q t stamped found in
+              let d_high = all_at (λ (draw : Draw). length (node_events run) ≤ stamp_of draw) drew p d.draw drew_high in_drew in
               record {
                 before = λ less. absurd (omega (arith, less, same, round, some, made_is));
                 behind = λ more. omega (arith, t_low, d_high);
@@ -340,7 +333,7 @@ module _ (k : Known) (W : PlainWorkload) (laid : IsLaidOut W) (least : MIN_SIZE 
             let a = drawn_at (record { node = i; number = client }) 0 (pages_at place) (draws_at m.journal place) j d drawn in
             let t_high = range_low step.from step.count q t (ap (λ (stamps : List ℕ). slice_get stamps q) (sym stamped) ∙ found) in
             let d_low = step.late client j (client_sends W m.journal i client) d client_there drawn in
-            let short = get_low (draws_at m.journal place) j d.draw a.draw in
+            let short = slice_get_within (draws_at m.journal place) j d.draw a.draw in
             let counted = g.drawn.drawn place place_low in
             let done = g.ahead place place_low place_low in
             let first = is_before (done_at m place) 0 (length (operations_at W place)) (pages_at place) j a.page (timely_at k W laid least place) a.there (omega (arith, short, counted)) in
@@ -358,7 +351,7 @@ module _ (k : Known) (W : PlainWorkload) (laid : IsLaidOut W) (least : MIN_SIZE 
             only_case : (p : ℕ) → slice_get (whole ∷ []) p ≡ Some pass → n ≡ length (passes_of (log_at m.journal i)) + p → IsBeside every (n + 1) t d.started (stamp_of d.draw)
             only_case zero e is =
                 let count = g.count i low in
-                last_case (ap (λ (p : List Step). slice_get (log_stamps p) q) (some_same whole pass e) ∙ found) (omega (arith, is, count))
+                last_case (ap (λ (p : List Step). slice_get (log_stamps p) q) (same_Some whole pass e) ∙ found) (omega (arith, is, count))
             only_case (suc p) e is = let never : None ≡ Some pass = e in absurd cc
 
   -- ---- the clause
@@ -368,13 +361,13 @@ module _ (k : Known) (W : PlainWorkload) (laid : IsLaidOut W) (least : MIN_SIZE 
       let all = (schedule_ends k W laid AllBeside (λ made gone m below g h. beside_client made gone m below g h) (λ made m g h. beside_pass made m g h) beside_start).holds in
       zipped_all (λ (pass : ℕ × List Step). list_all (λ stamp. list_all (is_beside every pass.0 stamp) (node_pages run)) (log_stamps pass.1)) 1 (passes_of run.state.log)
       (λ n pass at.
-      passes_all (λ stamp. list_all (is_beside every (1 + n) stamp) (node_pages run)) (log_stamps pass)
-      (in_all (λ stamp. list_all (is_beside every (1 + n) stamp) (node_pages run) ≡ true) (log_stamps pass)
+      list_all_from (λ stamp. list_all (is_beside every (1 + n) stamp) (node_pages run)) (log_stamps pass)
+      (all_by_place (λ stamp. list_all (is_beside every (1 + n) stamp) (node_pages run) ≡ true) (log_stamps pass)
       (λ q t found.
-      passes_all (is_beside every (1 + n) t) (node_pages run)
+      list_all_from (is_beside every (1 + n) t) (node_pages run)
       (flat_all (λ (d : DrawnPage). is_beside every (1 + n) t d ≡ true) (λ (s : ClientSends). s.drawn) run.sends
       (λ c s there.
-      in_all (λ (d : DrawnPage). is_beside every (1 + n) t d ≡ true) s.drawn
+      all_by_place (λ (d : DrawnPage). is_beside every (1 + n) t d ≡ true) s.drawn
       (λ j d in_drawn.
       let client = client_found c s (ap (λ (all : List ClientSends). slice_get all c) (sym sends) ∙ there) in
       let same : n + 1 ≡ 1 + n = omega arith in
@@ -385,11 +378,11 @@ module _ (k : Known) (W : PlainWorkload) (laid : IsLaidOut W) (least : MIN_SIZE 
     where
       client_found : (c : ℕ) (s : ClientSends) → slice_get (node_sends W (lockstep W) i) c ≡ Some s → (s ≡ client_sends W (lockstep W) i c) × (c < W.settings.clients)
       client_found c s there =
-          let short = get_low (node_sends W (lockstep W) i) c s there in
+          let short = slice_get_within (node_sends W (lockstep W) i) c s there in
           let count = length-map (range_with_len 0 W.settings.clients) (client_sends W (lockstep W) i) ∙ length-range_with_len 0 W.settings.clients in
           let low : c < W.settings.clients = omega (arith, short, count) in
           let zeroth : 0 + c ≡ c = omega arith in
           let is : slice_get (node_sends W (lockstep W) i) c ≡ Some (client_sends W (lockstep W) i c) =
           slice_get-map (client_sends W (lockstep W) i) (range_with_len 0 W.settings.clients) c ∙ ap (option_map (client_sends W (lockstep W) i)) (range_at 0 W.settings.clients c low ∙ ap Some zeroth)
           in
-          (some_same s (client_sends W (lockstep W) i c) (sym there ∙ is), low)
+          (same_Some s (client_sends W (lockstep W) i c) (sym there ∙ is), low)

@@ -5,6 +5,7 @@ use Rattle.std.specs.Option.{option_map_or}
 use Rattle.std.proofs.lemmas.List.{length-map, map-append}
 use Rattle.std.proofs.lemmas.Grind.{flat_map-append}
 use Rattle.std.proofs.lemmas.Nat.{mul-add-lt}
+use Rattle.std.proofs.lemmas.Option.{slice_get_within}
 use Rattle.hs_base.specs.declared.limits.TheConstants.{MAX_OPERATIONS}
 use Rattle.hs_base.specs.declared.ids.ClientId.{ClientId}
 use Rattle.hs_journal.specs.Views.{PlainJournal}
@@ -20,7 +21,7 @@ use Rattle.hs_lockstep.specs.Parts.{node_at}
 use Rattle.hs_lockstep.proofs.Closing.{drawn_few, size_of, all_of, sizes_are, admitted_few}
 use Rattle.hs_lockstep.proofs.Counting.{events_few}
 use Rattle.hs_lockstep.proofs.FewAsks.{sum_to}
-use Rattle.hs_lockstep.proofs.Followed.{within, count_nodes}
+use Rattle.hs_lockstep.proofs.Followed.{count_nodes}
 use Rattle.hs_lockstep.proofs.Held.{node_events, IsHeld}
 use Rattle.hs_lockstep.proofs.Holding.{pages_in}
 use Rattle.hs_lockstep.proofs.Keeping.{range_parts, own_sends}
@@ -84,7 +85,7 @@ module _ (k : Known) (W : PlainWorkload) (runs : IsRunnable W) (valid : IsValid 
 
   node_low : (m : Machine) (i : ℕ) (run : NodeRun) → node_at W m.journal i ≡ Some run → i < W.settings.nodes
   node_low m i run stands =
-      let there = within (followed W m.journal).nodes i run stands in
+      let there = slice_get_within (followed W m.journal).nodes i run stands in
       let count = count_nodes k W m.journal in
       omega (arith, there, count)
 

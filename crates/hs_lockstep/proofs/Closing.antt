@@ -5,11 +5,17 @@ use Rattle.std.specs.List.{AllByRecursion, flat_map, range_with_len}
 use Rattle.std.specs.Option.{option_map_or}
 use Rattle.std.specs.Cmp.Derive.{both_true}
 use Rattle.std.proofs.Math.Nat.{suc-mul, mul-le-mul_right}
+use Rattle.std.proofs.lemmas.Bool.{and_parts}
 use Rattle.std.proofs.lemmas.List.{length-map}
 use Rattle.std.proofs.lemmas.List.FromFn.{length-range_with_len}
 use Rattle.std.proofs.lemmas.List.Sums.{sum_by-cons}
 use Rattle.std.proofs.lemmas.Nat.{mul-add-lt}
-use Rattle.std.proofs.lemmas.Option.{slice_get-map}
+use Rattle.std.proofs.lemmas.Option.{slice_get-map, slice_get_within, same_Some}
+use Rattle.hs_lists.proofs.Filters.{filter_few}
+use Rattle.hs_lists.proofs.Alls.{all_by_place, all_each, all_at}
+use Rattle.hs_lists.proofs.Counts.{count_append}
+use Rattle.hs_lists.proofs.Tests.{list_all_from}
+use Rattle.hs_lists.proofs.Ranges.{range_at}
 use Rattle.hs_base.specs.declared.ids.ClientId.{ClientId}
 use Rattle.hs_base.specs.declared.ids.TraceId.{TraceId}
 use Rattle.hs_base.specs.declared.limits.TheConstants.{MIN_SIZE, MAX_TAKEN}
@@ -38,15 +44,13 @@ use Rattle.hs_lockstep.specs.Clauses.{IsLaidOut, ScheduleIsBare}
 use Rattle.hs_lockstep.specs.Known.{Known}
 use Rattle.hs_lockstep.specs.Lockstep.{Machine, machine_start, done_at, draws_in, pages_started, client_goes, pass_steps, passes, rounds, closing, closing_limit, lockstep}
 use Rattle.hs_lockstep.proofs.Asks.{more, heard_more, heard_now}
-use Rattle.hs_lockstep.proofs.Beside.{get_low, zipped_all}
+use Rattle.hs_lockstep.proofs.Beside.{zipped_all}
 use Rattle.hs_lockstep.proofs.FewAsks.{sum_to, sum_le, sum_lt, asks_few, IsNumbered}
-use Rattle.hs_lockstep.proofs.Followed.{all_places, number_is, count_nodes, fits, draws_are, starts_at}
-use Rattle.hs_lockstep.proofs.Groups.{admitted_at, triggers_in, is_known, Speaks, and_parts}
+use Rattle.hs_lockstep.proofs.Followed.{number_is, count_nodes, fits, draws_are, starts_at}
+use Rattle.hs_lockstep.proofs.Groups.{admitted_at, triggers_in, is_known, Speaks}
 use Rattle.hs_lockstep.proofs.Items.{IsWithin, timely_at, crumbs_within, triggers_within, chunks_all, drawn_all, in_time, chunks_taken, crumbs_taken, triggers_taken, asks_taken}
-use Rattle.hs_lockstep.proofs.Lists.{some_same, all_each, all_get, passes_all, count_append}
 use Rattle.hs_lockstep.proofs.Passing.{gives}
 use Rattle.hs_lockstep.proofs.Pins.{HaveWeights}
-use Rattle.hs_lockstep.proofs.Pools.{range_at}
 use Rattle.hs_lockstep.proofs.Progress.{IsWorked, pass_works, spoken}
 use Rattle.hs_lockstep.proofs.Rounds.{Going, PassOf, pass_of, later_at, pass_going, all_gone, rounds_end}
 use Rattle.hs_lockstep.proofs.Shapes.{all_covered, ends_at}
@@ -106,14 +110,6 @@ sum_list {X = X} f d front (x ∷ xs) =
     unshift i = let same = moved i in omega (arith, same)
 
 -- ---- how much a client sends
-
-filter_few : {X : Type 0} (p : X → Bool) (xs : List X) → length (filter p xs) ≤ length xs
-filter_few p [] = omega arith
-filter_few p (x ∷ xs) = either (p x) (filter_few p xs)
-  where
-    either : (b : Bool) → length (filter p xs) ≤ length xs → length (cond b (x ∷ filter p xs) (filter p xs)) ≤ suc (length xs)
-    either true h = omega (arith, h)
-    either false h = omega (arith, h)
 
 pub drawn_few : (client : ClientId) (k : ℕ) (pages : List TimedPage) (draws : List Draw) → length (drawn_from client k pages draws) ≤ length pages
 drawn_few client k [] draws = omega arith
@@ -326,7 +322,7 @@ module _ (k : Known) (W : PlainWorkload) (laid : IsLaidOut W) (least : MIN_SIZE 
       step = pass_of k W laid m g.offers g.keeps i p.later p.there
 
       same_node : step.node ≡ p.node
-      same_node = some_same step.node p.node (sym step.stands ∙ p.stands)
+      same_node = same_Some step.node p.node (sym step.stands ∙ p.stands)
 
       abbrev node : NodeRun
       node = step.node
@@ -389,18 +385,18 @@ module _ (k : Known) (W : PlainWorkload) (laid : IsLaidOut W) (least : MIN_SIZE 
       no_more_asks =
           let none = no_asks clients node.state.log pass nothing_worked in
           let least_taken = asks_taken W m node (range_with_len step.from step.count) in
-          let most = all_get (λ (n : NodeRun). (queue : Queue) → taken queue n.state.log ≤ supply n before.heard queue) before.nodes i node (fits k W m.journal).items step.stands Asks in
+          let most = all_at (λ (n : NodeRun). (queue : Queue) → taken queue n.state.log ≤ supply n before.heard queue) before.nodes i node (fits k W m.journal).items step.stands Asks in
           omega (arith, none, least_taken, most)
 
       client_bare : (c : ℕ) (s : ClientSends) → slice_get node.sends c ≡ Some s → took_all node.state.log c s ≡ true
       client_bare c s found =
           let in_node = ap (λ (all : List ClientSends). slice_get all c) step.sends in
-          let short = get_low (node_sends W m.journal i) c s (sym in_node ∙ found) in
+          let short = slice_get_within (node_sends W m.journal i) c s (sym in_node ∙ found) in
           let count = length-map (range_with_len 0 clients) (client_sends W m.journal i) ∙ length-range_with_len 0 clients in
           let few : c < clients = omega (arith, short, count) in
           let zeroth : 0 + c ≡ c = omega arith in
           let s_is : client_sends W m.journal i c ≡ s =
-          some_same (client_sends W m.journal i c) s
+          same_Some (client_sends W m.journal i c) s
           (sym (slice_get-map (client_sends W m.journal i) (range_with_len 0 clients) c ∙ ap (option_map (client_sends W m.journal i)) (range_at 0 clients c few ∙ ap Some zeroth)) ∙ sym in_node ∙ found)
           in
           let place = place_of clients i c in
@@ -412,7 +408,7 @@ module _ (k : Known) (W : PlainWorkload) (laid : IsLaidOut W) (least : MIN_SIZE 
           let none = none_of_client clients node.state.log pass nothing_worked c few in
           let stamps = range_with_len step.from step.count in
           let most : (queue : Queue) → taken queue node.state.log ≤ supply node before.heard queue =
-          all_get (λ (n : NodeRun). (queue : Queue) → taken queue n.state.log ≤ supply n before.heard queue) before.nodes i node (fits k W m.journal).items step.stands
+          all_at (λ (n : NodeRun). (queue : Queue) → taken queue n.state.log ≤ supply n before.heard queue) before.nodes i node (fits k W m.journal).items step.stands
           in
           let zero_ops : 0 + length (operations_at W place) ≡ length (operations_at W place) = omega arith in
           let chunks_within : IsWithin (length (operations_at W place)) s.chunks =
@@ -447,7 +443,7 @@ module _ (k : Known) (W : PlainWorkload) (laid : IsLaidOut W) (least : MIN_SIZE 
 
       node_bare : (n : NodeRun) → slice_get before.nodes i ≡ Some n → is_left_bare before n ≡ true
       node_bare n stands =
-          subst (λ (n : NodeRun). is_left_bare before n ≡ true) (some_same step.node n (sym step.stands ∙ stands))
+          subst (λ (n : NodeRun). is_left_bare before n ≡ true) (same_Some step.node n (sym step.stands ∙ stands))
           (both_true
           (both_true
           (both_true
@@ -484,10 +480,10 @@ module _ (k : Known) (W : PlainWorkload) (laid : IsLaidOut W) (least : MIN_SIZE 
 
     all_bare : ((place : ℕ) → place < length W.clients → done_at m place ≡ length (operations_at W place)) → ((i : ℕ) → i < nodes → other i ≤ side i) → is_bare (played W m.journal) ≡ true
     all_bare done each =
-        passes_all (is_left_bare before) before.nodes
-        (all_places (λ (node : NodeRun). is_left_bare before node ≡ true) before.nodes
+        list_all_from (is_left_bare before) before.nodes
+        (all_by_place (λ (node : NodeRun). is_left_bare before node ≡ true) before.nodes
         (λ i node stands.
-        let short = get_low before.nodes i node stands in
+        let short = slice_get_within before.nodes i node stands in
         let count = count_nodes k W m.journal in
         let low : i < nodes = omega (arith, short, count) in
         node_bare done i low (each i low) node stands))
@@ -544,7 +540,7 @@ module _ (k : Known) (W : PlainWorkload) (laid : IsLaidOut W) (least : MIN_SIZE 
     taken_few i node stands c low =
         let found = client_at i node stands c low in
         let most : (queue : Queue) → taken queue node.state.log ≤ supply node run_of.heard queue =
-        all_get (λ (n : NodeRun). (queue : Queue) → taken queue n.state.log ≤ supply n run_of.heard queue) run_of.nodes i node (fits k W m.journal).items stands
+        all_at (λ (n : NodeRun). (queue : Queue) → taken queue n.state.log ≤ supply n run_of.heard queue) run_of.nodes i node (fits k W m.journal).items stands
         in
         let x = most (Chunks c) in
         let y = most (Crumbs c) in
@@ -559,7 +555,7 @@ module _ (k : Known) (W : PlainWorkload) (laid : IsLaidOut W) (least : MIN_SIZE 
     pub admitted_few : (i : ℕ) → i < nodes → admitted_at run_of.nodes i ≤ sum_to (λ c. size_of (place_of clients i c)) clients
     admitted_few i low =
         let node = later_at k W laid m i low in
-        let speaks : Speaks W.settings run_of.nodes node.0 = all_get (Speaks W.settings run_of.nodes) run_of.nodes i node.0 (spoken k W laid least weights m).nodes node.1 in
+        let speaks : Speaks W.settings run_of.nodes node.0 = all_at (Speaks W.settings run_of.nodes) run_of.nodes i node.0 (spoken k W laid least weights m).nodes node.1 in
         let few = speaks.few in
         let is = ap (λ o. option_map_or (λ (run : NodeRun). run.state.admitted) o 0) node.1 in
         let number = number_is k W m.journal i node.0 node.1 in
@@ -591,7 +587,7 @@ module _ (k : Known) (W : PlainWorkload) (laid : IsLaidOut W) (least : MIN_SIZE 
         let is = ap (λ o. option_map_or (λ (run : NodeRun). work clients run.state.log) o 0) node.1 in
         let items = sum_le (of_client node.0.state.log) (λ c. size_of (place_of clients i c)) clients (taken_few i node.0 node.1) in
         let asks =
-        all_get (λ (n : NodeRun). (queue : Queue) → taken queue n.state.log ≤ supply n run_of.heard queue) run_of.nodes i node.0 (fits k W m.journal).items node.1 Asks
+        all_at (λ (n : NodeRun). (queue : Queue) → taken queue n.state.log ≤ supply n run_of.heard queue) run_of.nodes i node.0 (fits k W m.journal).items node.1 Asks
         in
         let groups = asks_few (admitted_at run_of.nodes) nodes node.0.node run_of.heard numbered in
         let admitted = sum_le (admitted_at run_of.nodes) (λ i. sum_to (λ c. size_of (place_of clients i c)) clients) nodes admitted_few in
@@ -657,7 +653,7 @@ module _ (k : Known) (W : PlainWorkload) (laid : IsLaidOut W) (least : MIN_SIZE 
         where
           start_at : (run : NodeRun) (numbers : List ℕ) (i : ℕ) → slice_get (map (node_start W (machine_start W).journal) numbers) i ≡ Some run → load run ≤ 0
           start_at run [] i e = let never : None ≡ Some run = e in absurd cc
-          start_at run (n ∷ numbers) zero e = let same = ap load (some_same (node_start W (machine_start W).journal n) run e) in omega (arith, same)
+          start_at run (n ∷ numbers) zero e = let same = ap load (same_Some (node_start W (machine_start W).journal n) run e) in omega (arith, same)
           start_at run (n ∷ numbers) (suc i) e = start_at run numbers i e
 
   even_client : (made gone : ℕ) (m : Machine) → gone < length W.clients → Going k W laid made gone m → Even made m → Even made (client_goes W m gone)

@@ -2,6 +2,8 @@
 use Rattle.std.proofs.Common.{◌≡◌, ◌⊎◌, inl, inr, ℕ, zero, suc, ◌+◌, ◌*◌, ◌<◌, ◌≤◌, Bool, true, false, cond, List, [], ◌∷◌, ◌++◌, length, refl, sym, ap, ◌∙◌, Option, Some, None, arith, map, filter, reverse, count_by, eqb, eqb-true, eq-eqb, length-append}
 use Rattle.std.specs.List.{AllByRecursion, flat_map, range_with_len, cons_option}
 use Rattle.std.proofs.lemmas.List.{length-map, reverse-append}
+use Rattle.hs_lists.proofs.Counts.{count_map, one_if, count_cons, count_append}
+use Rattle.hs_lists.proofs.Options.{option_unmap}
 use Rattle.hs_model.specs.Laws.{sheets_of}
 use Rattle.hs_model.specs.State.{GivenPlace}
 use Rattle.hs_records.specs.Plain.{PlainSettings}
@@ -12,11 +14,9 @@ use Rattle.hs_lawful.specs.Following.{NodeRun}
 use Rattle.hs_lawful.specs.Pooled.{PoolEvent, by_stamp, drawn_event}
 use Rattle.hs_lockstep.proofs.Closing.{sum_both}
 use Rattle.hs_lockstep.proofs.FewAsks.{sum_to, sum_le}
-use Rattle.hs_lockstep.proofs.Groups.{unmapped}
 use Rattle.hs_lockstep.proofs.Growing.{events_back, history_of, IsBelow}
 use Rattle.hs_lockstep.proofs.Held.{node_events, IsHeld}
 use Rattle.hs_lockstep.proofs.Holding.{given_as, event_at, pages_in, gives_in}
-use Rattle.hs_lockstep.proofs.Lists.{one, count_cons, count_append}
 
 -- ---- counts of events in the order of stamps
 
@@ -24,7 +24,7 @@ abbrev of_stamp : List PoolEvent → ℕ → List PoolEvent
 of_stamp events s = filter (λ (e : PoolEvent). eqb e.stamp s) events
 
 module _ (p : PoolEvent → Bool) where
-  count_case : (e : PoolEvent) (kept : List PoolEvent) (b : Bool) → count_by p (cond b (e ∷ kept) kept) ≡ cond b (one (p e)) 0 + count_by p kept
+  count_case : (e : PoolEvent) (kept : List PoolEvent) (b : Bool) → count_by p (cond b (e ∷ kept) kept) ≡ cond b (one_if (p e)) 0 + count_by p kept
   count_case e kept true = count_cons p e kept
   count_case e kept false = plain (count_by p kept)
     where
@@ -48,12 +48,12 @@ module _ (p : PoolEvent → Bool) where
       let none = not_here (eqb e.stamp start) refl in
       omega (arith, whole, was, rest, here, none)
     where
-      not_here : (b : Bool) → eqb e.stamp start ≡ b → cond b (one (p e)) 0 ≡ 0
+      not_here : (b : Bool) → eqb e.stamp start ≡ b → cond b (one_if (p e)) 0 ≡ 0
       not_here true same = let equal = eqb-true e.stamp start same in absurd (omega (arith, equal, low))
       not_here false same = refl
 
   -- and one to come comes once
-  from_more : (e : PoolEvent) (events : List PoolEvent) (start count : ℕ) → start ≤ e.stamp → e.stamp < start + count → from (e ∷ events) start count ≡ one (p e) + from events start count
+  from_more : (e : PoolEvent) (events : List PoolEvent) (start count : ℕ) → start ≤ e.stamp → e.stamp < start + count → from (e ∷ events) start count ≡ one_if (p e) + from events start count
   from_more e events start zero low high = absurd (omega (arith, low, high))
   from_more e events start (suc count) low high =
       let whole = from_first (e ∷ events) start count in
@@ -62,8 +62,8 @@ module _ (p : PoolEvent → Bool) where
       let both = either (eqb e.stamp start) refl (λ next. from_more e events (start + 1) count next (omega (arith, high))) in
       omega (arith, whole, was, here, both)
     where
-      either : (b : Bool) → eqb e.stamp start ≡ b → (start + 1 ≤ e.stamp → from (e ∷ events) (start + 1) count ≡ one (p e) + from events (start + 1) count)
-          → cond b (one (p e)) 0 + from (e ∷ events) (start + 1) count ≡ one (p e) + from events (start + 1) count
+      either : (b : Bool) → eqb e.stamp start ≡ b → (start + 1 ≤ e.stamp → from (e ∷ events) (start + 1) count ≡ one_if (p e) + from events (start + 1) count)
+          → cond b (one_if (p e)) 0 + from (e ∷ events) (start + 1) count ≡ one_if (p e) + from events (start + 1) count
       either true same on =
           let equal = eqb-true e.stamp start same in
           let past = from_past e events (start + 1) count (omega (arith, equal)) in
@@ -98,14 +98,6 @@ module _ (p : PoolEvent → Bool) where
       let more = from_more e events 0 n (omega arith) (omega (arith, low)) in
       omega (arith, first, rest, more)
 
-count_mapped : {X Y : Type 0} (q : Y → Bool) (f : X → Y) (xs : List X) → count_by q (map f xs) ≡ count_by (λ x. q (f x)) xs
-count_mapped q f [] = refl
-count_mapped q f (x ∷ xs) =
-    let a = count_cons q (f x) (map f xs) in
-    let b = count_cons (λ x. q (f x)) x xs in
-    let rest = count_mapped q f xs in
-    omega (arith, a, b, rest)
-
 count_reversed : {X : Type 0} (q : X → Bool) (xs : List X) → count_by q (reverse xs) ≡ count_by q xs
 count_reversed q [] = refl
 count_reversed q (x ∷ xs) =
@@ -120,23 +112,23 @@ count_reversed q (x ∷ xs) =
 pub back_count : (q : Event → Bool) (events : List PoolEvent) → IsBelow (length events) events → count_by q (events_back events) ≡ count_by (λ (e : PoolEvent). q e.event) events
 back_count q events low =
     count_reversed q (history_of events)
-    ∙ count_mapped q (λ (e : PoolEvent). e.event) (by_stamp (λ (e : PoolEvent). e.stamp) (length events) events)
+    ∙ count_map q (λ (e : PoolEvent). e.event) (by_stamp (λ (e : PoolEvent). e.stamp) (length events) events)
     ∙ sorted_count (λ (e : PoolEvent). q e.event) events (length events) low
 
 -- ---- sums of counts
 
 module _ {X : Type 0} (q : ℕ → X → Bool) (n : ℕ) where
   abbrev tally : X → ℕ
-  tally x = sum_to (λ c. one (q c x)) n
+  tally x = sum_to (λ c. one_if (q c x)) n
 
   abbrev counts : List X → ℕ
   counts xs = sum_to (λ c. count_by (q c) xs) n
 
   counts_first : (x : X) (xs : List X) → counts (x ∷ xs) ≡ tally x + counts xs
   counts_first x xs =
-      let both = sum_both (λ c. one (q c x)) (λ c. count_by (q c) xs) n in
-      let less = sum_le (λ c. count_by (q c) (x ∷ xs)) (λ c. one (q c x) + count_by (q c) xs) n (λ c low. let first = count_cons (q c) x xs in omega (arith, first)) in
-      let more = sum_le (λ c. one (q c x) + count_by (q c) xs) (λ c. count_by (q c) (x ∷ xs)) n (λ c low. let first = count_cons (q c) x xs in omega (arith, first)) in
+      let both = sum_both (λ c. one_if (q c x)) (λ c. count_by (q c) xs) n in
+      let less = sum_le (λ c. count_by (q c) (x ∷ xs)) (λ c. one_if (q c x) + count_by (q c) xs) n (λ c low. let first = count_cons (q c) x xs in omega (arith, first)) in
+      let more = sum_le (λ c. one_if (q c x) + count_by (q c) xs) (λ c. count_by (q c) (x ∷ xs)) n (λ c low. let first = count_cons (q c) x xs in omega (arith, first)) in
       omega (arith, both, less, more)
 
   counts_none : (m : ℕ) → sum_to (λ c. count_by (q c) []) m ≡ 0
@@ -168,35 +160,35 @@ module _ {X : Type 0} (q : ℕ → X → Bool) (n : ℕ) where
       omega (arith, first, here, rest)
 
 -- a number is one of those below a bound, or none
-same_past : (b n : ℕ) → n ≤ b → sum_to (λ c. one (eqb b c)) n ≡ 0
+same_past : (b n : ℕ) → n ≤ b → sum_to (λ c. one_if (eqb b c)) n ≡ 0
 same_past b zero low = refl
 same_past b (suc n) low =
     let rest = same_past b n (omega (arith, low)) in
     let here = other (eqb b n) refl in
     omega (arith, rest, here)
   where
-    other : (t : Bool) → eqb b n ≡ t → one t ≡ 0
+    other : (t : Bool) → eqb b n ≡ t → one_if t ≡ 0
     other true same = let equal = eqb-true b n same in absurd (omega (arith, equal, low))
     other false same = refl
 
-same_most : (b n : ℕ) → sum_to (λ c. one (eqb b c)) n ≤ 1
+same_most : (b n : ℕ) → sum_to (λ c. one_if (eqb b c)) n ≤ 1
 same_most b zero = omega arith
 same_most b (suc n) = either (eqb b n) refl (same_most b n)
   where
-    either : (t : Bool) → eqb b n ≡ t → sum_to (λ c. one (eqb b c)) n ≤ 1 → sum_to (λ c. one (eqb b c)) n + one (eqb b n) ≤ 1
+    either : (t : Bool) → eqb b n ≡ t → sum_to (λ c. one_if (eqb b c)) n ≤ 1 → sum_to (λ c. one_if (eqb b c)) n + one_if (eqb b n) ≤ 1
     either true same rest =
         let equal = eqb-true b n same in
         let past = same_past b n (omega (arith, equal)) in
-        let here = ap one same in
+        let here = ap one_if same in
         omega (arith, past, here)
-    either false same rest = let here = ap one same in omega (arith, rest, here)
+    either false same rest = let here = ap one_if same in omega (arith, rest, here)
 
-same_least : (b n : ℕ) → b < n → 1 ≤ sum_to (λ c. one (eqb b c)) n
+same_least : (b n : ℕ) → b < n → 1 ≤ sum_to (λ c. one_if (eqb b c)) n
 same_least b zero low = absurd (omega (arith, low))
 same_least b (suc n) low = either (eqb b n) refl (λ less. same_least b n less)
   where
-    either : (t : Bool) → eqb b n ≡ t → (b < n → 1 ≤ sum_to (λ c. one (eqb b c)) n) → 1 ≤ sum_to (λ c. one (eqb b c)) n + one (eqb b n)
-    either true same on = let here = ap one same in omega (arith, here)
+    either : (t : Bool) → eqb b n ≡ t → (b < n → 1 ≤ sum_to (λ c. one_if (eqb b c)) n) → 1 ≤ sum_to (λ c. one_if (eqb b c)) n + one_if (eqb b n)
+    either true same on = let here = ap one_if same in omega (arith, here)
     either false same on = less (below_or b n)
       where
         below_or : (a b : ℕ) → (a < b) ⊎ (b ≤ a)
@@ -204,11 +196,11 @@ same_least b (suc n) low = either (eqb b n) refl (λ less. same_least b n less)
         below_or zero (suc b) = inl (omega arith)
         below_or (suc a) (suc b) = elim (below_or a b) as (λ _. (suc a < suc b) ⊎ (suc b ≤ suc a)) [ inl less ↦ inl (omega (arith, less)) | inr more ↦ inr (omega (arith, more)) ]
 
-        less : (b < n) ⊎ (n ≤ b) → 1 ≤ sum_to (λ c. one (eqb b c)) n + one (eqb b n)
+        less : (b < n) ⊎ (n ≤ b) → 1 ≤ sum_to (λ c. one_if (eqb b c)) n + one_if (eqb b n)
         less (inl l) = let rest = on l in omega (arith, rest)
         less (inr m) = let equal : b ≡ n = omega (arith, m, low) in let never : true ≡ false = sym (eq-eqb b n equal) ∙ same in absurd cc
 
-none_of : (n : ℕ) → sum_to (λ c. one false) n ≡ 0
+none_of : (n : ℕ) → sum_to (λ c. one_if false) n ≡ 0
 none_of zero = refl
 none_of (suc n) = let rest = none_of n in omega (arith, rest)
 
@@ -224,7 +216,7 @@ gives_give sends sheets [] = tt
 gives_give sends sheets (g ∷ givens) = kept (event_at sends sheets g) (λ e h. made e h) (gives_give sends sheets givens)
   where
     made : (e : PoolEvent) → event_at sends sheets g ≡ Some e → IsGive e
-    made e h = let t = unmapped (given_as g.stamp) _ e h in record { buffer = t.0; is = ap (λ (e : PoolEvent). e.event) (sym t.2) }
+    made e h = let t = option_unmap (given_as g.stamp) _ e h in record { buffer = t.0; is = ap (λ (e : PoolEvent). e.event) (sym t.2) }
 
     kept : (o : Option PoolEvent) → ((e : PoolEvent) → o ≡ Some e → IsGive e) → AllByRecursion IsGive (gives_in sends sheets givens) → AllByRecursion IsGive (cons_option o (gives_in sends sheets givens))
     kept None each rest = rest
@@ -242,10 +234,10 @@ module _ (n : ℕ) where
   abbrev got_as_one : ℕ → PoolEvent → Bool
   got_as_one c e = is_got c e.event
 
-  given_tally : (e : Event) (buffer : ℕ) → e ≡ Given buffer → sum_to (λ c. one (is_given c e)) n ≡ sum_to (λ c. one (eqb buffer c)) n
-  given_tally e buffer h = ap (λ (e : Event). sum_to (λ c. one (is_given c e)) n) h
+  given_tally : (e : Event) (buffer : ℕ) → e ≡ Given buffer → sum_to (λ c. one_if (is_given c e)) n ≡ sum_to (λ c. one_if (eqb buffer c)) n
+  given_tally e buffer h = ap (λ (e : Event). sum_to (λ c. one_if (is_given c e)) n) h
 
-  got_most : (e : Event) → sum_to (λ c. one (is_got c e)) n ≤ 1
+  got_most : (e : Event) → sum_to (λ c. one_if (is_got c e)) n ≤ 1
   got_most (Got buffer) = same_most buffer n
   got_most Empty = let none = none_of n in omega (arith, none)
   got_most (Given buffer) = let none = none_of n in omega (arith, none)
@@ -257,7 +249,7 @@ module _ (n : ℕ) where
 
   gives_got : (es : List PoolEvent) → AllByRecursion IsGive es → AllByRecursion (λ e. tally got_as_one n e ≡ 0) es
   gives_got [] all = tt
-  gives_got (e ∷ es) all = (ap (λ (e : Event). sum_to (λ c. one (is_got c e)) n) all.0.is ∙ none_of n, gives_got es all.1)
+  gives_got (e ∷ es) all = (ap (λ (e : Event). sum_to (λ c. one_if (is_got c e)) n) all.0.is ∙ none_of n, gives_got es all.1)
 
 gives_given : (n : ℕ) (es : List PoolEvent) (all : AllByRecursion IsGive es) → top es all ≤ n → AllByRecursion (λ e. 1 ≤ tally (given_as_one n) n e) es
 gives_given n [] all low = tt

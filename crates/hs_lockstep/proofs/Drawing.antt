@@ -6,6 +6,8 @@ use Rattle.std.specs.Option.{option_and_then}
 use Rattle.std.proofs.lemmas.List.{map-append, reverse-append, reverse-reverse}
 use Rattle.std.proofs.lemmas.List.Elements.{filter-append}
 use Rattle.std.proofs.lemmas.Grind.{flat_map-append}
+use Rattle.std.proofs.lemmas.Option.{slice_get_within, same_Some}
+use Rattle.hs_lists.proofs.Places.{get_front, get_mid}
 use Rattle.hs_base.specs.declared.ids.ClientId.{ClientId}
 use Rattle.hs_journal.specs.declared.journal.Draw.{Draw}
 use Rattle.hs_journal.specs.declared.journal.Draw.TheVariants as draws
@@ -21,8 +23,7 @@ use Rattle.hs_lawful.specs.Shape.{rise}
 use Rattle.hs_lawful.specs.Following.{Chunks, taken}
 use Rattle.hs_lockstep.specs.Lockstep.{next_draws}
 use Rattle.hs_lockstep.proofs.Growing.{events_back, history_of, IsPooled, IsOut, IsAnswered, next, after, back, answered, longer, got_kept, got_out, got_stays, empty_kept, empty_stays}
-use Rattle.hs_lockstep.proofs.Holding.{page_in, pages_in, gives_in, events_in, event_at, event_there, WasGiven, IsDrawn, GiveAnswers, ClientHolds, Holds, get_front, InFront, Behind, in_either, rises_more, FoundPage, page_found, at_page, all_answers}
-use Rattle.hs_lockstep.proofs.Lists.{some_same, get_at}
+use Rattle.hs_lockstep.proofs.Holding.{page_in, pages_in, gives_in, events_in, event_at, event_there, WasGiven, IsDrawn, GiveAnswers, ClientHolds, Holds, InFront, Behind, in_either, rises_more, FoundPage, page_found, at_page, all_answers}
 
 -- ---- one client of a node
 
@@ -32,18 +33,13 @@ record IsHere {X : Type 0} (a : List X) (s t : X) (i : ℕ) : Type 0 where
 
 -- whatever stands at the place of a list's one item, the others stand where they stood
 here_or_other : {X : Type 0} (a b : List X) (s t : X) (i : ℕ) → slice_get (a ++ s ∷ b) i ≡ Some t → IsHere a s t i ⊎ ((r : X) → slice_get (a ++ r ∷ b) i ≡ Some t)
-here_or_other [] b s t zero h = inl (record { place = refl; same = some_same s t h })
+here_or_other [] b s t zero h = inl (record { place = refl; same = same_Some s t h })
 here_or_other [] b s t (suc i) h = inr (λ r. h)
 here_or_other (x ∷ a) b s t zero h = inr (λ r. h)
 here_or_other {X = X} (x ∷ a) b s t (suc i) h = elim (here_or_other a b s t i h) as (λ _. IsHere (x ∷ a) s t (suc i) ⊎ ((r : X) → slice_get (x ∷ a ++ r ∷ b) (suc i) ≡ Some t)) [
   | inl e ↦ inl (record { place = ap suc e.place; same = e.same })
   | inr o ↦ inr o
 ]
-
-get_low : {X : Type 0} (xs : List X) (i : ℕ) (x : X) → slice_get xs i ≡ Some x → i < length xs
-get_low [] i x h = let no : None ≡ Some x = h in absurd cc
-get_low (y ∷ xs) zero x h = omega arith
-get_low (y ∷ xs) (suc i) x h = let rest = get_low xs i x h in omega (arith, rest)
 
 abbrev item_of : DrawnPage → Sent Sheet
 item_of d = record { number = d.sent; item = sheet_of d }
@@ -57,7 +53,7 @@ last_item : (d : DrawnPage) (i : ℕ) (item : Sent Sheet) → slice_get (sent_ch
 last_item d i item h = item_case (has_buffer d.draw) i h
   where
     item_case : (b : Bool) (i : ℕ) → slice_get (map item_of (cond b (d ∷ []) [])) i ≡ Some item → item.item.header.page ≡ d.number
-    item_case true zero h = ap (λ (s : Sent Sheet). s.item.header.page) (sym (some_same (item_of d) item h))
+    item_case true zero h = ap (λ (s : Sent Sheet). s.item.header.page) (sym (same_Some (item_of d) item h))
     item_case true (suc i) h = let no : None ≡ Some item = h in absurd cc
     item_case false i h = let no : None ≡ Some item = h in absurd cc
 
@@ -120,7 +116,7 @@ module _ (n : ℕ) (a b : List ClientSends) (s : ClientSends) (sheets : List She
           either : IsHere a s f.client sheet.header.client.number ⊎ ((r : ClientSends) → slice_get (a ++ r ∷ b) sheet.header.client.number ≡ Some f.client) → page_in sends_later sheet ≡ Some page
           either (inl e) =
               ap (λ (i : ℕ). option_and_then (λ (s : ClientSends). slice_get s.drawn sheet.header.page) (slice_get sends_later i)) e.place
-              ∙ ap (option_and_then (λ (s : ClientSends). slice_get s.drawn sheet.header.page)) (get_at a later b)
+              ∙ ap (option_and_then (λ (s : ClientSends). slice_get s.drawn sheet.header.page)) (get_mid a later b)
               ∙ get_front s.drawn (d ∷ []) sheet.header.page page (ap (λ (s : ClientSends). slice_get s.drawn sheet.header.page) e.same ∙ f.is)
           either (inr o) = ap (option_and_then (λ (s : ClientSends). slice_get s.drawn sheet.header.page)) (o later) ∙ f.is
 
@@ -243,7 +239,7 @@ module _ (n : ℕ) (a b : List ClientSends) (s : ClientSends) (sheets : List She
 
   module _ (drew : Drew n was now d.draw) (number : d.number ≡ length s.drawn) (own : d.client.number ≡ length a) where
     old : ClientHolds n sends sheets given log (length a) s
-    old = h.clients (length a) s (get_at a s b)
+    old = h.clients (length a) s (get_mid a s b)
 
     held_still : (client k buffer from : ℕ) → WasGiven sheets given client k ⊎ IsOut n was buffer from → WasGiven sheets given client k ⊎ IsOut n now buffer from
     held_still client k buffer from (inl w) = inl w
@@ -253,14 +249,14 @@ module _ (n : ℕ) (a b : List ClientSends) (s : ClientSends) (sheets : List She
     at_last k e x = place_case x.place x.there x.is
       where
         place_case : (i : ℕ) → slice_get (d ∷ []) i ≡ Some e → k ≡ length s.drawn + i → (e ≡ d) × (k ≡ length s.drawn)
-        place_case zero at is = (sym (some_same d e at), omega (arith, is))
+        place_case zero at is = (sym (same_Some d e at), omega (arith, is))
         place_case (suc i) at is = let no : None ≡ Some e = at in absurd cc
 
     stamps_low : AllByRecursion (λ t. t < stamp_of d.draw) (map (λ (d : DrawnPage). stamp_of d.draw) s.drawn)
     stamps_low =
         mapped s.drawn
         (λ i e at.
-        let low = at_page (λ (v : PoolEvent). v.stamp < length was) sends (gives_in sends sheets given) (length a) i s e h.pooled.low (get_at a s b) at in
+        let low = at_page (λ (v : PoolEvent). v.stamp < length was) sends (gives_in sends sheets given) (length a) i s e h.pooled.low (get_mid a s b) at in
         let stamp = drew.stamp in
         omega (arith, low, stamp))
       where
@@ -272,8 +268,8 @@ module _ (n : ℕ) (a b : List ClientSends) (s : ClientSends) (sheets : List She
     page_low q sheet at client =
         let i = h.drawn q sheet at in
         let f = page_found sends sheet i.page i.there in
-        let same : f.client ≡ s = some_same f.client s (sym f.there ∙ ap (slice_get sends) client ∙ get_at a s b) in
-        get_low s.drawn sheet.header.page i.page (ap (λ (s : ClientSends). slice_get s.drawn sheet.header.page) (sym same) ∙ f.is)
+        let same : f.client ≡ s = same_Some f.client s (sym f.there ∙ ap (slice_get sends) client ∙ get_mid a s b) in
+        slice_get_within s.drawn sheet.header.page i.page (ap (λ (s : ClientSends). slice_get s.drawn sheet.header.page) (sym same) ∙ f.is)
 
     later_holds : ClientHolds n sends_later sheets given log (length a) later
     later_holds =
@@ -369,7 +365,7 @@ module _ (n : ℕ) (a b : List ClientSends) (sheets : List Sheet) (given : List 
 
   none_more : (s : ClientSends) → HoldsWith s → HoldsWith (grown s [])
   none_more s h =
-      let c = h.clients (length a) s (get_at a s b) in
+      let c = h.clients (length a) s (get_mid a s b) in
       subst HoldsWith
       (ap (λ (chunks : List (Sent Sheet)). record s { chunks = chunks }) c.chunks
       ∙ ap (λ (drawn : List DrawnPage). record s { drawn = drawn; chunks = sent_chunks drawn }) (sym (append-nil s.drawn)))
@@ -429,7 +425,7 @@ module _ (n : ℕ) (a b : List ClientSends) (sheets : List Sheet) (given : List 
 
   none_told : (s : ClientSends) → HoldsWith s → history_with (grown s []) ≡ history_with s ++ []
   none_told s h =
-      let c = h.clients (length a) s (get_at a s b) in
+      let c = h.clients (length a) s (get_mid a s b) in
       ap history_with
       (ap (λ (drawn : List DrawnPage). record s { drawn = drawn; chunks = sent_chunks drawn }) (append-nil s.drawn) ∙ ap (λ (chunks : List (Sent Sheet)). record s { chunks = chunks }) (sym c.chunks))
       ∙ sym (append-nil (history_with s))

@@ -1,6 +1,6 @@
 -- The rounds end where every client is through, and the closing where nothing waits any more.
-use Rattle.std.proofs.Common.{◌≡◌, ◌⊎◌, inl, inr, ℕ, zero, suc, ◌+◌, ◌-◌, ◌*◌, ◌<◌, ◌≤◌, ◌^◌, min, max, Bool, true, false, List, [], ◌∷◌, length, fold, refl, sym, ap, subst, ◌∙◌, arith, map, slice_get, unwrap_or}
-use Rattle.std.proofs.Math.Nat.{div-lt_iff_lt-mul, suc-mul, mul-le-mul_left, mul-le-mul_right}
+use Rattle.std.proofs.Common.{◌≡◌, ◌⊎◌, inl, inr, ℕ, zero, suc, ◌+◌, ◌*◌, ◌<◌, ◌≤◌, ◌^◌, min, max, Bool, true, false, List, [], ◌∷◌, length, fold, refl, sym, ap, subst, ◌∙◌, arith, map, slice_get, unwrap_or}
+use Rattle.std.proofs.Math.Nat.{mul-le-mul_left, mul-le-mul_right}
 use Rattle.std.specs.List.{sum_by}
 use Rattle.hs_base.specs.declared.limits.TheConstants.{MAX_OPERATIONS}
 use Rattle.hs_records.specs.Pages.{pages_of}
@@ -8,6 +8,7 @@ use Rattle.hs_records.specs.Plain.{Operation, PlainWorkload}
 use Rattle.hs_sent.specs.Sending.{operations_at}
 use Rattle.hs_lawful.specs.Ends.{is_bare, rounds_for, rounds_of}
 use Rattle.hs_lawful.specs.Played.{played}
+use Rattle.hs_lawful.proofs.Logs.{rounds_few}
 use Rattle.hs_workload.specs.Validity.{IsValid}
 use Rattle.hs_workload.specs.declared.word.Setting.TheVariants as settings
 use Rattle.hs_lockstep.specs.Clauses.{IsLaidOut, ValidWorkloadsRun, ScheduleIsBare}
@@ -22,12 +23,6 @@ use Rattle.hs_lockstep.proofs.Sizes.{all_few, client_few}
 rounds_last : (W : PlainWorkload) (n : ℕ) (m : Machine) → rounds n W (round W m) ≡ round W (rounds n W m)
 rounds_last W zero m = refl
 rounds_last W (suc n) m = rounds_last W n (round W m)
-
-rounds_few : (stride operations n : ℕ) → 1 ≤ stride → operations ≤ n * stride → rounds_for stride operations ≤ n
-rounds_few stride operations n some low =
-    let product : (n + 1) * stride ≡ n * stride + stride = let e : n + 1 ≡ suc n = omega arith in ap (λ (k : ℕ). k * stride) e ∙ suc-mul n stride in
-    let below = (div-lt_iff_lt-mul {k = stride} {x = operations + (stride - 1)} {y = n + 1} (omega (arith, some))).1 (omega (arith, some, low, product)) in
-    omega (arith, below)
 
 max_few : (f : List Operation → ℕ) (clients : List (List Operation)) (from n : ℕ) → from ≤ n → ((place : ℕ) → place < length clients → f (unwrap_or (slice_get clients place) []) ≤ n) → fold max from (map f clients) ≤ n
 max_few f [] from n low each = low

@@ -3,12 +3,13 @@
 use Rattle.std.proofs.Common.{◌≡◌, ◌⊎◌, inl, inr, ℕ, zero, suc, ◌+◌, ◌<◌, ◌≤◌, Bool, true, false, ◌&&◌, ◌||◌, not, cond, [], ◌∷◌, ◌++◌, length, refl, ap, subst, ◌∙◌, Some, arith, find, eqb, append-nil, append_assoc, length-append}
 use Rattle.std.specs.List.{AllByRecursion}
 use Rattle.std.specs.Option.{option_map_or}
+use Rattle.std.proofs.lemmas.Bool.{and_parts, not-true}
+use Rattle.hs_lists.proofs.Counts.{one_few, one_le, one_if}
 use Rattle.hs_base.specs.declared.ids.GroupId.{GroupId}
 use Rattle.hs_base.specs.declared.told.Ask.{Ask}
 use Rattle.hs_base.specs.NodeSets.{has_node}
 use Rattle.hs_coord.specs.Following.{Message, Messages, is_of, is_first_sender, has_crumb, has_ask, first_of, is_newly_asked}
 use Rattle.hs_lawful.specs.Following.{ask_by, asks_behind, asks_to}
-use Rattle.hs_lockstep.proofs.Lists.{one}
 
 -- ---- sums
 
@@ -40,24 +41,7 @@ pub sum_most : (f : ℕ → ℕ) (n : ℕ) → ((i : ℕ) → f i ≤ 1) → sum
 sum_most f zero each = omega arith
 sum_most f (suc n) each = let rest = sum_most f n each in let here = each n in omega (arith, rest, here)
 
-one_most : (b : Bool) → one b ≤ 1
-one_most true = omega arith
-one_most false = omega arith
-
-one_le : (a b : Bool) → (a ≡ true → b ≡ true) → one a ≤ one b
-one_le true true on = omega arith
-one_le true false on = let never : false ≡ true = on refl in absurd cc
-one_le false b on = omega arith
-
 -- ---- asks of a group
-
-and_parts : (a b : Bool) → (a && b) ≡ true → (a ≡ true) × (b ≡ true)
-and_parts true b h = (refl, h)
-and_parts false b h = let never : false ≡ true = h in absurd cc
-
-not_true : (b : Bool) → not b ≡ true → b ≡ false
-not_true true h = let never : false ≡ true = h in absurd cc
-not_true false h = refl
 
 crumb_more : (g : GroupId) (ms more : Messages) (v : ℕ) → has_crumb g ms v ≡ true → has_crumb g (ms ++ more) v ≡ true
 crumb_more g [] more v h = let never : false ≡ true = h in absurd cc
@@ -87,7 +71,7 @@ ask_more g ms more v h =
 module _ (limit : ℕ → ℕ) (nodes v : ℕ) where
   -- how many groups have asked the node
   abbrev asked_groups : Messages → ℕ
-  asked_groups ms = sum_to (λ u. sum_to (λ n. one (has_ask (record { node = u; number = n }) ms v)) (limit u)) nodes
+  asked_groups ms = sum_to (λ u. sum_to (λ n. one_if (has_ask (record { node = u; number = n }) ms v)) (limit u)) nodes
 
   -- a message is of a group that is numbered so
   abbrev pub IsNumbered : Message → Type 0
@@ -95,9 +79,9 @@ module _ (limit : ℕ → ℕ) (nodes v : ℕ) where
 
   asked_more : (ms more : Messages) → asked_groups ms ≤ asked_groups (ms ++ more)
   asked_more ms more =
-      sum_le (λ u. sum_to (λ n. one (has_ask (record { node = u; number = n }) ms v)) (limit u)) (λ u. sum_to (λ n. one (has_ask (record { node = u; number = n }) (ms ++ more) v)) (limit u)) nodes
+      sum_le (λ u. sum_to (λ n. one_if (has_ask (record { node = u; number = n }) ms v)) (limit u)) (λ u. sum_to (λ n. one_if (has_ask (record { node = u; number = n }) (ms ++ more) v)) (limit u)) nodes
       (λ u low.
-      sum_le (λ n. one (has_ask (record { node = u; number = n }) ms v)) (λ n. one (has_ask (record { node = u; number = n }) (ms ++ more) v)) (limit u)
+      sum_le (λ n. one_if (has_ask (record { node = u; number = n }) ms v)) (λ n. one_if (has_ask (record { node = u; number = n }) (ms ++ more) v)) (limit u)
       (λ n low. one_le (has_ask (record { node = u; number = n }) ms v) (has_ask (record { node = u; number = n }) (ms ++ more) v) (ask_more (record { node = u; number = n }) ms more v)))
 
   -- a node that is newly asked is asked of one group more
@@ -105,22 +89,22 @@ module _ (limit : ℕ → ℕ) (nodes v : ℕ) where
   asked_one before m numbered newly =
       let g = m.told.group.id in
       let parts = and_parts (has_ask g (before ++ m ∷ []) v) (not (has_ask g before v)) newly in
-      let was = ap one (not_true (has_ask g before v) parts.1) in
-      let now = ap one parts.0 in
-      let f = λ (u : ℕ) (n : ℕ). one (has_ask (record { node = u; number = n }) before v) in
-      let h = λ (u : ℕ) (n : ℕ). one (has_ask (record { node = u; number = n }) (before ++ m ∷ []) v) in
+      let was = ap one_if (not-true (has_ask g before v) parts.1) in
+      let now = ap one_if parts.0 in
+      let f = λ (u : ℕ) (n : ℕ). one_if (has_ask (record { node = u; number = n }) before v) in
+      let h = λ (u : ℕ) (n : ℕ). one_if (has_ask (record { node = u; number = n }) (before ++ m ∷ []) v) in
       let each : (u n : ℕ) → f u n ≤ h u n = λ u n. one_le (has_ask (record { node = u; number = n }) before v) (has_ask (record { node = u; number = n }) (before ++ m ∷ []) v) (ask_more (record { node = u; number = n }) before (m ∷ []) v) in
       sum_lt (λ u. sum_to (f u) (limit u)) (λ u. sum_to (h u) (limit u)) nodes g.node (λ u low. sum_le (f u) (h u) (limit u) (λ n low. each u n)) numbered.0
       (sum_lt (f g.node) (h g.node) (limit g.node) g.number (λ n low. each g.node n) numbered.1 (omega (arith, was, now)))
 
-  ask_case : (before : Messages) (m : Message) (b : Bool) → is_newly_asked before m v ≡ b → IsNumbered m → one b + asked_groups before ≤ asked_groups (before ++ m ∷ [])
+  ask_case : (before : Messages) (m : Message) (b : Bool) → is_newly_asked before m v ≡ b → IsNumbered m → one_if b + asked_groups before ≤ asked_groups (before ++ m ∷ [])
   ask_case before m true e numbered = let more = asked_one before m numbered e in omega (arith, more)
   ask_case before m false e numbered = let more = asked_more before (m ∷ []) in omega (arith, more)
 
-  ask_length : (before : Messages) (m : Message) → length (ask_by v before m) ≡ one (is_newly_asked before m v)
+  ask_length : (before : Messages) (m : Message) → length (ask_by v before m) ≡ one_if (is_newly_asked before m v)
   ask_length before m = either (is_newly_asked before m v)
     where
-      either : (b : Bool) → length {A = Ask} (cond b (record { group = (first_of before m).told.group; laterals = (first_of before m).told.laterals } ∷ []) []) ≡ one b
+      either : (b : Bool) → length {A = Ask} (cond b (record { group = (first_of before m).told.group; laterals = (first_of before m).told.laterals } ∷ []) []) ≡ one_if b
       either true = refl
       either false = refl
 
@@ -139,7 +123,7 @@ module _ (limit : ℕ → ℕ) (nodes v : ℕ) where
   asks_few heard all =
       let counted = asks_counted [] heard all in
       let few =
-      sum_le (λ u. sum_to (λ n. one (has_ask (record { node = u; number = n }) heard v)) (limit u)) limit nodes
-      (λ u low. sum_most (λ n. one (has_ask (record { node = u; number = n }) heard v)) (limit u) (λ n. one_most (has_ask (record { node = u; number = n }) heard v)))
+      sum_le (λ u. sum_to (λ n. one_if (has_ask (record { node = u; number = n }) heard v)) (limit u)) limit nodes
+      (λ u low. sum_most (λ n. one_if (has_ask (record { node = u; number = n }) heard v)) (limit u) (λ n. one_few (has_ask (record { node = u; number = n }) heard v)))
       in
       omega (arith, counted, few)

@@ -4,6 +4,9 @@ use Rattle.std.proofs.Common.{◌≡◌, ℕ, zero, suc, ◌+◌, ◌<◌, ◌^�
 use Rattle.std.specs.List.{AllByRecursion, flat_map, range_with_len}
 use Rattle.std.specs.Option.{option_and_then, option_map_or}
 use Rattle.std.proofs.lemmas.List.Elements.{recursion_from_All}
+use Rattle.std.proofs.lemmas.Option.{same_Some}
+use Rattle.hs_lists.proofs.Options.{option_unmap}
+use Rattle.hs_lists.proofs.Alls.{all_append, all_at}
 use Rattle.hs_auto.specs.Firing.{sampled}
 use Rattle.hs_auto.specs.declared.sampled.Sampled.{Sampled}
 use Rattle.hs_auto.specs.declared.sampled.Sampled.TheVariants as answers
@@ -31,8 +34,6 @@ use Rattle.hs_words.specs.Pages.{Sheet}
 use Rattle.hs_workload.specs.Validity.{IsOperation, IsClient, IsValid}
 use Rattle.hs_lawful.specs.Following.{Queue, Chunks, Crumbs, Triggers, Asks, taken, asks_to, NodeRun, next_of, event_of}
 use Rattle.hs_lockstep.specs.Conditions.{MayTake}
-use Rattle.hs_lockstep.proofs.Groups.{unmapped}
-use Rattle.hs_lockstep.proofs.Lists.{all_append, all_get, some_same}
 
 -- ---- what clients send
 
@@ -100,7 +101,7 @@ module _ (version : ℕ) (settings : PlainSettings) where
         rule_case None e = tt
         rule_case (Some rule) e =
             fired_fits moment rule trace (sampled rule (samples_of auto earlier) (record { value = value; trace = trace }))
-            (all_get (λ (auto : AutoRule). is_declared settings.triggers (fired_by auto) ≡ true) autos auto rule declared e)
+            (all_at (λ (auto : AutoRule). is_declared settings.triggers (fired_by auto) ≡ true) autos auto rule declared e)
 
     sent_fit : (number : ℕ) (triggers : List Trigger) → AllByRecursion IsDeclared triggers → AllByRecursion TriggerFits (map (λ trigger. record { number = number; item = trigger }) triggers)
     sent_fit number [] all = tt
@@ -130,9 +131,9 @@ module _ (settings : PlainSettings) (i : ℕ) where
 
     item_fits : {A : Type 0} (f : A → Event) (P : A → Type 0) (queue : Queue) (items : List (Sent A)) (event : Event) → ((x : A) → P x → Fits (f x)) → AllByRecursion (λ (item : Sent A). P item.item) items → option_map f (next_of queue state items) ≡ Some event → Fits event
     item_fits {A = A} f P queue items event each all h =
-        let t = unmapped f (next_of queue state items) event h in
-        let u = unmapped (λ (item : Sent A). item.item) (slice_get items (taken queue state.log)) t.0 t.1 in
-        let p = all_get (λ (item : Sent A). P item.item) items (taken queue state.log) u.0 all u.1 in
+        let t = option_unmap f (next_of queue state items) event h in
+        let u = option_unmap (λ (item : Sent A). item.item) (slice_get items (taken queue state.log)) t.0 t.1 in
+        let p = all_at (λ (item : Sent A). P item.item) items (taken queue state.log) u.0 all u.1 in
         subst Fits t.2 (each t.0 (subst P u.2 p))
 
     client_fits : {A : Type 0} (f : A → Event) (P : A → Type 0) (queue : Queue) (pick : ClientSends → List (Sent A)) (sends : List ClientSends) (client : ℕ) (event : Event) → ((x : A) → P x → Fits (f x))
@@ -145,7 +146,7 @@ module _ (settings : PlainSettings) (i : ℕ) where
         go (Some s) e h = item_fits f P queue (pick s) event each (all s e) h
 
     offer_fits : (answer : Answered) (o : Option ℕ) (event : Event) → option_map (λ (_ : ℕ). Gave answer) o ≡ Some event → Fits event
-    offer_fits answer o event h = let t = unmapped (λ (_ : ℕ). Gave answer) o event h in subst Fits t.2 tt
+    offer_fits answer o event h = let t = option_unmap (λ (_ : ℕ). Gave answer) o event h in subst Fits t.2 tt
 
     pub event_fits : (run : NodeRun) (heard : Messages) (step : Step) (event : Event) → run.state ≡ state → run.node ≡ i → ((number : ℕ) (s : ClientSends) → slice_get run.sends number ≡ Some s → SendsFit number s)
         → AllByRecursion (λ (ask : Ask). is_declared settings.triggers ask.group.trigger ≡ true) (asks_to run.node heard) → event_of run heard step ≡ Some event → Fits event
@@ -161,9 +162,9 @@ module _ (settings : PlainSettings) (i : ℕ) where
         (λ s at. (sends client s at).triggers)
         (ap (λ (state : AgentState). option_and_then (λ (s : ClientSends). option_map (λ trigger. Took (Triggered client trigger)) (next_of (Triggers client) state s.triggers)) (slice_get run.sends client)) (sym same) ∙ h)
     event_fits run heard steps.Ask event same number sends asks h =
-        let t = unmapped (λ ask. Took (Asked ask)) (slice_get (asks_to run.node heard) (taken Asks run.state.log)) event h in
-        subst Fits t.2 (all_get (λ (ask : Ask). is_declared settings.triggers ask.group.trigger ≡ true) (asks_to run.node heard) (taken Asks run.state.log) t.0 asks t.1)
-    event_fits run heard steps.Turn event same number sends asks h = subst Fits (some_same (Took Turn) event h) tt
+        let t = option_unmap (λ ask. Took (Asked ask)) (slice_get (asks_to run.node heard) (taken Asks run.state.log)) event h in
+        subst Fits t.2 (all_at (λ (ask : Ask). is_declared settings.triggers ask.group.trigger ≡ true) (asks_to run.node heard) (taken Asks run.state.log) t.0 asks t.1)
+    event_fits run heard steps.Turn event same number sends asks h = subst Fits (same_Some (Took Turn) event h) tt
     event_fits run heard (steps.Given stamp) event same number sends asks h = offer_fits (Given stamp) (slice_get run.state.hand 0) event h
     event_fits run heard (steps.Missed stamp) event same number sends asks h = offer_fits (Missed stamp) (slice_get run.state.hand 0) event h
     event_fits run heard steps.Unread event same number sends asks h = offer_fits Unread (slice_get run.state.hand 0) event h
@@ -191,7 +192,7 @@ module _ (W : PlainWorkload) (valid : IsValid W) where
   sends_fit J i start zero number s h = let never : None ≡ Some s = h in absurd cc
   sends_fit J i start (suc count) zero s h =
       let here : start ≡ start + 0 = omega arith in
-      subst (λ (n : ℕ). SendsFit W.settings i n s) here (subst (SendsFit W.settings i start) (some_same (client_sends W J i start) s h) (client_sends_fit J i start))
+      subst (λ (n : ℕ). SendsFit W.settings i n s) here (subst (SendsFit W.settings i start) (same_Some (client_sends W J i start) s h) (client_sends_fit J i start))
   sends_fit J i start (suc count) (suc number) s h =
       let there : start + 1 + number ≡ start + suc number = omega arith in
       subst (λ (n : ℕ). SendsFit W.settings i n s) there (sends_fit J i (start + 1) count number s h)

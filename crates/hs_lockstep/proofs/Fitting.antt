@@ -1,6 +1,9 @@
 -- The laws of the parts of a round for valid workloads: all that they ask for is there at every machine on its way.
 use Rattle.std.proofs.Common.{◌≡◌, ℕ, ◌+◌, ◌<◌, ◌^◌, Bool, true, false, cond, List, [], refl, sym, ap, subst, ◌∙◌, Some, arith, map, slice_get, ltb, nat_eq, eqb-true, eq-eqb}
 use Rattle.std.specs.List.{AllByRecursion}
+use Rattle.std.proofs.lemmas.Bool.{and_parts}
+use Rattle.std.proofs.lemmas.Option.{same_Some}
+use Rattle.hs_lists.proofs.Alls.{all_each}
 use Rattle.hs_base.specs.Rules.{is_declared}
 use Rattle.hs_base.specs.declared.told.Ask.{Ask}
 use Rattle.hs_journal.specs.declared.journal.Step.{Step}
@@ -22,10 +25,9 @@ use Rattle.hs_lockstep.proofs.Followed.{left_is}
 use Rattle.hs_lockstep.proofs.Fit.{node_sends_fit, event_fits}
 use Rattle.hs_lockstep.proofs.Giving.{history_long, agent_gives}
 use Rattle.hs_lockstep.proofs.Going.{client_goes_so}
-use Rattle.hs_lockstep.proofs.Groups.{is_known, and_parts, asks_known, admitted_at}
+use Rattle.hs_lockstep.proofs.Groups.{is_known, asks_known, admitted_at}
 use Rattle.hs_lockstep.proofs.Held.{IsHeld}
 use Rattle.hs_lockstep.proofs.Keeping.{own_sends}
-use Rattle.hs_lockstep.proofs.Lists.{all_each, some_same}
 use Rattle.hs_lockstep.proofs.Performed.{bare, bare_is, performed_walk, steps_keep}
 use Rattle.hs_lockstep.proofs.Pools.{history_there}
 use Rattle.hs_lockstep.proofs.Progress.{spoken}
@@ -75,7 +77,7 @@ module _ (k : Known) (W : PlainWorkload) (runs : IsRunnable W) (valid : IsValid 
         go false e = record { last = gone steps node; walks = Stands (gone steps node); ends = left ∙ ap (λ (here : Bool). cond here steps []) e }
         go true e =
             let place : j ≡ i = sym (number_at k W m j node at) ∙ eqb-true node.node i e in
-            let is : node ≡ run = some_same node run (sym at ∙ ap (slice_get (followed W m.journal).nodes) place ∙ stands) in
+            let is : node ≡ run = same_Some node run (sym at ∙ ap (slice_get (followed W m.journal).nodes) place ∙ stands) in
             performed_walk W.settings (heard_in W m.journal) steps (gone steps node) middle (left ∙ ap (λ (here : Bool). cond here steps []) e) (ap (after_steps W.settings (heard_in W m.journal) steps) (standing ∙ is) ∙ came)
 
     -- so no ready steps lead to too many groups
@@ -84,7 +86,7 @@ module _ (k : Known) (W : PlainWorkload) (runs : IsRunnable W) (valid : IsValid 
         let f = only steps in
         let c = comes_to k W m r f (all_came k W m r f (alone steps middle came)) i run stands in
         let own : f run ≡ steps = ap (λ (here : Bool). cond here steps []) (eq-eqb run.node i (number_at k W m i run stands)) in
-        let same : c.later ≡ middle = some_same c.later middle (sym c.came ∙ ap (λ (left : List Step). after_steps W.settings (heard_in W m.journal) left run) own ∙ came) in
+        let same : c.later ≡ middle = same_Some c.later middle (sym c.came ∙ ap (λ (left : List Step). after_steps W.settings (heard_in W m.journal) left run) own ∙ came) in
         subst (λ (n : NodeRun). n.state.admitted + 1 < 2 ^ 32) same
         (groups_few k W runs valid (with_steps m (map f (followed W m.journal).nodes)) i c.later c.there)
 

@@ -6,7 +6,12 @@ use Rattle.std.specs.Cmp.Derive.{both_true}
 use Rattle.std.specs.Option.{option_map_or}
 use Rattle.std.proofs.lemmas.List.{length-map, length-replicate}
 use Rattle.std.proofs.lemmas.List.FromFn.{length-range_with_len}
-use Rattle.std.proofs.lemmas.Option.{slice_get-map}
+use Rattle.std.proofs.lemmas.Option.{slice_get-map, slice_get_within}
+use Rattle.hs_lists.proofs.Alls.{all_by_place, all_map, all_append, all_each, all_at}
+use Rattle.hs_lists.proofs.Ranges.{range_found}
+use Rattle.hs_lists.proofs.Parts.{drop_front, drop_length}
+use Rattle.hs_lists.proofs.Counts.{count_append}
+use Rattle.hs_lists.proofs.Tests.{list_all_from}
 use Rattle.hs_base.specs.declared.ids.NodeId.{NodeId}
 use Rattle.hs_coord.specs.Following.{Messages}
 use Rattle.hs_journal.specs.declared.journal.Draw.{Draw}
@@ -23,42 +28,17 @@ use Rattle.hs_lawful.specs.Passes.{is_offer}
 use Rattle.hs_lawful.specs.Played.{played}
 use Rattle.hs_lawful.specs.Pooled.{pool_events}
 use Rattle.hs_lawful.specs.Supply.{supply, said_at, TakesWhatIsThere}
+use Rattle.hs_lawful.proofs.Supplied.{same_supply}
 use Rattle.hs_lockstep.specs.Clauses.{ScheduleIsFollowed}
 use Rattle.hs_lockstep.specs.Known.{Known}
 use Rattle.hs_lockstep.specs.Lockstep.{Machine, machine_start, done_at, draws_in, pages_started, with_draws, client_goes, pass_steps, give_steps, with_steps, agents_take, agents_give, told_of, coordinator_hears, passes, lockstep}
-use Rattle.hs_lockstep.proofs.Lists.{some_same, all_each, all_get, all_append, length_extended, extended_at, extended_more, passes_all, count_append}
+use Rattle.hs_lockstep.proofs.Lists.{length_extended, extended_at, extended_more}
 use Rattle.hs_lockstep.proofs.Machines.{clients_keep, end_keeps, machine_end}
 use Rattle.hs_lockstep.proofs.Rooms.{pass_fits, told_fits}
 use Rattle.hs_lockstep.proofs.Takes.{before_turn, all_takes}
-use Rattle.hs_lockstep.proofs.Walks.{leads_on, with_nodes, Walked, walk_all, Enough, IsThrough, takes_walk, IsEmptied, gives_walk, EnoughSaid, is_node, hears_all, same_supply}
+use Rattle.hs_lockstep.proofs.Walks.{leads_on, with_nodes, Walked, walk_all, Enough, IsThrough, takes_walk, IsEmptied, gives_walk, EnoughSaid, is_node, hears_all}
 
 -- ---- lists
-
-pub all_places : {X : Type 0} (P : X → Type 0) (xs : List X) → ((i : ℕ) (x : X) → slice_get xs i ≡ Some x → P x) → AllByRecursion P xs
-all_places P [] each = tt
-all_places P (x ∷ xs) each = (each 0 x refl, all_places P xs (λ i y h. each (suc i) y h))
-
-pub mapped_all : {X Y : Type 0} (P : Y → Type 0) (f : X → Y) (xs : List X) → AllByRecursion (λ x. P (f x)) xs → AllByRecursion P (map f xs)
-mapped_all P f [] all = tt
-mapped_all P f (x ∷ xs) all = (all.0, mapped_all P f xs all.1)
-
-pub within : {X : Type 0} (xs : List X) (i : ℕ) (x : X) → slice_get xs i ≡ Some x → i < length xs
-within [] i x h = let no : None ≡ Some x = h in absurd cc
-within (y ∷ xs) zero x h = omega arith
-within (y ∷ xs) (suc i) x h = let rest = within xs i x h in omega (arith, rest)
-
-in_range : (start count i n : ℕ) → slice_get (range_with_len start count) i ≡ Some n → n ≡ start + i
-in_range start zero i n h = let no : None ≡ Some n = h in absurd cc
-in_range start (suc count) zero n h = let same = some_same start n h in omega (arith, same)
-in_range start (suc count) (suc i) n h = let rest = in_range (start + 1) count i n h in omega (arith, rest)
-
-dropped : {X : Type 0} (xs ys : List X) → drop (length xs) (xs ++ ys) ≡ ys
-dropped [] ys = refl
-dropped (x ∷ xs) ys = dropped xs ys
-
-pub dropped_all : {X : Type 0} (xs : List X) → drop (length xs) xs ≡ []
-dropped_all [] = refl
-dropped_all (x ∷ xs) = dropped_all xs
 
 set_more : {X : Type 0} (lists : List (List X)) (p q : ℕ) (new : List X)
     → HasMore (unwrap_or (slice_get lists q) []) (unwrap_or (slice_get (set lists p (unwrap_or (slice_get lists p) [] ++ new)) q) [])
@@ -68,7 +48,7 @@ set_more (xs ∷ lists) zero (suc q) new = record { more = []; is = sym (append-
 set_more (xs ∷ lists) (suc p) zero new = record { more = []; is = sym (append-nil xs) }
 set_more (xs ∷ lists) (suc p) (suc q) new = set_more lists p q new
 
-none_at : (n place : ℕ) → unwrap_or (slice_get (replicate {A = List Step} n []) place) [] ≡ []
+pub none_at : (n place : ℕ) → unwrap_or (slice_get (replicate {A = List Step} n []) place) [] ≡ []
 none_at zero place = refl
 none_at (suc n) zero = refl
 none_at (suc n) (suc place) = none_at n place
@@ -83,7 +63,7 @@ pub record IsOver (run : Run) : Type 0 where
 over_done : (run : Run) → IsOver run → is_done run ≡ true
 over_done run o =
     both_true
-    (passes_all (λ (node : NodeRun). nat_eq (length node.left) 0) run.nodes
+    (list_all_from (λ (node : NodeRun). nat_eq (length node.left) 0) run.nodes
     (all_each IsThrough (λ (node : NodeRun). nat_eq (length node.left) 0 ≡ true) run.nodes (λ node e. eq-eqb (length node.left) 0 (ap length e)) o.nodes))
     (eq-eqb (length run.left) 0 (ap length o.left))
 
@@ -127,13 +107,13 @@ module _ (k : Known) (W : PlainWorkload) where
       let found : slice_get (range_with_len 0 W.settings.nodes) i ≡ Some node.node =
       ap (λ numbers. slice_get numbers i) (sym (nodes_of_journal J).numbers) ∙ slice_get-map (λ (node : NodeRun). node.node) (followed W J).nodes i ∙ ap (option_map (λ (node : NodeRun). node.node)) h
       in
-      let is = in_range 0 W.settings.nodes i node.node found in omega (arith, is)
+      let is = range_found 0 W.settings.nodes i node.node found in omega (arith, is)
 
   -- the log of a node that is through is its whole log
   pub log_of : (m : Machine) → IsDone W m → (i : ℕ) (node : NodeRun) → slice_get (followed W m.journal).nodes i ≡ Some node → node.state.log ≡ log_at m.journal i
   log_of m h i node stands =
-      let o = all_get (IsOfJournal W m.journal) (followed W m.journal).nodes i node (nodes_of_journal m.journal).each stands in
-      let through = all_get IsThrough (followed W m.journal).nodes i node h.over.nodes stands in
+      let o = all_at (IsOfJournal W m.journal) (followed W m.journal).nodes i node (nodes_of_journal m.journal).each stands in
+      let through = all_at IsThrough (followed W m.journal).nodes i node h.over.nodes stands in
       sym (append-nil node.state.log) ∙ ap (λ (left : List Step). node.state.log ++ left) (sym through) ∙ o.log ∙ ap (log_at m.journal) (number_is m.journal i node stands)
 
   -- ---- a client draws
@@ -154,10 +134,10 @@ module _ (k : Known) (W : PlainWorkload) where
     drawn_over =
         record {
           nodes =
-              mapped_all IsThrough (node_behind W m.journal drawn) (followed W m.journal).nodes
+              all_map IsThrough (node_behind W m.journal drawn) (followed W m.journal).nodes
               (all_each IsThrough (λ (node : NodeRun). IsThrough (node_behind W m.journal drawn node)) (followed W m.journal).nodes
-              (λ node e. ap (λ (left : List Step). left ++ drop (length (log_at m.journal node.node)) (log_at m.journal node.node)) e ∙ dropped_all (log_at m.journal node.node)) h.over.nodes);
-          left = ap (λ (left : List NodeId). left ++ drop (length m.journal.told) m.journal.told) h.over.left ∙ dropped_all m.journal.told;
+              (λ node e. ap (λ (left : List Step). left ++ drop (length (log_at m.journal node.node)) (log_at m.journal node.node)) e ∙ drop_length (log_at m.journal node.node)) h.over.nodes);
+          left = ap (λ (left : List NodeId). left ++ drop (length m.journal.told) m.journal.told) h.over.left ∙ drop_length m.journal.told;
         }
 
     -- the nodes stand as they stood, with what their clients send more
@@ -192,10 +172,10 @@ module _ (k : Known) (W : PlainWorkload) where
     pub left_is : (i : ℕ) (node : NodeRun) → slice_get run.nodes i ≡ Some node → (node_behind W m.journal longer node).left ≡ f node
     left_is i node stands =
         let number = number_is m.journal i node stands in
-        let through = all_get IsThrough run.nodes i node h.over.nodes stands in
+        let through = all_at IsThrough run.nodes i node h.over.nodes stands in
         let count = count_nodes m.journal in
         let mapped = length-map run.nodes f in
-        let below = within run.nodes i node stands in
+        let below = slice_get_within run.nodes i node stands in
         let logs = h.logs in
         let first : i < length m.journal.logs = omega (arith, below, count, logs) in
         let second : i < length (map f run.nodes) = omega (arith, below, mapped) in
@@ -204,7 +184,7 @@ module _ (k : Known) (W : PlainWorkload) where
         ap (λ (left : List Step). left ++ drop (length (log_at m.journal node.node)) (log_at longer node.node)) through
         ∙ ap (λ (n : ℕ). drop (length (log_at m.journal n)) (log_at longer n)) number
         ∙ ap (drop (length (log_at m.journal i))) at
-        ∙ dropped (log_at m.journal i) (f node)
+        ∙ drop_front (log_at m.journal i) (f node)
 
     -- the agents make their steps, and stand so then
     pub record StepsThere (Q : NodeRun → Type 0) : Type 0 where
@@ -219,7 +199,7 @@ module _ (k : Known) (W : PlainWorkload) where
         let over : IsOver last =
         record {
           nodes = all_each Q IsThrough w.lasts through w.each;
-          left = ap (λ (left : List NodeId). left ++ drop (length m.journal.told) m.journal.told) h.over.left ∙ dropped_all m.journal.told;
+          left = ap (λ (left : List NodeId). left ++ drop (length m.journal.told) m.journal.told) h.over.left ∙ drop_length m.journal.told;
         }
         in
         record {
@@ -242,11 +222,11 @@ module _ (k : Known) (W : PlainWorkload) where
 
     pub enough_of : (i : ℕ) (node : NodeRun) → slice_get before.nodes i ≡ Some node → Enough (node_behind W m.journal (agents_take W m).journal node) before.heard
     enough_of i node stands queue =
-        let few = all_get (λ (n : NodeRun). (queue : Queue) → taken queue n.state.log ≤ supply n before.heard queue) before.nodes i node (fits m.journal).items stands queue in
+        let few = all_at (λ (n : NodeRun). (queue : Queue) → taken queue n.state.log ≤ supply n before.heard queue) before.nodes i node (fits m.journal).items stands queue in
         let most = pass_fits W m before node queue few in
         let left = ap (λ (steps : List Step). taken queue (node.state.log ++ steps)) (left_is m passed h i node stands) in
         let both = counted queue node.state.log (passed node) in
-        let o = all_get (IsOfJournal W m.journal) before.nodes i node (nodes_of_journal m.journal).each stands in
+        let o = all_at (IsOfJournal W m.journal) before.nodes i node (nodes_of_journal m.journal).each stands in
         let there = same_supply (node_behind W m.journal (agents_take W m).journal node) node before.heard queue (sym o.sends) refl in
         omega (arith, most, left, both, there)
       where
@@ -256,8 +236,8 @@ module _ (k : Known) (W : PlainWorkload) where
     pub take_there : StepsThere m passed h IsThrough
     take_there =
         steps_there m passed h IsThrough (λ node e. e)
-        (mapped_all (Walked W.settings before.heard IsThrough) (node_behind W m.journal (agents_take W m).journal) before.nodes
-        (all_places (λ (node : NodeRun). Walked W.settings before.heard IsThrough (node_behind W m.journal (agents_take W m).journal node)) before.nodes
+        (all_map (Walked W.settings before.heard IsThrough) (node_behind W m.journal (agents_take W m).journal) before.nodes
+        (all_by_place (λ (node : NodeRun). Walked W.settings before.heard IsThrough (node_behind W m.journal (agents_take W m).journal node)) before.nodes
         (λ i node stands.
         takes_walk k.noted W.settings before.heard (passed node) (node_behind W m.journal (agents_take W m).journal node) (left_is m passed h i node stands)
         (all_append (λ (step : Step). is_offer step ≡ false) (before_turn W m before node) (steps.Turn ∷ [])
@@ -272,8 +252,8 @@ module _ (k : Known) (W : PlainWorkload) where
     pub give_there : StepsThere m give_steps h (IsEmptied k.noted W.settings before.heard)
     give_there =
         steps_there m give_steps h (IsEmptied k.noted W.settings before.heard) (λ node e. e.through)
-        (mapped_all (Walked W.settings before.heard (IsEmptied k.noted W.settings before.heard)) (node_behind W m.journal (agents_give W m).journal) before.nodes
-        (all_places (λ (node : NodeRun). Walked W.settings before.heard (IsEmptied k.noted W.settings before.heard) (node_behind W m.journal (agents_give W m).journal node)) before.nodes
+        (all_map (Walked W.settings before.heard (IsEmptied k.noted W.settings before.heard)) (node_behind W m.journal (agents_give W m).journal) before.nodes
+        (all_by_place (λ (node : NodeRun). Walked W.settings before.heard (IsEmptied k.noted W.settings before.heard) (node_behind W m.journal (agents_give W m).journal node)) before.nodes
         (λ i node stands.
         gives_walk k.noted W.settings before.heard (range_with_len (length (pool_events node)) (length node.state.hand)) (node_behind W m.journal (agents_give W m).journal node)
         (left_is m give_steps h i node stands) (sym (length-range_with_len (length (pool_events node)) (length node.state.hand))))))
@@ -301,13 +281,13 @@ module _ (k : Known) (W : PlainWorkload) where
     behind = run_behind W m.journal heard_more before
 
     pub behind_left : behind.left ≡ told_now
-    behind_left = ap (λ (left : List NodeId). left ++ drop (length m.journal.told) (m.journal.told ++ told_now)) h.over.left ∙ dropped m.journal.told told_now
+    behind_left = ap (λ (left : List NodeId). left ++ drop (length m.journal.told) (m.journal.told ++ told_now)) h.over.left ∙ drop_front m.journal.told told_now
 
     behind_nodes : AllByRecursion IsThrough behind.nodes
     behind_nodes =
-        mapped_all IsThrough (node_behind W m.journal heard_more) before.nodes
+        all_map IsThrough (node_behind W m.journal heard_more) before.nodes
         (all_each IsThrough (λ (node : NodeRun). IsThrough (node_behind W m.journal heard_more node)) before.nodes
-        (λ node e. ap (λ (left : List Step). left ++ drop (length (log_at m.journal node.node)) (log_at m.journal node.node)) e ∙ dropped_all (log_at m.journal node.node)) h.over.nodes)
+        (λ node e. ap (λ (left : List Step). left ++ drop (length (log_at m.journal node.node)) (log_at m.journal node.node)) e ∙ drop_length (log_at m.journal node.node)) h.over.nodes)
 
     said_behind : (node : NodeId) → said_at behind.nodes node ≡ said_at before.nodes node
     said_behind node =

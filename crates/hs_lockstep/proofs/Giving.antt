@@ -4,6 +4,8 @@ use Rattle.std.specs.List.{range_with_len}
 use Rattle.std.specs.Option.{option_and_then}
 use Rattle.std.proofs.lemmas.List.{map-append, length-drop, length-reverse, reverse-append}
 use Rattle.std.proofs.lemmas.List.FromFn.{length-range_with_len}
+use Rattle.std.proofs.lemmas.Option.{same_Some}
+use Rattle.hs_lists.proofs.Alls.{all_at}
 use Rattle.hs_coord.specs.Following.{Messages}
 use Rattle.hs_journal.specs.declared.journal.Step.{Step}
 use Rattle.hs_journal.specs.declared.journal.Step.TheVariants as steps
@@ -22,7 +24,6 @@ use Rattle.hs_lockstep.proofs.Followed.{left_is, give_there, StepsThere}
 use Rattle.hs_lockstep.proofs.Growing.{events_back, history_of, IsBelow, comes_last}
 use Rattle.hs_lockstep.proofs.Held.{node_events, IsHeld, HeldUpTo, pool_is, buffer_given, buffer_there, give_held, give_events}
 use Rattle.hs_lockstep.proofs.Holding.{given_as}
-use Rattle.hs_lockstep.proofs.Lists.{some_same, all_get}
 use Rattle.hs_lockstep.proofs.Performed.{first_step, first_of_steps}
 use Rattle.hs_lockstep.proofs.Standing.{held_at}
 use Rattle.hs_lockstep.proofs.StepByStep.{steps_on}
@@ -83,7 +84,7 @@ module _ (k : Known) (settings : PlainSettings) (heard : Messages) where
 
   gives_hold : (given stamp : ℕ) (run later : NodeRun) → given ≤ length run.state.hand → UpTo stamp run → after_steps settings heard (gives_from stamp given) run ≡ Some later → Gives settings stamp given run later k
   gives_hold zero stamp run later low h e =
-      let same = some_same run later e in
+      let same = same_Some run later e in
       let here : stamp ≡ stamp + 0 = omega arith in
       record { held = subst (λ (n : ℕ). UpTo n later) here (subst (UpTo stamp) same h); hand = ap (λ (n : NodeRun). n.state.hand) (sym same); sends = ap (λ (n : NodeRun). n.sends) (sym same) }
   gives_hold (suc given) stamp run later low h e = go (gives_hold given (stamp + 1)) run.state.hand refl
@@ -93,7 +94,7 @@ module _ (k : Known) (settings : PlainSettings) (heard : Messages) where
       go others [] is = let none = ap length is in absurd (omega (arith, low, none))
       go others (place ∷ hand) is =
           let f = first_of_steps settings heard (steps.Given stamp) (gives_from (stamp + 1) given) run later e in
-          let event : Gave (model.Given stamp) ≡ f.event = some_same (Gave (model.Given stamp)) f.event (sym (give_event stamp place hand run is) ∙ f.met) in
+          let event : Gave (model.Given stamp) ≡ f.event = same_Some (Gave (model.Given stamp)) f.event (sym (give_event stamp place hand run is) ∙ f.met) in
           let next = perform settings [] run (Gave (model.Given stamp)) in
           let on : after_steps settings heard (gives_from (stamp + 1) given) next ≡ Some later = ap (λ event. after_steps settings heard (gives_from (stamp + 1) given) (perform settings [] run event)) event ∙ f.on in
           let left = give_hand stamp place hand run is in
@@ -211,7 +212,7 @@ module _ (k : Known) (W : PlainWorkload) (m : Machine) (r : IsReached W m) where
           gives = c.came;
           each = give_each;
           emptied =
-              (all_get (IsEmptied k.noted W.settings (heard_in W m.journal)) (followed W (agents_give W m).journal).nodes i c.later
+              (all_at (IsEmptied k.noted W.settings (heard_in W m.journal)) (followed W (agents_give W m).journal).nodes i c.later
               (give_there k W m (done k W m r)).each c.there).hand;
           heard = gives_there.heard;
         }

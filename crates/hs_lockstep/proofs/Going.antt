@@ -3,13 +3,16 @@ use Rattle.std.proofs.Common.{◌≡◌, ◌≢◌, ℕ, ◌/◌, ◌<◌, ◌�
 use Rattle.std.specs.Option.{option_map_or}
 use Rattle.std.proofs.lemmas.List.{length-map}
 use Rattle.std.proofs.lemmas.Nat.{mul-add-lt, div-mul-add}
-use Rattle.std.proofs.lemmas.Option.{slice_get-map}
+use Rattle.std.proofs.lemmas.Option.{slice_get-map, slice_get_within}
+use Rattle.hs_lists.proofs.Parts.{drop_length}
+use Rattle.hs_lists.proofs.Places.{unwrap_set, unwrap_other}
 use Rattle.hs_journal.specs.declared.journal.Draw.{Draw}
 use Rattle.hs_journal.specs.declared.journal.Step.{Step}
 use Rattle.hs_model.specs.Laws.{sheets_of}
 use Rattle.hs_records.specs.Plain.{PlainWorkload}
 use Rattle.hs_sent.specs.Drawn.{drawn_from}
 use Rattle.hs_sent.specs.Sending.{ClientSends, draws_at, node_sends, place_of}
+use Rattle.hs_sent.proofs.Order.{length_next}
 use Rattle.hs_words.specs.Pages.{Sheet}
 use Rattle.hs_words.specs.PoolHistory.{Event, queue_after}
 use Rattle.hs_lawful.specs.Extending.{node_behind, run_behind}
@@ -22,12 +25,12 @@ use Rattle.hs_lockstep.specs.Parts.{node_at, next_done, next_pages, next_drawn, 
 use Rattle.hs_lockstep.specs.Reaching.{IsReached}
 use Rattle.hs_lockstep.specs.Reaching as reaching
 use Rattle.hs_lockstep.proofs.Drawing.{grown, draws_told}
-use Rattle.hs_lockstep.proofs.Followed.{within, draws_are, dropped_all}
+use Rattle.hs_lockstep.proofs.Followed.{draws_are}
 use Rattle.hs_lockstep.proofs.Growing.{events_back, history_of}
 use Rattle.hs_lockstep.proofs.Held.{IsHeld}
 use Rattle.hs_lockstep.proofs.Holding.{Holds, events_in}
-use Rattle.hs_lockstep.proofs.Keeping.{set_here, set_other, same_sends, OneMore, one_more, own_sends, next_of_node}
-use Rattle.hs_lockstep.proofs.Shapes.{drawn_count, done_here, done_other, started_few}
+use Rattle.hs_lockstep.proofs.Keeping.{same_sends, OneMore, one_more, own_sends, next_of_node}
+use Rattle.hs_lockstep.proofs.Shapes.{done_here, done_other, started_few}
 use Rattle.hs_lockstep.proofs.Standing.{kept, held_at, through_at, number_at, standing, whole}
 use Rattle.hs_lockstep.proofs.Taking.{history_is}
 
@@ -40,7 +43,7 @@ module _ (k : Known) (W : PlainWorkload) (laid : IsLaidOut W) (m : Machine) (r :
 
   node_low : i < W.settings.nodes
   node_low =
-      let there = within (followed W m.journal).nodes i run stands in
+      let there = slice_get_within (followed W m.journal).nodes i run stands in
       let count = (whole k W laid m r).count in
       omega (arith, there, count)
 
@@ -62,11 +65,11 @@ module _ (k : Known) (W : PlainWorkload) (laid : IsLaidOut W) (m : Machine) (r :
   draws_here =
       let all = (standing k W laid m r).drawn.draws in
       let below = place_low in
-      set_here m.journal.draws place (draws_at m.journal place ++ draws_in W m (place / W.settings.clients) (next_pages W m place)) [] (omega (arith, all, below))
+      unwrap_set m.journal.draws place (draws_at m.journal place ++ draws_in W m (place / W.settings.clients) (next_pages W m place)) [] (omega (arith, all, below))
       ∙ ap (λ (drew : List Draw). draws_at m.journal place ++ drew) drew_is
 
   draws_other : (other : ℕ) → place ≢ other → draws_at new.journal other ≡ draws_at m.journal other
-  draws_other other ne = set_other m.journal.draws place other (draws_at m.journal place ++ draws_in W m (place / W.settings.clients) (next_pages W m place)) [] ne
+  draws_other other ne = unwrap_other m.journal.draws place other (draws_at m.journal place ++ draws_in W m (place / W.settings.clients) (next_pages W m place)) [] ne
 
   -- ---- the nodes
 
@@ -81,7 +84,7 @@ module _ (k : Known) (W : PlainWorkload) (laid : IsLaidOut W) (m : Machine) (r :
   left_none : (j : ℕ) (node : NodeRun) → node_at W m.journal j ≡ Some node → (node_behind W m.journal new.journal node).left ≡ node.left
   left_none j node at =
       let through = through_at k W m r j node at in
-      ap (λ (left : List Step). left ++ drop (length (log_at m.journal node.node)) (log_at m.journal node.node)) through ∙ dropped_all (log_at m.journal node.node) ∙ sym through
+      ap (λ (left : List Step). left ++ drop (length (log_at m.journal node.node)) (log_at m.journal node.node)) through ∙ drop_length (log_at m.journal node.node) ∙ sym through
 
   node_here : node_at W new.journal i ≡ Some (sending W new.journal i run)
   node_here =
@@ -177,7 +180,7 @@ module _ (k : Known) (W : PlainWorkload) (laid : IsLaidOut W) (m : Machine) (r :
         let long = ap length history_now in
         let both = length-append (pool_history run) (map event_drawn (next_drawn W m place run)) in
         let mapped = length-map (next_drawn W m place run) event_drawn in
-        let count = drawn_count (next_pages W m place) (length (pool_history run)) (queue_after W.settings.buffers (reverse (pool_history run))) in
+        let count = length_next (next_pages W m place) (length (pool_history run)) (queue_after W.settings.buffers (reverse (pool_history run))) in
         record {
           done = done_here k W laid m place s.drawn place_low;
           draws = draws_here;

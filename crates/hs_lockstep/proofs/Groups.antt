@@ -4,6 +4,11 @@ use Rattle.std.proofs.Common.{◌≡◌, inl, inr, ℕ, zero, suc, ◌+◌, ◌<
 use Rattle.std.specs.List.{AllByRecursion, list_any, range_with_len}
 use Rattle.std.specs.Option.{option_and_then, option_map_or, option_to_list}
 use Rattle.std.specs.Cmp.Derive.{both_true}
+use Rattle.std.proofs.lemmas.Bool.{and_parts}
+use Rattle.std.proofs.lemmas.Option.{same_Some}
+use Rattle.hs_lists.proofs.Alls.{all_find, all_append, all_each, all_at}
+use Rattle.hs_lists.proofs.Options.{option_unmap}
+use Rattle.hs_lists.proofs.Counts.{one_if, count_cons, count_append}
 use Rattle.hs_base.specs.Rules.{is_declared}
 use Rattle.hs_base.specs.declared.ids.NodeId.{NodeId}
 use Rattle.hs_base.specs.declared.ids.TriggerId.{TriggerId}
@@ -35,7 +40,6 @@ use Rattle.hs_sent.specs.Sending.{ClientSends, node_sends}
 use Rattle.hs_lawful.specs.Following.{Chunks, Crumbs, Triggers, Asks, takes, taken, ask_by, asks_behind, asks_to, is_from, NodeRun, Run, next_of, event_of, perform, step_of, step_node, node_start, run_start, message_of, hear}
 use Rattle.hs_lawful.specs.Orders.{Performs, Leads, Stays, Goes}
 use Rattle.hs_lockstep.proofs.FewAsks.{sum_to, sum_le, sum_lt}
-use Rattle.hs_lockstep.proofs.Lists.{one, some_same, all_append, all_each, all_get, count_append, count_cons}
 
 -- ---- tests
 
@@ -72,24 +76,12 @@ shares_kept f ids weights (share ∷ shares) [] h = absurd h
 
 -- ---- what an event says and claims
 
-pub and_parts : (a b : Bool) → (a && b) ≡ true → (a ≡ true) × (b ≡ true)
-and_parts true b h = (refl, h)
-and_parts false b h = let never : false ≡ true = h in absurd cc
-
-found_claim : (P : ClaimedTrace → Type 0) (p : ClaimedTrace → Bool) (claims : List ClaimedTrace) (claim : ClaimedTrace) → AllByRecursion P claims → find p claims ≡ Some claim → P claim
-found_claim P p [] claim all h = let never : None ≡ Some claim = h in absurd cc
-found_claim P p (c ∷ claims) claim all h = either (p c) h (λ h. found_claim P p claims claim all.1 h)
-  where
-    either : (b : Bool) → cond b (Some c) (find p claims) ≡ Some claim → (find p claims ≡ Some claim → P claim) → P claim
-    either true h on = subst P (some_same c claim h) all.0
-    either false h on = on h
-
 found_message : (P : Message → Type 0) (p : Message → Bool) (ms : Messages) (m : Message) → AllByRecursion P ms → find p ms ≡ Some m → P m
 found_message P p [] m all h = let never : None ≡ Some m = h in absurd cc
 found_message P p (x ∷ ms) m all h = either (p x) h (λ h. found_message P p ms m all.1 h)
   where
     either : (b : Bool) → cond b (Some x) (find p ms) ≡ Some m → (find p ms ≡ Some m → P m) → P m
-    either true h on = subst P (some_same x m h) all.0
+    either true h on = subst P (same_Some x m h) all.0
     either false h on = on h
 
 -- the asks that messages lead to are of their groups
@@ -118,10 +110,6 @@ module _ (test : Group → Bool) (v : ℕ) where
       all_append KnownAsk (ask_by v before m) (asks_behind v (before ++ m ∷ []) ms) (one_ask before m (is_newly_asked before m v) (first_known before m a b.0))
       (asks_known (before ++ m ∷ []) ms (all_append KnownMessage before (m ∷ []) a (b.0, tt)) b.1)
 
-pub unmapped : {X Y : Type 0} (f : X → Y) (o : Option X) (y : Y) → option_map f o ≡ Some y → (x : X) × (o ≡ Some x) × (f x ≡ y)
-unmapped f None y h = let never : None ≡ Some y = h in absurd cc
-unmapped f (Some x) y h = (x, refl, some_same (f x) y h)
-
 module _ (test : Group → Bool) where
   -- an ask that an event takes passes the test
   abbrev AskPasses : Event → Type 0
@@ -133,7 +121,7 @@ module _ (test : Group → Bool) where
   AskPasses (Gave answer) = Unit {0}
 
   other_passes : {A : Type 0} (f : A → Event) (o : Option A) (event : Event) → ((a : A) → AskPasses (f a)) → option_map f o ≡ Some event → AskPasses event
-  other_passes f o event each h = let t = unmapped f o event h in subst AskPasses t.2 (each t.0)
+  other_passes f o event each h = let t = option_unmap f o event h in subst AskPasses t.2 (each t.0)
 
   client_passes : {A : Type 0} (f : A → Event) (g : ClientSends → Option A) (o : Option ClientSends) (event : Event) → ((a : A) → AskPasses (f a)) → option_and_then (λ (s : ClientSends). option_map f (g s)) o ≡ Some event → AskPasses event
   client_passes f g None event each h = let never : None ≡ Some event = h in absurd cc
@@ -144,9 +132,9 @@ module _ (test : Group → Bool) where
   event_passes run heard (steps.Crumb client) event asks h = client_passes (λ crumb. Took (Crumbed client crumb)) (λ (s : ClientSends). next_of (Crumbs client) run.state s.crumbs) (slice_get run.sends client) event (λ a. tt) h
   event_passes run heard (steps.Trigger client) event asks h = client_passes (λ trigger. Took (Triggered client trigger)) (λ (s : ClientSends). next_of (Triggers client) run.state s.triggers) (slice_get run.sends client) event (λ a. tt) h
   event_passes run heard steps.Ask event asks h =
-      let t = unmapped (λ ask. Took (Asked ask)) (slice_get (asks_to run.node heard) (taken Asks run.state.log)) event h in
-      subst AskPasses t.2 (all_get (λ (ask : Ask). test ask.group ≡ true) (asks_to run.node heard) (taken Asks run.state.log) t.0 asks t.1)
-  event_passes run heard steps.Turn event asks h = subst AskPasses (some_same (Took Turn) event h) tt
+      let t = option_unmap (λ ask. Took (Asked ask)) (slice_get (asks_to run.node heard) (taken Asks run.state.log)) event h in
+      subst AskPasses t.2 (all_at (λ (ask : Ask). test ask.group ≡ true) (asks_to run.node heard) (taken Asks run.state.log) t.0 asks t.1)
+  event_passes run heard steps.Turn event asks h = subst AskPasses (same_Some (Took Turn) event h) tt
   event_passes run heard (steps.Given stamp) event asks h = other_passes (λ _. Gave (Given stamp)) (slice_get run.state.hand 0) event (λ a. tt) h
   event_passes run heard (steps.Missed stamp) event asks h = other_passes (λ _. Gave (Missed stamp)) (slice_get run.state.hand 0) event (λ a. tt) h
   event_passes run heard steps.Unread event asks h = other_passes (λ _. Gave Unread) (slice_get run.state.hand 0) event (λ a. tt) h
@@ -177,7 +165,7 @@ module _ (test : Group → Bool) where
         either : (b : Bool) → cond b None (Some (late_of claim crumb)) ≡ Some told → test told.group ≡ true
         either true h = let never : None ≡ Some told = h in absurd cc
         either false h =
-            subst (λ (told : Told). test told.group ≡ true) (some_same (late_of claim crumb) told h) (found_claim (λ (claim : ClaimedTrace). test claim.group ≡ true) (λ claim. same_trace crumb.trace claim.trace) state.claims claim claims e)
+            subst (λ (told : Told). test told.group ≡ true) (same_Some (late_of claim crumb) told h) (all_find (λ (claim : ClaimedTrace). test claim.group ≡ true) (λ claim. same_trace crumb.trace claim.trace) state.claims claim claims e)
 
     after_passes : (event : Event) → OwnPasses event → AskPasses event → AllPass test state.claims → AllTold test state.said → Passes (after_event settings node state event)
     after_passes (Took (Chunk client sheet)) own ask claims said = input_passes (Chunk client sheet) tt (λ told h. let never : None ≡ Some told = h in absurd cc) claims said
@@ -190,10 +178,10 @@ module _ (test : Group → Bool) where
         claim_case false e = tt
 
         told_case : (told : Told) (b : Bool) → admits settings state.tried trigger ≡ b → cond b (Some (told_of state.crumbs (group_of node state trigger) Fired)) None ≡ Some told → test told.group ≡ true
-        told_case told true e h = subst (λ (told : Told). test told.group ≡ true) (some_same (told_of state.crumbs (group_of node state trigger) Fired) told h) (own client trigger refl e)
+        told_case told true e h = subst (λ (told : Told). test told.group ≡ true) (same_Some (told_of state.crumbs (group_of node state trigger) Fired) told h) (own client trigger refl e)
         told_case told false e h = let never : None ≡ Some told = h in absurd cc
     after_passes (Took (Asked asked)) own ask claims said =
-        input_passes (Asked asked) ask (λ told h. subst (λ (told : Told). test told.group ≡ true) (some_same (told_of state.crumbs asked Answer) told h) ask) claims said
+        input_passes (Asked asked) ask (λ told h. subst (λ (told : Told). test told.group ≡ true) (same_Some (told_of state.crumbs asked Answer) told h) ask) claims said
     after_passes (Took Turn) own ask claims said = input_passes Turn tt (λ told h. let never : None ≡ Some told = h in absurd cc) claims said
     after_passes (Gave answer) own ask claims said = record { claims = subst (AllPass test) (sym (add.kept answer)) claims; said = subst (AllTold test) (sym (say.answers answer)) said }
 
@@ -213,7 +201,7 @@ pub record Spoken (settings : PlainSettings) (r : Run) : Type 0 where
 module _ (add : EventsAddFew) (this : EventsAddThis) (says : StepsSayWhatTheyTell) (settings : PlainSettings) where
   admitted_more : (nodes : List NodeRun) (place u : ℕ) (node stepped : NodeRun) → slice_get nodes place ≡ Some node → node.state.admitted ≤ stepped.state.admitted → admitted_at nodes u ≤ admitted_at (set nodes place stepped) u
   admitted_more [] place u node stepped h low = omega arith
-  admitted_more (x ∷ nodes) zero zero node stepped h low = let same = ap (λ (r : NodeRun). r.state.admitted) (some_same x node h) in omega (arith, same, low)
+  admitted_more (x ∷ nodes) zero zero node stepped h low = let same = ap (λ (r : NodeRun). r.state.admitted) (same_Some x node h) in omega (arith, same, low)
   admitted_more (x ∷ nodes) zero (suc u) node stepped h low = omega arith
   admitted_more (x ∷ nodes) (suc place) zero node stepped h low = omega arith
   admitted_more (x ∷ nodes) (suc place) (suc u) node stepped h low = admitted_more nodes place u node stepped h low
@@ -263,7 +251,7 @@ module _ (add : EventsAddFew) (this : EventsAddThis) (says : StepsSayWhatTheyTel
 
   step_event : (heard : Messages) (run stepped : NodeRun) (step : Step) (rest : List Step) (o : Option Event) → event_of run heard step ≡ o → option_map (perform settings rest run) o ≡ Some stepped → IsStep heard run stepped
   step_event heard run stepped step rest None m h = let never : None ≡ Some stepped = h in absurd cc
-  step_event heard run stepped step rest (Some event) m h = record { step = step; rest = rest; event = event; met = m; is = sym (some_same (perform settings rest run event) stepped h) }
+  step_event heard run stepped step rest (Some event) m h = record { step = step; rest = rest; event = event; met = m; is = sym (same_Some (perform settings rest run event) stepped h) }
 
   step_left : (heard : Messages) (run stepped : NodeRun) (left : List Step) → step_of settings heard run left ≡ Some stepped → IsStep heard run stepped
   step_left heard run stepped [] h = let never : None ≡ Some stepped = h in absurd cc
@@ -284,7 +272,7 @@ module _ (add : EventsAddFew) (this : EventsAddThis) (says : StepsSayWhatTheyTel
   there_low (y ∷ xs) (suc i) x h = let rest = there_low xs i x h in omega (arith, rest)
 
   other_client : {A : Type 0} (clients : ℕ) (f : A → Event) (o : Option A) (event : Event) → ((a : A) → IsOfClient clients (f a)) → option_map f o ≡ Some event → IsOfClient clients event
-  other_client clients f o event each h = let t = unmapped f o event h in subst (IsOfClient clients) t.2 (each t.0)
+  other_client clients f o event each h = let t = option_unmap f o event h in subst (IsOfClient clients) t.2 (each t.0)
 
   own_client : {A : Type 0} (run : NodeRun) (client : ℕ) (f : A → Event) (g : ClientSends → Option A) (o : Option ClientSends) (event : Event) → slice_get run.sends client ≡ o → (client < length run.sends → (a : A) → IsOfClient (length run.sends) (f a))
       → option_and_then (λ (s : ClientSends). option_map f (g s)) o ≡ Some event → IsOfClient (length run.sends) event
@@ -296,12 +284,12 @@ module _ (add : EventsAddFew) (this : EventsAddThis) (says : StepsSayWhatTheyTel
   event_client run heard (steps.Crumb client) event h = own_client run client (λ crumb. Took (Crumbed client crumb)) (λ (s : ClientSends). next_of (Crumbs client) run.state s.crumbs) (slice_get run.sends client) event refl (λ low a. tt) h
   event_client run heard (steps.Trigger client) event h = own_client run client (λ trigger. Took (Triggered client trigger)) (λ (s : ClientSends). next_of (Triggers client) run.state s.triggers) (slice_get run.sends client) event refl (λ low a. low) h
   event_client run heard steps.Ask event h = other_client (length run.sends) (λ ask. Took (Asked ask)) (slice_get (asks_to run.node heard) (taken Asks run.state.log)) event (λ a. tt) h
-  event_client run heard steps.Turn event h = subst (IsOfClient (length run.sends)) (some_same (Took Turn) event h) tt
+  event_client run heard steps.Turn event h = subst (IsOfClient (length run.sends)) (same_Some (Took Turn) event h) tt
   event_client run heard (steps.Given stamp) event h = other_client (length run.sends) (λ _. Gave (Given stamp)) (slice_get run.state.hand 0) event (λ a. tt) h
   event_client run heard (steps.Missed stamp) event h = other_client (length run.sends) (λ _. Gave (Missed stamp)) (slice_get run.state.hand 0) event (λ a. tt) h
   event_client run heard steps.Unread event h = other_client (length run.sends) (λ _. Gave Unread) (slice_get run.state.hand 0) event (λ a. tt) h
 
-  taken_step : (log : List Step) (c : ℕ) (step : Step) → taken (Triggers c) (log ++ step ∷ []) ≡ taken (Triggers c) log + one (takes (Triggers c) step)
+  taken_step : (log : List Step) (c : ℕ) (step : Step) → taken (Triggers c) (log ++ step ∷ []) ≡ taken (Triggers c) log + one_if (takes (Triggers c) step)
   taken_step log c step =
       let both = count_append (takes (Triggers c)) log (step ∷ []) in
       let last = count_cons (takes (Triggers c)) step [] in
@@ -313,7 +301,7 @@ module _ (add : EventsAddFew) (this : EventsAddThis) (says : StepsSayWhatTheyTel
   triggers_one : (clients client : ℕ) (log : List Step) → client < clients → triggers_in clients log < triggers_in clients (log ++ steps.Trigger client ∷ [])
   triggers_one clients client log low =
       sum_lt (λ c. taken (Triggers c) log) (λ c. taken (Triggers c) (log ++ steps.Trigger client ∷ [])) clients client (λ c low. let same = taken_step log c (steps.Trigger client) in omega (arith, same)) low
-      (let same = taken_step log client (steps.Trigger client) in let own = ap one (eq-eqb client client refl) in omega (arith, same, own))
+      (let same = taken_step log client (steps.Trigger client) in let own = ap one_if (eq-eqb client client refl) in omega (arith, same, own))
 
   -- what an event admits is among its triggers
   admits_few : (node clients : ℕ) (state : AgentState) (event : Event) → IsOfClient clients event → state.admitted ≤ triggers_in clients state.log → (after_event settings node state event).admitted ≤ triggers_in clients (after_event settings node state event).log
@@ -390,7 +378,7 @@ module _ (add : EventsAddFew) (this : EventsAddThis) (says : StepsSayWhatTheyTel
   numbers_set : (nodes : List NodeRun) (place : ℕ) (run stepped : NodeRun) → slice_get nodes place ≡ Some run → stepped.node ≡ run.node → (i : ℕ) (x : NodeRun) → slice_get (set nodes place stepped) i ≡ Some x
       → (y : NodeRun) × (slice_get nodes i ≡ Some y) × (x.node ≡ y.node)
   numbers_set [] place run stepped h same i x at = let never : None ≡ Some x = at in absurd cc
-  numbers_set (z ∷ nodes) zero run stepped h same zero x at = (z, refl, ap (λ (r : NodeRun). r.node) (sym (some_same stepped x at)) ∙ same ∙ ap (λ (r : NodeRun). r.node) (sym (some_same z run h)))
+  numbers_set (z ∷ nodes) zero run stepped h same zero x at = (z, refl, ap (λ (r : NodeRun). r.node) (sym (same_Some stepped x at)) ∙ same ∙ ap (λ (r : NodeRun). r.node) (sym (same_Some z run h)))
   numbers_set (z ∷ nodes) zero run stepped h same (suc i) x at = (x, at, refl)
   numbers_set (z ∷ nodes) (suc place) run stepped h same zero x at = (x, at, refl)
   numbers_set (z ∷ nodes) (suc place) run stepped h same (suc i) x at = numbers_set nodes place run stepped h same i x at
@@ -404,7 +392,7 @@ module _ (add : EventsAddFew) (this : EventsAddThis) (says : StepsSayWhatTheyTel
       let grows = admits_more run.node run.state event in
       let more : (u : ℕ) → admitted_at r.nodes u ≤ admitted_at (set r.nodes place stepped) u = λ u. admitted_more r.nodes place u run stepped at (omega (arith, admitted_is, grows)) in
       let after = set r.nodes place stepped in
-      let speaks = speaks_more r.nodes after more run (all_get (Speaks settings r.nodes) r.nodes place run h.nodes at) in
+      let speaks = speaks_more r.nodes after more run (all_at (Speaks settings r.nodes) r.nodes place run h.nodes at) in
       let heard = all_each (λ (m : Message). is_known settings r.nodes m.told.group ≡ true) (λ (m : Message). is_known settings after m.told.group ≡ true) r.heard (λ m k. known_more r.nodes after more m.told.group k) h.heard in
       let number = h.numbers place run at in
       let asks = event_passes (is_known settings after) run r.heard s.step event (asks_known (is_known settings after) run.node [] r.heard tt heard) s.met in
@@ -413,7 +401,7 @@ module _ (add : EventsAddFew) (this : EventsAddThis) (says : StepsSayWhatTheyTel
       after_passes (is_known settings after) settings run.node run.state (add settings run.node run.state) (says settings run.node run.state) event
       (λ client trigger is admitted.
       let one_more = (add settings run.node run.state).admitted (Triggered client trigger) in
-      let counted : admitted_by settings run.state (Triggered client trigger) ≡ 1 = ap one admitted in
+      let counted : admitted_by settings run.state (Triggered client trigger) ≡ 1 = ap one_if admitted in
       let same : after_state.admitted ≡ (after_event settings run.node run.state (Took (Triggered client trigger))).admitted = ap (λ (event : Event). (after_event settings run.node run.state event).admitted) is in
       new_known r.nodes place run trigger at number admitted after (omega (arith, there, admitted_is, same, one_more, counted)))
       asks speaks.claims speaks.said
@@ -440,15 +428,15 @@ module _ (add : EventsAddFew) (this : EventsAddThis) (says : StepsSayWhatTheyTel
       either : (o : Option NodeRun) → slice_get nodes node.0 ≡ o → option_and_then (λ (run : NodeRun). option_map (message node) (slice_get run.state.said (count_by (is_from node) heard))) o ≡ Some m → is_known settings nodes m.told.group ≡ true
       either None e h = let never : None ≡ Some m = h in absurd cc
       either (Some run) e h =
-          let t = unmapped (message node) (slice_get run.state.said (count_by (is_from node) heard)) m h in
-          let speaks = all_get (Speaks settings nodes) nodes node.0 run all e in
+          let t = option_unmap (message node) (slice_get run.state.said (count_by (is_from node) heard)) m h in
+          let speaks = all_at (Speaks settings nodes) nodes node.0 run all e in
           subst (λ (m : Message). is_known settings nodes m.told.group ≡ true) t.2
-          (all_get (λ (told : Told). is_known settings nodes told.group ≡ true) run.state.said (count_by (is_from node) heard) t.0 speaks.said t.1)
+          (all_at (λ (told : Told). is_known settings nodes told.group ≡ true) run.state.said (count_by (is_from node) heard) t.0 speaks.said t.1)
 
   hear_step : (run next : Run) (left : List NodeId) → Spoken settings run → hear run left ≡ Some next → Spoken settings next
   hear_step run next [] h e = let never : None ≡ Some next = e in absurd cc
   hear_step run next (node ∷ rest) h e =
-      let t = unmapped (λ (m : Message). record run { left = rest; heard = run.heard ++ m ∷ [] }) (message_of run.nodes run.heard node) next e in
+      let t = option_unmap (λ (m : Message). record run { left = rest; heard = run.heard ++ m ∷ [] }) (message_of run.nodes run.heard node) next e in
       subst (Spoken settings) t.2
       (record {
         numbers = h.numbers;
@@ -471,7 +459,7 @@ all_spoken add this says W J last leads =
   where
     numbered_from : (start count : ℕ) (i : ℕ) (run : NodeRun) → slice_get (map (node_start W J) (range_with_len start count)) i ≡ Some run → run.node ≡ start + i
     numbered_from start zero i run h = let never : None ≡ Some run = h in absurd cc
-    numbered_from start (suc count) zero run h = let same = ap (λ (r : NodeRun). r.node) (some_same (node_start W J start) run h) in omega (arith, same)
+    numbered_from start (suc count) zero run h = let same = ap (λ (r : NodeRun). r.node) (same_Some (node_start W J start) run h) in omega (arith, same)
     numbered_from start (suc count) (suc i) run h = let rest = numbered_from (start + 1) count i run h in omega (arith, rest)
 
     none_few : (clients : ℕ) → 0 ≤ triggers_in clients []

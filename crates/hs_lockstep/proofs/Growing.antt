@@ -3,12 +3,14 @@
 use Rattle.std.proofs.Common.{◌≡◌, ℕ, zero, suc, ◌+◌, ◌<◌, ◌≤◌, Bool, true, false, ◌&&◌, ◌||◌, not, cond, List, [], ◌∷◌, ◌++◌, length, refl, sym, ap, subst, ◌∙◌, Some, None, arith, map, filter, drop, reverse, slice_get, count_by, eqb, eqb-true, eq-eqb, ltb, ltb-true, lt-ltb, append-nil, length-append}
 use Rattle.std.specs.List.{AllByRecursion, flat_map, range_with_len}
 use Rattle.std.specs.Cmp.Derive.{both_true}
+use Rattle.std.proofs.lemmas.Bool.{eqb-false}
 use Rattle.std.proofs.lemmas.List.{map-append, reverse-append}
 use Rattle.std.proofs.lemmas.List.Elements.{filter-append}
+use Rattle.hs_lists.proofs.Counts.{one_of_below, one_if as one, count_cons, count_append}
+use Rattle.hs_lists.proofs.Alls.{all_append, all_each}
 use Rattle.hs_journal.specs.declared.journal.Draw.TheVariants as draws
 use Rattle.hs_words.specs.PoolHistory.{Event, Got, Empty, Given, Missed, is_got, is_given, queue_after, MayFollow, IsHistoryBack}
 use Rattle.hs_lawful.specs.Pooled.{PoolEvent, by_stamp, has_buffer, is_touched, answers_draw}
-use Rattle.hs_lockstep.proofs.Lists.{one, all_append, all_each, count_cons, count_append}
 
 -- what happened, the latest first
 abbrev pub events_back : List PoolEvent → List Event
@@ -156,9 +158,6 @@ zero_one : (b : Bool) → one b ≡ 0 → b ≡ true → ⊥
 zero_one true h e = omega (arith, h)
 zero_one false h e = let no : false ≡ true = e in absurd cc
 
-differs : (m k : ℕ) → eqb m k ≡ false → m ≡ k → ⊥
-differs m k other e = let yes = eq-eqb m k e in let not : true ≡ false = sym yes ∙ other in absurd cc
-
 module _ (n : ℕ) (a b : List PoolEvent) (event : Event) (p : IsPooled n (before a b event)) where
   abbrev was : List PoolEvent
   was = before a b event
@@ -220,7 +219,7 @@ module _ (n : ℕ) (a b : List PoolEvent) (event : Event) (p : IsPooled n (befor
           let count = count_now s in
           let here = ap one same in
           let long = longer a b event in
-          let ne = differs (length was) s same in
+          let ne = eqb-false (length was) s same in
           let other = p.each s (omega (arith, low, long, ne)) in
           omega (arith, count, here, other)
 
@@ -280,15 +279,11 @@ module _ (n : ℕ) (a b : List PoolEvent) (event : Event) (p : IsPooled n (befor
 -- ---- nothing happened yet
 
 module _ (buffer : ℕ) where
-  none_case_below : (start : ℕ) (b : Bool) → eqb start buffer ≡ b → buffer < start → one b ≡ 0
-  none_case_below start true same low = let e = eqb-true start buffer same in absurd (omega (arith, e, low))
-  none_case_below start false same low = refl
-
   none_below : (start count : ℕ) → buffer < start → waits buffer (range_with_len start count) ≡ 0
   none_below start zero low = refl
   none_below start (suc count) low =
       let first = count_cons (λ b. eqb b buffer) start (range_with_len (start + 1) count) in
-      let none = none_case_below start (eqb start buffer) refl low in
+      let none = one_of_below buffer start (eqb start buffer) refl low in
       let rest = none_below (start + 1) count (omega (arith, low)) in
       omega (arith, first, none, rest)
 

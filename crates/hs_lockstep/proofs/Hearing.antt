@@ -2,6 +2,9 @@
 use Rattle.std.proofs.Common.{◌≡◌, inl, inr, ℕ, suc, List, [], ◌∷◌, ◌++◌, length, drop, refl, sym, ap, subst, ◌∙◌, Some, None, map, slice_get}
 use Rattle.std.specs.List.{AllByRecursion}
 use Rattle.std.specs.Option.{option_and_then}
+use Rattle.hs_lists.proofs.Parts.{drop_length}
+use Rattle.hs_lists.proofs.Options.{option_unmap}
+use Rattle.hs_lists.proofs.Alls.{all_at}
 use Rattle.hs_base.specs.declared.ids.NodeId.{NodeId}
 use Rattle.hs_coord.specs.Following.{Message}
 use Rattle.hs_journal.specs.declared.journal.Step.{Step}
@@ -16,10 +19,8 @@ use Rattle.hs_lockstep.specs.Lockstep.{Machine, coordinator_hears}
 use Rattle.hs_lockstep.specs.Parts.{CoordinatorHears, CoordinatorHearsSo}
 use Rattle.hs_lockstep.specs.Performing.{after_names}
 use Rattle.hs_lockstep.specs.Reaching.{IsReached}
-use Rattle.hs_lockstep.proofs.Followed.{dropped_all, behind_left, hear_there}
-use Rattle.hs_lockstep.proofs.Groups.{unmapped}
+use Rattle.hs_lockstep.proofs.Followed.{behind_left, hear_there}
 use Rattle.hs_lockstep.proofs.Keeping.{own_sends}
-use Rattle.hs_lockstep.proofs.Lists.{all_get}
 use Rattle.hs_lockstep.proofs.Standing.{kept, through_at}
 
 -- ---- messages
@@ -28,14 +29,14 @@ use Rattle.hs_lockstep.proofs.Standing.{kept, through_at}
 leads_names : (settings : PlainSettings) (run last : Run) → AllByRecursion (λ (node : NodeRun). node.left ≡ []) run.nodes → Leads settings run last → last.left ≡ [] → after_names run.nodes run.left run.heard ≡ Some last.heard
 leads_names settings run last through (Stays r) e = ap (λ (left : List NodeId). after_names r.nodes left r.heard) e
 leads_names settings run last through (Goes r next l (inl s) leads) e =
-    let none = all_get (λ (node : NodeRun). node.left ≡ []) r.nodes s.place s.node through s.stands in
+    let none = all_at (λ (node : NodeRun). node.left ≡ []) r.nodes s.place s.node through s.stands in
     let never : None ≡ Some s.stepped = ap (step_of settings r.heard s.node) (sym none) ∙ s.ready in absurd cc
 leads_names settings run last through (Goes r next l (inr heard) leads) e = go (λ through. leads_names settings next last through leads e) r.left refl heard
   where
     go : (AllByRecursion (λ (node : NodeRun). node.left ≡ []) next.nodes → after_names next.nodes next.left next.heard ≡ Some last.heard) → (left : List NodeId) → r.left ≡ left → hear r left ≡ Some next → after_names r.nodes r.left r.heard ≡ Some last.heard
     go on [] is h = let never : None ≡ Some next = h in absurd cc
     go on (name ∷ rest) is h =
-        let t = unmapped (λ (m : Message). record r { left = rest; heard = r.heard ++ m ∷ [] }) (message_of r.nodes r.heard name) next h in
+        let t = option_unmap (λ (m : Message). record r { left = rest; heard = r.heard ++ m ∷ [] }) (message_of r.nodes r.heard name) next h in
         ap (λ (left : List NodeId). after_names r.nodes left r.heard) is
         ∙ ap (option_and_then (λ m. after_names r.nodes rest (r.heard ++ m ∷ []))) t.1
         ∙ ap (λ (n : Run). after_names n.nodes n.left n.heard) t.2
@@ -56,7 +57,7 @@ module _ (k : Known) (W : PlainWorkload) (m : Machine) (r : IsReached W m) where
   node_same i node stands =
       let through = through_at k W m r i node stands in
       ap (λ (left : List Step). record node { sends = node_sends W J node.node; left = left ++ drop (length (log_at J node.node)) (log_at J node.node) }) through
-      ∙ ap (λ (left : List Step). record node { sends = node_sends W J node.node; left = left }) (dropped_all (log_at J node.node) ∙ sym through)
+      ∙ ap (λ (left : List Step). record node { sends = node_sends W J node.node; left = left }) (drop_length (log_at J node.node) ∙ sym through)
       ∙ ap (λ (sends : List ClientSends). record node { sends = sends }) (sym (own_sends k W J i node stands))
 
   nodes_same : map (node_behind W J K) (followed W J).nodes ≡ (followed W J).nodes

@@ -3,7 +3,9 @@
 use Rattle.std.proofs.Common.{◌≡◌, ℕ, zero, suc, ◌+◌, ◌<◌, ◌≤◌, Bool, true, false, cond, List, [], ◌∷◌, ◌++◌, length, refl, sym, ap, subst, ◌∙◌, Option, Some, None, arith, map, filter, filter_map, option_map, slice_get, eqb, eq-eqb, append-nil}
 use Rattle.std.specs.List.{cons_option}
 use Rattle.std.specs.Option.{option_and_then, option_map_or}
-use Rattle.std.proofs.lemmas.Option.{slice_get-map}
+use Rattle.std.proofs.lemmas.Option.{slice_get-map, same_Some}
+use Rattle.hs_lists.proofs.Options.{option_unmap}
+use Rattle.hs_lists.proofs.Counts.{one_if, count_cons, count_append}
 use Rattle.hs_coord.specs.Following.{Messages}
 use Rattle.hs_journal.specs.declared.journal.Draw.{Draw}
 use Rattle.hs_journal.specs.declared.journal.Draw.TheVariants as draws
@@ -24,7 +26,6 @@ use Rattle.hs_lawful.specs.Passes.{is_offer}
 use Rattle.hs_lawful.specs.Pooled.{PoolEvent, drawn_event, buffer_of, page_of, given_page, given_buffer, given_event, missed_event, node_pages, pool_events}
 use Rattle.hs_lawful.specs.Shape.{step_stamp}
 use Rattle.hs_lockstep.proofs.Holding.{given_as, event_at, gives_in, events_in, IsDrawn, ClientHolds, Holds, Adds, same_events, takes_keep, given_drawn, now_is, gives_keep, given_longer}
-use Rattle.hs_lockstep.proofs.Lists.{some_same, count_append, count_cons, one}
 
 -- ---- a node
 
@@ -87,7 +88,7 @@ first_page d drawn item (draws.Empty stamp) e got is = let no : false ≡ true =
 
 sent_case : (d : DrawnPage) (drawn : List DrawnPage) (n : ℕ) (item : Sent Sheet) (b : Bool) → has_buffer d.draw ≡ b → ((n : ℕ) → slice_get (sent_chunks drawn) n ≡ Some item → SentPage drawn item)
     → slice_get (map item_of (cond b (d ∷ kept_pages drawn) (kept_pages drawn))) n ≡ Some item → SentPage (d ∷ drawn) item
-sent_case d drawn zero item true got on h = first_page d drawn item d.draw refl got (some_same (item_of d) item h)
+sent_case d drawn zero item true got on h = first_page d drawn item d.draw refl got (same_Some (item_of d) item h)
 sent_case d drawn (suc n) item true got on h = later_page d drawn item (on n h)
 sent_case d drawn n item false got on h = later_page d drawn item (on n h)
 
@@ -111,7 +112,7 @@ rise_case d drawn from zero (suc j) x y true e numbers on low h g =
     let first = numbers 0 d refl in
     let s = sent_page drawn j y g in
     let later = numbers (suc s.place) s.page s.there in
-    let x_is = ap (λ (s : Sent Sheet). s.item.header.page) (some_same (item_of d) x h) in
+    let x_is = ap (λ (s : Sent Sheet). s.item.header.page) (same_Some (item_of d) x h) in
     let y_is = ap (λ (s : Sheet). s.header.page) s.is in
     omega (arith, first, later, x_is, y_is)
 rise_case d drawn from (suc k) (suc j) x y true e numbers on low h g = on k j (omega (arith, low)) h g
@@ -132,10 +133,6 @@ none_added sends sheets log step =
       apart = λ p q a b f h same. let no : None ≡ Some b = h in absurd cc;
       ahead = λ client s there j item most at q sheet h own. let no : None ≡ Some sheet = h in absurd cc;
     }
-
-unmapped : {X Y : Type 0} (f : X → Y) (o : Option X) (y : Y) → option_map f o ≡ Some y → (x : X) × (o ≡ Some x) × (f x ≡ y)
-unmapped f None y h = let no : None ≡ Some y = h in absurd cc
-unmapped f (Some x) y h = (x, refl, some_same (f x) y h)
 
 module _ (n : ℕ) (sends : List ClientSends) (sheets : List Sheet) (given : List GivenPlace) (log : List Step) (h : Holds n sends sheets given log) (client : ℕ) (s : ClientSends) (there : slice_get sends client ≡ Some s) (item : Sent Sheet)
     (next : slice_get s.chunks (taken (Chunks client) log) ≡ Some item)
@@ -171,7 +168,7 @@ module _ (n : ℕ) (sends : List ClientSends) (sheets : List Sheet) (given : Lis
         }
 
     only_one : {X : Type 0} (x y : X) (q : ℕ) → slice_get (x ∷ []) q ≡ Some y → x ≡ y
-    only_one x y zero h = some_same x y h
+    only_one x y zero h = same_Some x y h
     only_one x y (suc q) h = let no : None ≡ Some y = h in absurd cc
 
     chunk_added : Adds sends sheets log (item.item ∷ []) (steps.Chunk client)
@@ -192,9 +189,9 @@ module _ (n : ℕ) (sends : List ClientSends) (sheets : List Sheet) (given : Lis
             let same : client ≡ other = sym client_is ∙ ap (λ (s : Sheet). s.header.client.number) is ∙ own in
             let both = count_append (takes (Chunks other)) log (steps.Chunk client ∷ []) in
             let last = count_cons (takes (Chunks other)) (steps.Chunk client) [] in
-            let here : one (takes (Chunks other) (steps.Chunk client)) ≡ 1 = ap one (eq-eqb client other same) in
+            let here : one_if (takes (Chunks other) (steps.Chunk client)) ≡ 1 = ap one_if (eq-eqb client other same) in
             let past : taken (Chunks client) log < j = subst (λ (c : ℕ). taken (Chunks c) log < j) (sym same) (omega (arith, both, last, here, most)) in
-            let client_same : t ≡ s = some_same t s (sym at ∙ ap (slice_get sends) (sym same) ∙ there) in
+            let client_same : t ≡ s = same_Some t s (sym at ∙ ap (slice_get sends) (sym same) ∙ there) in
             let found_sent : slice_get (sent_chunks s.drawn) j ≡ Some later = ap (λ (items : List (Sent Sheet)). slice_get items j) (sym holds.chunks) ∙ ap (λ (t : ClientSends). slice_get t.chunks j) (sym client_same) ∙ found in
             subst (λ (sheet : Sheet). sheet.header.page < later.item.header.page) is
             (chunks_rise s.drawn 0 (taken (Chunks client) log) j item later (λ k d at. let is = holds.numbers k d at in omega (arith, is)) past next_sent found_sent)
@@ -211,8 +208,8 @@ module _ (settings : PlainSettings) (run : NodeRun) (h : HoldsAt settings run) w
       → option_and_then (λ (s : ClientSends). option_map (λ sheet. Took (Chunk client sheet)) (next_of (Chunks client) run.state s.chunks)) o ≡ Some event → TakesSo run (steps.Chunk client) event
   chunk_so client event None e met = let no : None ≡ Some event = met in absurd cc
   chunk_so client event (Some s) e met =
-      let t = unmapped (λ sheet. Took (Chunk client sheet)) (next_of (Chunks client) run.state s.chunks) event met in
-      let i = unmapped (λ (item : Sent Sheet). item.item) (slice_get s.chunks (taken (Chunks client) run.state.log)) t.0 t.1 in
+      let t = option_unmap (λ sheet. Took (Chunk client sheet)) (next_of (Chunks client) run.state s.chunks) event met in
+      let i = option_unmap (λ (item : Sent Sheet). item.item) (slice_get s.chunks (taken (Chunks client) run.state.log)) t.0 t.1 in
       let added = chunk_added settings.buffers run.sends (sheets_of run.state.taken) run.state.given run.state.log h client s e i.0 i.1 in
       record {
         input = Chunk client t.0;
@@ -225,7 +222,7 @@ module _ (settings : PlainSettings) (run : NodeRun) (h : HoldsAt settings run) w
 
   other_so : {A : Type 0} (step : Step) (f : A → Input) (event : Event) (o : Option A) → ((a : A) → noted_as (Took (f a)) ≡ step) → ((a : A) → brought_by (Took (f a)) ≡ []) → option_map (λ a. Took (f a)) o ≡ Some event → TakesSo run step event
   other_so step f event o noted none met =
-      let t = unmapped (λ a. Took (f a)) o event met in
+      let t = option_unmap (λ a. Took (f a)) o event met in
       record {
         input = f t.0;
         is = sym t.2;
@@ -248,7 +245,7 @@ module _ (settings : PlainSettings) (run : NodeRun) (h : HoldsAt settings run) w
       client_so (steps.Trigger client) (Triggered client) event (λ (s : ClientSends). next_of (Triggers client) run.state s.triggers) (slice_get run.sends client) (λ a. refl) (λ a. refl) met
   takes_so heard steps.Ask event quiet met = other_so steps.Ask Asked event (slice_get (asks_to run.node heard) (taken Asks run.state.log)) (λ a. refl) (λ a. refl) met
   takes_so heard steps.Turn event quiet met =
-      let is : Took Turn ≡ event = some_same (Took Turn) event met in
+      let is : Took Turn ≡ event = same_Some (Took Turn) event met in
       record {
         input = Turn;
         is = sym is;
@@ -322,8 +319,8 @@ module _ (adds : EventsAddThis) (go_on : EventsGoOn) (places : ListsHaveTheirChu
   count_there : (given : List GivenPlace) (i : ℕ) (g : GivenPlace) → slice_get given i ≡ Some g → 1 ≤ count_of (map (λ (g : GivenPlace). g.place) given) g.place
   count_there [] i g h = let no : None ≡ Some g = h in absurd cc
   count_there (f ∷ given) zero g h =
-      let same : eqb f.place g.place ≡ true = eq-eqb f.place g.place (ap (λ (g : GivenPlace). g.place) (some_same f g h)) in
-      let here = ap one same in
+      let same : eqb f.place g.place ≡ true = eq-eqb f.place g.place (ap (λ (g : GivenPlace). g.place) (same_Some f g h)) in
+      let here = ap one_if same in
       omega (arith, here)
   count_there (f ∷ given) (suc i) g h = let rest = count_there given i g h in omega (arith, rest)
 

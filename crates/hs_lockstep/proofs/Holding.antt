@@ -6,6 +6,10 @@ use Rattle.std.specs.Option.{option_and_then}
 use Rattle.std.specs.Cmp.Derive.{both_true}
 use Rattle.std.proofs.lemmas.List.{map-append}
 use Rattle.std.proofs.lemmas.List.Elements.{filter_map-append}
+use Rattle.std.proofs.lemmas.Option.{same_Some}
+use Rattle.hs_lists.proofs.Places.{get_front, get_behind, get_mid}
+use Rattle.hs_lists.proofs.Counts.{one_if, count_cons, count_append}
+use Rattle.hs_lists.proofs.Alls.{all_append, all_front}
 use Rattle.hs_journal.specs.declared.journal.Draw.TheVariants as draws
 use Rattle.hs_journal.specs.declared.journal.Step.{Step}
 use Rattle.hs_journal.specs.declared.journal.Step.TheVariants as steps
@@ -18,7 +22,6 @@ use Rattle.hs_lawful.specs.Following.{Chunks, taken, takes}
 use Rattle.hs_lawful.specs.Pooled.{PoolEvent, drawn_event, buffer_of, missed_event, has_buffer}
 use Rattle.hs_lawful.specs.Shape.{step_stamp, log_stamps, rise_above, rise}
 use Rattle.hs_lockstep.proofs.Growing.{stamps_of, IsPooled, IsOut, IsAnswered, answered, given_kept, given_answers, given_stays}
-use Rattle.hs_lockstep.proofs.Lists.{one, some_same, all_append, all_front, get_at, count_cons, count_append}
 
 -- ---- what happened at the pool
 
@@ -95,11 +98,6 @@ pub record Holds (n : ℕ) (sends : List ClientSends) (sheets : List Sheet) (giv
 
 -- ---- lists
 
-pub get_front : {X : Type 0} (xs ys : List X) (i : ℕ) (x : X) → slice_get xs i ≡ Some x → slice_get (xs ++ ys) i ≡ Some x
-get_front [] ys i x h = let no : None ≡ Some x = h in absurd cc
-get_front (y ∷ xs) ys zero x h = h
-get_front (y ∷ xs) ys (suc i) x h = get_front xs ys i x h
-
 pub record InFront {X : Type 0} (xs : List X) (i : ℕ) (x : X) : Type 0 where
   pub there : slice_get xs i ≡ Some x
   pub low : i < length xs
@@ -117,10 +115,6 @@ in_either {X = X} (y ∷ xs) ys (suc i) x h = elim (in_either xs ys i x h) as (�
   | inl f ↦ let low = f.low in inl (record { there = f.there; low = omega (arith, low) })
   | inr b ↦ let is = b.is in inr (record { place = b.place; there = b.there; is = omega (arith, is) })
 ]
-
-pub in_all : {X : Type 0} (P : X → Type 0) (xs : List X) → ((i : ℕ) (x : X) → slice_get xs i ≡ Some x → P x) → AllByRecursion P xs
-in_all P [] each = tt
-in_all P (x ∷ xs) each = (each 0 x refl, in_all P xs (λ i y h. each (suc i) y h))
 
 pub rise_more : (before : ℕ) (xs : List ℕ) (x : ℕ) → before < x → AllByRecursion (λ y. y < x) xs → rise_above before xs ≡ true → rise_above before (xs ++ x ∷ []) ≡ true
 rise_more before [] x low all h = both_true (lt-ltb before x low) refl
@@ -159,18 +153,14 @@ record AtPlace {X : Type 0} (xs : List X) (x : X) : Type 0 where
   place : ℕ
   there : slice_get xs place ≡ Some x
 
-behind_front : {X : Type 0} (xs ys : List X) (i : ℕ) (x : X) → slice_get ys i ≡ Some x → slice_get (xs ++ ys) (length xs + i) ≡ Some x
-behind_front [] ys i x h = let same : 0 + i ≡ i = omega arith in ap (slice_get ys) same ∙ h
-behind_front (y ∷ xs) ys i x h = let same : suc (length xs) + i ≡ suc (length xs + i) = omega arith in ap (slice_get (y ∷ xs ++ ys)) same ∙ behind_front xs ys i x h
-
 page_there : (sends : List ClientSends) (client k : ℕ) (s : ClientSends) (d : DrawnPage) → slice_get sends client ≡ Some s → slice_get s.drawn k ≡ Some d → AtPlace (pages_in sends) d
 page_there [] client k s d h g = let no : None ≡ Some s = h in absurd cc
-page_there (t ∷ sends) zero k s d h g = record { place = k; there = get_front t.drawn (pages_in sends) k d (ap (λ (s : ClientSends). slice_get s.drawn k) (some_same t s h) ∙ g) }
-page_there (t ∷ sends) (suc client) k s d h g = let rest = page_there sends client k s d h g in record { place = length t.drawn + rest.place; there = behind_front t.drawn (pages_in sends) rest.place d rest.there }
+page_there (t ∷ sends) zero k s d h g = record { place = k; there = get_front t.drawn (pages_in sends) k d (ap (λ (s : ClientSends). slice_get s.drawn k) (same_Some t s h) ∙ g) }
+page_there (t ∷ sends) (suc client) k s d h g = let rest = page_there sends client k s d h g in record { place = length t.drawn + rest.place; there = get_behind t.drawn (pages_in sends) rest.place d rest.there }
 
 mapped_at : {X Y : Type 0} (P : Y → Type 0) (f : X → Y) (xs : List X) (i : ℕ) (x : X) → AllByRecursion P (map f xs) → slice_get xs i ≡ Some x → P (f x)
 mapped_at P f [] i x all h = let no : None ≡ Some x = h in absurd cc
-mapped_at P f (y ∷ xs) zero x all h = subst (λ z. P (f z)) (some_same y x h) all.0
+mapped_at P f (y ∷ xs) zero x all h = subst (λ z. P (f z)) (same_Some y x h) all.0
 mapped_at P f (y ∷ xs) (suc i) x all h = mapped_at P f xs i x all.1 h
 
 -- what holds of all events holds of that of a page
@@ -185,21 +175,21 @@ some_counted : {X : Type 0} (p : X → Bool) (xs : List X) (i : ℕ) (x : X) →
 some_counted p [] i x h e = let no : None ≡ Some x = h in absurd cc
 some_counted p (y ∷ xs) zero x h e =
     let first = count_cons p y xs in
-    let here = ap one (ap p (some_same y x h) ∙ e) in
+    let here = ap one_if (ap p (same_Some y x h) ∙ e) in
     omega (arith, first, here)
 some_counted p (y ∷ xs) (suc i) x h e = let first = count_cons p y xs in let rest = some_counted p xs i x h e in omega (arith, first, rest)
 
 same_counted : {X : Type 0} (p : X → Bool) (xs : List X) (i j : ℕ) (x y : X) → slice_get xs i ≡ Some x → slice_get xs j ≡ Some y → p x ≡ true → p y ≡ true → count_by p xs ≤ 1 → x ≡ y
 same_counted p [] i j x y h g e f few = let no : None ≡ Some x = h in absurd cc
-same_counted p (z ∷ xs) zero zero x y h g e f few = sym (some_same z x h) ∙ some_same z y g
+same_counted p (z ∷ xs) zero zero x y h g e f few = sym (same_Some z x h) ∙ same_Some z y g
 same_counted p (z ∷ xs) zero (suc j) x y h g e f few =
     let first = count_cons p z xs in
-    let here = ap one (ap p (some_same z x h) ∙ e) in
+    let here = ap one_if (ap p (same_Some z x h) ∙ e) in
     let rest = some_counted p xs j y g f in
     absurd (omega (arith, first, here, rest, few))
 same_counted p (z ∷ xs) (suc i) zero x y h g e f few =
     let first = count_cons p z xs in
-    let here = ap one (ap p (some_same z y g) ∙ f) in
+    let here = ap one_if (ap p (same_Some z y g) ∙ f) in
     let rest = some_counted p xs i x h e in
     absurd (omega (arith, first, here, rest, few))
 same_counted p (z ∷ xs) (suc i) (suc j) x y h g e f few = let first = count_cons p z xs in same_counted p xs i j x y h g e f (omega (arith, first, few))
@@ -453,7 +443,7 @@ module _ (n : ℕ) (sends : List ClientSends) (sheets : List Sheet) (given : Lis
           place = length given;
           give = give;
           sheet = sheet;
-          there = get_at given give [];
+          there = get_mid given give [];
           is = is;
           client_is = refl;
           page_is = refl;

@@ -5,7 +5,11 @@ use Rattle.std.specs.Cmp.Derive.{both_true}
 use Rattle.std.proofs.lemmas.List.Elements.{filter-append}
 use Rattle.std.proofs.Math.Nat.{mul-le-mul_right}
 use Rattle.std.proofs.lemmas.Nat.{mul-add-lt}
-use Rattle.std.proofs.lemmas.Option.{slice_get-map}
+use Rattle.std.proofs.lemmas.Option.{slice_get-map, same_Some}
+use Rattle.hs_lists.proofs.Filters.{filter_none}
+use Rattle.hs_lists.proofs.Places.{zipped_at, unwrap_set, unwrap_other}
+use Rattle.hs_lists.proofs.Ranges.{list_all_range, range_at}
+use Rattle.hs_lists.proofs.Counts.{one_if, count_cons, count_append}
 use Rattle.hs_base.specs.declared.ids.ClientId.{ClientId}
 use Rattle.hs_base.specs.declared.ids.TraceId.{TraceId}
 use Rattle.hs_base.specs.declared.limits.TheConstants.{MAX_TAKEN, MIN_SIZE}
@@ -30,14 +34,13 @@ use Rattle.hs_lockstep.specs.Clauses.{IsLaidOut}
 use Rattle.hs_lockstep.specs.Known.{Known}
 use Rattle.hs_lockstep.specs.Lockstep.{Machine, machine_start, done_at, draws_in, pages_started, client_goes, takes_from, takes_of, takes_all, pass_steps, passes, lockstep}
 use Rattle.hs_lockstep.proofs.Drawing.{chunks_more}
-use Rattle.hs_lockstep.proofs.Keeping.{more_pages, set_here, set_other}
-use Rattle.hs_lockstep.proofs.Lists.{one, some_same, count_cons, count_append}
+use Rattle.hs_lockstep.proofs.Keeping.{more_pages}
 use Rattle.hs_lockstep.proofs.Offers.{joined, joined_both, passes_joined, take_front, take_all}
 use Rattle.hs_lockstep.proofs.Passing.{gives}
-use Rattle.hs_lockstep.proofs.Rounds.{Going, PassOf, pass_of, later_at, not_before, none_logged, schedule_ends}
+use Rattle.hs_lockstep.proofs.Rounds.{Going, PassOf, pass_of, later_at, not_before, schedule_ends}
 use Rattle.hs_lockstep.proofs.Shapes.{ends_at}
-use Rattle.hs_lockstep.proofs.Pools.{range_at}
 use Rattle.hs_lockstep.proofs.Machines.{machine_end}
+use Rattle.hs_lockstep.proofs.Followed.{none_at}
 
 -- ---- counts
 
@@ -46,15 +49,11 @@ module _ {X : Type 0} where
   filter_same p q [] all = refl
   filter_same p q (x ∷ xs) all = ap (λ b. cond b (x ∷ filter p xs) (filter p xs)) all.0 ∙ ap (λ (kept : List X). cond (q x) (x ∷ kept) kept) (filter_same p q xs all.1)
 
-  filter_none : (p : X → Bool) (xs : List X) → AllByRecursion (λ x. p x ≡ false) xs → filter p xs ≡ []
-  filter_none p [] all = refl
-  filter_none p (x ∷ xs) all = ap (λ b. cond b (x ∷ filter p xs) (filter p xs)) all.0 ∙ filter_none p xs all.1
-
   count_all : (p : X → Bool) (n : ℕ) (x : X) → p x ≡ true → count_by p (replicate n x) ≡ n
   count_all p zero x h = refl
   count_all p (suc n) x h =
       let first = count_cons p x (replicate n x) in
-      let here = ap one h in
+      let here = ap one_if h in
       let rest = count_all p n x h in
       omega (arith, first, here, rest)
 
@@ -62,27 +61,17 @@ module _ {X : Type 0} where
   count_part p f [] i y h = let no : None ≡ Some y = h in absurd cc
   count_part p f (z ∷ ys) zero y h =
       let both = count_append p (f z) (flat_map f ys) in
-      let same = ap (λ y. count_by p (f y)) (some_same z y h) in
+      let same = ap (λ y. count_by p (f y)) (same_Some z y h) in
       omega (arith, both, same)
   count_part p f (z ∷ ys) (suc i) y h =
       let both = count_append p (f z) (flat_map f ys) in
       let rest = count_part p f ys i y h in
       omega (arith, both, rest)
 
-zipped_at : {X : Type 0} (start : ℕ) (xs : List X) (i : ℕ) (x : X) → slice_get xs i ≡ Some x → slice_get (zip (range_with_len start (length xs)) xs) i ≡ Some (start + i, x)
-zipped_at start [] i x h = let no : None ≡ Some x = h in absurd cc
-zipped_at start (y ∷ xs) zero x h = let here : start ≡ start + 0 = omega arith in ap (λ (y : _). Some (start, y)) (some_same y x h) ∙ ap (λ (n : ℕ). Some (n, x)) here
-zipped_at start (y ∷ xs) (suc i) x h = let there : start + 1 + i ≡ start + suc i = omega arith in zipped_at (start + 1) xs i x h ∙ ap (λ (n : ℕ). Some (n, x)) there
-
-pub passes_from : (p : ℕ → Bool) (start count : ℕ) → ((n : ℕ) → start ≤ n → n < start + count → p n ≡ true) → list_all p (range_with_len start count) ≡ true
-passes_from p start zero each = refl
-passes_from p start (suc count) each =
-    both_true (each start (omega arith) (omega arith)) (passes_from p (start + 1) count (λ n low high. each n (omega (arith, low)) (omega (arith, high))))
-
 -- ---- passes
 
 module _ (queue : Queue) where
-  taken_both : (a b : List Step) → taken queue (a ++ b) ≡ taken queue a + taken queue b
+  pub taken_both : (a b : List Step) → taken queue (a ++ b) ≡ taken queue a + taken queue b
   taken_both a b = count_append (takes queue) a b
 
   -- more passes take no less
@@ -123,7 +112,7 @@ module _ (queue : Queue) where
   IsPaced stride ps items = (n : ℕ) → n < length ps → min (length (sent_within ((n + 1) * stride) items)) (taken_in ps queue n + MAX_TAKEN) ≤ taken_in ps queue (n + 1)
 
   pub pace_tested : {A : Type 0} (every : ℕ) (ps : List (List Step)) (items : List (Sent A)) → IsPaced every ps items → list_all (λ k. takes_enough ps queue (length (sent_within (k * every) items)) k) (inner_passes ps) ≡ true
-  pace_tested every ps items h = passes_from (λ k. takes_enough ps queue (length (sent_within (k * every) items)) k) 1 (length ps - 1) (λ k low high. pass_case k low high)
+  pace_tested every ps items h = list_all_range (λ k. takes_enough ps queue (length (sent_within (k * every) items)) k) 1 (length ps - 1) (λ k low high. pass_case k low high)
     where
       pass_case : (k : ℕ) → 1 ≤ k → k < 1 + (length ps - 1) → takes_enough ps queue (length (sent_within (k * every) items)) k ≡ true
       pass_case zero low high = absurd (omega (arith, low))
@@ -197,7 +186,7 @@ pub record InTime (to : ℕ) (page : TimedPage) : Type 0 where
 
 pub in_time : (from to : ℕ) (pages : List TimedPage) (j : ℕ) (page : TimedPage) → IsTimely from to pages → slice_get pages j ≡ Some page → InTime to page
 in_time from to [] j page h at = let no : None ≡ Some page = at in absurd cc
-in_time from to (first ∷ pages) zero page h at = subst (InTime to) (some_same first page at) (record { first = h.1; last = h.2 })
+in_time from to (first ∷ pages) zero page h at = subst (InTime to) (same_Some first page at) (record { first = h.1; last = h.2 })
 in_time from to (first ∷ pages) (suc j) page h at = in_time first.sent to pages j page h.3 at
 
 -- what holds of the pages of a list holds of its drawn pages
@@ -319,7 +308,7 @@ module _ (k : Known) (W : PlainWorkload) (laid : IsLaidOut W) (least : MIN_SIZE 
 
   paced_start : AllPaced 0 (machine_start W)
   paced_start i client low few =
-      let none : length (passes_of (log_at (machine_start W).journal i)) ≡ 0 = ap (λ (log : List Step). length (passes_of log)) (none_logged W.settings.nodes i) in
+      let none : length (passes_of (log_at (machine_start W).journal i)) ≡ 0 = ap (λ (log : List Step). length (passes_of log)) (none_at W.settings.nodes i) in
       record {
         chunks = λ n below. absurd (omega (arith, below, none));
         crumbs = λ n below. absurd (omega (arith, below, none));
@@ -341,10 +330,10 @@ module _ (k : Known) (W : PlainWorkload) (laid : IsLaidOut W) (least : MIN_SIZE 
         (pages_started W gone (min (done_at m gone + W.settings.stride) (length (operations_at W gone))) - pages_started W gone (done_at m gone))
 
     pub draws_here : draws_at new gone ≡ draws_at old gone ++ drew
-    draws_here = let count = g.drawn.draws in set_here m.journal.draws gone (draws_at old gone ++ drew) [] (omega (arith, count, below))
+    draws_here = let count = g.drawn.draws in unwrap_set m.journal.draws gone (draws_at old gone ++ drew) [] (omega (arith, count, below))
 
     pub draws_other : (place : ℕ) → gone ≢ place → draws_at new place ≡ draws_at old place
-    draws_other place ne = set_other m.journal.draws gone place (draws_at old gone ++ drew) [] ne
+    draws_other place ne = unwrap_other m.journal.draws gone place (draws_at old gone ++ drew) [] ne
 
     -- a page that was not drawn yet is started no earlier than the round
     pub not_yet : (j : ℕ) (page : TimedPage) → length (draws_at old gone) ≤ j → slice_get (pages_at gone) j ≡ Some page → made * every ≤ page.started

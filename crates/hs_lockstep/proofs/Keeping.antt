@@ -1,12 +1,14 @@
 -- Through the whole schedule each node holds what it should: no buffer is got or given but by the history of its pool, and each give
 -- answers the draw of its chunk.
-use Rattle.std.proofs.Common.{◌≡◌, ◌≢◌, ℕ, zero, suc, ◌+◌, ◌-◌, ◌*◌, ◌/◌, ◌<◌, ◌≤◌, min, Bool, true, false, List, [], ◌∷◌, ◌++◌, length, set, reverse, refl, sym, ap, subst, ◌∙◌, Some, None, arith, map, slice_get, unwrap_or, ltb, ltb-true, ltb-false, leb}
+use Rattle.std.proofs.Common.{◌≡◌, ◌≢◌, ℕ, zero, suc, ◌+◌, ◌-◌, ◌*◌, ◌/◌, ◌<◌, ◌≤◌, min, Bool, true, false, List, [], ◌∷◌, ◌++◌, length, reverse, refl, sym, ap, subst, ◌∙◌, Some, None, arith, map, slice_get, unwrap_or, ltb, ltb-true, ltb-false, leb}
 use Rattle.std.specs.List.{AllByRecursion, flat_map, range_with_len}
 use Rattle.std.specs.Option.{option_map_or}
 use Rattle.std.proofs.lemmas.Bool.{leb-true, leb-false}
-use Rattle.std.proofs.lemmas.List.{length-map, map-append, length-reverse}
+use Rattle.std.proofs.lemmas.List.{length-map, map-append, length-reverse, set_past}
 use Rattle.std.proofs.lemmas.List.FromFn.{length-range_with_len}
 use Rattle.std.proofs.lemmas.Nat.{div-mul-add}
+use Rattle.hs_lists.proofs.Alls.{all_by_place, all_map, all_append, all_each, all_at}
+use Rattle.hs_lists.proofs.Places.{unwrap_set, unwrap_other}
 use Rattle.hs_base.specs.declared.ids.ClientId.{ClientId}
 use Rattle.hs_journal.specs.declared.journal.Draw.{Draw}
 use Rattle.hs_journal.specs.declared.journal.Step.{Step}
@@ -26,11 +28,10 @@ use Rattle.hs_lawful.specs.Shape.{rise}
 use Rattle.hs_lockstep.specs.Known.{Known}
 use Rattle.hs_lockstep.specs.Lockstep.{Machine, machine_start, done_at, next_draws, draws_by, draws_in, pages_started, client_goes, pass_steps, give_steps, agents_take, agents_give, coordinator_hears, passes}
 use Rattle.hs_lockstep.proofs.Drawing.{grown, draws_keep}
-use Rattle.hs_lockstep.proofs.Followed.{IsDone, all_places, mapped_all, number_is, draws_are, passed, enough_of, left_is, steps_there, StepsThere, take_keeps, give_keeps, hear_there, hear_keeps, client_keeps, begins, starts_at, nodes_of_journal}
+use Rattle.hs_lockstep.proofs.Followed.{IsDone, number_is, draws_are, passed, enough_of, left_is, steps_there, StepsThere, take_keeps, give_keeps, hear_there, hear_keeps, client_keeps, begins, starts_at, nodes_of_journal}
 use Rattle.hs_lockstep.proofs.Growing.{events_back, IsPooled, none_pooled}
 use Rattle.hs_lockstep.proofs.Held.{node_events, HoldsAt, IsHeld, pool_is, take_held, give_held, HeldUpTo}
 use Rattle.hs_lockstep.proofs.Holding.{events_in, ClientHolds, Holds}
-use Rattle.hs_lockstep.proofs.Lists.{all_get, all_each, all_append}
 use Rattle.hs_lockstep.proofs.Machines.{clients_keep, end_keeps, machine_end}
 use Rattle.hs_lockstep.proofs.Takes.{before_turn, all_takes}
 use Rattle.hs_lockstep.proofs.Walks.{Walked, IsThrough, IsEmptied, takes_keep, gives_keep}
@@ -54,24 +55,6 @@ map_range f g start zero same = refl
 map_range {X = X} f g start (suc count) same =
     ap (λ (x : X). x ∷ map f (range_with_len (start + 1) count)) (same start (omega arith) (omega arith))
     ∙ ap (λ (rest : List X). g start ∷ rest) (map_range f g (start + 1) count (λ n low high. same n (omega (arith, low)) (omega (arith, high))))
-
-module _ {X : Type 0} where
-  pub set_here : (xs : List X) (i : ℕ) (x d : X) → i < length xs → unwrap_or (slice_get (set xs i x) i) d ≡ x
-  set_here [] i x d h = absurd (omega (arith, h))
-  set_here (y ∷ xs) zero x d h = refl
-  set_here (y ∷ xs) (suc i) x d h = set_here xs i x d (omega (arith, h))
-
-  pub set_other : (xs : List X) (i j : ℕ) (x d : X) → i ≢ j → unwrap_or (slice_get (set xs i x) j) d ≡ unwrap_or (slice_get xs j) d
-  set_other [] i j x d ne = refl
-  set_other (y ∷ xs) zero zero x d ne = absurd (ne refl)
-  set_other (y ∷ xs) zero (suc j) x d ne = refl
-  set_other (y ∷ xs) (suc i) zero x d ne = refl
-  set_other (y ∷ xs) (suc i) (suc j) x d ne = set_other xs i j x d (λ e. ne (ap suc e))
-
-  set_past : (xs : List X) (i : ℕ) (x : X) → length xs ≤ i → set xs i x ≡ xs
-  set_past [] i x h = refl
-  set_past (y ∷ xs) zero x h = absurd (omega (arith, h))
-  set_past (y ∷ xs) (suc i) x h = ap (λ (rest : List X). y ∷ rest) (set_past xs i x (omega (arith, h)))
 
 -- ---- more draws are more pages
 
@@ -107,7 +90,7 @@ starts_held n sends all =
       missed = refl;
       stamps = refl;
       rising = refl;
-      clients = λ client s at. none_client client s (all_get (λ (s : ClientSends). (s.drawn ≡ []) × (s.chunks ≡ sent_chunks s.drawn)) sends client s all at);
+      clients = λ client s at. none_client client s (all_at (λ (s : ClientSends). (s.drawn ≡ []) × (s.chunks ≡ sent_chunks s.drawn)) sends client s all at);
       answers = tt;
       drawn = λ q sheet h. let no : None ≡ Some sheet = h in absurd cc;
       apart = λ p q a b f g low same. let no : None ≡ Some a = f in absurd cc;
@@ -218,7 +201,7 @@ module _ (k : Known) (W : PlainWorkload) where
     pub held : AllByRecursion Held (followed W m.journal).nodes
 
   pub own_sends : (J : PlainJournal) (i : ℕ) (node : NodeRun) → slice_get (followed W J).nodes i ≡ Some node → node.sends ≡ node_sends W J node.node
-  own_sends J i node stands = (all_get (IsOfJournal W J) (followed W J).nodes i node (nodes_of_journal k W J).each stands).sends
+  own_sends J i node stands = (all_at (IsOfJournal W J) (followed W J).nodes i node (nodes_of_journal k W J).each stands).sends
 
   -- a node of which the clients send the same
   behind_held : (J K : PlainJournal) (i : ℕ) (node : NodeRun) → slice_get (followed W J).nodes i ≡ Some node → node_sends W K node.node ≡ node_sends W J node.node → Held node → Held (node_behind W J K node)
@@ -248,10 +231,10 @@ module _ (k : Known) (W : PlainWorkload) where
       base = node.node * W.settings.clients
 
       held_here : Held node
-      held_here = all_get Held (followed W old).nodes i node h.held stands
+      held_here = all_at Held (followed W old).nodes i node h.held stands
 
       others_same : (other : ℕ) → place ≢ other → draws_at new other ≡ draws_at old other
-      others_same other ne = set_other m.journal.draws place other (draws_at old place ++ drew) [] ne
+      others_same other ne = unwrap_other m.journal.draws place other (draws_at old place ++ drew) [] ne
 
       -- the client is none of the node's
       elsewhere : ((number : ℕ) → number < W.settings.clients → place ≢ base + number) → Held (node_behind W old new node)
@@ -270,7 +253,7 @@ module _ (k : Known) (W : PlainWorkload) where
           ap (λ (p : ℕ). p / W.settings.clients) is ∙ div-mul-add node.node W.settings.clients number low ∙ number_is k W old i node stands
           in
           let drawn_more : draws_at new (base + number) ≡ draws_at old (base + number) ++ drew =
-          subst (λ (p : ℕ). draws_at new p ≡ draws_at old p ++ drew) is (set_here m.journal.draws place (draws_at old place ++ drew) [] there)
+          subst (λ (p : ℕ). draws_at new p ≡ draws_at old p ++ drew) is (unwrap_set m.journal.draws place (draws_at old place ++ drew) [] there)
           in
           let o = one_more W old new node.node number drew low (λ other ne. others_same (base + other) (λ e. ne (omega (arith, e, is)))) drawn_more in
           let sends_are : node.sends ≡ o.a ++ o.s ∷ o.b = own_sends old i node stands ∙ o.was in
@@ -316,7 +299,7 @@ module _ (k : Known) (W : PlainWorkload) where
           held =
               subst (λ (r : Run). AllByRecursion Held r.nodes)
               (draws_are k W m place (min (done_at m place + W.settings.stride) (length (operations_at W place))) drew h.done)
-              (mapped_all Held (node_behind W old new) (followed W old).nodes (all_places (λ (node : NodeRun). Held (node_behind W old new node)) (followed W old).nodes client_node));
+              (all_map Held (node_behind W old new) (followed W old).nodes (all_by_place (λ (node : NodeRun). Held (node_behind W old new node)) (followed W old).nodes client_node));
         }
 
   -- ---- a pass
@@ -331,15 +314,15 @@ module _ (k : Known) (W : PlainWorkload) where
     take_holds : StepsThere k W m (passed k W m h.done) h.done ThroughHeld
     take_holds =
         steps_there k W m (pass_steps W m run_of) h.done ThroughHeld (λ node e. e.0)
-        (mapped_all (Walked W.settings run_of.heard ThroughHeld) (node_behind W m.journal (agents_take W m).journal) run_of.nodes
-        (all_places (λ (node : NodeRun). Walked W.settings run_of.heard ThroughHeld (node_behind W m.journal (agents_take W m).journal node)) run_of.nodes
+        (all_map (Walked W.settings run_of.heard ThroughHeld) (node_behind W m.journal (agents_take W m).journal) run_of.nodes
+        (all_by_place (λ (node : NodeRun). Walked W.settings run_of.heard ThroughHeld (node_behind W m.journal (agents_take W m).journal node)) run_of.nodes
         (λ i node stands.
         takes_keep k.noted W.settings run_of.heard Held (λ run step rest event left quiet met p. take_held k.adds k.go_on k.places W.settings run_of.heard run step rest event quiet met p) (pass_steps W m run_of node)
         (node_behind W m.journal (agents_take W m).journal node) (left_is k W m (pass_steps W m run_of) h.done i node stands)
         (all_append (λ (step : Step). is_offer step ≡ false) (before_turn W m run_of node) (steps.Turn ∷ [])
         (all_takes (λ (step : Step). is_offer step ≡ false) (λ client. refl) (λ client. refl) (λ client. refl) refl W m run_of node) (refl, tt))
         (enough_of k W m h.done i node stands)
-        (behind_held m.journal (agents_take W m).journal i node stands refl (all_get Held run_of.nodes i node h.held stands)))))
+        (behind_held m.journal (agents_take W m).journal i node stands refl (all_at Held run_of.nodes i node h.held stands)))))
 
     pub take_keeps_held : Keeps (agents_take W m)
     take_keeps_held =
@@ -354,10 +337,10 @@ module _ (k : Known) (W : PlainWorkload) where
     give_node : (i : ℕ) (node : NodeRun) → slice_get run_of.nodes i ≡ Some node → Walked W.settings run_of.heard EmptiedHeld (node_behind W m.journal (agents_give W m).journal node)
     give_node i node stands =
         let behind = node_behind W m.journal (agents_give W m).journal node in
-        let held = behind_held m.journal (agents_give W m).journal i node stands refl (all_get Held run_of.nodes i node h.held stands) in
+        let held = behind_held m.journal (agents_give W m).journal i node stands refl (all_at Held run_of.nodes i node h.held stands) in
         let events : length (node_events behind) ≡ length (pool_events node) =
         ap (λ (sends : List ClientSends). length (events_in sends (sheets_of node.state.taken) node.state.given)) (sym (own_sends m.journal i node stands))
-        ∙ ap length (sym (pool_is node (all_get Held run_of.nodes i node h.held stands).holds.missed))
+        ∙ ap length (sym (pool_is node (all_at Held run_of.nodes i node h.held stands).holds.missed))
         in
         let w =
         gives_keep k.noted W.settings run_of.heard (HeldUpTo k.adds k.go_on k.places W.settings) (give_held k.adds k.go_on k.places W.settings) (length node.state.hand) (length (pool_events node)) behind
@@ -368,8 +351,8 @@ module _ (k : Known) (W : PlainWorkload) where
     give_holds : StepsThere k W m give_steps h.done EmptiedHeld
     give_holds =
         steps_there k W m give_steps h.done EmptiedHeld (λ node e. e.0.through)
-        (mapped_all (Walked W.settings run_of.heard EmptiedHeld) (node_behind W m.journal (agents_give W m).journal) run_of.nodes
-        (all_places (λ (node : NodeRun). Walked W.settings run_of.heard EmptiedHeld (node_behind W m.journal (agents_give W m).journal node)) run_of.nodes give_node))
+        (all_map (Walked W.settings run_of.heard EmptiedHeld) (node_behind W m.journal (agents_give W m).journal) run_of.nodes
+        (all_by_place (λ (node : NodeRun). Walked W.settings run_of.heard EmptiedHeld (node_behind W m.journal (agents_give W m).journal node)) run_of.nodes give_node))
 
     pub give_keeps_held : Keeps (agents_give W m)
     give_keeps_held =
@@ -384,9 +367,9 @@ module _ (k : Known) (W : PlainWorkload) where
           done = hear_keeps k W m h.done;
           held =
               subst (AllByRecursion Held) (sym (hear_there k W m h.done).nodes)
-              (mapped_all Held (node_behind W m.journal (coordinator_hears W m).journal) run_of.nodes
-              (all_places (λ (node : NodeRun). Held (node_behind W m.journal (coordinator_hears W m).journal node)) run_of.nodes
-              (λ i node stands. behind_held m.journal (coordinator_hears W m).journal i node stands refl (all_get Held run_of.nodes i node h.held stands))));
+              (all_map Held (node_behind W m.journal (coordinator_hears W m).journal) run_of.nodes
+              (all_by_place (λ (node : NodeRun). Held (node_behind W m.journal (coordinator_hears W m).journal node)) run_of.nodes
+              (λ i node stands. behind_held m.journal (coordinator_hears W m).journal i node stands refl (all_at Held run_of.nodes i node h.held stands))));
         }
 
   pub pass_keeps_held : (m : Machine) → Keeps m → Keeps (passes W m)
@@ -412,15 +395,15 @@ module _ (k : Known) (W : PlainWorkload) where
         done = begins k W;
         held =
             subst (λ (r : Run). AllByRecursion Held r.nodes) (starts_at k W)
-            (mapped_all Held (node_start W (machine_start W).journal) (range_with_len 0 W.settings.nodes)
-            (all_places (λ (node : ℕ). Held (node_start W (machine_start W).journal node)) (range_with_len 0 W.settings.nodes)
+            (all_map Held (node_start W (machine_start W).journal) (range_with_len 0 W.settings.nodes)
+            (all_by_place (λ (node : ℕ). Held (node_start W (machine_start W).journal node)) (range_with_len 0 W.settings.nodes)
             (λ i node stands.
             record {
               comes = refl;
               holds =
                   starts_held W.settings.buffers (node_sends W (machine_start W).journal node)
-                  (mapped_all (λ (s : ClientSends). (s.drawn ≡ []) × (s.chunks ≡ sent_chunks s.drawn)) (client_sends W (machine_start W).journal node) (range_with_len 0 W.settings.clients)
-                  (all_places (λ (number : ℕ). ((client_sends W (machine_start W).journal node number).drawn ≡ []) × ((client_sends W (machine_start W).journal node number).chunks ≡ sent_chunks (client_sends W (machine_start W).journal node number).drawn))
+                  (all_map (λ (s : ClientSends). (s.drawn ≡ []) × (s.chunks ≡ sent_chunks s.drawn)) (client_sends W (machine_start W).journal node) (range_with_len 0 W.settings.clients)
+                  (all_by_place (λ (number : ℕ). ((client_sends W (machine_start W).journal node number).drawn ≡ []) × ((client_sends W (machine_start W).journal node number).chunks ≡ sent_chunks (client_sends W (machine_start W).journal node number).drawn))
                   (range_with_len 0 W.settings.clients)
                   (λ j number at. (
                     ap (drawn_pages W.settings.size (record { node = node; number = number }) (operations_at W (place_of W.settings.clients node number))) (undrawn W.clients (place_of W.settings.clients node number))

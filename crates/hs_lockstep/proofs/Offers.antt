@@ -5,7 +5,10 @@ use Rattle.std.specs.List.{AllByRecursion, flat_map, range_with_len, list_all, l
 use Rattle.std.specs.Cmp.Derive.{both_true}
 use Rattle.std.proofs.lemmas.List.{length-map, take-append-drop}
 use Rattle.std.proofs.lemmas.List.FromFn.{length-range_with_len}
-use Rattle.std.proofs.lemmas.Option.{slice_get-map}
+use Rattle.std.proofs.lemmas.Option.{slice_get-map, slice_get_within, same_Some}
+use Rattle.hs_lists.proofs.Alls.{all_at}
+use Rattle.hs_lists.proofs.Places.{get_there}
+use Rattle.hs_lists.proofs.Tests.{list_all_from}
 use Rattle.hs_journal.specs.declared.journal.Step.{Step}
 use Rattle.hs_journal.specs.Views.{PlainJournal}
 use Rattle.hs_model.specs.State.{AgentState}
@@ -22,8 +25,8 @@ use Rattle.hs_lawful.specs.Pooled.{pool_events}
 use Rattle.hs_lockstep.specs.Clauses.{ScheduleHasOffers}
 use Rattle.hs_lockstep.specs.Known.{Known}
 use Rattle.hs_lockstep.specs.Lockstep.{Machine, machine_start, done_at, draws_in, pages_started, client_goes, pass_steps, give_steps, agents_take, agents_give, coordinator_hears, passes, lockstep}
-use Rattle.hs_lockstep.proofs.Followed.{IsDone, draws_there, take_there, take_keeps, give_there, give_keeps, hear_there, hear_keeps, client_keeps, begins, count_nodes, log_of, within}
-use Rattle.hs_lockstep.proofs.Lists.{some_same, all_get, get_there, extended_at, length_extended, passes_all}
+use Rattle.hs_lockstep.proofs.Followed.{IsDone, draws_there, take_there, take_keeps, give_there, give_keeps, hear_there, hear_keeps, client_keeps, begins, count_nodes, log_of}
+use Rattle.hs_lockstep.proofs.Lists.{extended_at, length_extended}
 use Rattle.hs_lockstep.proofs.Machines.{clients_keep, end_keeps, machine_end}
 use Rattle.hs_lockstep.proofs.Passing.{ends_pass, IsOnePass, one_more, ends_more, gives, is_one}
 use Rattle.hs_lockstep.proofs.Reached.{IsLater, IsEven, AllLater, all_on, leads_later, leads_even, starts_even}
@@ -160,12 +163,12 @@ module _ (k : Known) (W : PlainWorkload) where
   pub earlier : (J K : PlainJournal) → AllLater (followed W J) (followed W K) → (i : ℕ) (later : NodeRun) → slice_get (followed W K).nodes i ≡ Some later
       → (node : NodeRun) × (slice_get (followed W J).nodes i ≡ Some node) × IsLater node later
   earlier J K all i later h =
-      let below = within (followed W K).nodes i later h in
+      let below = slice_get_within (followed W K).nodes i later h in
       let one = count_nodes k W J in
       let two = count_nodes k W K in
       let found = get_there (followed W J).nodes i (omega (arith, below, one, two)) in
       let on = all i found.0 found.1 in
-      (found.0, found.1, subst (IsLater found.0) (some_same on.0 later (sym on.1 ∙ h)) on.2)
+      (found.0, found.1, subst (IsLater found.0) (same_Some on.0 later (sym on.1 ∙ h)) on.2)
 
   -- ---- a client draws
 
@@ -182,7 +185,7 @@ module _ (k : Known) (W : PlainWorkload) where
         done = done;
         hands = λ i later stands.
             let e = earlier m.journal K.journal (comes_on m.journal K.journal there.leads) i later stands in
-            let even = all_get IsEven (followed W m.journal).nodes i e.0 (evens m.journal) e.1 in
+            let even = all_at IsEven (followed W m.journal).nodes i e.0 (evens m.journal) e.1 in
             same_hands W e.0 later e.2 even (log_of k W K done i later stands ∙ sym (log_of k W m h.done i e.0 e.1)) (h.hands i e.0 e.1);
       }
 
@@ -227,8 +230,8 @@ module _ (k : Known) (W : PlainWorkload) where
     log_more i node middle stands there =
         let first = map (pass_steps W m (followed W m.journal)) (followed W m.journal).nodes in
         let second = map give_steps (followed W taken.journal).nodes in
-        let below = within (followed W m.journal).nodes i node stands in
-        let also = within (followed W taken.journal).nodes i middle there in
+        let below = slice_get_within (followed W m.journal).nodes i node stands in
+        let also = slice_get_within (followed W taken.journal).nodes i middle there in
         let count = count_nodes k W m.journal in
         let logs = h.done.logs in
         let long = length_extended m.journal.logs first in
@@ -252,9 +255,9 @@ module _ (k : Known) (W : PlainWorkload) where
         let g = give_there k W taken done_taken in
         let w = hear_there k W given done_given in
         let e = earlier given.journal heard.journal on_hear i later stands in
-        let emptied = all_get _ (followed W given.journal).nodes i e.0 g.each e.1 in
+        let emptied = all_at _ (followed W given.journal).nodes i e.0 g.each e.1 in
         let same : node_behind W given.journal heard.journal e.0 ≡ later =
-        some_same (node_behind W given.journal heard.journal e.0) later
+        same_Some (node_behind W given.journal heard.journal e.0) later
         (sym (slice_get-map (node_behind W given.journal heard.journal) (followed W given.journal).nodes i ∙ ap (option_map (node_behind W given.journal heard.journal)) e.1)
         ∙ ap (λ (nodes : List NodeRun). slice_get nodes i) (sym w.nodes) ∙ stands)
         in
@@ -267,13 +270,13 @@ module _ (k : Known) (W : PlainWorkload) where
           hands = λ i later stands.
               let e = earlier m.journal heard.journal on_all i later stands in
               let middle = on_take i e.0 e.1 in
-              let o = all_get (IsOfJournal W m.journal) (followed W m.journal).nodes i e.0 (k.runs W m.journal (followed W m.journal) (k.plays W m.journal).leads).each e.1 in
+              let o = all_at (IsOfJournal W m.journal) (followed W m.journal).nodes i e.0 (k.runs W m.journal (followed W m.journal) (k.plays W m.journal).leads).each e.1 in
               let clients = ap length o.sends ∙ length-map (range_with_len 0 W.settings.clients) (client_sends W m.journal e.0.node) ∙ length-range_with_len 0 W.settings.clients in
               let stamps = range_with_len (length (pool_events middle.0)) (length middle.0.state.hand) in
               let log = log_of k W heard done_heard i later stands ∙ log_more i e.0 middle.0 e.1 middle.1
               ∙ ap (λ (front : List Step). front ++ (pass_steps W m (followed W m.journal) e.0 ++ give_steps middle.0)) (sym (log_of k W m h.done i e.0 e.1)) in
-              pass_hands W e.0 later e.2 (all_get IsEven (followed W m.journal).nodes i e.0 (evens m.journal) e.1) (all_get IsEven (followed W heard.journal).nodes i later (evens heard.journal) stands)
-              (all_get (ComesByEvents W.settings) (followed W heard.journal).nodes i later (k.comes W heard.journal) stands) (empty_hand i later stands)
+              pass_hands W e.0 later e.2 (all_at IsEven (followed W m.journal).nodes i e.0 (evens m.journal) e.1) (all_at IsEven (followed W heard.journal).nodes i later (evens heard.journal) stands)
+              (all_at (ComesByEvents W.settings) (followed W heard.journal).nodes i later (k.comes W heard.journal) stands) (empty_hand i later stands)
               (pass_steps W m (followed W m.journal) e.0 ++ gives stamps) log (is_one W m (followed W m.journal) e.0 stamps clients) (h.hands i e.0 e.1);
         }
 
@@ -333,7 +336,7 @@ module _ (k : Known) (W : PlainWorkload) where
 
   pub offers_all : has_offers (played W (lockstep W)) ≡ true
   offers_all =
-      passes_all (offers_end W.settings) (followed W (lockstep W)).nodes
+      list_all_from (offers_end W.settings) (followed W (lockstep W)).nodes
       (places_all (followed W (lockstep W)).nodes
       (λ i node stands.
       let log = log_of k W (machine_end W) ends_offers.done i node stands in

@@ -3,6 +3,9 @@ use Rattle.std.proofs.Common.{◌≡◌, ℕ, zero, suc, true, List, [], ◌∷�
 use Rattle.std.specs.List.{AllByRecursion, range_with_len, list_all}
 use Rattle.std.proofs.lemmas.List.{length-map, length-replicate}
 use Rattle.std.proofs.lemmas.List.FromFn.{length-range_with_len}
+use Rattle.hs_lists.proofs.Alls.{all_append, all_each, all_map, all_always}
+use Rattle.hs_lists.proofs.Tests.{list_all_from}
+use Rattle.hs_lists.proofs.Ranges.{list_all_range_below}
 use Rattle.hs_journal.specs.declared.journal.Step.{Step}
 use Rattle.hs_journal.specs.Views.{PlainJournal}
 use Rattle.hs_records.specs.Plain.{PlainWorkload}
@@ -15,7 +18,7 @@ use Rattle.hs_lawful.specs.Played.{played}
 use Rattle.hs_lawful.specs.Pooled.{pool_events}
 use Rattle.hs_lockstep.specs.Clauses.{ScheduleHasPasses}
 use Rattle.hs_lockstep.specs.Lockstep.{Machine, extended, pass_steps, give_steps, agents_take, passes, lockstep}
-use Rattle.hs_lockstep.proofs.Lists.{all_append, all_each, length_extended, passes_all, passes_range}
+use Rattle.hs_lockstep.proofs.Lists.{length_extended}
 use Rattle.hs_lockstep.proofs.Machines.{clients_keep, end_keeps, machine_end}
 use Rattle.hs_lockstep.proofs.Passing.{ends_pass, IsOnePass, one_more, ends_more, gives, is_one, is_whole}
 use Rattle.hs_lockstep.proofs.Turns.{nodes_counted}
@@ -59,14 +62,6 @@ logs_behind W (log ∷ logs) (taking ∷ takings) (giving ∷ givings) same othe
       logs_behind W logs takings givings (omega (arith, tails)) (omega (arith, ends)) a.1 b.1 c.1,
     )
 
-all_mapped : {X Y : Type 0} (P : Y → Type 0) (f : X → Y) (xs : List X) → AllByRecursion (λ x. P (f x)) xs → AllByRecursion P (map f xs)
-all_mapped P f [] all = tt
-all_mapped P f (x ∷ xs) all = (all.0, all_mapped P f xs all.1)
-
-any_all : {X : Type 0} (P : X → Type 0) (xs : List X) → ((x : X) → P x) → AllByRecursion P xs
-any_all P [] each = tt
-any_all P (x ∷ xs) each = (each x, any_all P xs each)
-
 -- a machine's logs are of whole passes
 record HasPasses (W : PlainWorkload) (m : Machine) : Type 0 where
   count : length m.journal.logs ≡ W.settings.nodes
@@ -79,7 +74,7 @@ module _ (plays : FollowingPlaysOut) (runs : RunsAreOfTheJournal) (W : PlainWork
 
   takings : (m : Machine) → AllByRecursion (IsTaking W) (map (pass_steps W m (followed W m.journal)) (followed W m.journal).nodes)
   takings m =
-      all_mapped (IsTaking W) (pass_steps W m (followed W m.journal)) (followed W m.journal).nodes
+      all_map (IsTaking W) (pass_steps W m (followed W m.journal)) (followed W m.journal).nodes
       (all_each (IsOfJournal W m.journal) (λ (node : NodeRun). IsTaking W (pass_steps W m (followed W m.journal) node)) (followed W m.journal).nodes
       (λ node o stamps.
       let clients = sends_count m.journal node o in
@@ -88,8 +83,8 @@ module _ (plays : FollowingPlaysOut) (runs : RunsAreOfTheJournal) (W : PlainWork
 
   givings : (m : Machine) → AllByRecursion AreGives (map give_steps (followed W m.journal).nodes)
   givings m =
-      all_mapped AreGives give_steps (followed W m.journal).nodes
-      (any_all (λ (node : NodeRun). AreGives (give_steps node)) (followed W m.journal).nodes
+      all_map AreGives give_steps (followed W m.journal).nodes
+      (all_always (λ (node : NodeRun). AreGives (give_steps node)) (followed W m.journal).nodes
       (λ node. record { stamps = range_with_len (length (pool_events node)) (length node.state.hand); is = refl }))
 
   pass_keeps : (m : Machine) → HasPasses W m → HasPasses W (passes W m)
@@ -120,8 +115,8 @@ module _ (plays : FollowingPlaysOut) (runs : RunsAreOfTheJournal) (W : PlainWork
 
   pub passes_whole : has_passes (played W (lockstep W)) ≡ true
   passes_whole =
-      passes_range (λ node. list_all (is_whole_pass (queues_of W)) (passes_of (log_at (lockstep W) node))) 0 W.settings.nodes
-      (λ node h. passes_all (is_whole_pass (queues_of W)) (passes_of (log_at (lockstep W) node)) (log_of (lockstep W).logs node ends_of_passes.logs).whole)
+      list_all_range_below (λ node. list_all (is_whole_pass (queues_of W)) (passes_of (log_at (lockstep W) node))) 0 W.settings.nodes
+      (λ node h. list_all_from (is_whole_pass (queues_of W)) (passes_of (log_at (lockstep W) node)) (log_of (lockstep W).logs node ends_of_passes.logs).whole)
 
 pub schedule_has_passes : FollowingPlaysOut → RunsAreOfTheJournal → ScheduleHasPasses
 schedule_has_passes plays runs W = passes_whole plays runs W

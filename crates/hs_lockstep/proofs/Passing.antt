@@ -3,27 +3,28 @@
 use Rattle.std.proofs.Common.{◌≡◌, ◌≢◌, ℕ, zero, suc, ◌+◌, ◌-◌, ◌<◌, ◌≤◌, min, Bool, true, false, ◌&&◌, ◌||◌, not, cond, List, [], ◌∷◌, ◌++◌, length, replicate, refl, sym, ap, subst, ◌∙◌, Some, None, arith, map, filter, zip, slice_get, append_assoc, append-nil, eq-eqb, eqb, eqb-true, nat_le, le-leb}
 use Rattle.std.specs.List.{AllByRecursion, flat_map, range_with_len, list_all}
 use Rattle.std.specs.Cmp.Derive.{both_true}
+use Rattle.std.proofs.Math.Bool.{and-false}
 use Rattle.std.proofs.lemmas.List.{length-replicate}
 use Rattle.std.proofs.lemmas.List.Elements.{filter-append}
 use Rattle.std.proofs.lemmas.List.Sums.{length-filter}
 use Rattle.std.proofs.lemmas.Grind.{flat_map-append}
+use Rattle.std.proofs.lemmas.Option.{same_Some}
+use Rattle.hs_lists.proofs.Alls.{all_append, all_replicate, all_flat_map}
+use Rattle.hs_lists.proofs.Filters.{filter_all, filter_none}
 use Rattle.hs_base.specs.declared.limits.TheConstants.{MAX_TAKEN}
 use Rattle.hs_journal.specs.declared.journal.Step.{Step}
 use Rattle.hs_journal.specs.declared.journal.Step.TheVariants as steps
 use Rattle.hs_records.specs.Plain.{PlainWorkload}
 use Rattle.hs_sent.specs.Sending.{ClientSends, place_of, sent_within}
 use Rattle.hs_lawful.specs.Following.{Queue, Chunks, Crumbs, Triggers, Asks, takes, taken, asks_to, NodeRun, Run}
-use Rattle.hs_lawful.specs.Passes.{is_turn, is_offer, ends_between, put_step, passes_of, client_queues, queues_of, same_step, same_steps, arranged, is_whole_pass}
+use Rattle.hs_lawful.specs.Passes.{is_turn, is_offer, ends_between, put_step, passes_of, client_queues, queues_of, same_steps, arranged, is_whole_pass}
 use Rattle.hs_lawful.specs.Played.{clients_of}
+use Rattle.hs_lawful.proofs.Logs.{same_steps_refl}
 use Rattle.hs_lockstep.specs.Lockstep.{Machine, takes_from, takes_of, takes_all, pass_steps, done_at}
-use Rattle.hs_lockstep.proofs.Lists.{all_append, all_replicate, all_map, all_flat, some_same}
+use Rattle.hs_lockstep.proofs.Lists.{all_map}
 use Rattle.hs_lockstep.proofs.Takes.{all_takes}
 
 -- ---- where passes end
-
-and_no : (b : Bool) → (b && false) ≡ false
-and_no true = refl
-and_no false = refl
 
 -- whether a log ends behind a pass
 abbrev pub ends_pass : List Step → Bool
@@ -97,7 +98,7 @@ gives stamps = map (λ (stamp : ℕ). steps.Given stamp) stamps
 -- a turn and its gives
 gives_one : (step : Step) (stamps : List ℕ) → passes_of (step ∷ gives stamps) ≡ (step ∷ gives stamps) ∷ []
 gives_one step [] = refl
-gives_one step (stamp ∷ stamps) = one_longer step (steps.Given stamp) (gives stamps) (gives_one (steps.Given stamp) stamps) (and_no (is_turn step || is_offer step))
+gives_one step (stamp ∷ stamps) = one_longer step (steps.Given stamp) (gives stamps) (gives_one (steps.Given stamp) stamps) (and-false (is_turn step || is_offer step))
 
 gives_end : (step : Step) (stamps : List ℕ) → (is_turn step || is_offer step) ≡ true → ends_pass (step ∷ gives stamps) ≡ true
 gives_end step [] h = h
@@ -135,21 +136,13 @@ module _ {X : Type 0} (p : X → Bool) where
   keep_case x kept rest true e h = ap (λ rest. x ∷ rest) h
   keep_case x kept rest false e h = let no : false ≡ true = e in absurd cc
 
-  keeps_all : (xs : List X) → AllByRecursion (λ x. p x ≡ true) xs → filter p xs ≡ xs
-  keeps_all [] all = refl
-  keeps_all (x ∷ xs) all = keep_case x (filter p xs) xs (p x) all.0 (keeps_all xs all.1)
-
   drop_case : (x : X) (kept : List X) (b : Bool) → b ≡ false → kept ≡ [] → cond b (x ∷ kept) kept ≡ []
   drop_case x kept true e h = let no : true ≡ false = e in absurd cc
   drop_case x kept false e h = h
 
-  keeps_none : (xs : List X) → AllByRecursion (λ x. p x ≡ false) xs → filter p xs ≡ []
-  keeps_none [] all = refl
-  keeps_none (x ∷ xs) all = drop_case x (filter p xs) (p x) all.0 (keeps_none xs all.1)
-
   keeps_replicate : (n : ℕ) (x : X) (b : Bool) → p x ≡ b → filter p (replicate n x) ≡ cond b (replicate n x) []
-  keeps_replicate n x true h = keeps_all (replicate n x) (all_replicate (λ y. p y ≡ true) n x h)
-  keeps_replicate n x false h = keeps_none (replicate n x) (all_replicate (λ y. p y ≡ false) n x h)
+  keeps_replicate n x true h = filter_all p (replicate n x) (all_replicate (λ y. p y ≡ true) n x h)
+  keeps_replicate n x false h = filter_none p (replicate n x) (all_replicate (λ y. p y ≡ false) n x h)
 
 -- ---- what one client's queue gives
 
@@ -227,26 +220,12 @@ module _ (node : NodeRun) (done : ℕ → ℕ) where
         ∙ ap (λ (back : List Step). block start first ++ back) (none_there client (start + 1) sends (omega (arith, e)))
         ∙ append-nil (block start first)
         ∙ ap (λ (n : ℕ). block n first) number
-        ∙ ap (block client) (some_same first s h)
+        ∙ ap (block client) (same_Some first s h)
     one_there client start (suc i) (first ∷ sends) s e h =
         let ne : eqb start client ≡ false = differs start client (eqb start client) refl (λ same. absurd (omega (arith, same, e))) in
         filter-append (takes (make client)) (of_pair (start, first)) (flat_map of_pair (zip (range_with_len (start + 1) (length sends)) sends))
         ∙ ap (λ (front : List Step). front ++ filter (takes (make client)) (flat_map of_pair (zip (range_with_len (start + 1) (length sends)) sends))) (own client start first false ne)
         ∙ one_there client (start + 1) i sends s (omega (arith, e)) h
-
-same_step_refl : (step : Step) → same_step step step ≡ true
-same_step_refl (steps.Chunk client) = eq-eqb client client refl
-same_step_refl (steps.Crumb client) = eq-eqb client client refl
-same_step_refl (steps.Trigger client) = eq-eqb client client refl
-same_step_refl steps.Ask = refl
-same_step_refl steps.Turn = refl
-same_step_refl (steps.Given stamp) = eq-eqb stamp stamp refl
-same_step_refl (steps.Missed stamp) = eq-eqb stamp stamp refl
-same_step_refl steps.Unread = refl
-
-same_refl : (log : List Step) → same_steps log log ≡ true
-same_refl [] = refl
-same_refl (step ∷ log) = both_true (same_step_refl step) (same_refl log)
 
 -- ---- a pass of the schedule
 
@@ -278,7 +257,7 @@ module _ (W : PlainWorkload) (m : Machine) (run : Run) (node : NodeRun) (stamps 
   parts p turn given =
       ap (filter p) whole_is
       ∙ filter-append p (clients_part ++ asks_part) (steps.Turn ∷ gives stamps)
-      ∙ ap (λ (back : List Step). filter p (clients_part ++ asks_part) ++ back) (keeps_none p (steps.Turn ∷ gives stamps) (turn, all_map (λ (s : Step). p s ≡ false) (λ (stamp : ℕ). steps.Given stamp) stamps given))
+      ∙ ap (λ (back : List Step). filter p (clients_part ++ asks_part) ++ back) (filter_none p (steps.Turn ∷ gives stamps) (turn, all_map (λ (s : Step). p s ≡ false) (λ (stamp : ℕ). steps.Given stamp) stamps given))
       ∙ append-nil (filter p (clients_part ++ asks_part))
       ∙ filter-append p clients_part asks_part
 
@@ -298,12 +277,12 @@ module _ (W : PlainWorkload) (m : Machine) (run : Run) (node : NodeRun) (stamps 
   asks_is : filter (takes Asks) whole ≡ asks_part
   asks_is =
       parts (takes Asks) refl (λ stamp. refl)
-      ∙ ap (λ (front : List Step). front ++ filter (takes Asks) asks_part) (keeps_none (takes Asks) clients_part clients_ask_none)
+      ∙ ap (λ (front : List Step). front ++ filter (takes Asks) asks_part) (filter_none (takes Asks) clients_part clients_ask_none)
       ∙ keeps_replicate (takes Asks) _ steps.Ask true refl
     where
       clients_ask_none : AllByRecursion (λ (s : Step). takes Asks s ≡ false) clients_part
       clients_ask_none =
-          all_flat (λ (s : Step). takes Asks s ≡ false) (λ (c : ℕ × ClientSends). takes_of node c.0 c.1 (done_of c.0)) (zip (range_with_len 0 (length node.sends)) node.sends)
+          all_flat_map (λ (s : Step). takes Asks s ≡ false) (λ (c : ℕ × ClientSends). takes_of node c.0 c.1 (done_of c.0)) (zip (range_with_len 0 (length node.sends)) node.sends)
           (λ c.
           all_append (λ (s : Step). takes Asks s ≡ false) (chunks_of node done_of c.0 c.1 ++ crumbs_of node done_of c.0 c.1) (triggers_of node done_of c.0 c.1)
           (all_append (λ (s : Step). takes Asks s ≡ false) (chunks_of node done_of c.0 c.1) (crumbs_of node done_of c.0 c.1)
@@ -341,8 +320,8 @@ module _ (W : PlainWorkload) (m : Machine) (run : Run) (node : NodeRun) (stamps 
       ap (filter is_offer) whole_is
       ∙ filter-append is_offer (clients_part ++ asks_part) (steps.Turn ∷ gives stamps)
       ∙ ap (λ (front : List Step). front ++ filter is_offer (steps.Turn ∷ gives stamps))
-      (keeps_none is_offer (clients_part ++ asks_part) (all_takes (λ (s : Step). is_offer s ≡ false) (λ client. refl) (λ client. refl) (λ client. refl) refl W m run node))
-      ∙ keeps_all is_offer (gives stamps) (all_map (λ (s : Step). is_offer s ≡ true) (λ (stamp : ℕ). steps.Given stamp) stamps (λ stamp. refl))
+      (filter_none is_offer (clients_part ++ asks_part) (all_takes (λ (s : Step). is_offer s ≡ false) (λ client. refl) (λ client. refl) (λ client. refl) refl W m run node))
+      ∙ filter_all is_offer (gives stamps) (all_map (λ (s : Step). is_offer s ≡ true) (λ (stamp : ℕ). steps.Given stamp) stamps (λ stamp. refl))
 
   queues_taken : flat_map queue_steps (queues_of W) ≡ clients_part ++ asks_part
   queues_taken =
@@ -399,7 +378,7 @@ module _ (W : PlainWorkload) (m : Machine) (run : Run) (node : NodeRun) (stamps 
 
   pub is_whole : is_whole_pass (queues_of W) whole ≡ true
   is_whole =
-      both_true (ap (same_steps whole) (sym is_arranged) ∙ same_refl whole) (passed (λ queue. nat_le (taken queue whole) MAX_TAKEN) (queues_of W) all_few)
+      both_true (ap (same_steps whole) (sym is_arranged) ∙ same_steps_refl whole) (passed (λ queue. nat_le (taken queue whole) MAX_TAKEN) (queues_of W) all_few)
     where
       passed : (p : Queue → Bool) (queues : List Queue) → AllByRecursion (λ q. p q ≡ true) queues → list_all p queues ≡ true
       passed p [] all = refl

@@ -1,38 +1,20 @@
 -- A node that walks through all its steps comes to where these steps lead when they are performed one after another, with nothing left.
 use Rattle.std.proofs.Common.{◌≡◌, List, [], ◌∷◌, refl, sym, ap, subst, ◌∙◌, Option, Some, None, option_map}
 use Rattle.std.specs.Option.{option_and_then}
+use Rattle.std.proofs.lemmas.Option.{same_Some}
 use Rattle.hs_coord.specs.Following.{Messages}
 use Rattle.hs_journal.specs.declared.journal.Step.{Step}
 use Rattle.hs_journal.specs.declared.journal.Step.TheVariants as steps
 use Rattle.hs_model.specs.Stepping.{Event}
 use Rattle.hs_records.specs.Plain.{PlainSettings}
-use Rattle.hs_lawful.specs.Following.{NodeRun, event_of, perform, step_of, step_node}
+use Rattle.hs_lawful.specs.Following.{NodeRun, event_of, perform}
+use Rattle.hs_lawful.proofs.Steps.{step_from}
 use Rattle.hs_lockstep.specs.Performing.{after_steps}
-use Rattle.hs_lockstep.proofs.Groups.{unmapped}
-use Rattle.hs_lockstep.proofs.Lists.{some_same}
 use Rattle.hs_lockstep.proofs.Walks.{Walks, Walked, IsThrough, Stands, Steps, step_is}
 
 -- the node with nothing left
 abbrev pub bare : NodeRun → NodeRun
 bare run = record run { left = [] }
-
--- a step that a node performed
-pub record IsReady (settings : PlainSettings) (heard : Messages) (run next : NodeRun) : Type 0 where
-  pub step : Step
-  pub rest : List Step
-  pub event : Event
-  pub left : run.left ≡ step ∷ rest
-  pub met : event_of run heard step ≡ Some event
-  pub is : next ≡ perform settings rest run event
-
-pub ready : (settings : PlainSettings) (heard : Messages) (run next : NodeRun) → step_node settings heard run ≡ Some next → IsReady settings heard run next
-ready settings heard run next h = go run.left refl h
-  where
-    go : (left : List Step) → run.left ≡ left → step_of settings heard run left ≡ Some next → IsReady settings heard run next
-    go [] e h = let never : None ≡ Some next = h in absurd cc
-    go (step ∷ rest) e h =
-        let t = unmapped (perform settings rest run) (event_of run heard step) next h in
-        record { step = step; rest = rest; event = t.0; left = e; met = t.1; is = sym t.2 }
 
 -- what is left of a log is none of a step's business
 pub bare_event : (run : NodeRun) (heard : Messages) (step : Step) → event_of (bare run) heard step ≡ event_of run heard step
@@ -69,7 +51,7 @@ first_of_steps settings heard step rest run later h = go (event_of run heard ste
 pub walk_performed : (settings : PlainSettings) (heard : Messages) (run last : NodeRun) → Walks settings heard run last → last.left ≡ [] → after_steps settings heard run.left (bare run) ≡ Some last
 walk_performed settings heard run last (Stands r) e = ap (λ (left : List Step). after_steps settings heard left (bare r)) e ∙ ap Some (bare_is r e)
 walk_performed settings heard run last (Steps r next l h walks) e =
-    let s = ready settings heard r next h in
+    let s = step_from settings heard r next h in
     ap (λ (left : List Step). after_steps settings heard left (bare r)) s.left
     ∙ first_step settings heard s.step s.rest (bare r) s.event (bare_event r heard s.step ∙ s.met)
     ∙ ap (λ (n : NodeRun). after_steps settings heard n.left (bare n)) (sym s.is)
@@ -91,7 +73,7 @@ pub record IsKept (run later : NodeRun) : Type 0 where
   pub sends : later.sends ≡ run.sends
 
 pub steps_keep : (settings : PlainSettings) (heard : Messages) (steps : List Step) (run later : NodeRun) → after_steps settings heard steps run ≡ Some later → IsKept run later
-steps_keep settings heard [] run later e = subst (IsKept run) (some_same run later e) (record { number = refl; sends = refl })
+steps_keep settings heard [] run later e = subst (IsKept run) (same_Some run later e) (record { number = refl; sends = refl })
 steps_keep settings heard (step ∷ rest) run later e =
     let f = first_of_steps settings heard step rest run later e in
     let on = steps_keep settings heard rest (perform settings [] run f.event) later f.on in
@@ -100,4 +82,4 @@ steps_keep settings heard (step ∷ rest) run later e =
 -- a walk keeps the number of its node
 pub walk_number : (settings : PlainSettings) (heard : Messages) (run last : NodeRun) → Walks settings heard run last → last.node ≡ run.node
 walk_number settings heard run last (Stands r) = refl
-walk_number settings heard run last (Steps r next l h walks) = walk_number settings heard next last walks ∙ ap (λ (n : NodeRun). n.node) (ready settings heard r next h).is
+walk_number settings heard run last (Steps r next l h walks) = walk_number settings heard next last walks ∙ ap (λ (n : NodeRun). n.node) (step_from settings heard r next h).is

@@ -3,9 +3,12 @@ use Rattle.std.proofs.Common.{◌≡◌, ℕ, zero, suc, ◌+◌, ◌*◌, ◌<�
 use Rattle.std.specs.List.{AllByRecursion, list_any, range_with_len}
 use Rattle.std.specs.Option.{option_map_or}
 use Rattle.std.proofs.Math.Nat.{suc-mul}
+use Rattle.std.proofs.lemmas.Bool.{and_parts}
 use Rattle.std.proofs.lemmas.List.{length-map}
 use Rattle.std.proofs.lemmas.List.FromFn.{length-range_with_len}
-use Rattle.std.proofs.lemmas.Option.{slice_get-map}
+use Rattle.std.proofs.lemmas.Option.{slice_get-map, slice_get_within, same_Some}
+use Rattle.hs_lists.proofs.Alls.{all_at}
+use Rattle.hs_lists.proofs.Ranges.{range_at}
 use Rattle.hs_base.specs.Rules.{is_declared}
 use Rattle.hs_base.specs.declared.ids.TriggerId.{TriggerId}
 use Rattle.hs_base.specs.declared.limits.TheConstants.{MIN_SIZE}
@@ -26,12 +29,10 @@ use Rattle.hs_sent.specs.Timing.{timed_pages}
 use Rattle.hs_words.specs.Chunks.{used_of}
 use Rattle.hs_lawful.specs.Following.{NodeRun}
 use Rattle.hs_lawful.specs.Laws.{ComesByEvents}
-use Rattle.hs_lockstep.proofs.Beside.{drawn_at, get_low}
-use Rattle.hs_lockstep.proofs.Groups.{is_known, AreOfRules, Speaks, and_parts}
+use Rattle.hs_lockstep.proofs.Beside.{drawn_at}
+use Rattle.hs_lockstep.proofs.Groups.{is_known, AreOfRules, Speaks}
 use Rattle.hs_lockstep.proofs.Held.{HoldsAt}
 use Rattle.hs_lockstep.proofs.Holding.{page_found}
-use Rattle.hs_lockstep.proofs.Lists.{some_same, all_get}
-use Rattle.hs_lockstep.proofs.Pools.{range_at}
 
 -- each trigger id has a weight
 abbrev pub HaveWeights : List TriggerRule → Type 0
@@ -74,7 +75,7 @@ claim_found (c ∷ claims) P p group all h = either (p c) h (λ h. claim_found c
   where
     either : (b : Bool) → option_map (λ (claim : ClaimedTrace). claim.group) (cond b (Some c) (find p claims)) ≡ Some group
         → (option_map (λ (claim : ClaimedTrace). claim.group) (find p claims) ≡ Some group → (claim : ClaimedTrace) × P claim × (claim.group ≡ group)) → (claim : ClaimedTrace) × P claim × (claim.group ≡ group)
-    either true h on = (c, all.0, some_same c.group group h)
+    either true h on = (c, all.0, same_Some c.group group h)
     either false h on = on h
 
 module _ (places : ListsHaveTheirChunks) (claims : ChunksStandByTheirClaim) (fit : PagesFit) (W : PlainWorkload) (J : PlainJournal) (least : MIN_SIZE ≤ W.settings.size) (weights : HaveWeights W.settings.triggers) (i : ℕ) (nodes : List NodeRun) (run : NodeRun)
@@ -92,17 +93,17 @@ module _ (places : ListsHaveTheirChunks) (claims : ChunksStandByTheirClaim) (fit
             let f = page_found run.sends chunk.sheet d.page d.there in
             let c = chunk.sheet.header.client.number in
             let there : slice_get (node_sends W J i) c ≡ Some f.client = ap (λ (all : List ClientSends). slice_get all c) (sym sends) ∙ f.there in
-            let short = get_low (node_sends W J i) c f.client there in
+            let short = slice_get_within (node_sends W J i) c f.client there in
             let count = length-map (range_with_len 0 W.settings.clients) (client_sends W J i) ∙ length-range_with_len 0 W.settings.clients in
             let low : c < W.settings.clients = omega (arith, short, count) in
             let zeroth : 0 + c ≡ c = omega arith in
             let same : f.client ≡ client_sends W J i c =
-            some_same f.client (client_sends W J i c)
+            same_Some f.client (client_sends W J i c)
             (sym there ∙ slice_get-map (client_sends W J i) (range_with_len 0 W.settings.clients) c ∙ ap (option_map (client_sends W J i)) (range_at 0 W.settings.clients c low ∙ ap Some zeroth))
             in
             let place_c = place_of W.settings.clients i c in
             let a = drawn_at (record { node = i; number = c }) 0 (timed_pages W.settings.size (operations_at W place_c)) (draws_at J place_c) chunk.sheet.header.page d.page (ap (λ (s : ClientSends). slice_get s.drawn chunk.sheet.header.page) (sym same) ∙ f.is) in
-            let fits = all_get _ (timed_pages W.settings.size (operations_at W place_c)) chunk.sheet.header.page a.page (fit W.settings.size (operations_at W place_c) least) a.there d.page.client d.page.number in
+            let fits = all_at _ (timed_pages W.settings.size (operations_at W place_c)) chunk.sheet.header.page a.page (fit W.settings.size (operations_at W place_c) least) a.there d.page.client d.page.number in
             let used : used_of chunk.sheet ≡ used_of (sheet_of (record d.page { page = a.page.page })) = ap used_of (sym d.is) ∙ ap (λ plain. used_of (sheet_of (record d.page { page = plain }))) a.plain in
             omega (arith, fits, used)
 
@@ -138,7 +139,7 @@ module _ (places : ListsHaveTheirChunks) (claims : ChunksStandByTheirClaim) (fit
         let here = ap (λ b. cond b 1 0 + count_of others place) (eq-eqb place place refl) in
         let stood = stands_there (stands is_pinned run.state.taken place) (count_of run.state.pinned place) (m.pinned_each place) (omega (arith, count, here)) in
         let p = pinned_at place stood in
-        let by_claim = all_get (λ (chunk : Taken). StandsByClaim run.state.claims (trace_of chunk) chunk.standing) run.state.taken place p.chunk all p.there in
+        let by_claim = all_at (λ (chunk : Taken). StandsByClaim run.state.claims (trace_of chunk) chunk.standing) run.state.taken place p.chunk all p.there in
         let claimed : claiming_group run.state.claims (trace_of p.chunk) ≡ Some p.group = subst (λ (s : ChunkStanding). StandsByClaim run.state.claims (trace_of p.chunk) s) p.standing by_claim in
         let c = claim_found run.state.claims (λ (claim : ClaimedTrace). is_known W.settings nodes claim.group ≡ true) (λ claim. same_trace (trace_of p.chunk) claim.trace) p.group speaks.claims claimed in
         let known = subst (λ (g : Group). is_known W.settings nodes g ≡ true) c.2 c.1 in

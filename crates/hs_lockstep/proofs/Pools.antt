@@ -1,12 +1,16 @@
 -- What is held at the end shows the three clauses of pools: the stamps number the events, the events are a history, and each give
 -- answers the draw of its chunk.
-use Rattle.std.proofs.Common.{◌≡◌, ℕ, zero, suc, ◌+◌, ◌<◌, ◌≤◌, Bool, true, false, ◌&&◌, List, [], ◌∷◌, ◌++◌, length, refl, sym, ap, subst, ◌∙◌, Some, arith, map, option_map, slice_get, count_by, eqb, nat_eq, eq-eqb}
+use Rattle.std.proofs.Common.{◌≡◌, ℕ, zero, suc, ◌+◌, ◌<◌, ◌≤◌, true, false, List, [], ◌∷◌, ◌++◌, length, refl, sym, ap, subst, ◌∙◌, Some, arith, map, option_map, slice_get, count_by, eqb, nat_eq, eq-eqb}
 use Rattle.std.specs.List.{AllByRecursion, flat_map, range_with_len, list_all, cons_option}
 use Rattle.std.specs.Option.{option_and_then, option_map_or}
 use Rattle.std.specs.Cmp.Derive.{both_true}
 use Rattle.std.proofs.lemmas.List.{map-append, length-map}
 use Rattle.std.proofs.lemmas.Nat.{mul-add-lt}
 use Rattle.std.proofs.lemmas.Option.{slice_get-map}
+use Rattle.hs_lists.proofs.Alls.{all_each, all_at}
+use Rattle.hs_lists.proofs.Places.{get_there}
+use Rattle.hs_lists.proofs.Tests.{list_all_from, list_all_map}
+use Rattle.hs_lists.proofs.Ranges.{list_all_range_below, range_at}
 use Rattle.hs_base.specs.declared.ids.ClientId.{ClientId}
 use Rattle.hs_journal.specs.declared.journal.Draw.{Draw}
 use Rattle.hs_journal.specs.Views.{PlainJournal}
@@ -29,7 +33,6 @@ use Rattle.hs_lockstep.proofs.Growing.{events_back, stamps_of, IsAnswered, answe
 use Rattle.hs_lockstep.proofs.Held.{node_events, HoldsAt, IsHeld, pool_is, sheet_at}
 use Rattle.hs_lockstep.proofs.Holding.{pages_in, gives_in, event_there, GiveAnswers}
 use Rattle.hs_lockstep.proofs.Keeping.{Keeps, ends_keep, own_sends}
-use Rattle.hs_lockstep.proofs.Lists.{all_each, all_get, get_there, passes_all, passes_range}
 use Rattle.hs_lockstep.proofs.Machines.{machine_end}
 use Rattle.hs_lockstep.proofs.Shapes.{all_timed}
 
@@ -50,7 +53,7 @@ module _ (W : PlainWorkload) (run : NodeRun) (h : HoldsAt W.settings run) where
 
   answers_there : gives_answer run ≡ true
   answers_there =
-      passes_all (λ (g : GivenPlace). option_map_or (λ (d : DrawnPage). answers_draw (pool_events run) g.stamp d.draw) (given_page run run.state g.place) false) run.state.given
+      list_all_from (λ (g : GivenPlace). option_map_or (λ (d : DrawnPage). answers_draw (pool_events run) g.stamp d.draw) (given_page run run.state g.place) false) run.state.given
       (all_each (GiveAnswers run.sends (sheets_of run.state.taken) run.state.given)
       (λ (g : GivenPlace). option_map_or (λ (d : DrawnPage). answers_draw (pool_events run) g.stamp d.draw) (given_page run run.state g.place) false ≡ true) run.state.given give_passes h.answers)
 
@@ -73,15 +76,6 @@ drawn_stamps client k (page ∷ timed) [] same = let no : suc (length timed) ≡
 drawn_stamps client k (page ∷ timed) (draw ∷ draws) same =
     let tails : suc (length timed) ≡ suc (length draws) = same in ap (λ (rest : List ℕ). stamp_of draw ∷ rest) (drawn_stamps client (k + 1) timed draws (omega (arith, tails)))
 
-tested : {X Y : Type 0} (p : Y → Bool) (f : X → Y) (xs : List X) → list_all p (map f xs) ≡ list_all (λ x. p (f x)) xs
-tested p f [] = refl
-tested p f (x ∷ xs) = ap (λ b. p (f x) && b) (tested p f xs)
-
-pub range_at : (start count i : ℕ) → i < count → slice_get (range_with_len start count) i ≡ Some (start + i)
-range_at start zero i h = absurd (omega (arith, h))
-range_at start (suc count) zero h = let here : start ≡ start + 0 = omega arith in ap Some here
-range_at start (suc count) (suc i) h = let there : start + 1 + i ≡ start + suc i = omega arith in range_at (start + 1) count i (omega (arith, h)) ∙ ap Some there
-
 module _ (k : Known) (W : PlainWorkload) where
   abbrev J : PlainJournal
   J = lockstep W
@@ -93,7 +87,7 @@ module _ (k : Known) (W : PlainWorkload) where
   history_all = all_each (IsHeld W.settings) (λ (run : NodeRun). IsPoolHistory W.settings.buffers (pool_history run)) (followed W J).nodes (λ run h. history_there W run h.holds) kept.held
 
   pub answers_all : has_answers (played W J) ≡ true
-  answers_all = passes_all gives_answer (followed W J).nodes (all_each (IsHeld W.settings) (λ (run : NodeRun). gives_answer run ≡ true) (followed W J).nodes (λ run h. answers_there W run h.holds) kept.held)
+  answers_all = list_all_from gives_answer (followed W J).nodes (all_each (IsHeld W.settings) (λ (run : NodeRun). gives_answer run ≡ true) (followed W J).nodes (λ run h. answers_there W run h.holds) kept.held)
 
   module _ (laid : IsLaidOut W) (node : ℕ) (low : node < W.settings.nodes) where
     here : (run : NodeRun) × (slice_get (followed W J).nodes node ≡ Some run)
@@ -106,7 +100,7 @@ module _ (k : Known) (W : PlainWorkload) where
     number = number_is k W J node run here.1
 
     holds : HoldsAt W.settings run
-    holds = (all_get (IsHeld W.settings) (followed W J).nodes node run kept.held here.1).holds
+    holds = (all_at (IsHeld W.settings) (followed W J).nodes node run kept.held here.1).holds
 
     log : log_at J node ≡ run.state.log
     log = sym (log_of k W (machine_end W) kept.done node run here.1)
@@ -145,7 +139,7 @@ module _ (k : Known) (W : PlainWorkload) where
     numbered : are_numbered (node_stamps W J node) ≡ true
     numbered =
         subst (λ (stamps : List ℕ). are_numbered stamps ≡ true) (sym stamps_are)
-        (passes_range (λ s. nat_eq (count_by (λ t. eqb t s) (stamps_of (node_events run))) 1) 0 (length (stamps_of (node_events run)))
+        (list_all_range_below (λ s. nat_eq (count_by (λ t. eqb t s) (stamps_of (node_events run))) 1) 0 (length (stamps_of (node_events run)))
         (λ s below.
         let long = length-map (node_events run) (λ (e : PoolEvent). e.stamp) in
         eq-eqb (count_by (λ t. eqb t s) (stamps_of (node_events run))) 1 (holds.pooled.each s (omega (arith, below, long)))))
@@ -159,8 +153,8 @@ module _ (k : Known) (W : PlainWorkload) where
 
     draws_rise : list_all (λ draws. rise (draw_stamps draws)) (node_draws W J node) ≡ true
     draws_rise =
-        tested (λ draws. rise (draw_stamps draws)) (λ client. draws_at J (place_of W.settings.clients node client)) (range_with_len 0 W.settings.clients)
-        ∙ passes_range (λ client. rise (draw_stamps (draws_at J (place_of W.settings.clients node client)))) 0 W.settings.clients
+        list_all_map (λ draws. rise (draw_stamps draws)) (λ client. draws_at J (place_of W.settings.clients node client)) (range_with_len 0 W.settings.clients)
+        ∙ list_all_range_below (λ client. rise (draw_stamps (draws_at J (place_of W.settings.clients node client)))) 0 W.settings.clients
         (λ client below.
         let low : client < W.settings.clients = omega (arith, below) in
         ap rise (sym (client_stamps client low)) ∙ (holds.clients client (client_sends W J node client) (client_there client low)).rises)
@@ -169,7 +163,7 @@ module _ (k : Known) (W : PlainWorkload) where
     stamps_there = both_true (both_true numbered draws_rise) (ap (λ log. rise (log_stamps log)) log ∙ holds.rising)
 
   pub stamps_all : IsLaidOut W → has_stamps (played W J) ≡ true
-  stamps_all laid = passes_range (node_has_stamps W J) 0 W.settings.nodes (λ node h. stamps_there laid node (omega (arith, h)))
+  stamps_all laid = list_all_range_below (node_has_stamps W J) 0 W.settings.nodes (λ node h. stamps_there laid node (omega (arith, h)))
 
 pub schedule_has_history : Known → ScheduleHasHistory
 schedule_has_history k W = history_all k W

@@ -1,10 +1,12 @@
 -- What a pass does at each node: what the agent bears grows by what it takes at most, and where it takes nothing, a turn takes something
 -- off, if something was pinned.
-use Rattle.std.proofs.Common.{◌≡◌, ◌⊎◌, inl, inr, ℕ, ◌+◌, ◌<◌, ◌≤◌, false, List, [], ◌∷◌, length, refl, sym, ap, subst, ◌∙◌, Option, Some, None, arith, option_map, slice_get, length-append}
+use Rattle.std.proofs.Common.{◌≡◌, ◌⊎◌, inl, inr, ℕ, ◌+◌, ◌<◌, ◌≤◌, false, List, [], ◌∷◌, length, refl, sym, ap, subst, ◌∙◌, Some, arith, slice_get, length-append}
 use Rattle.std.specs.List.{range_with_len}
 use Rattle.std.proofs.lemmas.List.{length-map}
 use Rattle.std.proofs.lemmas.List.FromFn.{length-range_with_len}
-use Rattle.std.proofs.lemmas.Option.{slice_get-map}
+use Rattle.std.proofs.lemmas.Option.{slice_get-map, same_Some}
+use Rattle.hs_lists.proofs.Alls.{all_by_place, all_map, all_append, all_at}
+use Rattle.hs_lists.proofs.Options.{option_unmap}
 use Rattle.hs_base.specs.declared.limits.TheConstants.{MIN_SIZE}
 use Rattle.hs_journal.specs.declared.journal.Step.{Step}
 use Rattle.hs_journal.specs.declared.journal.Step.TheVariants as steps
@@ -20,21 +22,16 @@ use Rattle.hs_lawful.specs.Pooled.{pool_events}
 use Rattle.hs_lockstep.specs.Clauses.{IsLaidOut}
 use Rattle.hs_lockstep.specs.Known.{Known}
 use Rattle.hs_lockstep.specs.Lockstep.{Machine, pass_steps, give_steps, agents_take, agents_give, coordinator_hears, passes}
-use Rattle.hs_lockstep.proofs.Followed.{all_places, mapped_all, number_is, enough_of, left_is, steps_there, StepsThere, hear_there, IsDone}
+use Rattle.hs_lockstep.proofs.Followed.{number_is, enough_of, left_is, steps_there, StepsThere, hear_there, IsDone}
 use Rattle.hs_lockstep.proofs.Groups.{Spoken, all_spoken}
 use Rattle.hs_lockstep.proofs.Held.{IsHeld}
 use Rattle.hs_lockstep.proofs.Keeping.{own_sends}
-use Rattle.hs_lockstep.proofs.Lists.{some_same, all_append, all_get}
 use Rattle.hs_lockstep.proofs.Offers.{done_given, done_taken}
 use Rattle.hs_lockstep.proofs.Pins.{HaveWeights, can_report}
 use Rattle.hs_lockstep.proofs.Rounds.{Going}
 use Rattle.hs_lockstep.proofs.Takes.{before_turn, all_takes}
 use Rattle.hs_lockstep.proofs.Walks.{Walked, IsThrough, IsEmptied, takes_keep, gives_keep}
 use Rattle.hs_lockstep.proofs.Working.{work, load, Works, step_works, give_works}
-
-unmapped : {X Y : Type 0} (f : X → Y) (o : Option X) (y : Y) → option_map f o ≡ Some y → (x : X) × (o ≡ Some x) × (f x ≡ y)
-unmapped f None y h = let never : None ≡ Some y = h in absurd cc
-unmapped f (Some x) y h = (x, refl, some_same (f x) y h)
 
 module _ (k : Known) (W : PlainWorkload) (laid : IsLaidOut W) (least : MIN_SIZE ≤ W.settings.size) (weights : HaveWeights W.settings.triggers) where
   abbrev clients : ℕ
@@ -64,10 +61,10 @@ module _ (k : Known) (W : PlainWorkload) (laid : IsLaidOut W) (least : MIN_SIZE 
 
     can_at : (i : ℕ) (node : NodeRun) → slice_get before.nodes i ≡ Some node → (place : ℕ) (others : List ℕ) → node.state.pinned ≡ place ∷ others → CanReport W.settings node.state
     can_at i node stands =
-        let held = all_get (IsHeld W.settings) before.nodes i node g.keeps.held stands in
+        let held = all_at (IsHeld W.settings) before.nodes i node g.keeps.held stands in
         let number = number_is k W m.journal i node stands in
         let sends = own_sends k W m.journal i node stands ∙ ap (node_sends W m.journal) number in
-        let speaks = all_get _ before.nodes i node (spoken m).nodes stands in
+        let speaks = all_at _ before.nodes i node (spoken m).nodes stands in
         can_report k.places k.stands k.fit W m.journal least weights i before.nodes node held.comes held.holds sends speaks
 
     record Took (r : NodeRun) : Type 0 where
@@ -142,8 +139,8 @@ module _ (k : Known) (W : PlainWorkload) (laid : IsLaidOut W) (least : MIN_SIZE 
     take_works : StepsThere k W m (pass_steps W m before) g.offers.done ThroughTook
     take_works =
         steps_there k W m (pass_steps W m before) g.offers.done ThroughTook (λ node e. e.0)
-        (mapped_all (Walked W.settings before.heard ThroughTook) (node_behind W m.journal taken.journal) before.nodes
-        (all_places (λ (node : NodeRun). Walked W.settings before.heard ThroughTook (node_behind W m.journal taken.journal node)) before.nodes take_node))
+        (all_map (Walked W.settings before.heard ThroughTook) (node_behind W m.journal taken.journal) before.nodes
+        (all_by_place (λ (node : NodeRun). Walked W.settings before.heard ThroughTook (node_behind W m.journal taken.journal node)) before.nodes take_node))
 
     -- ---- they give
 
@@ -188,8 +185,8 @@ module _ (k : Known) (W : PlainWorkload) (laid : IsLaidOut W) (least : MIN_SIZE 
     gave_works : StepsThere k W taken give_steps taken_done EmptiedGave
     gave_works =
         steps_there k W taken give_steps taken_done EmptiedGave (λ node e. e.0.through)
-        (mapped_all (Walked W.settings middle.heard EmptiedGave) (node_behind W taken.journal given.journal) middle.nodes
-        (all_places (λ (node : NodeRun). Walked W.settings middle.heard EmptiedGave (node_behind W taken.journal given.journal node)) middle.nodes give_node))
+        (all_map (Walked W.settings middle.heard EmptiedGave) (node_behind W taken.journal given.journal) middle.nodes
+        (all_by_place (λ (node : NodeRun). Walked W.settings middle.heard EmptiedGave (node_behind W taken.journal given.journal node)) middle.nodes give_node))
 
     given_done : IsDone W given
     given_done = done_given k W m g.offers
@@ -199,16 +196,16 @@ module _ (k : Known) (W : PlainWorkload) (laid : IsLaidOut W) (least : MIN_SIZE 
     pub pass_works : (i : ℕ) (node later : NodeRun) → slice_get before.nodes i ≡ Some node → slice_get (followed W (passes W m).journal).nodes i ≡ Some later → IsWorked node later
     pass_works i node later stands there =
         let u =
-        unmapped (node_behind W given.journal (coordinator_hears W given).journal) (slice_get (followed W given.journal).nodes i) later
+        option_unmap (node_behind W given.journal (coordinator_hears W given).journal) (slice_get (followed W given.journal).nodes i) later
         (sym (slice_get-map (node_behind W given.journal (coordinator_hears W given).journal) (followed W given.journal).nodes i)
         ∙ ap (λ (nodes : List NodeRun). slice_get nodes i) (sym (hear_there k W given given_done).nodes) ∙ there)
         in
-        let gave = (all_get EmptiedGave (followed W given.journal).nodes i u.0 gave_works.each u.1).1 in
+        let gave = (all_at EmptiedGave (followed W given.journal).nodes i u.0 gave_works.each u.1).1 in
         let gave_number = number_is k W given.journal i u.0 u.1 in
         let middle_stands : slice_get middle.nodes i ≡ Some gave.node = ap (slice_get middle.nodes) (sym gave_number) ∙ gave.stands in
-        let took = (all_get ThroughTook middle.nodes i gave.node take_works.each middle_stands).1 in
+        let took = (all_at ThroughTook middle.nodes i gave.node take_works.each middle_stands).1 in
         let took_number = number_is k W taken.journal i gave.node middle_stands in
-        let same : took.node ≡ node = some_same took.node node (sym (ap (slice_get before.nodes) (sym took_number) ∙ took.stands) ∙ stands) in
+        let same : took.node ≡ node = same_Some took.node node (sym (ap (slice_get before.nodes) (sym took_number) ∙ took.stands) ∙ stands) in
         subst (λ (later : NodeRun). IsWorked node later) u.2
         (subst (λ (node : NodeRun). IsWorked node (node_behind W given.journal (coordinator_hears W given).journal u.0)) same
         (let even = took.worked.even in

@@ -1,7 +1,11 @@
 -- How a node comes on while steps are performed: it keeps its name, its events only grow, and it has an event for each step of its
 -- log.
-use Rattle.std.proofs.Common.{◌≡◌, ◌⊎◌, ◌≢◌, inl, inr, ℕ, zero, suc, List, [], ◌∷◌, ◌++◌, length, set, refl, sym, ap, subst, ◌∙◌, Option, Some, None, arith, map, option_map, slice_get, append_assoc, append-nil, length-append}
+use Rattle.std.proofs.Common.{◌≡◌, ◌⊎◌, ◌≢◌, inl, inr, ℕ, List, [], ◌∷◌, ◌++◌, length, set, refl, sym, ap, subst, ◌∙◌, Option, Some, None, arith, map, option_map, slice_get, append_assoc, append-nil, length-append}
 use Rattle.std.specs.List.{AllByRecursion}
+use Rattle.std.proofs.lemmas.Bool.{cases_eq}
+use Rattle.std.proofs.lemmas.Option.{same_Some}
+use Rattle.hs_lists.proofs.Places.{get_set, get_other}
+use Rattle.hs_lists.proofs.Alls.{all_set, all_at}
 use Rattle.hs_base.specs.declared.ids.NodeId.{NodeId}
 use Rattle.hs_coord.specs.Following.{Message, Messages}
 use Rattle.hs_journal.specs.declared.journal.Step.{Step}
@@ -11,7 +15,6 @@ use Rattle.hs_records.specs.Plain.{PlainSettings, PlainWorkload}
 use Rattle.hs_lawful.specs.Extending.{StepsAreNoted}
 use Rattle.hs_lawful.specs.Following.{NodeRun, Run, event_of, perform, step_of, step_node, node_start, message_of, hear}
 use Rattle.hs_lawful.specs.Orders.{Performs, Leads, Stays, Goes}
-use Rattle.hs_lockstep.proofs.Lists.{some_same}
 
 -- ---- one step
 
@@ -25,7 +28,7 @@ record IsStep (settings : PlainSettings) (heard : Messages) (run stepped : NodeR
 step_event : (settings : PlainSettings) (heard : Messages) (run stepped : NodeRun) (step : Step) (rest : List Step) → run.left ≡ step ∷ rest → (o : Option Event)
     → option_map (perform settings rest run) o ≡ Some stepped → IsStep settings heard run stepped
 step_event settings heard run stepped step rest e None h = let no : None ≡ Some stepped = h in absurd cc
-step_event settings heard run stepped step rest e (Some event) h = record { step = step; rest = rest; event = event; left = e; is = sym (some_same (perform settings rest run event) stepped h) }
+step_event settings heard run stepped step rest e (Some event) h = record { step = step; rest = rest; event = event; left = e; is = sym (same_Some (perform settings rest run event) stepped h) }
 
 step_left : (settings : PlainSettings) (heard : Messages) (run stepped : NodeRun) (left : List Step) → run.left ≡ left → step_of settings heard run left ≡ Some stepped → IsStep settings heard run stepped
 step_left settings heard run stepped [] e h = let no : None ≡ Some stepped = h in absurd cc
@@ -82,49 +85,20 @@ step_even noted settings heard run stepped h even =
     let one = length-append run.events (s.event ∷ []) in
     omega (arith, whole, now, was, left, rest, events, one, even)
 
-same_or : (i j : ℕ) → (i ≡ j) ⊎ (i ≢ j)
-same_or zero zero = inl refl
-same_or zero (suc j) = inr (λ e. let no : zero ≡ suc j = e in absurd (omega (arith, no)))
-same_or (suc i) zero = inr (λ e. let no : suc i ≡ zero = e in absurd (omega (arith, no)))
-same_or (suc i) (suc j) = elim (same_or i j) as (λ _. (suc i ≡ suc j) ⊎ (suc i ≢ suc j)) [ inl e ↦ inl (ap suc e) | inr ne ↦ inr (λ e. ne (omega (arith, e))) ]
-
-module _ {X : Type 0} where
-  get_set : (xs : List X) (i : ℕ) (x y : X) → slice_get xs i ≡ Some x → slice_get (set xs i y) i ≡ Some y
-  get_set [] i x y h = let no : None ≡ Some x = h in absurd cc
-  get_set (z ∷ xs) zero x y h = refl
-  get_set (z ∷ xs) (suc i) x y h = get_set xs i x y h
-
-  get_other : (xs : List X) (i j : ℕ) (y : X) → i ≢ j → slice_get (set xs i y) j ≡ slice_get xs j
-  get_other [] i j y ne = refl
-  get_other (z ∷ xs) zero zero y ne = absurd (ne refl)
-  get_other (z ∷ xs) zero (suc j) y ne = refl
-  get_other (z ∷ xs) (suc i) zero y ne = refl
-  get_other (z ∷ xs) (suc i) (suc j) y ne = get_other xs i j y (λ e. ne (ap suc e))
-
-pub all_set : {X : Type 0} (P : X → Type 0) (xs : List X) (i : ℕ) (x : X) → AllByRecursion P xs → P x → AllByRecursion P (set xs i x)
-all_set P [] i x all h = tt
-all_set P (y ∷ xs) zero x all h = (h, all.1)
-all_set P (y ∷ xs) (suc i) x all h = (all.0, all_set P xs i x all.1 h)
-
-all_get : {X : Type 0} (P : X → Type 0) (xs : List X) (i : ℕ) (x : X) → AllByRecursion P xs → slice_get xs i ≡ Some x → P x
-all_get P [] i x all h = let no : None ≡ Some x = h in absurd cc
-all_get P (y ∷ xs) zero x all h = subst P (some_same y x h) all.0
-all_get P (y ∷ xs) (suc i) x all h = all_get P xs i x all.1 h
-
 hear_case : (run next : Run) (rest : List NodeId) (o : Option Message) → option_map (λ (m : Message). record run { left = rest; heard = run.heard ++ m ∷ [] }) o ≡ Some next → next.nodes ≡ run.nodes
 hear_case run next rest None h = let no : None ≡ Some next = h in absurd cc
-hear_case run next rest (Some m) h = ap (λ (r : Run). r.nodes) (sym (some_same (record run { left = rest; heard = run.heard ++ m ∷ [] }) next h))
+hear_case run next rest (Some m) h = ap (λ (r : Run). r.nodes) (sym (same_Some (record run { left = rest; heard = run.heard ++ m ∷ [] }) next h))
 
 pub hear_nodes : (run next : Run) (left : List NodeId) → hear run left ≡ Some next → next.nodes ≡ run.nodes
 hear_nodes run next [] h = let no : None ≡ Some next = h in absurd cc
 hear_nodes run next (node ∷ rest) h = hear_case run next rest (message_of run.nodes run.heard node) h
 
 performs_later : (settings : PlainSettings) (run next : Run) → Performs settings run next → AllLater run next
-performs_later settings run next (inl s) i node h = either (same_or s.place i)
+performs_later settings run next (inl s) i node h = either (cases_eq s.place i)
   where
     either : (s.place ≡ i) ⊎ (s.place ≢ i) → (later : NodeRun) × (slice_get next.nodes i ≡ Some later) × IsLater node later
     either (inl e) =
-        let same : s.node ≡ node = some_same s.node node (sym s.stands ∙ ap (slice_get run.nodes) e ∙ h) in (
+        let same : s.node ≡ node = same_Some s.node node (sym s.stands ∙ ap (slice_get run.nodes) e ∙ h) in (
           s.stepped,
           ap (λ (r : Run). slice_get r.nodes i) s.result ∙ ap (slice_get (set run.nodes s.place s.stepped)) (sym e) ∙ get_set run.nodes s.place s.node s.stepped s.stands,
           subst (λ (n : NodeRun). IsLater n s.stepped) same (step_later settings run.heard s.node s.stepped s.ready),
@@ -139,7 +113,7 @@ leads_later settings run last (Goes r next l p leads) i node h = all_on run next
 performs_even : StepsAreNoted → (settings : PlainSettings) (run next : Run) → AllByRecursion IsEven run.nodes → Performs settings run next → AllByRecursion IsEven next.nodes
 performs_even noted settings run next all (inl s) =
     subst (λ (r : Run). AllByRecursion IsEven r.nodes) (sym s.result)
-    (all_set IsEven run.nodes s.place s.stepped all (step_even noted settings run.heard s.node s.stepped s.ready (all_get IsEven run.nodes s.place s.node all s.stands)))
+    (all_set IsEven run.nodes s.place s.stepped all (step_even noted settings run.heard s.node s.stepped s.ready (all_at IsEven run.nodes s.place s.node all s.stands)))
 performs_even noted settings run next all (inr k) = subst (AllByRecursion IsEven) (sym (hear_nodes run next run.left k)) all
 
 pub leads_even : StepsAreNoted → (settings : PlainSettings) (run last : Run) → AllByRecursion IsEven run.nodes → Leads settings run last → AllByRecursion IsEven last.nodes

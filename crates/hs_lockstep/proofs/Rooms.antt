@@ -1,8 +1,10 @@
 -- What a pass takes is there to take: of each queue at most what is sent and was not taken before, and of each node's messages at
 -- most those that were said and not heard.
-use Rattle.std.proofs.Common.{◌≡◌, ℕ, zero, suc, ◌+◌, ◌-◌, ◌<◌, ◌≤◌, min, Bool, true, false, cond, List, [], ◌∷◌, ◌++◌, length, replicate, refl, ap, ◌∙◌, Option, Some, None, arith, map, filter, zip, slice_get, count_by, eqb, eqb-true}
+use Rattle.std.proofs.Common.{◌≡◌, ℕ, zero, suc, ◌+◌, ◌-◌, ◌<◌, ◌≤◌, min, Bool, true, false, cond, List, [], ◌∷◌, ◌++◌, length, replicate, refl, ap, ◌∙◌, Option, Some, None, arith, map, zip, slice_get, count_by, eqb, eqb-true}
 use Rattle.std.specs.List.{flat_map, range_with_len}
 use Rattle.std.specs.Option.{option_map_or}
+use Rattle.hs_lists.proofs.Counts.{one_if, count_cons, count_append}
+use Rattle.hs_lists.proofs.Filters.{filter_few}
 use Rattle.hs_base.specs.declared.ids.NodeId.{NodeId}
 use Rattle.hs_base.specs.declared.limits.TheConstants.{MAX_TAKEN}
 use Rattle.hs_journal.specs.declared.journal.Step.{Step}
@@ -12,7 +14,6 @@ use Rattle.hs_sent.specs.Sending.{ClientSends, place_of, sent_within}
 use Rattle.hs_lawful.specs.Following.{Queue, Chunks, Crumbs, Triggers, Asks, takes, taken, asks_to, is_from, NodeRun, Run}
 use Rattle.hs_lawful.specs.Supply.{sent_to, supply, said_at}
 use Rattle.hs_lockstep.specs.Lockstep.{Machine, takes_from, takes_of, takes_all, pass_steps, told_of, done_at}
-use Rattle.hs_lockstep.proofs.Lists.{one, count_cons, count_append}
 use Rattle.hs_lockstep.proofs.Walks.{is_node}
 
 module _ {X : Type 0} where
@@ -21,22 +22,18 @@ module _ {X : Type 0} where
   count_replicate p zero x false h = omega arith
   count_replicate p (suc n) x true h =
       let first = count_cons p x (replicate n x) in
-      let here = ap one h in
+      let here = ap one_if h in
       let rest = count_replicate p n x true h in
       omega (arith, first, here, rest)
   count_replicate p (suc n) x false h =
       let first = count_cons p x (replicate n x) in
-      let here = ap one h in
+      let here = ap one_if h in
       let rest = count_replicate p n x false h in
       omega (arith, first, here, rest)
 
   filter_case : (x : X) (kept : List X) (n : ℕ) (b : Bool) → length kept ≤ n → length (cond b (x ∷ kept) kept) ≤ suc n
   filter_case x kept n true h = omega (arith, h)
   filter_case x kept n false h = omega (arith, h)
-
-  filter_shorter : (p : X → Bool) (xs : List X) → length (filter p xs) ≤ length xs
-  filter_shorter p [] = omega arith
-  filter_shorter p (x ∷ xs) = filter_case x (filter p xs) (length xs) (p x) (filter_shorter p xs)
 
 -- ---- sums over numbered items
 
@@ -116,12 +113,12 @@ module _ (node : NodeRun) where
       in
       let a =
       block (Chunks client) (Chunks i) (steps.Chunk i) (length (sent_within done sends.chunks)) (eqb i client) refl (λ e. ap Chunks (eqb-true i client e)) (length sends.chunks)
-      (filter_shorter _ sends.chunks)
+      (filter_few _ sends.chunks)
       in
-      let b = block (Chunks client) (Crumbs i) (steps.Crumb i) (length (sent_within done sends.crumbs)) false refl (λ e. let no : false ≡ true = e in absurd cc) (length sends.crumbs) (filter_shorter _ sends.crumbs) in
+      let b = block (Chunks client) (Crumbs i) (steps.Crumb i) (length (sent_within done sends.crumbs)) false refl (λ e. let no : false ≡ true = e in absurd cc) (length sends.crumbs) (filter_few _ sends.crumbs) in
       let c =
       block (Chunks client) (Triggers i) (steps.Trigger i) (length (sent_within done sends.triggers)) false refl (λ e. let no : false ≡ true = e in absurd cc) (length sends.triggers)
-      (filter_shorter _ sends.triggers)
+      (filter_few _ sends.triggers)
       in
       omega (arith, all, a, b, c)
   client_le (Crumbs client) i sends done =
@@ -129,14 +126,14 @@ module _ (node : NodeRun) where
       three (Crumbs client) (takes_from node (Chunks i) (steps.Chunk i) (length (sent_within done sends.chunks)))
       (takes_from node (Crumbs i) (steps.Crumb i) (length (sent_within done sends.crumbs))) (takes_from node (Triggers i) (steps.Trigger i) (length (sent_within done sends.triggers)))
       in
-      let a = block (Crumbs client) (Chunks i) (steps.Chunk i) (length (sent_within done sends.chunks)) false refl (λ e. let no : false ≡ true = e in absurd cc) (length sends.chunks) (filter_shorter _ sends.chunks) in
+      let a = block (Crumbs client) (Chunks i) (steps.Chunk i) (length (sent_within done sends.chunks)) false refl (λ e. let no : false ≡ true = e in absurd cc) (length sends.chunks) (filter_few _ sends.chunks) in
       let b =
       block (Crumbs client) (Crumbs i) (steps.Crumb i) (length (sent_within done sends.crumbs)) (eqb i client) refl (λ e. ap Crumbs (eqb-true i client e)) (length sends.crumbs)
-      (filter_shorter _ sends.crumbs)
+      (filter_few _ sends.crumbs)
       in
       let c =
       block (Crumbs client) (Triggers i) (steps.Trigger i) (length (sent_within done sends.triggers)) false refl (λ e. let no : false ≡ true = e in absurd cc) (length sends.triggers)
-      (filter_shorter _ sends.triggers)
+      (filter_few _ sends.triggers)
       in
       omega (arith, all, a, b, c)
   client_le (Triggers client) i sends done =
@@ -144,11 +141,11 @@ module _ (node : NodeRun) where
       three (Triggers client) (takes_from node (Chunks i) (steps.Chunk i) (length (sent_within done sends.chunks)))
       (takes_from node (Crumbs i) (steps.Crumb i) (length (sent_within done sends.crumbs))) (takes_from node (Triggers i) (steps.Trigger i) (length (sent_within done sends.triggers)))
       in
-      let a = block (Triggers client) (Chunks i) (steps.Chunk i) (length (sent_within done sends.chunks)) false refl (λ e. let no : false ≡ true = e in absurd cc) (length sends.chunks) (filter_shorter _ sends.chunks) in
-      let b = block (Triggers client) (Crumbs i) (steps.Crumb i) (length (sent_within done sends.crumbs)) false refl (λ e. let no : false ≡ true = e in absurd cc) (length sends.crumbs) (filter_shorter _ sends.crumbs) in
+      let a = block (Triggers client) (Chunks i) (steps.Chunk i) (length (sent_within done sends.chunks)) false refl (λ e. let no : false ≡ true = e in absurd cc) (length sends.chunks) (filter_few _ sends.chunks) in
+      let b = block (Triggers client) (Crumbs i) (steps.Crumb i) (length (sent_within done sends.crumbs)) false refl (λ e. let no : false ≡ true = e in absurd cc) (length sends.crumbs) (filter_few _ sends.crumbs) in
       let c =
       block (Triggers client) (Triggers i) (steps.Trigger i) (length (sent_within done sends.triggers)) (eqb i client) refl (λ e. ap Triggers (eqb-true i client e)) (length sends.triggers)
-      (filter_shorter _ sends.triggers)
+      (filter_few _ sends.triggers)
       in
       omega (arith, all, a, b, c)
   client_le Asks i sends done =
@@ -156,10 +153,10 @@ module _ (node : NodeRun) where
       three Asks (takes_from node (Chunks i) (steps.Chunk i) (length (sent_within done sends.chunks))) (takes_from node (Crumbs i) (steps.Crumb i) (length (sent_within done sends.crumbs)))
       (takes_from node (Triggers i) (steps.Trigger i) (length (sent_within done sends.triggers)))
       in
-      let a = block Asks (Chunks i) (steps.Chunk i) (length (sent_within done sends.chunks)) false refl (λ e. let no : false ≡ true = e in absurd cc) (length sends.chunks) (filter_shorter _ sends.chunks) in
-      let b = block Asks (Crumbs i) (steps.Crumb i) (length (sent_within done sends.crumbs)) false refl (λ e. let no : false ≡ true = e in absurd cc) (length sends.crumbs) (filter_shorter _ sends.crumbs) in
+      let a = block Asks (Chunks i) (steps.Chunk i) (length (sent_within done sends.chunks)) false refl (λ e. let no : false ≡ true = e in absurd cc) (length sends.chunks) (filter_few _ sends.chunks) in
+      let b = block Asks (Crumbs i) (steps.Crumb i) (length (sent_within done sends.crumbs)) false refl (λ e. let no : false ≡ true = e in absurd cc) (length sends.crumbs) (filter_few _ sends.crumbs) in
       let c =
-      block Asks (Triggers i) (steps.Trigger i) (length (sent_within done sends.triggers)) false refl (λ e. let no : false ≡ true = e in absurd cc) (length sends.triggers) (filter_shorter _ sends.triggers)
+      block Asks (Triggers i) (steps.Trigger i) (length (sent_within done sends.triggers)) false refl (λ e. let no : false ≡ true = e in absurd cc) (length sends.triggers) (filter_few _ sends.triggers)
       in
       omega (arith, all, a, b, c)
 

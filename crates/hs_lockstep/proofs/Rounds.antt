@@ -1,10 +1,12 @@
 -- Round by round: before a pass every client is as far as the round lets it be, and the pass adds itself to each log. What holds of a
 -- journal at its start, and is kept when a client of the round draws and when a pass is made, holds of the whole schedule.
-use Rattle.std.proofs.Common.{◌≡◌, ◌⊎◌, inl, inr, ◌≢◌, ℕ, zero, suc, ◌+◌, ◌*◌, ◌<◌, ◌≤◌, min, Bool, true, false, cond, List, [], ◌∷◌, ◌++◌, length, refl, sym, ap, subst, ◌∙◌, Some, None, arith, filter, fold, slice_get, unwrap_or, replicate, ltb, ltb-true, ltb-false, length-append}
+use Rattle.std.proofs.Common.{◌≡◌, ◌⊎◌, inl, inr, ◌≢◌, ℕ, zero, suc, ◌+◌, ◌*◌, ◌<◌, ◌≤◌, min, Bool, true, false, cond, List, [], ◌∷◌, ◌++◌, length, refl, sym, ap, subst, ◌∙◌, Some, None, arith, filter, fold, slice_get, ltb, ltb-true, ltb-false, length-append}
 use Rattle.std.specs.List.{range_with_len}
 use Rattle.std.proofs.Math.Nat.{suc-mul, mul-le-mul_right}
 use Rattle.std.proofs.lemmas.List.{length-map}
 use Rattle.std.proofs.lemmas.List.FromFn.{length-range_with_len}
+use Rattle.hs_lists.proofs.Alls.{all_at}
+use Rattle.hs_lists.proofs.Places.{get_there}
 use Rattle.hs_journal.specs.declared.journal.Step.{Step}
 use Rattle.hs_model.specs.Laws.{sheets_of}
 use Rattle.hs_records.specs.Plain.{PlainWorkload}
@@ -21,11 +23,10 @@ use Rattle.hs_lawful.specs.Pooled.{PoolEvent, pool_events}
 use Rattle.hs_lockstep.specs.Clauses.{IsLaidOut}
 use Rattle.hs_lockstep.specs.Known.{Known}
 use Rattle.hs_lockstep.specs.Lockstep.{Machine, machine_start, done_at, client_goes, clients_go, pass_steps, agents_take, passes, round, rounds, closing, closing_limit}
-use Rattle.hs_lockstep.proofs.Followed.{count_nodes, number_is, log_of}
+use Rattle.hs_lockstep.proofs.Followed.{count_nodes, number_is, log_of, none_at}
 use Rattle.hs_lockstep.proofs.Held.{node_events, IsHeld, pool_is}
 use Rattle.hs_lockstep.proofs.Holding.{gives_in, at_page}
 use Rattle.hs_lockstep.proofs.Keeping.{Keeps, client_keeps_held, take_keeps_held, pass_keeps_held, starts_keep, own_sends}
-use Rattle.hs_lockstep.proofs.Lists.{all_get, get_there}
 use Rattle.hs_lockstep.proofs.Machines.{machine_end}
 use Rattle.hs_lockstep.proofs.Offers.{HasOffers, client_offers, pass_offers, starts, earlier, on_take, on_all, log_more, evens}
 use Rattle.hs_lockstep.proofs.Passing.{is_one, one_more, gives}
@@ -97,11 +98,6 @@ module _ (x : ℕ) where
   is_before from to [] j page h at few = let no : None ≡ Some page = at in absurd cc
   is_before from to (first ∷ pages) j page h at few =
       before_case first page pages to j (ltb first.started x) refl h.1 h.3 (λ j at few. is_before first.sent to pages j page h.3 at few) at few
-
-pub none_logged : (n place : ℕ) → unwrap_or (slice_get (replicate {A = List Step} n []) place) [] ≡ []
-none_logged zero place = refl
-none_logged (suc n) zero = refl
-none_logged (suc n) (suc place) = none_logged n place
 
 module _ (k : Known) (W : PlainWorkload) (laid : IsLaidOut W) where
   abbrev pub Offered : Machine → Type 0
@@ -213,7 +209,7 @@ module _ (k : Known) (W : PlainWorkload) (laid : IsLaidOut W) where
       in
       let clients = ap length sends ∙ length-map (range_with_len 0 W.settings.clients) (client_sends W m.journal i) ∙ length-range_with_len 0 W.settings.clients in
       let held =
-      (all_get (IsHeld W.settings) (followed W (agents_take W m).journal).nodes i middle.0 (take_keeps_held k W m kept).held middle.1).holds
+      (all_at (IsHeld W.settings) (followed W (agents_take W m).journal).nodes i middle.0 (take_keeps_held k W m kept).held middle.1).holds
       in
       let there : middle.0.sends ≡ node_sends W m.journal i =
       own_sends k W (agents_take W m).journal i middle.0 middle.1
@@ -225,9 +221,9 @@ module _ (k : Known) (W : PlainWorkload) (laid : IsLaidOut W) where
         stands = e.1;
         number = number;
         is_later = e.2;
-        even = all_get IsEven (followed W m.journal).nodes i e.0 (evens k W m.journal) e.1;
-        even_later = all_get IsEven (followed W (passes W m).journal).nodes i later (evens k W (passes W m).journal) stands;
-        comes_later = all_get (ComesByEvents W.settings) (followed W (passes W m).journal).nodes i later (k.comes W (passes W m).journal) stands;
+        even = all_at IsEven (followed W m.journal).nodes i e.0 (evens k W m.journal) e.1;
+        even_later = all_at IsEven (followed W (passes W m).journal).nodes i later (evens k W (passes W m).journal) stands;
+        comes_later = all_at (ComesByEvents W.settings) (followed W (passes W m).journal).nodes i later (k.comes W (passes W m).journal) stands;
         from = length (pool_events middle.0);
         count = length middle.0.state.hand;
         log = log;
@@ -342,7 +338,7 @@ module _ (k : Known) (W : PlainWorkload) (laid : IsLaidOut W) where
             drawn = b.drawn;
             offers = starts k W;
             keeps = starts_keep k W;
-            count = λ i low. ap (λ (log : List Step). length (passes_of log)) (none_logged W.settings.nodes i);
+            count = λ i low. ap (λ (log : List Step). length (passes_of log)) (none_at W.settings.nodes i);
             ahead = λ place before low. absurd (omega (arith, before));
             still = λ place behind low. b.done place low;
             past = b.past;

@@ -3,9 +3,12 @@
 use Rattle.std.proofs.Common.{◌≡◌, ℕ, zero, suc, ◌+◌, ◌*◌, ◌<◌, ◌≤◌, ◌^◌, true, List, [], ◌∷◌, length, refl, sym, ap, subst, ◌∙◌, Some, None, arith, map, option_map, slice_get, ltb}
 use Rattle.std.specs.List.{AllByRecursion, range_with_len}
 use Rattle.std.specs.Option.{option_map_or}
+use Rattle.std.proofs.lemmas.Bool.{and_parts}
 use Rattle.std.proofs.lemmas.List.{length-map}
 use Rattle.std.proofs.lemmas.List.FromFn.{length-range_with_len}
 use Rattle.std.proofs.lemmas.Option.{slice_get-map}
+use Rattle.hs_lists.proofs.Alls.{all_each, all_at}
+use Rattle.hs_lists.proofs.Ranges.{range_at}
 use Rattle.hs_base.specs.declared.limits.TheConstants.{MAX_OPERATIONS}
 use Rattle.hs_base.specs.Rules.{is_declared}
 use Rattle.hs_base.specs.declared.told.Ask.{Ask}
@@ -26,9 +29,7 @@ use Rattle.hs_lockstep.specs.Known.{Known}
 use Rattle.hs_lockstep.proofs.Closing.{sends_few}
 use Rattle.hs_lockstep.proofs.FewAsks.{sum_to}
 use Rattle.hs_lockstep.proofs.Fit.{event_fits, node_sends_fit}
-use Rattle.hs_lockstep.proofs.Groups.{Speaks, all_spoken, and_parts, asks_known, is_known, admitted_at, triggers_in}
-use Rattle.hs_lockstep.proofs.Lists.{all_each, all_get}
-use Rattle.hs_lockstep.proofs.Pools.{range_at}
+use Rattle.hs_lockstep.proofs.Groups.{Speaks, all_spoken, asks_known, is_known, admitted_at, triggers_in}
 use Rattle.hs_lockstep.proofs.Sizes.{client_few}
 use Rattle.hs_lockstep.proofs.Telling.{Tells, leads_tell, starts_tell}
 
@@ -53,7 +54,7 @@ module _ (k : Known) (W : PlainWorkload) (valid : IsValid W) (J : PlainJournal) 
 
   module _ (run : Run) (leads : Leads W.settings (run_start W J) run) (i : ℕ) (node : NodeRun) (stands : slice_get run.nodes i ≡ Some node) where
     own : IsOfJournal W J node
-    own = all_get (IsOfJournal W J) run.nodes i node (k.runs W J run leads).each stands
+    own = all_at (IsOfJournal W J) run.nodes i node (k.runs W J run leads).each stands
 
     long : length node.sends ≡ W.settings.clients
     long = ap length own.sends ∙ length-map (range_with_len 0 W.settings.clients) (client_sends W J node.node) ∙ length-range_with_len 0 W.settings.clients
@@ -66,7 +67,7 @@ module _ (k : Known) (W : PlainWorkload) (valid : IsValid W) (J : PlainJournal) 
 
     taken_few : (c : ℕ) → c < W.settings.clients → taken (Triggers c) node.state.log ≤ MAX_OPERATIONS
     taken_few c low =
-        let most = all_get (λ (n : NodeRun). (queue : Queue) → taken queue n.state.log ≤ supply n run.heard queue) run.nodes i node (k.unsent W J run leads).items stands (Triggers c) in
+        let most = all_at (λ (n : NodeRun). (queue : Queue) → taken queue n.state.log ≤ supply n run.heard queue) run.nodes i node (k.unsent W J run leads).items stands (Triggers c) in
         let there = ap (λ o. option_map_or (sent_to (Triggers c)) o 0) (client_at c low) in
         let few = triggers_few node.node c in
         omega (arith, most, there, few)
@@ -81,10 +82,10 @@ module _ (k : Known) (W : PlainWorkload) (valid : IsValid W) (J : PlainJournal) 
 pub runs_fit : Known → CrumbsLeadBelow → RunsFit
 runs_fit k below W valid J run leads i node stands =
     let spoken = all_spoken k.few k.adds k.says W J run leads in
-    let speaks = all_get (Speaks W.settings run.nodes) run.nodes i node spoken.nodes stands in
+    let speaks = all_at (Speaks W.settings run.nodes) run.nodes i node spoken.nodes stands in
     let number = spoken.numbers i node stands in
     let sends = (own k W valid J run leads i node stands).sends ∙ ap (node_sends W J) number in
-    let tells = all_get (Tells W.settings) run.nodes i node (leads_tell W.settings below (run_start W J) run leads (starts_tell W valid J (range_with_len 0 W.settings.nodes))) stands in
+    let tells = all_at (Tells W.settings) run.nodes i node (leads_tell W.settings below (run_start W J) run leads (starts_tell W valid J (range_with_len 0 W.settings.nodes))) stands in
     record {
       takes =
           λ step input met.

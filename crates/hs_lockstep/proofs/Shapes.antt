@@ -1,11 +1,15 @@
 -- Round by round each client does its next operations, and its draws are as many as the pages that they start. After all rounds it
 -- has done all of them.
-use Rattle.std.proofs.Common.{◌≡◌, ◌⊎◌, ◌≢◌, inl, inr, ℕ, zero, suc, ◌+◌, ◌-◌, ◌*◌, ◌/◌, ◌<◌, ◌≤◌, min, max, Bool, true, false, cond, List, [], ◌∷◌, ◌++◌, length, set, refl, sym, ap, subst, ◌∙◌, Option, None, arith, map, filter, fold, slice_get, unwrap_or, get_or, zip, ltb, ltb-true, lt-ltb, eq-eqb, length-append, eq-zero-or-pos, eq-or-lt_of_le}
+use Rattle.std.proofs.Common.{◌≡◌, ◌⊎◌, ◌≢◌, inl, inr, ℕ, zero, suc, ◌+◌, ◌-◌, ◌*◌, ◌/◌, ◌<◌, ◌≤◌, min, max, Bool, true, false, cond, List, [], ◌∷◌, ◌++◌, length, refl, sym, ap, subst, ◌∙◌, Option, None, arith, map, filter, fold, slice_get, unwrap_or, get_or, zip, ltb, ltb-true, lt-ltb, eq-eqb, length-append, eq-zero-or-pos, eq-or-lt_of_le}
 use Rattle.std.specs.List.{AllByRecursion, flat_map, range_with_len}
 use Rattle.std.specs.Option.{option_map_or}
 use Rattle.std.specs.Cmp.Derive.{both_true}
 use Rattle.std.proofs.Math.Nat.{div-lt_iff_lt-mul, lt-div-mul-add, suc-mul, mul-le-mul_right}
 use Rattle.std.proofs.lemmas.List.{length-map, length-replicate, length-set}
+use Rattle.hs_lists.proofs.Places.{get_there, unwrap_set, unwrap_other}
+use Rattle.hs_lists.proofs.Filters.{filter_few, filter_all}
+use Rattle.hs_lists.proofs.Alls.{all_append}
+use Rattle.hs_lists.proofs.Counts.{max_at_least}
 use Rattle.hs_base.specs.declared.ids.TraceId.{TraceId}
 use Rattle.hs_journal.specs.declared.journal.Draw.{Draw}
 use Rattle.hs_records.specs.Pages.{PlainPage, first_record, segment_pages, pages_of}
@@ -13,32 +17,21 @@ use Rattle.hs_records.specs.Plain.{Operation, PlainWorkload}
 use Rattle.hs_records.specs.Records.{AreBracketed, NumberedOperation, Record, Segment, segments_of, numbered_from, open_behind, record_at}
 use Rattle.hs_sent.specs.Sending.{operations_at, draws_at}
 use Rattle.hs_sent.specs.Timing.{TimedPage, timed, started_by, point_numbers, end_numbers, timed_pages}
+use Rattle.hs_sent.proofs.Order.{length_next}
 use Rattle.hs_lawful.specs.Ends.{rounds_for, rounds_of}
 use Rattle.hs_lawful.specs.Following.{NodeRun, followed}
 use Rattle.hs_lawful.specs.Played.{played}
 use Rattle.hs_lawful.specs.Shape.{same_counts, has_shape}
 use Rattle.hs_lockstep.specs.Clauses.{IsLaidOut, ScheduleHasShape}
 use Rattle.hs_lockstep.specs.Known.{Known}
-use Rattle.hs_lockstep.specs.Lockstep.{Machine, machine_start, done_at, next_draws, draws_by, draws_in, pages_started, client_goes, clients_go, pass_steps, give_steps, agents_take, passes, round, rounds, closing_limit, lockstep}
-use Rattle.hs_lockstep.proofs.Lists.{get_there, length_extended}
+use Rattle.hs_lockstep.specs.Lockstep.{Machine, machine_start, done_at, draws_by, draws_in, pages_started, client_goes, clients_go, pass_steps, give_steps, agents_take, passes, round, rounds, closing_limit, lockstep}
+use Rattle.hs_lockstep.proofs.Lists.{length_extended}
 use Rattle.hs_lockstep.proofs.Machines.{closing_keeps, machine_end}
 use Rattle.hs_lockstep.proofs.Turns.{nodes_counted}
 
 -- ---- lists
 
 module _ {X : Type 0} where
-  set_here : (xs : List X) (i : ℕ) (x d : X) → i < length xs → unwrap_or (slice_get (set xs i x) i) d ≡ x
-  set_here [] i x d h = absurd (omega (arith, h))
-  set_here (y ∷ xs) zero x d h = refl
-  set_here (y ∷ xs) (suc i) x d h = set_here xs i x d (omega (arith, h))
-
-  set_other : (xs : List X) (i j : ℕ) (x d : X) → i ≢ j → unwrap_or (slice_get (set xs i x) j) d ≡ unwrap_or (slice_get xs j) d
-  set_other [] i j x d ne = refl
-  set_other (y ∷ xs) zero zero x d ne = absurd (ne refl)
-  set_other (y ∷ xs) zero (suc j) x d ne = refl
-  set_other (y ∷ xs) (suc i) zero x d ne = refl
-  set_other (y ∷ xs) (suc i) (suc j) x d ne = set_other xs i j x d (λ e. ne (ap suc e))
-
   -- where one test passes whatever another does, it passes more
   more_case : (x : X) (a b : List X) (p q : Bool) → (p ≡ true → q ≡ true) → length a ≤ length b → length (cond p (x ∷ a) a) ≤ length (cond q (x ∷ b) b)
   more_case x a b true true on h = omega (arith, h)
@@ -54,24 +47,11 @@ module _ {X : Type 0} where
   few_case x a xs true h = omega (arith, h)
   few_case x a xs false h = omega (arith, h)
 
-  filter_few : (p : X → Bool) (xs : List X) → length (filter p xs) ≤ length xs
-  filter_few p [] = omega arith
-  filter_few p (x ∷ xs) = few_case x (filter p xs) xs (p x) (filter_few p xs)
-
-  filter_all : (p : X → Bool) (xs : List X) → AllByRecursion (λ x. p x ≡ true) xs → filter p xs ≡ xs
-  filter_all p [] all = refl
-  filter_all p (x ∷ xs) all = ap (λ b. cond b (x ∷ filter p xs) (filter p xs)) all.0 ∙ ap (λ rest. x ∷ rest) (filter_all p xs all.1)
-
   filter_none : (p : X → Bool) (xs : List X) → ((x : X) → p x ≡ false) → length (filter p xs) ≡ 0
   filter_none p [] none = refl
   filter_none p (x ∷ xs) none = ap (λ b. length (cond b (x ∷ filter p xs) (filter p xs))) (none x) ∙ filter_none p xs none
 
 -- ---- pages start at operations
-
-module _ {X : Type 0} (P : X → Type 0) where
-  joined : (xs ys : List X) → AllByRecursion P xs → AllByRecursion P ys → AllByRecursion P (xs ++ ys)
-  joined [] ys a b = b
-  joined (x ∷ xs) ys a b = (a.0, joined xs ys a.1 b)
 
 weaker : (a b : ℕ) (numbers : List ℕ) → a ≤ b → AllByRecursion (λ n. n < a) numbers → AllByRecursion (λ n. n < b) numbers
 weaker a b [] low all = tt
@@ -90,7 +70,7 @@ points_below number trace [] = tt
 points_below number trace (op ∷ ops) =
     let here : number < number + suc (length ops) = omega arith in
     let low : number + 1 + length ops ≤ number + suc (length ops) = omega arith in
-    joined (λ n. n < number + suc (length ops)) (map (λ _. number) (record_at (record { number = number; trace = trace; operation = op }))) (points_in (numbered_from (number + 1) (open_behind trace op) ops))
+    all_append (λ n. n < number + suc (length ops)) (map (λ _. number) (record_at (record { number = number; trace = trace; operation = op }))) (points_in (numbered_from (number + 1) (open_behind trace op) ops))
     (numbers_here number (number + suc (length ops)) (record_at (record { number = number; trace = trace; operation = op })) here)
     (weaker (number + 1 + length ops) (number + suc (length ops)) (points_in (numbered_from (number + 1) (open_behind trace op) ops)) low (points_below (number + 1) (open_behind trace op) ops))
 
@@ -111,7 +91,7 @@ segments_below : (bound size : ℕ) (points : List ℕ) (segments : List (ℕ ×
     → AllByRecursion (StartsBelow bound) (flat_map (λ (s : ℕ × Segment). timed points s.0 (segment_pages size s.1)) segments)
 segments_below bound size points [] some all = tt
 segments_below bound size points (s ∷ segments) some all =
-    joined (StartsBelow bound) (timed points s.0 (segment_pages size s.1)) (flat_map (λ (s : ℕ × Segment). timed points s.0 (segment_pages size s.1)) segments)
+    all_append (StartsBelow bound) (timed points s.0 (segment_pages size s.1)) (flat_map (λ (s : ℕ × Segment). timed points s.0 (segment_pages size s.1)) segments)
     (timed_below bound s.0 points (segment_pages size s.1) some all) (segments_below bound size points segments some all)
 
 all_started : (size : ℕ) (ops : List Operation) → AllByRecursion (StartsBelow (length ops)) (timed_pages size ops)
@@ -123,13 +103,9 @@ all_started size (op ∷ ops) =
 
 -- ---- rounds
 
-max_there : (numbers : List ℕ) (from : ℕ) → from ≤ fold max from numbers
-max_there [] from = omega arith
-max_there (n ∷ numbers) from = let rest = max_there numbers (max from n) in omega (arith, rest)
-
 max_at : (f : List Operation → ℕ) (clients : List (List Operation)) (from place : ℕ) → place < length clients → f (unwrap_or (slice_get clients place) []) ≤ fold max from (map f clients)
 max_at f [] from place h = absurd (omega (arith, h))
-max_at f (ops ∷ clients) from zero h = let rest = max_there (map f clients) (max from (f ops)) in omega (arith, rest)
+max_at f (ops ∷ clients) from zero h = let rest = max_at_least (map f clients) (max from (f ops)) in omega (arith, rest)
 max_at f (ops ∷ clients) from (suc place) h = max_at f clients (max from (f ops)) place (omega (arith, h))
 
 rounds_cover : (stride operations : ℕ) → 1 ≤ stride → operations ≤ rounds_for stride operations * stride
@@ -137,11 +113,6 @@ rounds_cover stride operations some =
     let positive : 0 < stride = omega (arith, some) in
     let below = lt-div-mul-add {a = operations + (stride - 1)} {b = stride} positive in
     omega (arith, below, some)
-
-pub drawn_count : (count stamp : ℕ) (queue : List ℕ) → length (next_draws count stamp queue) ≡ count
-drawn_count zero stamp queue = refl
-drawn_count (suc count) stamp [] = ap suc (drawn_count count (stamp + 1) [])
-drawn_count (suc count) stamp (buffer ∷ queue) = ap suc (drawn_count count (stamp + 1) queue)
 
 module _ (k : Known) (W : PlainWorkload) (laid : IsLaidOut W) where
   abbrev pub count : ℕ
@@ -180,7 +151,7 @@ module _ (k : Known) (W : PlainWorkload) (laid : IsLaidOut W) where
       let low = node_there place below in
       let all = nodes_counted k.plays k.runs W m.journal in
       let node = get_there (followed W m.journal).nodes (place / W.settings.clients) (omega (arith, low, all)) in
-      ap (λ (o : Option NodeRun). length (option_map_or (draws_by W n) o [])) node.1 ∙ drawn_count n _ _
+      ap (λ (o : Option NodeRun). length (option_map_or (draws_by W n) o [])) node.1 ∙ length_next n _ _
 
   -- ---- one client
 
@@ -195,10 +166,10 @@ module _ (k : Known) (W : PlainWorkload) (laid : IsLaidOut W) where
   IsWithin m = (place : ℕ) → done_at m place ≤ length (operations_at W place)
 
   pub done_here : (m : Machine) (place : ℕ) → HasDrawn m → place < count → done_at (client_goes W m place) place ≡ next_done m place
-  done_here m place h below = let all = h.done in set_here m.done place (next_done m place) 0 (omega (arith, all, below))
+  done_here m place h below = let all = h.done in unwrap_set m.done place (next_done m place) 0 (omega (arith, all, below))
 
   pub done_other : (m : Machine) (place other : ℕ) → place ≢ other → done_at (client_goes W m place) other ≡ done_at m other
-  done_other m place other ne = set_other m.done place other (next_done m place) 0 ne
+  done_other m place other ne = unwrap_other m.done place other (next_done m place) 0 ne
 
   drawn_case : (m : Machine) (place : ℕ) → HasDrawn m → IsWithin m → place < count → (other : ℕ) → other < count → (place ≡ other) ⊎ (place ≢ other)
       → length (draws_at (client_goes W m place).journal other) ≡ pages_started W other (done_at (client_goes W m place) other)
@@ -206,7 +177,7 @@ module _ (k : Known) (W : PlainWorkload) (laid : IsLaidOut W) where
       subst (λ (other : ℕ). length (draws_at (client_goes W m place).journal other) ≡ pages_started W other (done_at (client_goes W m place) other)) e
       (let all = h.draws in
       let here : draws_at (client_goes W m place).journal place ≡ draws_at m.journal place ++ draws_in W m (place / W.settings.clients) (next_count m place) =
-      set_here m.journal.draws place (draws_at m.journal place ++ draws_in W m (place / W.settings.clients) (next_count m place)) [] (omega (arith, all, below))
+      unwrap_set m.journal.draws place (draws_at m.journal place ++ draws_in W m (place / W.settings.clients) (next_count m place)) [] (omega (arith, all, below))
       in
       let long = ap length here in
       let both = length-append (draws_at m.journal place) (draws_in W m (place / W.settings.clients) (next_count m place)) in
@@ -217,7 +188,7 @@ module _ (k : Known) (W : PlainWorkload) (laid : IsLaidOut W) where
       let now = ap (pages_started W place) (done_here m place h below) in
       omega (arith, long, both, was, new, more, now))
   drawn_case m place h within below other low (inr ne) =
-      ap length (set_other m.journal.draws place other (draws_at m.journal place ++ draws_in W m (place / W.settings.clients) (next_count m place)) [] ne)
+      ap length (unwrap_other m.journal.draws place other (draws_at m.journal place ++ draws_in W m (place / W.settings.clients) (next_count m place)) [] ne)
       ∙ h.drawn other low
       ∙ ap (pages_started W other) (sym (done_other m place other ne))
 

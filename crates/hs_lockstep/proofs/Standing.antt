@@ -2,6 +2,8 @@
 use Rattle.std.proofs.Common.{◌≡◌, inl, inr, ℕ, zero, suc, ◌+◌, ◌≤◌, List, [], ◌∷◌, ◌++◌, length, refl, sym, ap, ◌∙◌, Option, Some, None, arith, map, fold, option_map, slice_get, count_by, append-nil}
 use Rattle.std.specs.List.{range_with_len}
 use Rattle.std.specs.Option.{option_and_then}
+use Rattle.hs_lists.proofs.Options.{option_unmap}
+use Rattle.hs_lists.proofs.Alls.{all_at}
 use Rattle.hs_base.specs.declared.ids.NodeId.{NodeId}
 use Rattle.hs_coord.specs.Following.{Message, Messages, message}
 use Rattle.hs_model.specs.Stepping.{after}
@@ -15,10 +17,9 @@ use Rattle.hs_lockstep.specs.Lockstep.{Machine, machine_start, client_goes, clie
 use Rattle.hs_lockstep.specs.Reaching as reaching
 use Rattle.hs_lockstep.specs.Reaching.{IsReached, IsPerformed, IsWhole, MachinesAreWhole, MachinesLeadOn}
 use Rattle.hs_lockstep.proofs.Followed.{count_nodes, number_is, log_of}
-use Rattle.hs_lockstep.proofs.Groups.{unmapped}
 use Rattle.hs_lockstep.proofs.Held.{IsHeld}
 use Rattle.hs_lockstep.proofs.Keeping.{Keeps, own_sends, starts_keep, client_keeps_held, take_keeps_held, give_keeps_held, hear_keeps_held}
-use Rattle.hs_lockstep.proofs.Lists.{all_get, length_extended}
+use Rattle.hs_lockstep.proofs.Lists.{length_extended}
 use Rattle.hs_lockstep.proofs.Shapes.{HasDrawn, IsWithin, begins, within_of, client_draws, at_most_all}
 use Rattle.hs_lockstep.proofs.Walks.{IsThrough}
 
@@ -32,12 +33,12 @@ names_more [] m rest = refl
 names_more (x ∷ heard) m rest = ap (λ (names : List NodeId). x.node ∷ names) (names_more heard m rest)
 
 -- the message of a node is its own
-message_named : (runs : List NodeRun) (heard : Messages) (node : NodeId) (m : Message) → message_of runs heard node ≡ Some m → m.node ≡ node
+pub message_named : (runs : List NodeRun) (heard : Messages) (node : NodeId) (m : Message) → message_of runs heard node ≡ Some m → m.node ≡ node
 message_named runs heard node m h = go (slice_get runs node.0) h
   where
     go : (o : Option NodeRun) → option_and_then (λ (run : NodeRun). option_map (message node) (slice_get run.state.said (count_by (is_from node) heard))) o ≡ Some m → m.node ≡ node
     go None h = let never : None ≡ Some m = h in absurd cc
-    go (Some run) h = let t = unmapped (message node) (slice_get run.state.said (count_by (is_from node) heard)) m h in ap (λ (m : Message). m.node) (sym t.2)
+    go (Some run) h = let t = option_unmap (message node) (slice_get run.state.said (count_by (is_from node) heard)) m h in ap (λ (m : Message). m.node) (sym t.2)
 
 abbrev all_names : Run → List NodeId
 all_names run = names_of run.heard ++ run.left
@@ -45,7 +46,7 @@ all_names run = names_of run.heard ++ run.left
 hear_named : (run next : Run) (left : List NodeId) → run.left ≡ left → hear run left ≡ Some next → all_names next ≡ all_names run
 hear_named run next [] e h = let never : None ≡ Some next = h in absurd cc
 hear_named run next (node ∷ rest) e h =
-    let t = unmapped (λ (m : Message). record run { left = rest; heard = run.heard ++ m ∷ [] }) (message_of run.nodes run.heard node) next h in
+    let t = option_unmap (λ (m : Message). record run { left = rest; heard = run.heard ++ m ∷ [] }) (message_of run.nodes run.heard node) next h in
     ap all_names (sym t.2)
     ∙ names_more run.heard t.0 rest
     ∙ ap (λ (n : NodeId). names_of run.heard ++ n ∷ rest) (message_named run.nodes run.heard node t.0 t.1)
@@ -74,10 +75,10 @@ module _ (k : Known) (W : PlainWorkload) where
 
   -- a node of a machine holds what it should
   pub held_at : (m : Machine) → IsReached W m → (i : ℕ) (run : NodeRun) → slice_get (followed W m.journal).nodes i ≡ Some run → IsHeld W.settings run
-  held_at m r i run at = all_get (IsHeld W.settings) (followed W m.journal).nodes i run (kept m r).held at
+  held_at m r i run at = all_at (IsHeld W.settings) (followed W m.journal).nodes i run (kept m r).held at
 
   pub through_at : (m : Machine) → IsReached W m → (i : ℕ) (run : NodeRun) → slice_get (followed W m.journal).nodes i ≡ Some run → run.left ≡ []
-  through_at m r i run at = all_get IsThrough (followed W m.journal).nodes i run (kept m r).done.over.nodes at
+  through_at m r i run at = all_at IsThrough (followed W m.journal).nodes i run (kept m r).done.over.nodes at
 
   pub number_at : (m : Machine) (i : ℕ) (run : NodeRun) → slice_get (followed W m.journal).nodes i ≡ Some run → run.node ≡ i
   number_at m i run at = number_is k W m.journal i run at

@@ -1,12 +1,12 @@
 -- Steps and messages, performed one after another.
-use Rattle.std.proofs.Common.{◌≡◌, ℕ, List, [], ◌∷◌, ◌++◌, refl, sym, ap, ◌∙◌, Option, Some, None, append_assoc, append-nil}
+use Rattle.std.proofs.Common.{◌≡◌, List, [], ◌∷◌, ◌++◌, refl, Option, Some, None}
 use Rattle.std.specs.Option.{option_and_then}
 use Rattle.hs_base.specs.declared.ids.NodeId.{NodeId}
-use Rattle.hs_base.specs.declared.told.Ask.{Ask}
 use Rattle.hs_coord.specs.Following.{Message, Messages}
 use Rattle.hs_journal.specs.declared.journal.Step.{Step}
 use Rattle.hs_records.specs.Plain.{PlainSettings}
-use Rattle.hs_lawful.specs.Following.{NodeRun, message_of, ask_by, asks_behind}
+use Rattle.hs_lawful.specs.Following.{NodeRun, message_of}
+use Rattle.hs_lawful.proofs.Logs.{behind_more}
 use Rattle.hs_lockstep.specs.Performing.{after_step, after_steps, after_names, StepByStep}
 
 pub steps_on : (settings : PlainSettings) (heard : Messages) (steps more : List Step) (run : NodeRun)
@@ -28,12 +28,5 @@ names_on runs (name ∷ names) more heard = on (message_of runs heard name) (nam
     on None each = refl
     on (Some m) each = each (heard ++ m ∷ [])
 
-asks_on : (node : ℕ) (before heard : Messages) (m : Message) → asks_behind node before (heard ++ m ∷ []) ≡ asks_behind node before heard ++ ask_by node (before ++ heard) m
-asks_on node before [] m = append-nil (ask_by node before m) ∙ ap (λ (b : Messages). ask_by node b m) (sym (append-nil before))
-asks_on node before (x ∷ heard) m =
-    ap (λ (rest : List Ask). ask_by node before x ++ rest) (asks_on node (before ++ x ∷ []) heard m)
-    ∙ ap (λ (b : Messages). ask_by node before x ++ (asks_behind node (before ++ x ∷ []) heard ++ ask_by node b m)) (append_assoc before (x ∷ []) heard)
-    ∙ sym (append_assoc (ask_by node before x) (asks_behind node (before ++ x ∷ []) heard) (ask_by node (before ++ x ∷ heard) m))
-
 pub step_by_step : StepByStep
-step_by_step = record { steps = steps_on; names = names_on; asks = λ node heard m. asks_on node [] heard m }
+step_by_step = record { steps = steps_on; names = names_on; asks = λ node heard m. behind_more node [] heard m }

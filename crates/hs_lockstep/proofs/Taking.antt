@@ -1,6 +1,9 @@
 -- What the agents take, step by step: each node comes to where its steps lead, one after another, and its pool stands still meanwhile.
 use Rattle.std.proofs.Common.{◌≡◌, ℕ, false, List, [], ◌∷◌, refl, sym, ap, subst, ◌∙◌, Some, arith, map, slice_get}
 use Rattle.std.specs.List.{AllByRecursion}
+use Rattle.std.proofs.lemmas.Option.{slice_get_within, same_Some}
+use Rattle.hs_lists.proofs.Alls.{all_by_place, all_map, all_append, all_at}
+use Rattle.hs_lists.proofs.Places.{get_there}
 use Rattle.hs_coord.specs.Following.{Messages}
 use Rattle.hs_journal.specs.declared.journal.Step.{Step}
 use Rattle.hs_journal.specs.declared.journal.Step.TheVariants as steps
@@ -15,11 +18,10 @@ use Rattle.hs_lockstep.specs.Lockstep.{Machine, pass_steps, with_steps, agents_t
 use Rattle.hs_lockstep.specs.Parts.{node_at, AgentTakes, AgentsTakeSo}
 use Rattle.hs_lockstep.specs.Performing.{after_steps}
 use Rattle.hs_lockstep.specs.Reaching.{IsReached}
-use Rattle.hs_lockstep.proofs.Followed.{IsDone, all_places, mapped_all, within, count_nodes, enough_of, left_is, StepsThere, steps_there}
+use Rattle.hs_lockstep.proofs.Followed.{IsDone, count_nodes, enough_of, left_is, StepsThere, steps_there}
 use Rattle.hs_lockstep.proofs.Growing.{history_of}
 use Rattle.hs_lockstep.proofs.Held.{node_events, IsHeld, pool_is, take_held, take_events}
 use Rattle.hs_lockstep.proofs.Keeping.{own_sends}
-use Rattle.hs_lockstep.proofs.Lists.{some_same, all_append, all_get, get_there}
 use Rattle.hs_lockstep.proofs.Performed.{bare, bare_is, first_of_steps, walk_performed, walk_number}
 use Rattle.hs_lockstep.proofs.Standing.{kept, held_at, through_at, number_at}
 use Rattle.hs_lockstep.proofs.Takes.{before_turn, all_takes}
@@ -41,7 +43,7 @@ abbrev pub AreQuiet : List Step → Type 0
 AreQuiet steps = AllByRecursion (λ (step : Step). is_offer step ≡ false) steps
 
 pub takes_hold : Known → (settings : PlainSettings) (heard : Messages) (steps : List Step) (run later : NodeRun) → AreQuiet steps → IsHeld settings run → after_steps settings heard steps run ≡ Some later → Took settings run later
-takes_hold k settings heard [] run later quiet h e = subst (Took settings run) (some_same run later e) (record { held = h; events = refl; sends = refl; number = refl })
+takes_hold k settings heard [] run later quiet h e = subst (Took settings run) (same_Some run later e) (record { held = h; events = refl; sends = refl; number = refl })
 takes_hold k settings heard (step ∷ rest) run later quiet h e =
     let f = first_of_steps settings heard step rest run later e in
     let next = perform settings [] run f.event in
@@ -103,8 +105,8 @@ module _ (k : Known) (W : PlainWorkload) (m : Machine) (r : IsReached W m) where
       → StepsThere k W m f done (CameBy f)
   all_came f walk =
       steps_there k W m f done (CameBy f) (λ node c. c.through)
-      (mapped_all (Walked W.settings before.heard (CameBy f)) (behind f) before.nodes
-      (all_places (λ (node : NodeRun). Walked W.settings before.heard (CameBy f) (behind f node)) before.nodes (λ i node stands. came_by f i node stands (walk i node stands))))
+      (all_map (Walked W.settings before.heard (CameBy f)) (behind f) before.nodes
+      (all_by_place (λ (node : NodeRun). Walked W.settings before.heard (CameBy f) (behind f node)) before.nodes (λ i node stands. came_by f i node stands (walk i node stands))))
 
   -- where a node is then
   pub record ComesTo (f : NodeRun → List Step) (i : ℕ) (run : NodeRun) : Type 0 where
@@ -115,13 +117,13 @@ module _ (k : Known) (W : PlainWorkload) (m : Machine) (r : IsReached W m) where
   pub comes_to : (f : NodeRun → List Step) → StepsThere k W m f done (CameBy f) → (i : ℕ) (run : NodeRun) → slice_get before.nodes i ≡ Some run → ComesTo f i run
   comes_to f there i run stands =
       let J = (with_steps m (map f before.nodes)).journal in
-      let low = within before.nodes i run stands in
+      let low = slice_get_within before.nodes i run stands in
       let was = count_nodes k W m.journal in
       let now = count_nodes k W J in
       let later = get_there (followed W J).nodes i (omega (arith, low, was, now)) in
-      let c = all_get (CameBy f) (followed W J).nodes i later.0 there.each later.1 in
+      let c = all_at (CameBy f) (followed W J).nodes i later.0 there.each later.1 in
       let number = number_at k W (with_steps m (map f before.nodes)) i later.0 later.1 in
-      let same : c.node ≡ run = some_same c.node run (sym c.stands ∙ ap (slice_get before.nodes) number ∙ stands) in
+      let same : c.node ≡ run = same_Some c.node run (sym c.stands ∙ ap (slice_get before.nodes) number ∙ stands) in
       record { later = later.0; there = later.1; came = subst (λ (n : NodeRun). after_steps W.settings before.heard (f n) n ≡ Some later.0) same c.came }
 
   -- ---- they take

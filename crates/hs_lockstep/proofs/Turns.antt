@@ -4,6 +4,10 @@ use Rattle.std.specs.List.{AllByRecursion}
 use Rattle.std.specs.Cmp.Derive.{both_true}
 use Rattle.std.proofs.lemmas.List.{length-map, length-replicate}
 use Rattle.std.proofs.lemmas.List.FromFn.{length-range_with_len}
+use Rattle.hs_lists.proofs.Alls.{all_replicate, all_at}
+use Rattle.hs_lists.proofs.Places.{get_there}
+use Rattle.hs_lists.proofs.Counts.{count_append}
+use Rattle.hs_lists.proofs.Ranges.{list_all_range_below}
 use Rattle.hs_journal.specs.declared.journal.Step.{Step}
 use Rattle.hs_journal.specs.declared.journal.Step.TheVariants as steps
 use Rattle.hs_journal.specs.Views.{PlainJournal}
@@ -16,7 +20,7 @@ use Rattle.hs_lawful.specs.Passes.{is_turn}
 use Rattle.hs_lawful.specs.Played.{played}
 use Rattle.hs_lockstep.specs.Clauses.{ScheduleHasRounds}
 use Rattle.hs_lockstep.specs.Lockstep.{Machine, machine_start, pass_steps, give_steps, agents_take, agents_give, passes, clients_go, round, rounds, closing, closing_limit, lockstep}
-use Rattle.hs_lockstep.proofs.Lists.{all_replicate, all_map, all_get, count_append, count_none, count_extended, length_extended, passes_range, get_there}
+use Rattle.hs_lockstep.proofs.Lists.{all_map, count_none, count_extended, length_extended}
 use Rattle.hs_lockstep.proofs.Takes.{before_turn, all_takes}
 use Rattle.hs_lockstep.proofs.Machines.{clients_keep, machine_end}
 
@@ -110,11 +114,11 @@ module _ (plays : FollowingPlaysOut) (runs : RunsAreOfTheJournal) (W : PlainWork
   turns_are node h =
       let within : node < length (lockstep W).logs = subst (λ (n : ℕ). node < n) (sym ends.has.logs) h in
       let found = get_there (lockstep W).logs node within in
-      ap (λ o. count_by is_turn (unwrap_or o [])) found.1 ∙ all_get (λ log. count_by is_turn log ≡ ends.all) (lockstep W).logs node found.0 ends.has.turns found.1
+      ap (λ o. count_by is_turn (unwrap_or o [])) found.1 ∙ all_at (λ log. count_by is_turn log ≡ ends.all) (lockstep W).logs node found.0 ends.has.turns found.1
 
   pub has_rounds_all : has_rounds (played W (lockstep W)) ≡ true
   has_rounds_all =
-      passes_range (λ node. nat_eq (turns_at (played W (lockstep W)) node) (turns_at (played W (lockstep W)) 0) && nat_le (rounds_of W) (turns_at (played W (lockstep W)) node)) 0 W.settings.nodes
+      list_all_range_below (λ node. nat_eq (turns_at (played W (lockstep W)) node) (turns_at (played W (lockstep W)) 0) && nat_le (rounds_of W) (turns_at (played W (lockstep W)) node)) 0 W.settings.nodes
       (λ node h.
       let first : 0 < W.settings.nodes = omega (arith, h) in
       let below : node < W.settings.nodes = omega (arith, h) in

@@ -1,6 +1,8 @@
 -- The schedule takes, turns and gives, so no step of it is unread.
 use Rattle.std.proofs.Common.{◌≡◌, ℕ, zero, suc, ◌+◌, true, false, cond, List, [], ◌∷◌, length, map, filter, take, zip, refl, sym, ap, subst, ◌∙◌, slice_get, unwrap_or}
 use Rattle.std.specs.List.{AllByRecursion, range_with_len, list_all}
+use Rattle.hs_lists.proofs.Alls.{all_append, all_front, all_replicate, all_each}
+use Rattle.hs_lists.proofs.Tests.{list_all_from}
 use Rattle.hs_journal.specs.declared.journal.Step.{Step}
 use Rattle.hs_journal.specs.declared.journal.Step.TheVariants as steps
 use Rattle.hs_records.specs.Plain.{PlainWorkload}
@@ -11,7 +13,7 @@ use Rattle.hs_lawful.specs.Passes.{is_unread}
 use Rattle.hs_lawful.specs.Unreads.{may_be_unread, before_unreads}
 use Rattle.hs_lockstep.specs.Clauses.{ScheduleHasUnreads}
 use Rattle.hs_lockstep.specs.Lockstep.{Machine, pass_steps, give_steps, agents_take, agents_give, passes, lockstep}
-use Rattle.hs_lockstep.proofs.Lists.{all_append, all_front, all_replicate, all_each, all_map, all_extended, passes_all}
+use Rattle.hs_lockstep.proofs.Lists.{all_map, all_extended}
 use Rattle.hs_lockstep.proofs.Takes.{before_turn, all_takes}
 use Rattle.hs_lockstep.proofs.Machines.{clients_keep, end_keeps, machine_end}
 
@@ -71,7 +73,7 @@ pub schedule_has_unreads : FollowingPlaysOut → RunsAreOfTheJournal → Schedul
 schedule_has_unreads plays runs W =
     let J = lockstep W in
     let nodes = runs W J (followed W J) (plays W J).leads in
-    passes_all (λ (run : NodeRun). list_all (may_be_unread W.settings run) (before_unreads run.state.log)) (followed W J).nodes
+    list_all_from (λ (run : NodeRun). list_all (may_be_unread W.settings run) (before_unreads run.state.log)) (followed W J).nodes
     (all_each (IsOfJournal W J) (λ (run : NodeRun). list_all (may_be_unread W.settings run) (before_unreads run.state.log) ≡ true) (followed W J).nodes
     (λ run o.
     let all = all_front IsRead run.state.log run.left (subst AllRead (sym o.log) (read_at J.logs run.node (ends_none W).logs)) in

@@ -1,18 +1,12 @@
 -- A valid workload has all that the laws of the schedule ask for.
-use Rattle.std.proofs.Common.{ℕ, ◌≤◌, false, List, [], ◌∷◌}
+use Rattle.std.proofs.Common.{◌≤◌, List, [], ◌∷◌}
 use Rattle.std.specs.List.{AllByRecursion}
 use Rattle.std.proofs.lemmas.List.Elements.{recursion_from_All}
 use Rattle.hs_base.specs.Rules.{IsRule}
 use Rattle.hs_base.specs.declared.settings.TriggerRule.{TriggerRule}
-use Rattle.hs_records.specs.Plain.{Operation, PlainSettings}
-use Rattle.hs_records.specs.Records.{AreBracketed}
-use Rattle.hs_workload.specs.Validity.{IsClient}
 use Rattle.hs_workload.specs.declared.word.Setting.TheVariants as settings
+use Rattle.hs_workload.proofs.Sizes.{bracketed}
 use Rattle.hs_lockstep.specs.Clauses.{ValidWorkloadsRun}
-
-bracketed : (version : ℕ) (set : PlainSettings) (clients : List (List Operation)) → AllByRecursion (IsClient version set) clients → AllByRecursion (AreBracketed false) clients
-bracketed version set [] all = tt
-bracketed version set (ops ∷ clients) all = (all.0.bracketed, bracketed version set clients all.1)
 
 weighed : (rules : List TriggerRule) → AllByRecursion IsRule rules → AllByRecursion (λ (rule : TriggerRule). 1 ≤ rule.weight) rules
 weighed [] all = tt

@@ -3,6 +3,8 @@
 use Rattle.std.proofs.Common.{◌≡◌, ℕ, zero, suc, ◌+◌, ◌<◌, ◌≤◌, Bool, true, false, List, [], ◌∷◌, ◌++◌, length, refl, sym, ap, subst, ◌∙◌, Option, Some, None, arith, map, option_map, slice_get, count_by, append_assoc, append-nil, eq-eqb, nat_eq, inl, inr}
 use Rattle.std.specs.List.{AllByRecursion, range_with_len}
 use Rattle.std.specs.Option.{option_and_then, option_map_or}
+use Rattle.hs_lists.proofs.Counts.{one_if, count_cons, count_append}
+use Rattle.hs_lists.proofs.Places.{get_mid, get_there}
 use Rattle.hs_base.specs.declared.ids.NodeId.{NodeId}
 use Rattle.hs_coord.specs.Following.{Message, Messages, message}
 use Rattle.hs_journal.specs.declared.journal.Step.{Step}
@@ -15,8 +17,9 @@ use Rattle.hs_lawful.specs.Extending.{StepsAreNoted}
 use Rattle.hs_lawful.specs.Following.{Queue, Chunks, Crumbs, Triggers, Asks, takes, taken, asks_to, is_from, NodeRun, Run, next_of, event_of, perform, step_of, step_node, hear}
 use Rattle.hs_lawful.specs.Orders.{Leads, Stays, Goes}
 use Rattle.hs_lawful.specs.Passes.{is_offer}
-use Rattle.hs_lawful.specs.Supply.{sent_to, supply, said_at}
-use Rattle.hs_lockstep.proofs.Lists.{one, get_at, set_at, get_there, count_cons, count_append}
+use Rattle.hs_lawful.specs.Supply.{supply, said_at}
+use Rattle.hs_lawful.proofs.Supplied.{same_supply}
+use Rattle.hs_lockstep.proofs.Lists.{set_at}
 
 -- ---- walks
 
@@ -41,7 +44,7 @@ walk_leads settings run front behind node last (Steps r next l h walks) =
       place = length front;
       node = node;
       stepped = next;
-      stands = get_at front node behind;
+      stands = get_mid front node behind;
       ready = h;
       result = ap (with_nodes run) (sym (set_at front node next behind));
     }))
@@ -106,7 +109,7 @@ module _ (run : NodeRun) (heard : Messages) (step : Step) (rest : List Step) (e 
       let both = count_append (takes queue) run.state.log run.left in
       let left : taken queue run.left ≡ taken queue (step ∷ rest) = ap (taken queue) e in
       let first = count_cons (takes queue) step rest in
-      let here = ap one own in
+      let here = ap one_if own in
       omega (arith, all, both, left, first, here)
 
 take_ready : (run : NodeRun) (heard : Messages) (step : Step) (rest : List Step) → run.left ≡ step ∷ rest → Enough run heard → is_offer step ≡ false → HasEvent run heard step
@@ -129,12 +132,6 @@ take_ready run heard steps.Turn rest e enough h = record { event = Took Turn; me
 take_ready run heard (steps.Given stamp) rest e enough h = let no : true ≡ false = h in absurd cc
 take_ready run heard (steps.Missed stamp) rest e enough h = let no : true ≡ false = h in absurd cc
 take_ready run heard steps.Unread rest e enough h = let no : true ≡ false = h in absurd cc
-
-pub same_supply : (a b : NodeRun) (heard : Messages) (queue : Queue) → a.sends ≡ b.sends → a.node ≡ b.node → supply a heard queue ≡ supply b heard queue
-same_supply a b heard (Chunks client) e f = ap (λ (sends : List ClientSends). option_map_or (sent_to (Chunks client)) (slice_get sends client) 0) e
-same_supply a b heard (Crumbs client) e f = ap (λ (sends : List ClientSends). option_map_or (sent_to (Crumbs client)) (slice_get sends client) 0) e
-same_supply a b heard (Triggers client) e f = ap (λ (sends : List ClientSends). option_map_or (sent_to (Triggers client)) (slice_get sends client) 0) e
-same_supply a b heard Asks e f = ap (λ (node : ℕ). length (asks_to node heard)) f
 
 -- no step is left
 abbrev pub IsThrough : NodeRun → Type 0
@@ -276,7 +273,7 @@ hears_all settings (node ∷ rest) run e enough =
     let all = enough node in
     let left : count_by (is_node node) run.left ≡ count_by (is_node node) (node ∷ rest) = ap (count_by (is_node node)) e in
     let first = count_cons (is_node node) node rest in
-    let here : one (is_node node node) ≡ 1 = ap one (eq-eqb node.0 node.0 refl) in
+    let here : one_if (is_node node node) ≡ 1 = ap one_if (eq-eqb node.0 node.0 refl) in
     let m = said_found run.heard node (slice_get run.nodes node.0) (omega (arith, all, left, first, here)) in
     let next : Run = record run { left = rest; heard = run.heard ++ m.0 ∷ [] } in
     let heard : hear run run.left ≡ Some next = ap (hear run) e ∙ ap (option_map (λ (m : Message). record run { left = rest; heard = run.heard ++ m ∷ [] })) m.1 in
@@ -287,7 +284,7 @@ hears_all settings (node ∷ rest) run e enough =
     let first = count_cons (is_node v) node rest in
     let more = count_append (is_from v) run.heard (m.0 ∷ []) in
     let last = count_cons (is_from v) m.0 [] in
-    let from : one (is_from v m.0) ≡ one (is_node v node) = ap (λ (n : NodeId). one (is_node v n)) m.2 in
+    let from : one_if (is_from v m.0) ≡ one_if (is_node v node) = ap (λ (n : NodeId). one_if (is_node v n)) m.2 in
     omega (arith, all, left, first, more, last, from)) in
     record {
       last = w.last;
@@ -301,6 +298,6 @@ hears_all settings (node ∷ rest) run e enough =
           let left = count_cons (is_node v) node rest in
           let here = count_cons (is_from v) m.0 w.more in
           let later = w.senders v in
-          let from : one (is_from v m.0) ≡ one (is_node v node) = ap (λ (n : NodeId). one (is_node v n)) m.2 in
+          let from : one_if (is_from v m.0) ≡ one_if (is_node v node) = ap (λ (n : NodeId). one_if (is_node v n)) m.2 in
           omega (arith, all, left, here, later, from);
     }

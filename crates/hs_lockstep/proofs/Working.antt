@@ -2,6 +2,9 @@
 -- where something is pinned.
 use Rattle.std.proofs.Common.{◌≡◌, ◌⊎◌, inl, inr, ℕ, zero, suc, ◌+◌, ◌<◌, ◌≤◌, true, false, List, [], ◌∷◌, ◌++◌, length, refl, sym, ap, subst, ◌∙◌, Option, Some, None, arith, option_map, slice_get, eq-eqb, length-append}
 use Rattle.std.specs.Option.{option_and_then, option_to_list}
+use Rattle.std.proofs.lemmas.Option.{same_Some}
+use Rattle.hs_lists.proofs.Options.{option_unmap}
+use Rattle.hs_lists.proofs.Counts.{one_if, count_cons, count_append}
 use Rattle.hs_base.specs.declared.told.Told.{Told}
 use Rattle.hs_coord.specs.Following.{Messages}
 use Rattle.hs_journal.specs.declared.journal.Step.{Step}
@@ -15,8 +18,6 @@ use Rattle.hs_sent.specs.Sending.{ClientSends}
 use Rattle.hs_lawful.specs.Following.{Queue, Chunks, Crumbs, Triggers, Asks, takes, taken, asks_to, NodeRun, next_of, event_of, perform}
 use Rattle.hs_lawful.specs.Passes.{is_offer}
 use Rattle.hs_lockstep.proofs.FewAsks.{sum_to, sum_le, sum_lt}
-use Rattle.hs_lockstep.proofs.Groups.{unmapped}
-use Rattle.hs_lockstep.proofs.Lists.{one, some_same, count_append, count_cons}
 
 -- ---- what is taken
 
@@ -33,7 +34,7 @@ abbrev pub load : NodeRun → ℕ
 load run = borne run.state + length run.state.said
 
 module _ (clients : ℕ) (log : List Step) where
-  taken_one : (queue : Queue) (step : Step) → taken queue (log ++ step ∷ []) ≡ taken queue log + one (takes queue step)
+  taken_one : (queue : Queue) (step : Step) → taken queue (log ++ step ∷ []) ≡ taken queue log + one_if (takes queue step)
   taken_one queue step =
       let both = count_append (takes queue) log (step ∷ []) in
       let last = count_cons (takes queue) step [] in
@@ -62,7 +63,7 @@ module _ (clients : ℕ) (log : List Step) where
   chunk_works : (c : ℕ) → c < clients → work clients log < work clients (log ++ steps.Chunk c ∷ [])
   chunk_works c low =
       let a = taken_one (Chunks c) (steps.Chunk c) in
-      let own = ap one (eq-eqb c c refl) in
+      let own = ap one_if (eq-eqb c c refl) in
       let b = taken_one (Crumbs c) (steps.Chunk c) in
       let d = taken_one (Triggers c) (steps.Chunk c) in
       work_client (steps.Chunk c) c low (omega (arith, a, own, b, d))
@@ -70,7 +71,7 @@ module _ (clients : ℕ) (log : List Step) where
   crumb_works : (c : ℕ) → c < clients → work clients log < work clients (log ++ steps.Crumb c ∷ [])
   crumb_works c low =
       let a = taken_one (Crumbs c) (steps.Crumb c) in
-      let own = ap one (eq-eqb c c refl) in
+      let own = ap one_if (eq-eqb c c refl) in
       let b = taken_one (Chunks c) (steps.Crumb c) in
       let d = taken_one (Triggers c) (steps.Crumb c) in
       work_client (steps.Crumb c) c low (omega (arith, a, own, b, d))
@@ -78,7 +79,7 @@ module _ (clients : ℕ) (log : List Step) where
   trigger_works : (c : ℕ) → c < clients → work clients log < work clients (log ++ steps.Trigger c ∷ [])
   trigger_works c low =
       let a = taken_one (Triggers c) (steps.Trigger c) in
-      let own = ap one (eq-eqb c c refl) in
+      let own = ap one_if (eq-eqb c c refl) in
       let b = taken_one (Chunks c) (steps.Trigger c) in
       let d = taken_one (Crumbs c) (steps.Trigger c) in
       work_client (steps.Trigger c) c low (omega (arith, a, own, b, d))
@@ -199,7 +200,7 @@ module _ (add : EventsAddFew) (this : EventsAddThis) (says : StepsSayWhatTheyTel
         → ((a : A) → client < clients → work clients run.state.log < work clients (run.state.log ++ noted_as (Took (f a)) ∷ [])) → Works run → Works (perform settings rest run event)
     client_item run rest client f g event None e met own less w = let never : None ≡ Some event = met in absurd cc
     client_item run rest client f g event (Some s) e met own less w =
-        let t = unmapped (λ a. Took (f a)) (g s) event met in
+        let t = option_unmap (λ a. Took (f a)) (g s) event met in
         let low = get_low run.sends client s e in
         let count = w.sends in
         subst (λ (event : Event). Works (perform settings rest run event)) t.2 (item_works run rest (f t.0) (own t.0) (less t.0 (omega (arith, low, count))) w)
@@ -212,9 +213,9 @@ module _ (add : EventsAddFew) (this : EventsAddThis) (says : StepsSayWhatTheyTel
     step_works heard run (steps.Trigger client) rest event quiet met w =
         client_item run rest client (Triggered client) (λ (s : ClientSends). next_of (Triggers client) run.state s.triggers) event (slice_get run.sends client) refl met (λ a. refl) (λ a low. trigger_works clients run.state.log client low) w
     step_works heard run steps.Ask rest event quiet met w =
-        let t = unmapped (λ ask. Took (Asked ask)) (slice_get (asks_to run.node heard) (taken Asks run.state.log)) event met in
+        let t = option_unmap (λ ask. Took (Asked ask)) (slice_get (asks_to run.node heard) (taken Asks run.state.log)) event met in
         subst (λ (event : Event). Works (perform settings rest run event)) t.2 (item_works run rest (Asked t.0) refl (ask_works clients run.state.log) w)
-    step_works heard run steps.Turn rest event quiet met w = subst (λ (event : Event). Works (perform settings rest run event)) (some_same (Took Turn) event met) (turn_works run rest w)
+    step_works heard run steps.Turn rest event quiet met w = subst (λ (event : Event). Works (perform settings rest run event)) (same_Some (Took Turn) event met) (turn_works run rest w)
     step_works heard run (steps.Given stamp) rest event quiet met w = let never : true ≡ false = quiet in absurd cc
     step_works heard run (steps.Missed stamp) rest event quiet met w = let never : true ≡ false = quiet in absurd cc
     step_works heard run steps.Unread rest event quiet met w = let never : true ≡ false = quiet in absurd cc

@@ -6,6 +6,7 @@ use Rattle.std.proofs.lemmas.Bool.{cases_lt}
 use Rattle.std.proofs.lemmas.Bool.Decides.{Decides-ltb}
 use Rattle.std.proofs.lemmas.Grind.{flat_map-append}
 use Rattle.std.specs.List.{All, AllByRecursion, flat_map}
+use Rattle.hs_lists.proofs.Alls.{all_append}
 use Rattle.hs_base.specs.declared.ids.TraceId.{TraceId}
 use Rattle.hs_records.specs.Plain.{Operation, Begin, Point, Crumb, End, Sample}
 use Rattle.hs_records.specs.Records.{AreBracketed}
@@ -19,17 +20,13 @@ pub record Keeps (is_open : Bool) (operations : List Operation) : Type 0 where
   pub words : AllByRecursion (IsOperation 1 made_settings) operations
   pub kept : (rest : List Operation) → AreBracketed is_open rest → AreBracketed is_open (operations ++ rest)
 
-pub all_appended : {X : Type 0} (P : X → Type 0) (xs ys : List X) → AllByRecursion P xs → AllByRecursion P ys → AllByRecursion P (xs ++ ys)
-all_appended P [] ys p q = q
-all_appended P (x ∷ xs) ys p q = (p.0, all_appended P xs ys p.1 q)
-
 pub Keeps-nil : (is_open : Bool) → Keeps is_open []
 Keeps-nil is_open = record { words = tt; kept = λ rest h. h }
 
 pub Keeps-append : (is_open : Bool) (xs ys : List Operation) → Keeps is_open xs → Keeps is_open ys → Keeps is_open (xs ++ ys)
 Keeps-append is_open xs ys p q =
     record {
-      words = all_appended (IsOperation 1 made_settings) xs ys p.words q.words;
+      words = all_append (IsOperation 1 made_settings) xs ys p.words q.words;
       kept = λ rest h. subst (AreBracketed is_open) (sym (append_assoc xs ys rest)) (p.kept (ys ++ rest) (q.kept rest h));
     }
 
@@ -116,7 +113,7 @@ visit_keeps request trace depth node words few narrow visited shallow =
     let inner = between_keeps request depth node words few visited shallow in
     subst (Keeps false) (sym (visit_is_between request trace depth node words))
     record {
-      words = (narrow, all_appended (IsOperation 1 made_settings) (between request depth node words) (End ∷ []) inner.words (tt, tt));
+      words = (narrow, all_append (IsOperation 1 made_settings) (between request depth node words) (End ∷ []) inner.words (tt, tt));
       kept = λ rest h. (refl, subst (AreBracketed true) (sym (append_assoc (between request depth node words) (End ∷ []) rest)) (inner.kept (End ∷ rest) (refl, h)));
     }
 

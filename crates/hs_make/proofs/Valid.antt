@@ -16,10 +16,11 @@ use Rattle.hs_workload.specs.declared.word.Setting.TheVariants as settings
 use Rattle.hs_workload.specs.Settings.{least, most, setting_of}
 use Rattle.hs_workload.specs.Validity.{IsClient, IsValid}
 use Rattle.rand_xoshiro.specs.Xoshiro256.{plus_plus}
+use Rattle.hs_lists.proofs.Alls.{all_append}
 use Rattle.hs_make.specs.Words.{Words, words_from, seeded_words, each_below}
 use Rattle.hs_make.specs.Made.{made_settings, made_workload, client_at, clients_at}
 use Rattle.hs_make.proofs.Sequences.{each_below-suc, length-each_below}
-use Rattle.hs_make.proofs.Kept.{AreWords, all_appended, client_is_valid}
+use Rattle.hs_make.proofs.Kept.{AreWords, client_is_valid}
 use Rattle.hs_make.proofs.Counted.{few_operations}
 
 drawn_below : (state : List ℕ) → AreWords (words_from state)
@@ -74,7 +75,7 @@ autos =
 all_below : {X : Type 0} (P : X → Type 0) (n : ℕ) (item : ℕ → X) → ((k : ℕ) → P (item k)) → AllByRecursion P (each_below n item)
 unfolding each_below
 all_below P zero item each = tt
-all_below P (suc n) item each = subst (AllByRecursion P) (sym (each_below-suc n item)) (all_appended P (each_below n item) (item n ∷ []) (all_below P n item each) (each n, tt))
+all_below P (suc n) item each = subst (AllByRecursion P) (sym (each_below-suc n item)) (all_append P (each_below n item) (item n ∷ []) (all_below P n item each) (each n, tt))
 
 -- settings and clients that are a made workload's
 pub is_made : (seed size : ℕ) (settings : PlainSettings) (clients : List (List Operation)) → settings ≡ made_settings → clients ≡ clients_at size (seeded_words seed)

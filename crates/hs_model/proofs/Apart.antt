@@ -3,6 +3,8 @@ use Rattle.std.proofs.Common.{◌≡◌, ℕ, zero, suc, ◌+◌, Bool, true, fa
 use Rattle.std.specs.Prelude.{filter}
 use Rattle.std.specs.List.{AllByRecursion}
 use Rattle.std.proofs.lemmas.Bool.{eqb-true, ne_eqb}
+use Rattle.hs_lists.proofs.Parts.{map_alike}
+use Rattle.hs_lists.proofs.Filters.{filter_all}
 use Rattle.hs_sched.specs.Visits.{count_sent}
 use Rattle.hs_words.specs.Chunks.{used_of}
 use Rattle.hs_model.specs.Standings.{ChunkStanding, Indexed, Pinned, Reported, Evicted, Abandoned, Taken, pinned_for, stands, is_among, moved_from, moved}
@@ -11,7 +13,7 @@ use Rattle.hs_model.specs.Turning.{is_pinned_under, place_is_no_greater, put_bef
 use Rattle.hs_model.specs.Laws.{VisitsAreApart}
 use Rattle.hs_model.proofs.Counts.{count-take, among_counted, passes_too, passes_moved_at}
 use Rattle.hs_model.proofs.Placed.{count-by_priority}
-use Rattle.hs_model.proofs.Rising.{filter_same, filter_whole, filter_swap, all_counted, counted_filtered}
+use Rattle.hs_model.proofs.Rising.{filter_same, filter_swap, all_counted, counted_filtered}
 
 -- ---- ids
 
@@ -68,10 +70,6 @@ module _ (taken after : List Taken) where
   by_same [] all = refl
   by_same (x ∷ xs) all = ap (put_before after x) (by_same xs all.1) ∙ put_same x (by_priority taken xs) all.0 (all_by xs all.1)
 
-map_same : (f g : ℕ → ℕ) (xs : List ℕ) → ((x : ℕ) → f x ≡ g x) → map f xs ≡ map g xs
-map_same f g [] h = refl
-map_same f g (x ∷ xs) h = rw (h x) (ap (λ ys. g x ∷ ys) (map_same f g xs h))
-
 -- ---- a visit
 
 module _ (s : AgentState) (n sent id : ℕ) (differ : sent ≡ id → ⊥) where
@@ -117,7 +115,7 @@ module _ (s : AgentState) (n sent id : ℕ) (differ : sent ≡ id → ⊥) where
       let f = stands (is_pinned_under id) s.taken in
       let same_test = filter_same (stands (is_pinned_under id) moved_on) f (filter g s.pinned) (all_counted (λ p. stands (is_pinned_under id) moved_on p ≡ f p) (filter g s.pinned) (λ p few. stays_under p)) in
       let whole =
-      filter_whole g (filter f s.pinned) (all_counted (λ p. g p ≡ true) (filter f s.pinned)
+      filter_all g (filter f s.pinned) (all_counted (λ p. g p ≡ true) (filter f s.pinned)
       (λ p few. let out = not_going p (counted_filtered f s.pinned p few).0 in rw out refl))
       in
       ap (by_priority moved_on) (same_test ∙ filter_swap f g s.pinned ∙ whole)
@@ -129,7 +127,7 @@ module _ (s : AgentState) (n sent id : ℕ) (differ : sent ≡ id → ⊥) where
 
   costs_stay : costs_of (report (take n (order_of s sent)) s) id ≡ costs_of s id
   costs_stay =
-      map_same (used_at moved_on) (used_at s.taken) (order_of (report (take n (order_of s sent)) s) id) (λ p. used_at-moved reported_standing (take n (order_of s sent)) 0 s.taken p)
+      map_alike (used_at moved_on) (used_at s.taken) (order_of (report (take n (order_of s sent)) s) id) (λ p. used_at-moved reported_standing (take n (order_of s sent)) 0 s.taken p)
       ∙ ap (map (used_at s.taken)) order_stays
 
 pub visits_are_apart : VisitsAreApart

@@ -2,6 +2,7 @@
 -- else adds none. Claims are only for the group that was admitted or asked for.
 use Rattle.std.proofs.Common.{◌≡◌, ℕ, suc, ◌+◌, ◌≤◌, Bool, true, false, ◌&&◌, cond, List, [], ◌∷◌, ◌++◌, length, refl, sym, ap, ◌∙◌, arith, Option, Some, None, filter, take, fold, slice_get, not, length-append}
 use Rattle.std.specs.Option.{option_map_or}
+use Rattle.hs_lists.proofs.Filters.{filter_few}
 use Rattle.hs_base.specs.declared.ids.TraceId.{TraceId}
 use Rattle.hs_base.specs.declared.told.Ask.{Ask}
 use Rattle.hs_base.specs.declared.told.Crumb.{Crumb}
@@ -23,16 +24,6 @@ use Rattle.hs_model.specs.Laws.{borne, brought_by, claimed_by, admitted_by, shar
 use Rattle.hs_model.proofs.Traversal.{evict_loop, abandon_loop, visit_loop}
 use Rattle.hs_model.proofs.Limits.{indexed_moved, indexed_more, reported_indexed}
 use Rattle.hs_model.proofs.Claims.{among_places}
-
--- ---- lists
-
-shorter : {X : Type 0} (p : X → Bool) (xs : List X) → length (filter p xs) ≤ length xs
-shorter p [] = omega arith
-shorter p (x ∷ xs) = either (p x) (shorter p xs)
-  where
-    either : (b : Bool) → length (filter p xs) ≤ length xs → length (cond b (x ∷ filter p xs) (filter p xs)) ≤ suc (length xs)
-    either true h = omega (arith, h)
-    either false h = omega (arith, h)
 
 -- ---- what a claim moves
 
@@ -117,7 +108,7 @@ module _ (most : ℕ) (test : Group → Bool) (admitted : ℕ) (shares : List Sh
         abandon_loop settings Bears
         (λ group v f p.
         let less = indexed_moved (λ _. Abandoned group) (λ s e. let never : false ≡ true = e in absurd cc) (filter (is_pinned_for v.taken group) v.pinned) 0 v.taken in
-        let pins = shorter (λ place. not (is_pinned_for v.taken group place)) v.pinned in
+        let pins = filter_few (λ place. not (is_pinned_for v.taken group place)) v.pinned in
         let few = p.few in
         record { few = omega (arith, less, pins, few); own = p.own; count = p.count; same = p.same }) u.pinned u h
 
@@ -149,7 +140,7 @@ module _ (most : ℕ) (test : Group → Bool) (admitted : ℕ) (shares : List Sh
         (λ w share p.
         let places = take (count_sent settings.size share (costs_of w share.trigger.0)) (order_of w share.trigger.0) in
         let less = indexed_moved reported_standing reported_indexed places 0 w.taken in
-        let pins = shorter (λ place. not (is_among places place)) w.pinned in
+        let pins = filter_few (λ place. not (is_among places place)) w.pinned in
         let few = p.few in
         record { few = omega (arith, less, pins, few); own = p.own; count = p.count; same = p.same }) u.shares u h
         in
@@ -270,7 +261,7 @@ module _ (s : AgentState) where
   given_shares stamp [] = refl
   given_shares stamp (place ∷ hand) = refl
 
-  answer_shares : (answer : Answered) → (take_answer s answer).shares ≡ s.shares
+  pub answer_shares : (answer : Answered) → (take_answer s answer).shares ≡ s.shares
   answer_shares (Given stamp) = given_shares stamp s.hand
   answer_shares (Missed stamp) = refl
   answer_shares Unread = refl

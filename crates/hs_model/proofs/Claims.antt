@@ -4,12 +4,15 @@ use Rattle.std.specs.Prelude.{◌&&◌, filter, slice_get}
 use Rattle.std.specs.Option.{option_map, option_map_or}
 use Rattle.std.specs.List.{AllByRecursion}
 use Rattle.std.proofs.lemmas.List.{map-append}
+use Rattle.hs_lists.proofs.Alls.{all_push}
+use Rattle.hs_lists.proofs.Counts.{one_if}
 use Rattle.hs_base.specs.declared.ids.TraceId.{TraceId}
 use Rattle.hs_base.specs.declared.told.Ask.{Ask}
 use Rattle.hs_base.specs.declared.told.Group.{Group}
 use Rattle.hs_base.specs.Ids.{same_trace}
 use Rattle.hs_records.specs.Plain.{PlainSettings}
 use Rattle.hs_sched.specs.Visits.{count_sent}
+use Rattle.hs_pins.proofs.Order.{same_group-true}
 use Rattle.hs_model.specs.Standings.{ChunkStanding, Indexed, Pinned, Reported, Evicted, Abandoned, Taken, trace_of, is_indexed, is_pinned_to, is_indexed_of, is_pinned_for, indexed_places, indexed_count, places_from, passes, is_among, moved_from}
 use Rattle.hs_model.specs.State.{AgentState, ClaimedTrace, start, claim_of, is_claimed}
 use Rattle.hs_model.specs.Evicting.{evict_trace}
@@ -18,8 +21,8 @@ use Rattle.hs_model.specs.Abandoning.{abandon_group}
 use Rattle.hs_model.specs.Turning.{order_of, costs_of, reported_standing, report}
 use Rattle.hs_model.specs.Stepping.{after}
 use Rattle.hs_model.specs.Laws.{count_of, count_traces, claimed_traces, claiming_group, StandsByClaim, AllStandByClaim, IsClaimedOrTouched, TracesAreClaimedOnce, ClaimsHoldForGood, ChunksStandByTheirClaim}
-use Rattle.hs_model.proofs.Counts.{one, count-filter, among_counted, not_among_counted, places_counted_at}
-use Rattle.hs_model.proofs.Traces.{same_trace-refl, same_trace-true, same_group-true, traces-append, traces-without, traces-touch, unclaimed-counted, claim_of-none, claiming-append, claiming-new, claimed-append, same_trace-sym}
+use Rattle.hs_model.proofs.Counts.{count-filter, among_counted, not_among_counted, places_counted_at}
+use Rattle.hs_model.proofs.Traces.{same_trace-refl, same_trace-true, traces-append, traces-without, traces-touch, unclaimed-counted, claim_of-none, claiming-append, claiming-new, claimed-append, same_trace-sym}
 use Rattle.hs_model.proofs.Traversal.{IsKept, kept_after, kept_from}
 
 -- ---- claimed once
@@ -132,23 +135,19 @@ all_moved P Q change places k (c ∷ taken) all h =
     let z : k + 0 ≡ k = omega arith in
     (rw z at (h 0 c refl all.0), all_moved P Q change places (suc k) taken all.1 (λ p d e m. let n : k + suc p ≡ suc k + p = omega arith in rw n at (h (suc p) d e m)))
 
-pub all_more : (P : Taken → Type 0) (taken : List Taken) (c : Taken) → AllByRecursion P taken → P c → AllByRecursion P (taken ++ c ∷ [])
-all_more P [] c all p = (p, tt)
-all_more P (x ∷ taken) c all p = (all.0, all_more P taken c all.1 p)
-
 -- a place is among those of a test exactly where its chunk passes it
 pub among_places : (test : Taken → Bool) (taken : List Taken) (p : ℕ) (c : Taken) → slice_get taken p ≡ Some c → is_among (places_from 0 test taken) p ≡ test c
 among_places test taken p c e =
     let count = places_counted_at test taken p in
     let is : passes test taken p ≡ test c = ap (λ o. option_map_or test o false) e in
-    let both : count_of (places_from 0 test taken) p ≡ one (test c) = count ∙ ap one is in
+    let both : count_of (places_from 0 test taken) p ≡ one_if (test c) = count ∙ ap one_if is in
     go (is_among (places_from 0 test taken) p) (test c) refl refl both
   where
-    go : (a b : Bool) → is_among (places_from 0 test taken) p ≡ a → test c ≡ b → count_of (places_from 0 test taken) p ≡ one (test c) → a ≡ b
+    go : (a b : Bool) → is_among (places_from 0 test taken) p ≡ a → test c ≡ b → count_of (places_from 0 test taken) p ≡ one_if (test c) → a ≡ b
     go true true f g h = refl
     go false false f g h = refl
-    go true false f g h = let n = among_counted (places_from 0 test taken) p f in let z : one (test c) ≡ 0 = rw g refl in absurd (omega arith)
-    go false true f g h = let n = not_among_counted (places_from 0 test taken) p f in let z : one (test c) ≡ 1 = rw g refl in absurd (omega arith)
+    go true false f g h = let n = among_counted (places_from 0 test taken) p f in let z : one_if (test c) ≡ 0 = rw g refl in absurd (omega arith)
+    go false true f g h = let n = not_among_counted (places_from 0 test taken) p f in let z : one_if (test c) ≡ 1 = rw g refl in absurd (omega arith)
 
 stays_reported : (claims : List ClaimedTrace) (t : TraceId) (s : ChunkStanding) → StandsByClaim claims t s → StandsByClaim claims t (reported_standing s)
 stays_reported claims t Indexed h = h
@@ -241,9 +240,9 @@ by_claim_kept settings node =
       abandons = λ group s chosen m. by_claim_abandons group s m;
       visits = λ s share m. by_claim_report (take (count_sent settings.size share (costs_of s share.trigger.0)) (order_of s share.trigger.0)) s m;
       shares = λ shares s m. m;
-      indexes = λ sheet s free m. all_more (Stands s.claims) s.taken _ m (claim_of-none s.claims sheet.header.trace free);
-      drops = λ sheet claim s had gone m. all_more (Stands s.claims) s.taken _ m (claiming_from s.claims sheet.header.trace claim had);
-      pins = λ sheet claim s had m. all_more (Stands s.claims) s.taken _ m (claiming_from s.claims sheet.header.trace claim had);
+      indexes = λ sheet s free m. all_push (Stands s.claims) s.taken _ m (claim_of-none s.claims sheet.header.trace free);
+      drops = λ sheet claim s had gone m. all_push (Stands s.claims) s.taken _ m (claiming_from s.claims sheet.header.trace claim had);
+      pins = λ sheet claim s had m. all_push (Stands s.claims) s.taken _ m (claiming_from s.claims sheet.header.trace claim had);
       touches = λ crumb s free m. m;
       tells = λ crumb claim s had new m. m;
       tries = λ trigger s m. m;

@@ -2,11 +2,9 @@
 use Rattle.std.proofs.Common.{◌≡◌, ℕ, zero, suc, ◌+◌, ◌<◌, ◌≤◌, Bool, true, false, cond, not, List, [], ◌∷◌, ◌++◌, length, take, refl, sym, ap, ◌∙◌, arith, inl, inr, length-append}
 use Rattle.std.specs.Prelude.{◌==◌, filter}
 use Rattle.std.proofs.lemmas.Bool.{cases_Bool, cases_order, true≢false, eqb-true, eq-eqb, ne_eqb, or_parts}
+use Rattle.hs_lists.proofs.Counts.{one_if}
 use Rattle.hs_model.specs.Standings.{ChunkStanding, Taken, passes, is_among, places_from, moved_from, moved}
 use Rattle.hs_model.specs.Laws.{count_of}
-
-abbrev pub one : Bool → ℕ
-one b = cond b 1 0
 
 pub count-append : (xs ys : List ℕ) (p : ℕ) → count_of (xs ++ ys) p ≡ count_of xs p + count_of ys p
 count-append [] ys p = omega arith
@@ -48,11 +46,7 @@ pub not_among_counted : (places : List ℕ) (p : ℕ) → is_among places p ≡ 
 not_among_counted [] p e = refl
 not_among_counted (q ∷ places) p e = let both = or_parts (q == p) (is_among places p) e in rw both.0 (omega (arith, not_among_counted places p both.1))
 
-pub one-le : (b : Bool) → one b ≤ 1
-one-le true = omega arith
-one-le false = omega arith
-
-pub counted_one : (b : Bool) → 1 ≤ one b → b ≡ true
+pub counted_one : (b : Bool) → 1 ≤ one_if b → b ≡ true
 counted_one true h = refl
 counted_one false h = absurd (omega arith)
 
@@ -89,7 +83,7 @@ passes_at test [] c = refl
 passes_at test (x ∷ taken) c = passes_at test taken c
 
 -- with one chunk more, counted
-pub passes_more : (test : Taken → Bool) (taken : List Taken) (c : Taken) (p : ℕ) → one (passes test (taken ++ c ∷ []) p) ≡ one (passes test taken p) + cond (test c) (count_of (length taken ∷ []) p) 0
+pub passes_more : (test : Taken → Bool) (taken : List Taken) (c : Taken) (p : ℕ) → one_if (passes test (taken ++ c ∷ []) p) ≡ one_if (passes test taken p) + cond (test c) (count_of (length taken ∷ []) p) 0
 passes_more test taken c p =
     elim (cases_order p (length taken)) [
       | inl here ↦ rw here (rw (passes_at test taken c, passes_past test taken (length taken) (omega arith), eq-eqb (length taken) (length taken) refl) (omega arith))
@@ -99,7 +93,7 @@ passes_more test taken c p =
       ]
     ]
   where
-    go : (b : Bool) → one (passes test taken p) ≡ one (passes test taken p) + cond b 0 0
+    go : (b : Bool) → one_if (passes test taken p) ≡ one_if (passes test taken p) + cond b 0 0
     go true = omega arith
     go false = omega arith
 
@@ -113,7 +107,7 @@ places_below k test (c ∷ taken) q h =
     let ih = places_below (suc k) test taken q (omega arith) in
     elim (cases_Bool (test c)) [ inl e ↦ rw e (rw (ne_eqb k q (λ e. omega arith)) (omega (arith, ih))) | inr e ↦ rw e ih ]
 
-pub places_counted : (k : ℕ) (test : Taken → Bool) (taken : List Taken) (p : ℕ) → count_of (places_from k test taken) (k + p) ≡ one (passes test taken p)
+pub places_counted : (k : ℕ) (test : Taken → Bool) (taken : List Taken) (p : ℕ) → count_of (places_from k test taken) (k + p) ≡ one_if (passes test taken p)
 places_counted k test [] p = refl
 places_counted k test (c ∷ taken) zero =
     let e : k + 0 ≡ k = omega arith in
@@ -127,7 +121,7 @@ pub passes_moved_at : (test : Taken → Bool) (change : ChunkStanding → ChunkS
     → passes test (moved places change taken) p ≡ cond (is_among places p) (passes (λ c. test (record c { standing = change c.standing })) taken p) (passes test taken p)
 passes_moved_at test change places taken p = let e : 0 + p ≡ p = omega arith in rw e at (passes_moved test change places 0 taken p)
 
-pub places_counted_at : (test : Taken → Bool) (taken : List Taken) (p : ℕ) → count_of (places_from 0 test taken) p ≡ one (passes test taken p)
+pub places_counted_at : (test : Taken → Bool) (taken : List Taken) (p : ℕ) → count_of (places_from 0 test taken) p ≡ one_if (passes test taken p)
 places_counted_at test taken p = let e : 0 + p ≡ p = omega arith in rw e at (places_counted 0 test taken p)
 
 -- a filter and what it leaves out

@@ -1,7 +1,9 @@
 -- What an agent remembers and tells of crumbs leads to the nodes to which crumbs led that it took.
-use Rattle.std.proofs.Common.{◌≡◌, ℕ, ◌<◌, Bool, true, false, ◌||◌, cond, List, [], ◌∷◌, ◌++◌, refl, sym, subst, ◌∙◌, Option, Some, None, eqb-true, nat_eq, fold, filter, append-nil}
+use Rattle.std.proofs.Common.{◌≡◌, ℕ, ◌<◌, Bool, true, false, ◌||◌, cond, List, [], ◌∷◌, ◌++◌, refl, sym, subst, ◌∙◌, Option, Some, None, eqb-true, nat_eq, fold, filter}
 use Rattle.std.specs.List.{AllByRecursion, list_any}
-use Rattle.std.specs.Option.{option_map_or, option_and_then, option_to_list}
+use Rattle.std.specs.Option.{option_map_or, option_and_then}
+use Rattle.std.proofs.lemmas.Option.{same_Some}
+use Rattle.hs_lists.proofs.Alls.{all_append, all_filter, all_append_option}
 use Rattle.hs_base.specs.NodeSetLaws.{has-no_nodes, has-one_node, has-with_node}
 use Rattle.hs_base.specs.NodeSets.{has_node, no_nodes, with_node}
 use Rattle.hs_base.specs.declared.node_set.NodeSet.{NodeSet}
@@ -23,28 +25,6 @@ use Rattle.hs_model.specs.State.{AgentState, ClaimedTrace, claim_of, is_abandone
 use Rattle.hs_model.specs.Stepping.{Input, Chunk, Crumbed, Triggered, Asked, Turn, Answered, Given, Missed, Unread, Took, Gave, with_indexed, with_abandoned, with_pinned, pin_chunk, with_touched, tell_late, late_crumb, admits, group_of, claim_for, note_trigger, count_admitted, admit, told_by, take_input, take_answer, give_back}
 use Rattle.hs_model.proofs.Saying.{steps_say_what_they_tell}
 use Rattle.hs_model.proofs.Traversal.{evict_loop, abandon_loop, visit_loop, claim_loop}
-
--- ---- lists
-
-module _ {X : Type 0} (P : X → Type 0) where
-  all_both : (xs ys : List X) → AllByRecursion P xs → AllByRecursion P ys → AllByRecursion P (xs ++ ys)
-  all_both [] ys a b = b
-  all_both (x ∷ xs) ys a b = (a.0, all_both xs ys a.1 b)
-
-  kept_if : (x : X) (kept : List X) (b : Bool) → P x → AllByRecursion P kept → AllByRecursion P (cond b (x ∷ kept) kept)
-  kept_if x kept true h all = (h, all)
-  kept_if x kept false h all = all
-
-  all_kept : (p : X → Bool) (xs : List X) → AllByRecursion P xs → AllByRecursion P (filter p xs)
-  all_kept p [] all = tt
-  all_kept p (x ∷ xs) all = kept_if x (filter p xs) (p x) all.0 (all_kept p xs all.1)
-
-  some_told : (xs : List X) (o : Option X) → AllByRecursion P xs → ((x : X) → o ≡ Some x → P x) → AllByRecursion P (xs ++ option_to_list o)
-  some_told xs None all each = subst (AllByRecursion P) (sym (append-nil xs)) all
-  some_told xs (Some x) all each = all_both xs (x ∷ []) all (each x refl, tt)
-
-the_same : {X : Type 0} (a b : X) → Some a ≡ Some b → a ≡ b
-the_same a b h = cc
 
 -- ---- sets of nodes
 
@@ -75,7 +55,7 @@ module _ (nodes : ℕ) where
 
   told_below : (crumbs : List Crumb) (ask : Ask) (why : Why) → AllByRecursion IsBelow crumbs → IsToldBelow nodes (told_of crumbs ask why)
   told_below crumbs ask why all =
-      fold_below (filter (λ (crumb : Crumb). list_any (same_trace crumb.trace) (traces_of ask)) crumbs) no_nodes (all_kept IsBelow (λ (crumb : Crumb). list_any (same_trace crumb.trace) (traces_of ask)) crumbs all) none_below
+      fold_below (filter (λ (crumb : Crumb). list_any (same_trace crumb.trace) (traces_of ask)) crumbs) no_nodes (all_filter IsBelow (λ (crumb : Crumb). list_any (same_trace crumb.trace) (traces_of ask)) crumbs all) none_below
 
   late_below : (claim : ClaimedTrace) (crumb : Crumb) → IsBelow crumb → IsToldBelow nodes (late_of claim crumb)
   late_below claim crumb low n h = same_node n crumb.node.0 (sym (has-one_node crumb.node n) ∙ h) low
@@ -87,11 +67,11 @@ module _ (nodes : ℕ) where
 
   with_crumb_below : (crumbs : List Crumb) (crumb : Crumb) (b : Bool) → AllByRecursion IsBelow crumbs → IsBelow crumb → AllByRecursion IsBelow (cond b crumbs (crumbs ++ crumb ∷ []))
   with_crumb_below crumbs crumb true all low = all
-  with_crumb_below crumbs crumb false all low = all_both IsBelow crumbs (crumb ∷ []) all (low, tt)
+  with_crumb_below crumbs crumb false all low = all_append IsBelow crumbs (crumb ∷ []) all (low, tt)
 
   module _ (settings : PlainSettings) (node : ℕ) (s : AgentState) (all : Remembers s) where
     evict_keeps : (u : AgentState) → Remembers u → Remembers (evict settings u)
-    evict_keeps u p = evict_loop settings Remembers (λ trace later v first over p. all_kept IsBelow _ v.crumbs p) u.touched u refl p
+    evict_keeps u p = evict_loop settings Remembers (λ trace later v first over p. all_filter IsBelow _ v.crumbs p) u.touched u refl p
 
     abandon_keeps : (u : AgentState) → Remembers u → Remembers (abandon settings u)
     abandon_keeps u p = abandon_loop settings Remembers (λ group v first p. p) u.pinned u p
@@ -143,17 +123,17 @@ module _ (nodes : ℕ) where
       where
         either : (b : Bool) → cond b None (Some (late_of claim crumb)) ≡ Some told → IsToldBelow nodes told
         either true h = let never : None ≡ Some told = h in absurd cc
-        either false h = subst (IsToldBelow nodes) (the_same (late_of claim crumb) told h) (late_below claim crumb low)
+        either false h = subst (IsToldBelow nodes) (same_Some (late_of claim crumb) told h) (late_below claim crumb low)
 
     trigger_told : (trigger : Trigger) (told : Told) (b : Bool) → cond b (Some (told_of s.crumbs (group_of node s trigger) Fired)) None ≡ Some told → IsToldBelow nodes told
-    trigger_told trigger told true h = subst (IsToldBelow nodes) (the_same (told_of s.crumbs (group_of node s trigger) Fired) told h) (told_below s.crumbs (group_of node s trigger) Fired all)
+    trigger_told trigger told true h = subst (IsToldBelow nodes) (same_Some (told_of s.crumbs (group_of node s trigger) Fired) told h) (told_below s.crumbs (group_of node s trigger) Fired all)
     trigger_told trigger told false h = let never : None ≡ Some told = h in absurd cc
 
     input_told : (input : Input) (told : Told) → BringsBelow nodes (Took input) → told_by settings node s input ≡ Some told → IsToldBelow nodes told
     input_told (Chunk client sheet) told low h = let never : None ≡ Some told = h in absurd cc
     input_told (Crumbed client crumb) told low h = late_told crumb told (claim_of s.claims crumb.trace) low h
     input_told (Triggered client trigger) told low h = trigger_told trigger told (admits settings s.tried trigger) h
-    input_told (Asked ask) told low h = subst (IsToldBelow nodes) (the_same (told_of s.crumbs ask Answer) told h) (told_below s.crumbs ask Answer all)
+    input_told (Asked ask) told low h = subst (IsToldBelow nodes) (same_Some (told_of s.crumbs ask Answer) told h) (told_below s.crumbs ask Answer all)
     input_told Turn told low h = let never : None ≡ Some told = h in absurd cc
 
 pub crumbs_lead_below : CrumbsLeadBelow
@@ -162,7 +142,7 @@ crumbs_lead_below settings node nodes s (Took input) low h =
       crumbs = input_keeps nodes settings node s h.crumbs input low;
       said =
           subst (AllByRecursion (IsToldBelow nodes)) (sym ((steps_say_what_they_tell settings node s).inputs input))
-          (some_told (IsToldBelow nodes) s.said (told_by settings node s input) h.said (λ told is. input_told nodes settings node s h.crumbs input told low is));
+          (all_append_option (IsToldBelow nodes) s.said (told_by settings node s input) h.said (λ told is. input_told nodes settings node s h.crumbs input told low is));
     }
 crumbs_lead_below settings node nodes s (Gave answer) low h =
     record { crumbs = answer_keeps nodes settings node s h.crumbs answer; said = subst (AllByRecursion (IsToldBelow nodes)) (sym ((steps_say_what_they_tell settings node s).answers answer)) h.said }

@@ -7,10 +7,12 @@ use Rattle.std.specs.Cmp.{IsTotalOrder}
 use Rattle.std.specs.declared.cmp.Ordering.{Ordering}
 use Rattle.std.specs.declared.cmp.Ordering.TheVariants.{Less, Equal, Greater}
 use Rattle.std.specs.Ordering.{nat_cmp, ordering_then, ordering_reverse, is_le, is_gt, MatchOrdering}
-use Rattle.std.proofs.lemmas.Cmp.{upto, tied_itself, nat_cmp_total, on_total, then_total, back_total, ranked}
+use Rattle.std.proofs.lemmas.Cmp.{upto, tied_itself, nat_cmp_total, on_total, then_total, ranked}
 use Rattle.std.proofs.lemmas.Bool.{eqb-true, eq-eqb, or_right}
 use Rattle.hs_base.specs.declared.told.Group.{Group}
 use Rattle.hs_pins.specs.Priorities.{priority_of}
+use Rattle.hs_pins.proofs.Order.{same_group-refl}
+use Rattle.hs_pins.proofs.Choice.{id_order}
 use Rattle.hs_model.specs.Standings.{same_group}
 use Rattle.hs_model.specs.Abandoning.{least, count_of_id, id_cmp, fullest_id, group_cmp, is_no_greater, least_of_id}
 use Rattle.hs_model.specs.Laws.{GoesBefore, MatchNextToGo, TheLeastGoes}
@@ -68,17 +70,11 @@ module _ {X : Type 0} (cmp : X → X → Ordering) (order : IsTotalOrder cmp) wh
 
 -- ---- ids and groups
 
-id_order : (groups : List Group) → IsTotalOrder (id_cmp groups)
-id_order groups = then_total (on_total (count_of_id groups) (back_total nat_cmp_total)) nat_cmp_total
-
 pub group_order : IsTotalOrder group_cmp
 group_order =
     then_total (on_total (λ (g : Group). (priority_of g).word) nat_cmp_total)
     (then_total (on_total (λ (g : Group). g.lead.0) nat_cmp_total)
     (then_total (on_total (λ (g : Group). g.id.node) nat_cmp_total) (on_total (λ (g : Group). g.id.number) nat_cmp_total)))
-
-pub same_group-refl : (g : Group) → same_group g g ≡ true
-same_group-refl g = rw (eq-eqb g.id.node g.id.node refl, eq-eqb g.id.number g.id.number refl, eq-eqb g.trigger.0 g.trigger.0 refl) (eq-eqb g.lead.0 g.lead.0 refl)
 
 -- what an order of ids says
 goes_before : (groups : List Group) (g other : Group) → is_le (id_cmp groups g.trigger.0 other.trigger.0) ≡ true → GoesBefore groups g other

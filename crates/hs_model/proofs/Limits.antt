@@ -4,6 +4,9 @@ use Rattle.std.specs.Prelude.{◌==◌, filter, filter_map, nat_lt}
 use Rattle.std.specs.Option.{option_map_or}
 use Rattle.std.specs.List.{AllByRecursion, list_any, cons_option}
 use Rattle.std.proofs.lemmas.Bool.{ltb-true, ltb-false, le-ltb, eq-eqb, or_parts, or_from, or_cases, or_left, or_right, and_cases}
+use Rattle.hs_lists.proofs.Alls.{all_push}
+use Rattle.hs_lists.proofs.Counts.{one_if}
+use Rattle.hs_lists.proofs.Filters.{filter_few}
 use Rattle.hs_base.specs.declared.ids.TraceId.{TraceId}
 use Rattle.hs_base.specs.declared.told.Ask.{Ask}
 use Rattle.hs_base.specs.declared.told.Crumb.{Crumb}
@@ -23,11 +26,11 @@ use Rattle.hs_model.specs.Turning.{order_of, costs_of, reported_standing, visit}
 use Rattle.hs_model.specs.Messages.{has_crumb}
 use Rattle.hs_model.specs.Stepping.{Input, Chunk, Crumbed, Triggered, Asked, Turn, Answered, Given, Missed, Unread, Event, Took, Gave, with_indexed, with_pinned, with_abandoned, pin_chunk, with_touched, tell_late, late_crumb, admits, group_of, claim_for, note_trigger, count_admitted, admit, take_input, give_back, take_answer, after_event, after_from}
 use Rattle.hs_model.specs.Laws.{count_of, count_traces, PlacesMatch, IsNextToGo, MatchNextToGo, IsWithin, LimitsHold}
-use Rattle.hs_model.proofs.Counts.{one, counted_one}
+use Rattle.hs_model.proofs.Counts.{counted_one}
 use Rattle.hs_model.proofs.Traces.{same_trace-refl, same_trace-sym, traces-without, traces-touch}
 use Rattle.hs_model.proofs.Traversal.{IsKept, evict_loop, abandon_loop, visit_loop, claim_loop, kept_claims, kept_event}
 use Rattle.hs_model.proofs.Placed.{match_kept, match_start}
-use Rattle.hs_model.proofs.Claims.{all_moved, all_more, among_places}
+use Rattle.hs_model.proofs.Claims.{all_moved, among_places}
 use Rattle.hs_model.proofs.Least.{the_least_goes}
 
 -- ---- the traces of indexed chunks are touched
@@ -102,9 +105,9 @@ touched_kept settings node =
       abandons = λ group s chosen m. touched_moved (λ _. Abandoned group) (λ u e. absurd (true≢false (sym e))) (filter (is_pinned_for s.taken group) s.pinned) s m;
       visits = λ s share m. touched_moved reported_standing reported_indexed (take (count_sent settings.size share (costs_of s share.trigger.0)) (order_of s share.trigger.0)) s m;
       shares = λ shares s m. m;
-      indexes = λ sheet s free m. all_more (IsTouched (touch sheet.header.trace s.touched)) s.taken _ (touched_touch sheet.header.trace s m) (λ is. touched_new sheet.header.trace s.touched);
-      drops = λ sheet claim s had gone m. all_more (IsTouched s.touched) s.taken _ m (λ is. absurd (true≢false (sym is)));
-      pins = λ sheet claim s had m. all_more (IsTouched s.touched) s.taken _ m (λ is. absurd (true≢false (sym is)));
+      indexes = λ sheet s free m. all_push (IsTouched (touch sheet.header.trace s.touched)) s.taken _ (touched_touch sheet.header.trace s m) (λ is. touched_new sheet.header.trace s.touched);
+      drops = λ sheet claim s had gone m. all_push (IsTouched s.touched) s.taken _ m (λ is. absurd (true≢false (sym is)));
+      pins = λ sheet claim s had m. all_push (IsTouched s.touched) s.taken _ m (λ is. absurd (true≢false (sym is)));
       touches = λ crumb s free m. touched_touch crumb.trace s m;
       tells = λ crumb claim s had new m. m;
       tries = λ trigger s m. m;
@@ -142,7 +145,7 @@ evicted_within settings node (trace ∷ later) s e m = go (is_over settings s) r
 -- ---- after abandoning
 
 -- a pinned place is pinned for its group
-pinned_to : (group h : Group) (u : ChunkStanding) → pinning_group u ≡ Some h → is_pinned_to group u ≡ same_group group h
+pub pinned_to : (group h : Group) (u : ChunkStanding) → pinning_group u ≡ Some h → is_pinned_to group u ≡ same_group group h
 pinned_to group h Indexed e = absurd cc
 pinned_to group h (Pinned g) e = let same : g ≡ h = cc in ap (same_group group) same
 pinned_to group h (Reported g) e = absurd cc
@@ -177,15 +180,9 @@ pinned_place taken (p ∷ places) group e = go (pinned_for taken p) refl e (pinn
     go None f e next = or_right _ _ (next e)
     go (Some h) f e next = elim (or_cases _ _ e) [ inl here ↦ or_left _ _ (pinned_for-group taken p group h f ∙ here) | inr there ↦ or_right _ _ (next there) ]
 
--- what a filter takes out makes the rest shorter
-not_longer : (f : ℕ → Bool) (xs : List ℕ) → length (filter f xs) ≤ length xs
-not_longer f [] = omega arith
-not_longer f (x ∷ xs) =
-    elim (f x) as (λ b. length (cond b (x ∷ filter f xs) (filter f xs)) ≤ length (x ∷ xs)) [ true ↦ omega (arith, not_longer f xs) | false ↦ omega (arith, not_longer f xs) ]
-
 shorter : (f : ℕ → Bool) (xs : List ℕ) → list_any f xs ≡ true → suc (length (filter (λ x. not (f x)) xs)) ≤ length xs
 shorter f [] e = absurd (true≢false (sym e))
-shorter f (x ∷ xs) e = go (f x) e (shorter f xs) (not_longer (λ y. not (f y)) xs)
+shorter f (x ∷ xs) e = go (f x) e (shorter f xs) (filter_few (λ y. not (f y)) xs)
   where
     go : (b : Bool) → (b || list_any f xs) ≡ true → (list_any f xs ≡ true → suc (length (filter (λ y. not (f y)) xs)) ≤ length xs) → length (filter (λ y. not (f y)) xs) ≤ length xs
         → suc (length (cond (not b) (x ∷ filter (λ y. not (f y)) xs) (filter (λ y. not (f y)) xs))) ≤ suc (length xs)
@@ -199,7 +196,7 @@ no_groups s m e = go s.pinned refl e
     go : (places : List ℕ) → s.pinned ≡ places → filter_map (pinned_for s.taken) places ≡ [] → s.pinned ≡ []
     go [] f e = f
     go (p ∷ places) f e =
-        let count : count_of s.pinned p ≡ one (stands is_pinned s.taken p) = m.pinned_each p in
+        let count : count_of s.pinned p ≡ one_if (stands is_pinned s.taken p) = m.pinned_each p in
         let first : count_of s.pinned p ≡ cond (p == p) 1 0 + count_of places p = ap (λ ps. count_of ps p) f in
         let more = rw (eq-eqb p p refl) at first in
         let some = has_group s.taken p (counted_one (stands is_pinned s.taken p) (omega arith)) in
@@ -306,7 +303,7 @@ module _ (settings : PlainSettings) (node : ℕ) where
       record {
         chunks = let le = indexed_moved reported_standing reported_indexed sent 0 s.taken in let old = w.chunks in omega arith;
         traces = w.traces;
-        pins = let le = not_longer (λ place. not (is_among sent place)) s.pinned in let old = w.pins in omega arith;
+        pins = let le = filter_few (λ place. not (is_among sent place)) s.pinned in let old = w.pins in omega arith;
       }
 
   -- after an eviction

@@ -6,6 +6,9 @@ use Rattle.std.specs.List.{AllByRecursion}
 use Rattle.std.proofs.lemmas.Bool.{cases_Bool, and_parts, eqb-true}
 use Rattle.std.proofs.lemmas.Cmp.{tied_itself}
 use Rattle.std.specs.Ordering.{is_le}
+use Rattle.hs_lists.proofs.Counts.{one_if, one_few}
+use Rattle.hs_lists.proofs.Alls.{all_at}
+use Rattle.hs_lists.proofs.Filters.{filter_none, filter_all}
 use Rattle.hs_base.specs.declared.ids.TraceId.{TraceId}
 use Rattle.hs_base.specs.declared.told.Ask.{Ask}
 use Rattle.hs_base.specs.declared.told.Group.{Group}
@@ -20,14 +23,14 @@ use Rattle.hs_model.specs.Abandoning.{abandon_group}
 use Rattle.hs_model.specs.Turning.{is_pinned_under, place_is_no_greater, put_before, by_priority, order_of, costs_of, reported_standing, report}
 use Rattle.hs_model.specs.Stepping.{with_pinned, after}
 use Rattle.hs_model.specs.Laws.{count_of, claiming_group, StandsByClaim, PlacesMatch, AreRising, ReportedInOrder}
-use Rattle.hs_model.proofs.Counts.{one, count-append, counted_one, one-le, passes_before, places_counted_at}
+use Rattle.hs_model.proofs.Counts.{count-append, counted_one, passes_before, places_counted_at}
 use Rattle.hs_model.proofs.Traces.{same_trace-true}
 use Rattle.hs_model.proofs.Traversal.{IsKept, kept_after}
 use Rattle.hs_model.proofs.Placed.{match_kept, match_start, count-by_priority, count-order}
 use Rattle.hs_model.proofs.Claims.{ByClaim, by_claim_kept}
 use Rattle.hs_model.proofs.Unevicted.{of_moved, passed_within}
 use Rattle.hs_model.proofs.Least.{group_order}
-use Rattle.hs_model.proofs.Rising.{filter-append, filter_same, filter_none, filter_whole, filter_swap, all_counted, counted_filtered, rising_filtered, rising_left, rising_front, rising_push, places_rising, front_and_rest}
+use Rattle.hs_model.proofs.Rising.{filter-append, filter_same, filter_swap, all_counted, counted_filtered, rising_filtered, rising_left, rising_front, rising_push, places_rising, front_and_rest}
 
 -- ---- chunks at places
 
@@ -35,11 +38,6 @@ chunk_at : (test : Taken → Bool) (taken : List Taken) (p : ℕ) → passes tes
 chunk_at test [] p e = absurd (true≢false (sym e))
 chunk_at test (c ∷ taken) zero e = (c, refl, e)
 chunk_at test (c ∷ taken) (suc p) e = chunk_at test taken p e
-
-at_all : (P : Taken → Type 0) (taken : List Taken) (p : ℕ) (c : Taken) → AllByRecursion P taken → slice_get taken p ≡ Some c → P c
-at_all P [] p c all e = absurd cc
-at_all P (x ∷ taken) zero c all e = let same : x ≡ c = cc in subst P same all.0
-at_all P (x ∷ taken) (suc p) c all e = at_all P taken p c all.1 e
 
 passes_there : (test : Taken → Bool) (taken : List Taken) (p : ℕ) (c : Taken) → slice_get taken p ≡ Some c → passes test taken p ≡ test c
 passes_there test taken p c e = ap (λ o. option_map_or test o false) e
@@ -78,16 +76,16 @@ reported_is_for claims t (Abandoned g) e m = absurd (true≢false (sym e))
 
 module _ (s : AgentState) (m : InOrder s) where
   pinned_stands : (p : ℕ) → 1 ≤ count_of s.pinned p → stands is_pinned s.taken p ≡ true
-  pinned_stands p few = let each : count_of s.pinned p ≡ one (stands is_pinned s.taken p) = m.places.pinned_each p in counted_one (stands is_pinned s.taken p) (omega arith)
+  pinned_stands p few = let each : count_of s.pinned p ≡ one_if (stands is_pinned s.taken p) = m.places.pinned_each p in counted_one (stands is_pinned s.taken p) (omega arith)
 
   reported_stands : (p : ℕ) → 1 ≤ count_of s.reported p → stands is_reported s.taken p ≡ true
-  reported_stands p few = let each : count_of s.reported p ≡ one (stands is_reported s.taken p) = m.places.reported_each p in counted_one (stands is_reported s.taken p) (omega arith)
+  reported_stands p few = let each : count_of s.reported p ≡ one_if (stands is_reported s.taken p) = m.places.reported_each p in counted_one (stands is_reported s.taken p) (omega arith)
 
   pinned_of : (t : TraceId) (p : ℕ) → 1 ≤ count_of s.pinned p → is_of_trace s.taken t p ≡ true → (h : Group) × (pinned_for s.taken p ≡ Some h) × (claiming_group s.claims t ≡ Some h)
   pinned_of t p few of =
       let at = chunk_at (λ c. is_pinned c.standing) s.taken p (pinned_stands p few) in
       let same : t ≡ trace_of at.0 = same_trace-true t (trace_of at.0) (sym (passes_there (λ c. same_trace t (trace_of c)) s.taken p at.0 at.1) ∙ of) in
-      let by = at_all (λ (c : Taken). StandsByClaim s.claims (trace_of c) c.standing) s.taken p at.0 m.by_claim at.1 in
+      let by = all_at (λ (c : Taken). StandsByClaim s.claims (trace_of c) c.standing) s.taken p at.0 m.by_claim at.1 in
       let is = pinned_is_for s.claims (trace_of at.0) at.0.standing at.2 by in
       let for : pinned_for s.taken p ≡ pinning_group at.0.standing = ap (λ o. option_and_then (λ (chunk : Taken). pinning_group chunk.standing) o) at.1 in
       (is.0, for ∙ is.1.0, subst (λ v. claiming_group s.claims v ≡ Some is.0) (sym same) is.1.1)
@@ -96,7 +94,7 @@ module _ (s : AgentState) (m : InOrder s) where
   reported_of t p few of =
       let at = chunk_at (λ c. is_reported c.standing) s.taken p (reported_stands p few) in
       let same : t ≡ trace_of at.0 = same_trace-true t (trace_of at.0) (sym (passes_there (λ c. same_trace t (trace_of c)) s.taken p at.0 at.1) ∙ of) in
-      let by = at_all (λ (c : Taken). StandsByClaim s.claims (trace_of c) c.standing) s.taken p at.0 m.by_claim at.1 in
+      let by = all_at (λ (c : Taken). StandsByClaim s.claims (trace_of c) c.standing) s.taken p at.0 m.by_claim at.1 in
       let is = reported_is_for s.claims (trace_of at.0) at.0.standing at.2 by in
       (is.0, subst (λ v. claiming_group s.claims v ≡ Some is.0) (sym same) is.1)
 
@@ -201,7 +199,7 @@ rising_claims ask trace s free m t =
   where
     of_place : (p : ℕ) → 1 ≤ count_of (indexed_places s.taken trace) p → is_of_trace s.taken t p ≡ same_trace t trace
     of_place p few =
-        let count : count_of (indexed_places s.taken trace) p ≡ one (passes (is_indexed_of trace) s.taken p) = places_counted_at (is_indexed_of trace) s.taken p in
+        let count : count_of (indexed_places s.taken trace) p ≡ one_if (passes (is_indexed_of trace) s.taken p) = places_counted_at (is_indexed_of trace) s.taken p in
         let at = chunk_at (is_indexed_of trace) s.taken p (counted_one (passes (is_indexed_of trace) s.taken p) (omega arith)) in
         let same : trace ≡ trace_of at.0 = same_trace-true trace (trace_of at.0) (and_parts (is_indexed at.0.standing) (same_trace trace (trace_of at.0)) at.2).1 in
         passes_there (λ c. same_trace t (trace_of c)) s.taken p at.0 at.1 ∙ ap (λ v. same_trace t v) (sym same)
@@ -249,7 +247,7 @@ order_of_trace s m id t = go (claiming_group s.claims t) refl
 
     under : (h : Group) → claiming_group s.claims t ≡ Some h → (b : Bool) → (h.trigger.0 == id) ≡ b
         → (filter (is_of_trace s.taken t) (order_of s id) ≡ filter (is_of_trace s.taken t) s.pinned) ⊎ (filter (is_of_trace s.taken t) (order_of s id) ≡ [])
-    under h e true f = inl (one_group h e ∙ filter_whole (stands (is_pinned_under id) s.taken) (filter (is_of_trace s.taken t) s.pinned) (all_under h e true f))
+    under h e true f = inl (one_group h e ∙ filter_all (stands (is_pinned_under id) s.taken) (filter (is_of_trace s.taken t) s.pinned) (all_under h e true f))
     under h e false f = inr (one_group h e ∙ filter_none (stands (is_pinned_under id) s.taken) (filter (is_of_trace s.taken t) s.pinned) (all_under h e false f))
 
     go : (o : Option Group) → claiming_group s.claims t ≡ o → (filter (is_of_trace s.taken t) (order_of s id) ≡ filter (is_of_trace s.taken t) s.pinned) ⊎ (filter (is_of_trace s.taken t) (order_of s id) ≡ [])
@@ -268,7 +266,7 @@ rising_reports n id s m t =
     let f = is_of_trace s.taken t in
     let sent = take n (order_of s id) in
     let left = filter (λ p. not (is_among sent p)) s.pinned in
-    let once : (p : ℕ) → count_of (order_of s id) p ≤ 1 = λ p. let le = count-order s id p in let each : count_of s.pinned p ≡ one (stands is_pinned s.taken p) = m.places.pinned_each p in let most = one-le (stands is_pinned s.taken p) in omega arith in
+    let once : (p : ℕ) → count_of (order_of s id) p ≤ 1 = λ p. let le = count-order s id p in let each : count_of s.pinned p ≡ one_if (stands is_pinned s.taken p) = m.places.pinned_each p in let most = one_few (stands is_pinned s.taken p) in omega arith in
     let same : filter f sent ++ filter f left ≡ filter f s.pinned = front_and_rest f n (order_of s id) s.pinned once (order_of_trace s m id t) in
     let whole : filter f ((s.reported ++ sent) ++ left) ≡ filter f (s.reported ++ s.pinned) =
     ap (filter f) (append_assoc s.reported sent left) ∙ filter-append f s.reported (sent ++ left) ∙ ap (λ xs. filter f s.reported ++ xs) (filter-append f sent left ∙ same) ∙ sym (filter-append f s.reported s.pinned)

@@ -3,6 +3,7 @@ use Rattle.std.proofs.Common.{◌≡◌, ℕ, ◌+◌, ◌≤◌, Bool, true, fa
 use Rattle.std.specs.Prelude.{◌==◌, filter}
 use Rattle.std.proofs.lemmas.Bool.{cases_Bool, true≢false, and_parts}
 use Rattle.std.proofs.lemmas.List.{map-append}
+use Rattle.hs_lists.proofs.Counts.{one_if, one_few, one_le}
 use Rattle.hs_base.specs.declared.ids.TraceId.{TraceId}
 use Rattle.hs_base.specs.declared.told.Group.{Group}
 use Rattle.hs_base.specs.declared.told.Ask.{Ask}
@@ -19,11 +20,11 @@ use Rattle.hs_model.specs.Turning.{is_pinned_under, place_is_no_greater, put_bef
 use Rattle.hs_model.specs.Stepping.{with_indexed, with_abandoned, with_pinned, give_place}
 use Rattle.hs_model.proofs.Traversal.{IsKept}
 use Rattle.hs_model.specs.Laws.{count_of, ListsEach, given_places, ArePlaced, PlacesMatch}
-use Rattle.hs_model.proofs.Counts.{one, count-append, count-filter, count-take, among_counted, not_among_counted, one-le, counted_one, passes_too, passes_moved_at, passes_more, places_counted_at, count-split, count-filter-le}
+use Rattle.hs_model.proofs.Counts.{count-append, count-filter, count-take, among_counted, not_among_counted, counted_one, passes_too, passes_moved_at, passes_more, places_counted_at, count-split, count-filter-le}
 
 -- these places are of chunks that stand so, each once at most
 abbrev pub AreSome : (ChunkStanding → Bool) → List Taken → List ℕ → Type 0
-AreSome from taken places = (p : ℕ) → count_of places p ≤ one (stands from taken p)
+AreSome from taken places = (p : ℕ) → count_of places p ≤ one_if (stands from taken p)
 
 -- each chunk that moves answers the test so before, and so afterwards
 abbrev pub Turns : (from test : ChunkStanding → Bool) → (ChunkStanding → ChunkStanding) → Bool → Bool → Type 0
@@ -33,19 +34,19 @@ moved_out : (b : Bool) (n : ℕ) → n ≡ 0 → cond b n 0 ≡ 0
 moved_out true n h = h
 moved_out false n h = refl
 
-moved_once : (b : Bool) (n : ℕ) → n ≡ 1 → cond b n 0 ≡ one b
+moved_once : (b : Bool) (n : ℕ) → n ≡ 1 → cond b n 0 ≡ one_if b
 moved_once true n h = h
 moved_once false n h = refl
 
 pub moved_counted : (from test : ChunkStanding → Bool) (change : ChunkStanding → ChunkStanding) (before after : Bool) → Turns from test change before after
     → (taken : List Taken) (places : List ℕ) → AreSome from taken places
-    → (p : ℕ) → one (stands test (moved places change taken) p) + cond before (count_of places p) 0 ≡ one (stands test taken p) + cond after (count_of places p) 0
+    → (p : ℕ) → one_if (stands test (moved places change taken) p) + cond before (count_of places p) 0 ≡ one_if (stands test taken p) + cond after (count_of places p) 0
 moved_counted from test change before after turns taken places some p =
     elim (cases_Bool (is_among places p)) [
       | inl here ↦
-          let most : one (stands from taken p) ≤ 1 = one-le (stands from taken p) in
+          let most : one_if (stands from taken p) ≤ 1 = one_few (stands from taken p) in
           let least : 1 ≤ count_of places p = among_counted places p here in
-          let mine : count_of places p ≤ one (stands from taken p) = some p in
+          let mine : count_of places p ≤ one_if (stands from taken p) = some p in
           let is : stands from taken p ≡ true = counted_one (stands from taken p) (omega arith) in
           let once : count_of places p ≡ 1 = omega arith in
           let old : stands test taken p ≡ before = passes_too (λ c. from c.standing) (λ c. test c.standing) before (λ c e. (turns c.standing e).0) taken p is in
@@ -67,9 +68,9 @@ lists_moved : (from test : ChunkStanding → Bool) (change : ChunkStanding → C
     → ListsEach test (moved places change taken) ys
 lists_moved from test change before after turns taken places some xs ys each counts p =
     let now = moved_counted from test change before after turns taken places some p in
-    let old : count_of xs p ≡ one (stands test taken p) = each p in
+    let old : count_of xs p ≡ one_if (stands test taken p) = each p in
     let both : count_of ys p + cond before (count_of places p) 0 ≡ count_of xs p + cond after (count_of places p) 0 = counts p in
-    let goal : count_of ys p ≡ one (stands test (moved places change taken) p) = omega arith in goal
+    let goal : count_of ys p ≡ one_if (stands test (moved places change taken) p) = omega arith in goal
 
 pub indexed_only : (P : ChunkStanding → Type 0) → P Indexed → (s : ChunkStanding) → is_indexed s ≡ true → P s
 indexed_only P h Indexed e = h
@@ -85,14 +86,10 @@ pinned_only P h (Reported g) e = absurd (true≢false (sym e))
 pinned_only P h (Evicted a b) e = absurd (true≢false (sym e))
 pinned_only P h (Abandoned g) e = absurd (true≢false (sym e))
 
-pub one_le_one : (a b : Bool) → (a ≡ true → b ≡ true) → one a ≤ one b
-one_le_one true b h = rw (h refl) (omega arith)
-one_le_one false b h = omega arith
-
 pub indexed_some : (taken : List Taken) (trace : TraceId) → AreSome is_indexed taken (indexed_places taken trace)
 indexed_some taken trace p =
     rw (places_counted_at (is_indexed_of trace) taken p)
-    (one_le_one (passes (is_indexed_of trace) taken p) (stands is_indexed taken p)
+    (one_le (passes (is_indexed_of trace) taken p) (stands is_indexed taken p)
     (passes_too (is_indexed_of trace) (λ c. is_indexed c.standing) true (λ c e. (and_parts _ _ e).0) taken p))
 
 -- ---- the moves
@@ -154,9 +151,9 @@ lists_more : (test : ChunkStanding → Bool) (taken : List Taken) (sheet : Sheet
     → ListsEach test (taken ++ record { sheet = sheet; standing = standing } ∷ []) ys
 lists_more test taken sheet standing xs ys each counts p =
     let more = passes_more (λ c. test c.standing) taken (record { sheet = sheet; standing = standing }) p in
-    let old : count_of xs p ≡ one (stands test taken p) = each p in
+    let old : count_of xs p ≡ one_if (stands test taken p) = each p in
     let e : count_of ys p ≡ count_of xs p + cond (test standing) (count_of (length taken ∷ []) p) 0 = counts p in
-    let goal : count_of ys p ≡ one (stands test (taken ++ record { sheet = sheet; standing = standing } ∷ []) p) = omega arith in goal
+    let goal : count_of ys p ≡ one_if (stands test (taken ++ record { sheet = sheet; standing = standing } ∷ []) p) = omega arith in goal
 
 -- ---- steps
 
@@ -169,20 +166,20 @@ match_claim_trace ask trace s m = placed_pinned s.taken (indexed_places s.taken 
 pub match_abandon_group : (group : Group) (s : AgentState) → PlacesMatch s → PlacesMatch (abandon_group group s)
 match_abandon_group group s m =
     placed_abandoned s.taken (filter (is_pinned_for s.taken group) s.pinned) s.pinned s.reported (given_places s) s.hand group (filter (λ place. not (is_pinned_for s.taken group place)) s.pinned)
-    (λ p. let le = count-filter-le (is_pinned_for s.taken group) s.pinned p in let each : count_of s.pinned p ≡ one (stands is_pinned s.taken p) = m.pinned_each p in omega arith)
+    (λ p. let le = count-filter-le (is_pinned_for s.taken group) s.pinned p in let each : count_of s.pinned p ≡ one_if (stands is_pinned s.taken p) = m.pinned_each p in omega arith)
     (count-split (is_pinned_for s.taken group) s.pinned) m
 
 pub match_report : (places : List ℕ) (s : AgentState) → ((p : ℕ) → count_of places p ≤ count_of s.pinned p) → PlacesMatch s → PlacesMatch (report places s)
 match_report places s few m =
     placed_reported s.taken places s.pinned s.reported (given_places s) s.hand (filter (λ place. not (is_among places place)) s.pinned)
-    (λ p. let le = few p in let each : count_of s.pinned p ≡ one (stands is_pinned s.taken p) = m.pinned_each p in omega arith)
+    (λ p. let le = few p in let each : count_of s.pinned p ≡ one_if (stands is_pinned s.taken p) = m.pinned_each p in omega arith)
     parts m
   where
     parts : (p : ℕ) → count_of (filter (λ place. not (is_among places place)) s.pinned) p + count_of places p ≡ count_of s.pinned p
     parts p =
         let le : count_of places p ≤ count_of s.pinned p = few p in
-        let each : count_of s.pinned p ≡ one (stands is_pinned s.taken p) = m.pinned_each p in
-        let most : one (stands is_pinned s.taken p) ≤ 1 = one-le (stands is_pinned s.taken p) in
+        let each : count_of s.pinned p ≡ one_if (stands is_pinned s.taken p) = m.pinned_each p in
+        let most : one_if (stands is_pinned s.taken p) ≤ 1 = one_few (stands is_pinned s.taken p) in
         let left : count_of (filter (λ place. not (is_among places place)) s.pinned) p ≡ cond (not (is_among places p)) (count_of s.pinned p) 0 = count-filter (λ place. not (is_among places place)) s.pinned p in
         elim (cases_Bool (is_among places p)) [
           | inl here ↦ let least = among_counted places p here in let gone : count_of (filter (λ place. not (is_among places place)) s.pinned) p ≡ 0 = left ∙ (rw here refl) in omega arith
@@ -255,12 +252,12 @@ match_give stamp place hand s e m =
       pinned_each = m.pinned_each;
       reported_each = m.reported_each;
       gone_each =
-          λ p. let old : count_of (given_places s ++ s.hand) p ≡ one (stands is_let_go s.taken p) = m.gone_each p in
+          λ p. let old : count_of (given_places s ++ s.hand) p ≡ one_if (stands is_let_go s.taken p) = m.gone_each p in
           let split : count_of (given_places s ++ s.hand) p ≡ count_of (given_places s) p + count_of s.hand p = count-append (given_places s) s.hand p in
           let first : count_of s.hand p ≡ count_of (place ∷ hand) p = ap (λ places. count_of places p) e in
           let more = given_more s stamp place p in
           let parts = count-append (map (λ (g : GivenPlace). g.place) (s.given ++ record { place = place; stamp = stamp } ∷ [])) hand p in
-          let goal : count_of (map (λ (g : GivenPlace). g.place) (s.given ++ record { place = place; stamp = stamp } ∷ []) ++ hand) p ≡ one (stands is_let_go s.taken p) = omega arith in
+          let goal : count_of (map (λ (g : GivenPlace). g.place) (s.given ++ record { place = place; stamp = stamp } ∷ []) ++ hand) p ≡ one_if (stands is_let_go s.taken p) = omega arith in
           goal;
     }
 

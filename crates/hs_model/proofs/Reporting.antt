@@ -2,6 +2,8 @@
 use Rattle.std.proofs.Common.{◌≡◌, ℕ, zero, suc, ◌+◌, ◌<◌, ◌≤◌, Bool, true, false, cond, not, List, [], ◌∷◌, length, refl, sym, ap, subst, ◌∙◌, arith, Some, None, map, filter, take, fold, slice_get, eqb, eqb-true, eq-eqb, leb, le-leb}
 use Rattle.std.specs.Prelude.{◌||◌}
 use Rattle.std.specs.List.{AllByRecursion, prefix_len, scan}
+use Rattle.hs_lists.proofs.Counts.{one_if}
+use Rattle.hs_lists.proofs.Filters.{filter_few}
 use Rattle.hs_records.specs.Fronts.{count_within}
 use Rattle.hs_records.specs.Plain.{PlainSettings}
 use Rattle.hs_sched.specs.declared.share.Share.{Share}
@@ -11,7 +13,6 @@ use Rattle.hs_model.specs.State.{AgentState}
 use Rattle.hs_model.specs.Turning.{is_pinned_under, order_of, used_at, costs_of, reported_standing, report, visit}
 use Rattle.hs_model.specs.Laws.{count_of, borne, TurnsReport}
 use Rattle.hs_model.proofs.Apart.{visits_are_apart}
-use Rattle.hs_model.proofs.Counts.{one}
 use Rattle.hs_model.proofs.Limits.{indexed_moved, reported_indexed}
 use Rattle.hs_model.proofs.Placed.{count-by_priority, count-order}
 
@@ -22,7 +23,7 @@ count_kept f [] i p h e = let never : None ≡ Some p = h in absurd cc
 count_kept f (x ∷ xs) zero p h e =
     let same : x ≡ p = cc in
     let kept : count_of (filter f (x ∷ xs)) p ≡ count_of (x ∷ filter f xs) p = ap (λ b. count_of (cond b (x ∷ filter f xs) (filter f xs)) p) (ap f same ∙ e) in
-    let here = ap one (eq-eqb x p same) in
+    let here = ap one_if (eq-eqb x p same) in
     omega (arith, kept, here)
 count_kept f (x ∷ xs) (suc i) p h e = either (f x) (count_kept f xs i p h e)
   where
@@ -30,18 +31,10 @@ count_kept f (x ∷ xs) (suc i) p h e = either (f x) (count_kept f xs i p h e)
     either true h = omega (arith, h)
     either false h = h
 
-kept_few : (q : ℕ → Bool) (xs : List ℕ) → length (filter q xs) ≤ length xs
-kept_few q [] = omega arith
-kept_few q (x ∷ xs) = either (q x) (kept_few q xs)
-  where
-    either : (b : Bool) → length (filter q xs) ≤ length xs → length (cond b (x ∷ filter q xs) (filter q xs)) ≤ suc (length xs)
-    either true h = omega (arith, h)
-    either false h = omega (arith, h)
-
-gone_case : (q : ℕ → Bool) (p x : ℕ) (xs : List ℕ) (b c : Bool) → eqb x p ≡ b → q x ≡ c → 1 ≤ one b + count_of xs p → q p ≡ false → (1 ≤ count_of xs p → length (filter q xs) < length xs)
+gone_case : (q : ℕ → Bool) (p x : ℕ) (xs : List ℕ) (b c : Bool) → eqb x p ≡ b → q x ≡ c → 1 ≤ one_if b + count_of xs p → q p ≡ false → (1 ≤ count_of xs p → length (filter q xs) < length xs)
     → length (cond c (x ∷ filter q xs) (filter q xs)) < suc (length xs)
 gone_case q p x xs true true e f some gone on = let never : true ≡ false = sym f ∙ ap q (eqb-true x p e) ∙ gone in absurd cc
-gone_case q p x xs true false e f some gone on = let few = kept_few q xs in omega (arith, few)
+gone_case q p x xs true false e f some gone on = let few = filter_few q xs in omega (arith, few)
 gone_case q p x xs false true e f some gone on = let rest = on (omega (arith, some)) in omega (arith, rest)
 gone_case q p x xs false false e f some gone on = let rest = on (omega (arith, some)) in omega (arith, rest)
 
@@ -66,7 +59,7 @@ module _ (settings : PlainSettings) where
   no_more u share =
       let places = take (count_sent settings.size share (costs_of u share.trigger.0)) (order_of u share.trigger.0) in
       let less = indexed_moved reported_standing reported_indexed places 0 u.taken in
-      let pins = kept_few (λ place. not (is_among places place)) u.pinned in
+      let pins = filter_few (λ place. not (is_among places place)) u.pinned in
       omega (arith, less, pins)
 
   none_more : (shares : List Share) (u : AgentState) → borne (fold (visit settings) u shares) ≤ borne u
@@ -84,7 +77,7 @@ module _ (settings : PlainSettings) where
       in
       let counted = count-order u share.trigger.0 p in
       let own = ap (λ (ps : List ℕ). count_of ps p) order in
-      let here = ap one (eq-eqb p p refl) in
+      let here = ap one_if (eq-eqb p p refl) in
       sent_case (count_sent settings.size share (costs_of u share.trigger.0)) some (omega (arith, counted, own, here))
     where
       sent_case : (n : ℕ) → 1 ≤ n → 1 ≤ count_of u.pinned p → borne (report (take n (order_of u share.trigger.0)) u) < borne u

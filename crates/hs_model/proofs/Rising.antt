@@ -3,6 +3,8 @@ use Rattle.std.proofs.Common.{◌≡◌, ℕ, suc, ◌+◌, ◌<◌, ◌≤◌, 
 use Rattle.std.specs.Prelude.{◌⊎◌, ◌==◌, filter}
 use Rattle.std.specs.List.{AllByRecursion}
 use Rattle.std.proofs.lemmas.Bool.{cases_Bool, eq-eqb}
+use Rattle.hs_lists.proofs.Filters.{filter_none, filter_all}
+use Rattle.hs_lists.proofs.Alls.{all_filter, all_front, all_push}
 use Rattle.hs_model.specs.Standings.{Taken, is_among, places_from}
 use Rattle.hs_model.specs.Laws.{count_of, AreRising}
 use Rattle.hs_model.proofs.Counts.{count-append, count-filter, among_counted}
@@ -18,14 +20,6 @@ filter-append f (x ∷ xs) ys =
 pub filter_same : (f g : ℕ → Bool) (xs : List ℕ) → AllByRecursion (λ x. f x ≡ g x) xs → filter f xs ≡ filter g xs
 filter_same f g [] all = refl
 filter_same f g (x ∷ xs) all = rw all.0 (ap (λ zs. cond (g x) (x ∷ zs) zs) (filter_same f g xs all.1))
-
-pub filter_none : (f : ℕ → Bool) (xs : List ℕ) → AllByRecursion (λ x. f x ≡ false) xs → filter f xs ≡ []
-filter_none f [] all = refl
-filter_none f (x ∷ xs) all = rw all.0 (filter_none f xs all.1)
-
-pub filter_whole : (f : ℕ → Bool) (xs : List ℕ) → AllByRecursion (λ x. f x ≡ true) xs → filter f xs ≡ xs
-filter_whole f [] all = refl
-filter_whole f (x ∷ xs) all = rw all.0 (ap (λ zs. x ∷ zs) (filter_whole f xs all.1))
 
 pub filter_swap : (f g : ℕ → Bool) (xs : List ℕ) → filter f (filter g xs) ≡ filter g (filter f xs)
 filter_swap f g [] = refl
@@ -62,18 +56,13 @@ is_counted (x ∷ places) p few = elim (cases_Bool (x == p)) [ inl e ↦ rw e re
 
 -- ---- what rises
 
-pub all_filtered : (P : ℕ → Type 0) (f : ℕ → Bool) (xs : List ℕ) → AllByRecursion P xs → AllByRecursion P (filter f xs)
-all_filtered P f [] all = tt
-all_filtered P f (x ∷ xs) all =
-    elim (f x) as (λ b. AllByRecursion P (cond b (x ∷ filter f xs) (filter f xs))) [ true ↦ (all.0, all_filtered P f xs all.1) | false ↦ all_filtered P f xs all.1 ]
-
 pub rising_filtered : (f : ℕ → Bool) (xs : List ℕ) → AreRising xs → AreRising (filter f xs)
 rising_filtered f [] r = tt
 rising_filtered f (x ∷ xs) r =
-    elim (f x) as (λ b. AreRising (cond b (x ∷ filter f xs) (filter f xs))) [ true ↦ (all_filtered (λ y. x < y) f xs r.0, rising_filtered f xs r.1) | false ↦ rising_filtered f xs r.1 ]
+    elim (f x) as (λ b. AreRising (cond b (x ∷ filter f xs) (filter f xs))) [ true ↦ (all_filter (λ y. x < y) f xs r.0, rising_filtered f xs r.1) | false ↦ rising_filtered f xs r.1 ]
 
 all_left : (P : ℕ → Type 0) (f : ℕ → Bool) (xs ys : List ℕ) → AllByRecursion P (xs ++ ys) → AllByRecursion P (xs ++ filter f ys)
-all_left P f [] ys all = all_filtered P f ys all
+all_left P f [] ys all = all_filter P f ys all
 all_left P f (x ∷ xs) ys all = (all.0, all_left P f xs ys all.1)
 
 -- a filter of what stands behind
@@ -81,17 +70,9 @@ pub rising_left : (f : ℕ → Bool) (xs ys : List ℕ) → AreRising (xs ++ ys)
 rising_left f [] ys r = rising_filtered f ys r
 rising_left f (x ∷ xs) ys r = (all_left (λ y. x < y) f xs ys r.0, rising_left f xs ys r.1)
 
-all_front : (P : ℕ → Type 0) (xs ys : List ℕ) → AllByRecursion P (xs ++ ys) → AllByRecursion P xs
-all_front P [] ys all = tt
-all_front P (x ∷ xs) ys all = (all.0, all_front P xs ys all.1)
-
 pub rising_front : (xs ys : List ℕ) → AreRising (xs ++ ys) → AreRising xs
 rising_front [] ys r = tt
 rising_front (x ∷ xs) ys r = (all_front (λ y. x < y) xs ys r.0, rising_front xs ys r.1)
-
-all_push : (P : ℕ → Type 0) (xs : List ℕ) (n : ℕ) → AllByRecursion P xs → P n → AllByRecursion P (xs ++ n ∷ [])
-all_push P [] n all p = (p, tt)
-all_push P (x ∷ xs) n all p = (all.0, all_push P xs n all.1 p)
 
 -- one more behind, above all
 pub rising_push : (xs : List ℕ) (n : ℕ) → AreRising xs → AllByRecursion (λ x. x < n) xs → AreRising (xs ++ n ∷ [])
@@ -135,7 +116,7 @@ module _ (f : ℕ → Bool) (n : ℕ) (order pinned : List ℕ) where
 
   back_stays : ((p : ℕ) → count_of order p ≤ 1) → filter rest (filter f (drop n order)) ≡ filter f (drop n order)
   back_stays once =
-      filter_whole rest (filter f (drop n order)) (all_counted (λ p. rest p ≡ true) (filter f (drop n order))
+      filter_all rest (filter f (drop n order)) (all_counted (λ p. rest p ≡ true) (filter f (drop n order))
       (λ p few.
       let both = counted_filtered f (drop n order) p few in
       let whole : count_of order p ≤ 1 = once p in
@@ -153,7 +134,7 @@ module _ (f : ℕ → Bool) (n : ℕ) (order pinned : List ℕ) where
   of_another_id e =
       let none : filter f (take n order) ≡ [] = nothing_front (filter f (take n order)) (filter f (drop n order)) (parts ∙ e) in
       let left : filter f (filter rest pinned) ≡ filter f pinned =
-      filter_swap f rest pinned ∙ filter_whole rest (filter f pinned) (all_counted (λ p. rest p ≡ true) (filter f pinned)
+      filter_swap f rest pinned ∙ filter_all rest (filter f pinned) (all_counted (λ p. rest p ≡ true) (filter f pinned)
       (λ p few.
       let both = counted_filtered f pinned p few in
       let zero_of : count_of (filter f (take n order)) p ≡ 0 = ap (λ ps. count_of ps p) none in

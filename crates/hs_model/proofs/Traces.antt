@@ -1,12 +1,10 @@
 -- How often a trace stands in a list, and the claims of traces.
 use Rattle.std.proofs.Common.{◌≡◌, ℕ, ◌+◌, ◌≤◌, Bool, true, false, cond, not, ◌||◌, List, [], ◌∷◌, ◌++◌, map, refl, sym, ap, ◌∙◌, arith, Some, None, subst, true≢false}
-use Rattle.std.specs.Prelude.{◌==◌}
 use Rattle.std.specs.Option.{option_map}
-use Rattle.std.proofs.lemmas.Bool.{eqb-true, eq-eqb, or_parts, and_parts}
+use Rattle.std.proofs.lemmas.Bool.{eqb-true, eq-eqb, or_parts}
 use Rattle.hs_base.specs.declared.ids.TraceId.{TraceId}
 use Rattle.hs_base.specs.declared.told.Group.{Group}
 use Rattle.hs_base.specs.Ids.{same_trace}
-use Rattle.hs_model.specs.Standings.{same_group}
 use Rattle.hs_model.specs.State.{ClaimedTrace, claim_of, is_claimed, without_trace}
 use Rattle.hs_model.specs.Evicting.{touch}
 use Rattle.hs_model.specs.Laws.{count_traces, claiming_group}
@@ -16,17 +14,6 @@ same_trace-refl t = eq-eqb t.0 t.0 refl
 
 pub same_trace-true : (t u : TraceId) → same_trace t u ≡ true → t ≡ u
 same_trace-true t u e = let n : t.0 ≡ u.0 = eqb-true t.0 u.0 e in ap (λ (n : ℕ). record { 0 = n }) n
-
-pub same_group-true : (a b : Group) → same_group a b ≡ true → a ≡ b
-same_group-true a b e =
-    let p = and_parts (a.id.node == b.id.node) _ e in
-    let q = and_parts (a.id.number == b.id.number) _ p.1 in
-    let r = and_parts (a.trigger.0 == b.trigger.0) _ q.1 in
-    let node : a.id.node ≡ b.id.node = eqb-true _ _ p.0 in
-    let number : a.id.number ≡ b.id.number = eqb-true _ _ q.0 in
-    let trigger : a.trigger.0 ≡ b.trigger.0 = eqb-true _ _ r.0 in
-    let lead : a.lead.0 ≡ b.lead.0 = eqb-true _ _ r.1 in
-    λ i. record { id = record { node = node i; number = number i }; trigger = record { 0 = trigger i }; lead = record { 0 = lead i } }
 
 pub traces-append : (xs ys : List TraceId) (t : TraceId) → count_traces (xs ++ ys) t ≡ count_traces xs t + count_traces ys t
 traces-append [] ys t = omega arith

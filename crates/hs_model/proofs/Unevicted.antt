@@ -1,6 +1,7 @@
 -- No chunk of a claimed trace is evicted.
 use Rattle.std.proofs.Common.{◌≡◌, ℕ, ◌+◌, ◌<◌, ◌≤◌, Bool, true, false, cond, List, [], ◌∷◌, ◌++◌, length, take, filter, refl, sym, ap, ◌∙◌, arith, inl, inr, subst, true≢false}
 use Rattle.std.proofs.lemmas.Bool.{cases_lt, and_right}
+use Rattle.hs_lists.proofs.Counts.{one_if}
 use Rattle.hs_base.specs.declared.ids.TraceId.{TraceId}
 use Rattle.hs_base.specs.Ids.{same_trace}
 use Rattle.hs_records.specs.Plain.{PlainSettings}
@@ -11,7 +12,7 @@ use Rattle.hs_model.specs.Evicting.{evict_trace}
 use Rattle.hs_model.specs.Turning.{order_of, costs_of, reported_standing}
 use Rattle.hs_model.specs.Stepping.{after}
 use Rattle.hs_model.specs.Laws.{count_of, count_traces, claimed_traces, PlacesMatch, NothingClaimedIsEvicted}
-use Rattle.hs_model.proofs.Counts.{one, among_counted, passes_too, passes_moved_at, passes_before, passes_past, places_counted_at, count-filter-le}
+use Rattle.hs_model.proofs.Counts.{among_counted, passes_too, passes_moved_at, passes_before, passes_past, places_counted_at, count-filter-le}
 use Rattle.hs_model.proofs.Traces.{same_trace-refl, same_trace-true, claimed-counted, claimed-stays}
 use Rattle.hs_model.proofs.Traversal.{IsKept, kept_event}
 use Rattle.hs_model.proofs.Placed.{AreSome, Turns, moved_counted, indexed_some, indexed_only, pinned_only, match_kept, visit_few}
@@ -42,7 +43,7 @@ of_more taken c t p e = passes_before _ taken (c ∷ []) p (passed_within _ take
 evicted_more : (taken : List Taken) (c : Taken) (t : TraceId) (p : ℕ) → is_of_trace taken t p ≡ true → stands is_evicted (taken ++ c ∷ []) p ≡ stands is_evicted taken p
 evicted_more taken c t p e = passes_before _ taken (c ∷ []) p (passed_within _ taken p e)
 
-one-injective : (a b : Bool) → one a ≡ one b → a ≡ b
+one-injective : (a b : Bool) → one_if a ≡ one_if b → a ≡ b
 one-injective true true e = refl
 one-injective false false e = refl
 one-injective true false e = absurd (omega arith)
@@ -56,7 +57,7 @@ not_evicted from change turns taken places some p =
     one-injective _ _ (omega arith)
 
 pinned_some : (s : AgentState) (places : List ℕ) → ((p : ℕ) → count_of places p ≤ count_of s.pinned p) → PlacesMatch s → AreSome is_pinned s.taken places
-pinned_some s places few m p = let le = few p in let each : count_of s.pinned p ≡ one (stands is_pinned s.taken p) = m.pinned_each p in omega arith
+pinned_some s places few m p = let le = few p in let each : count_of s.pinned p ≡ one_if (stands is_pinned s.taken p) = m.pinned_each p in omega arith
 
 -- a claimed trace is not the one that goes
 another_goes : (trace t : TraceId) (later : List TraceId) (s : AgentState) → s.touched ≡ trace ∷ later → is_claimed s.claims t ≡ true → Apart s → same_trace trace t ≡ false
@@ -78,7 +79,7 @@ same_evicts trace t later s p e of claimed apart =
     let none : passes (is_indexed_of trace) s.taken p ≡ false =
     passes_too (λ c. same_trace t (trace_of c)) (is_indexed_of trace) false
     (λ c f. and_right _ _ (subst (λ v. same_trace trace v ≡ false) (same_trace-true t (trace_of c) f) other)) s.taken p of in
-    let count : count_of (indexed_places s.taken trace) p ≡ 0 = places_counted_at (is_indexed_of trace) s.taken p ∙ ap one none in
+    let count : count_of (indexed_places s.taken trace) p ≡ 0 = places_counted_at (is_indexed_of trace) s.taken p ∙ ap one_if none in
     passes_moved_at (λ c. is_evicted c.standing) (λ _. Evicted _ _) (indexed_places s.taken trace) s.taken p ∙ go (is_among (indexed_places s.taken trace) p) refl count
   where
     go : (b : Bool) → is_among (indexed_places s.taken trace) p ≡ b → count_of (indexed_places s.taken trace) p ≡ 0 → cond b (stands (λ _. true) s.taken p) (stands is_evicted s.taken p) ≡ stands is_evicted s.taken p

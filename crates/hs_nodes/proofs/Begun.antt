@@ -1,8 +1,9 @@
 -- A new node is where the machine begins.
-use Rattle.std.proofs.Common.{◌≡◌, ℕ, zero, suc, ◌+◌, ◌<◌, List, [], ◌∷◌, ◌++◌, length, map, Some, None, ◌⊎◌, inl, inr, refl, sym, ap, subst, ◌∙◌, arith, slice_get, unwrap_or, count_by, length-append}
+use Rattle.std.proofs.Common.{◌≡◌, ℕ, zero, suc, ◌+◌, ◌<◌, List, [], ◌∷◌, ◌++◌, length, map, Some, inl, inr, refl, sym, ap, subst, ◌∙◌, arith, slice_get, unwrap_or, count_by, length-append}
 use Rattle.std.proofs.lemmas.List.FromFn.{length-map-range_with_len}
 use Rattle.std.specs.List.{AllByRecursion, range_with_len}
-use Rattle.std.proofs.lemmas.Option.{same_Some}
+use Rattle.hs_lists.proofs.Places.{get_push_cases}
+use Rattle.hs_lists.proofs.Ranges.{map_range_from}
 use Rattle.hs_agent.specs.Runs.{Follows, new_run}
 use Rattle.hs_coord.specs.Following.{Messages}
 use Rattle.hs_journal.specs.declared.journal.Draw.{Draw}
@@ -21,7 +22,6 @@ use Rattle.hs_words.specs.PoolHistory.{Event}
 use Rattle.hs_nodes.specs.Making.{AreNew}
 use Rattle.hs_nodes.specs.Parts.{Parts}
 use Rattle.hs_nodes.specs.Standing.{PoolStands, NodeIsAt}
-use Rattle.hs_nodes.proofs.Lists.{range_get}
 
 -- ---- lists of nothing
 
@@ -52,7 +52,7 @@ module _ (starts : MachinesStartSo) (W : PlainWorkload) (n : ℕ) (low : n < W.s
   there : node_at W J n ≡ Some (node_start W J n)
   there =
       let zero_on : 0 + n ≡ n = omega arith in
-      ap (λ (r : Run). slice_get r.nodes n) (starts W).run ∙ range_get (node_start W J) 0 W.settings.nodes n low ∙ ap (λ i. Some (node_start W J i)) zero_on
+      ap (λ (r : Run). slice_get r.nodes n) (starts W).run ∙ map_range_from (node_start W J) 0 W.settings.nodes n low ∙ ap (λ i. Some (node_start W J i)) zero_on
 
   none_heard : heard_in W J ≡ []
   none_heard = ap (λ (r : Run). r.heard) (starts W).run
@@ -92,12 +92,6 @@ module _ (starts : MachinesStartSo) (W : PlainWorkload) (n : ℕ) (low : n < W.s
 
 -- ---- its clients
 
-pub pushed_at : {A : Type 0} (xs : List A) (x y : A) (place : ℕ) → slice_get (xs ++ x ∷ []) place ≡ Some y → (slice_get xs place ≡ Some y) ⊎ ((length xs ≡ place) × (x ≡ y))
-pushed_at [] x y zero at = inr (refl, same_Some x y at)
-pushed_at [] x y (suc place) at = let none : None ≡ Some y = at in absurd cc
-pushed_at (z ∷ xs) x y zero at = inl at
-pushed_at (z ∷ xs) x y (suc place) at = elim (pushed_at xs x y place at) [ inl h ↦ inl h | inr h ↦ inr (ap suc h.0, h.1) ]
-
 pub one_more_new : (W : PlainWorkload) (n client : ℕ) (players : List Playing) (player : Playing) → AreNew W n client players
     → IsAt W.settings (record { node = n; number = client }) (operations_at W (place_of W.settings.clients n client)) [] 0 0 0 0 player → AreNew W n (client + 1) (players ++ player ∷ [])
 one_more_new W n client players player new at =
@@ -105,7 +99,7 @@ one_more_new W n client players player new at =
       many = let all = length-append players (player ∷ []) in let many = new.many in omega (arith, all, many);
       each =
           λ other p stood.
-          elim (pushed_at players player p other stood) [
+          elim (get_push_cases players player p other stood) [
             | inl h ↦ new.each other p h
             | inr h ↦
                 let same : client ≡ other = sym new.many ∙ h.0 in
@@ -130,6 +124,3 @@ new_pool settings pool chunks e queue after buffers =
       buffers = buffers ∙ ap length e ∙ length-map-range_with_len (clear_chunk settings.size) 0 settings.buffers;
       size = subst (AllByRecursion (λ (chunk : Contents). chunk.size ≡ settings.size)) (sym (queue ∙ e)) (sized settings.size 0 settings.buffers);
     }
-
-pub count_clear : (count size : ℕ) → length (clear_chunks count size) ≡ count
-count_clear count size = length-map-range_with_len (clear_chunk size) 0 count

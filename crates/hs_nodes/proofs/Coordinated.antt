@@ -4,6 +4,8 @@ use Rattle.std.specs.List.{AllByRecursion, flat_map}
 use Rattle.std.specs.Option.{option_and_then}
 use Rattle.std.proofs.lemmas.Grind.{flat_map-append}
 use Rattle.std.proofs.lemmas.Option.{same_Some}
+use Rattle.hs_lists.proofs.Parts.{take_whole}
+use Rattle.hs_lists.proofs.Counts.{count_push}
 use Rattle.hs_base.specs.declared.limits.TheConstants.{MAX_TAKEN}
 use Rattle.hs_base.specs.declared.ids.NodeId.{NodeId}
 use Rattle.hs_coord.specs.Following.{Message, Messages}
@@ -14,11 +16,11 @@ use Rattle.hs_lockstep.specs.Lockstep.{Machine, told_of, coordinator_hears}
 use Rattle.hs_lockstep.specs.Parts.{heard_in, CoordinatorHearsSo}
 use Rattle.hs_lockstep.specs.Performing.{after_names, StepByStep}
 use Rattle.hs_lockstep.specs.Reaching.{Hears, MachinesAreWhole}
+use Rattle.hs_lockstep.proofs.Standing.{message_named}
 use Rattle.hs_nodes.specs.All.{HasHeard, AllAt}
 use Rattle.hs_nodes.specs.Hearing.{name_of, waiting, HearsNode, HeardUpTo}
 use Rattle.hs_nodes.specs.Parts.{Parts}
 use Rattle.hs_nodes.specs.Standing.{NodeIsHeard}
-use Rattle.hs_nodes.proofs.Heard.{count_last, named_by}
 
 -- ---- lists
 
@@ -28,12 +30,6 @@ module _ {X : Type 0} where
   take_more (y ∷ xs) zero x at = ap (λ (z : X). z ∷ []) (same_Some y x at)
   take_more (y ∷ xs) (suc k) x at =
       let e : suc k + 1 ≡ suc (k + 1) = omega arith in ap (λ (n : ℕ). take n (y ∷ xs)) e ∙ ap (λ (rest : List X). y ∷ rest) (take_more xs k x at)
-
-  take_whole : (xs : List X) (k : ℕ) → length xs ≤ k → take k xs ≡ xs
-  take_whole [] zero low = refl
-  take_whole [] (suc k) low = refl
-  take_whole (x ∷ xs) zero low = absurd (omega (arith, low))
-  take_whole (x ∷ xs) (suc k) low = ap (λ (rest : List X). x ∷ rest) (take_whole xs k (omega (arith, low)))
 
 -- ---- names of other nodes
 
@@ -71,8 +67,8 @@ others_counted runs k (name ∷ names) heard next below h = go (message_of runs 
     go None e h on = let never : None ≡ Some next = h in absurd cc
     go (Some m) e h on =
         let rest = on m h in
-        let last = count_last (is_from (name_of k)) heard m in
-        let own = ap {B = ℕ} (λ (n : NodeId). cond (is_from (name_of k) (record { node = n; told = m.told })) 1 0) (named_by runs heard name m e) in
+        let last = count_push (is_from (name_of k)) heard m in
+        let own = ap {B = ℕ} (λ (n : NodeId). cond (is_from (name_of k) (record { node = n; told = m.told })) 1 0) (message_named runs heard name m e) in
         let none = other (eqb name.0 k) refl in
         omega (arith, rest, last, own, none)
 

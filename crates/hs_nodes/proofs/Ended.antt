@@ -1,7 +1,7 @@
 -- What the clients and the agent of a node noted, when all is done.
-use Rattle.std.proofs.Common.{◌≡◌, ℕ, zero, suc, ◌+◌, ◌<◌, List, [], ◌∷◌, ◌++◌, length, map, Some, None, refl, sym, ap, subst, ◌∙◌, arith, slice_get, append_assoc, length-append, get_or}
+use Rattle.std.proofs.Common.{◌≡◌, ℕ, zero, suc, ◌+◌, List, [], ◌∷◌, ◌++◌, length, map, Some, None, refl, sym, ap, subst, ◌∙◌, arith, slice_get, append_assoc, length-append}
 use Rattle.std.proofs.lemmas.List.{map-append}
-use Rattle.std.proofs.lemmas.Option.{slice_get-get_or}
+use Rattle.std.proofs.lemmas.Option.{slice_get_within}
 use Rattle.std.specs.List.{range_with_len}
 use Rattle.hs_agent.specs.Runs.{Knows, state_of}
 use Rattle.hs_journal.specs.Books.{PlainAgentBook, PlainClientBook, client_book_of}
@@ -18,7 +18,6 @@ use Rattle.hs_nodes.specs.Finishing.{HasEnded, HaveEnded, IsBookAt, client_noted
 use Rattle.hs_nodes.specs.Parts.{Parts}
 use Rattle.hs_nodes.specs.Standing.{run_of}
 use Rattle.hs_nodes.proofs.LeftOver.{player_at}
-use Rattle.hs_nodes.proofs.Lists.{found_within}
 
 range_more : {A : Type 0} (f : ℕ → A) (start count : ℕ) → map f (range_with_len start (suc count)) ≡ map f (range_with_len start count) ++ f (start + count) ∷ []
 range_more f start zero = let same : start ≡ start + 0 = omega arith in ap (λ i. f i ∷ []) same
@@ -27,9 +26,6 @@ range_more f start (suc count) =
     ap (λ (l : List _). f start ∷ l) (range_more f (start + 1) count ∙ ap (λ i. map f (range_with_len (start + 1) count) ++ f i ∷ []) same)
 
 -- ---- clients
-
-pub item_there : {A : Type 0} (items : List A) (place : ℕ) (x : A) → (place < length items) × (x ≡ get_or items place x) → slice_get items place ≡ Some x
-item_there items place x h = slice_get-get_or items place x h.0 ∙ ap (λ y. Some y) (sym h.1)
 
 -- a client that is to be noted has done all
 pub is_done : (W : PlainWorkload) (m : Machine) (n : ℕ) (players : List Playing) (place : ℕ) (player : Playing) → HaveEnded W m n players → slice_get players place ≡ Some player → IsDone player
@@ -71,7 +67,7 @@ have_ended W m n node ended =
       count = ended.at.stands.players.count;
       each =
           λ client player stood.
-          let within = found_within node.players client player stood in
+          let within = slice_get_within node.players client player stood in
           let count = ended.at.stands.players.count in
           let place = place_of W.settings.clients n client in (
             taken (Chunks client) ended.at.run.state.log,

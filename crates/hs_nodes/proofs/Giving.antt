@@ -1,11 +1,14 @@
 -- What is in the hand goes back to the pool.
-use Rattle.std.proofs.Common.{◌≡◌, ℕ, zero, suc, ◌+◌, ◌-◌, ◌<◌, ◌≤◌, ◌^◌, Bool, true, false, List, [], ◌∷◌, ◌++◌, length, map, take, reverse, Option, Some, None, ◌⊎◌, inl, inr, refl, sym, ap, subst, ◌∙◌, arith, option_map, append-nil, slice_get, IsSome, count_by}
+use Rattle.std.proofs.Common.{◌≡◌, ℕ, zero, suc, ◌+◌, ◌-◌, ◌<◌, ◌≤◌, ◌^◌, Bool, true, false, List, [], ◌∷◌, ◌++◌, length, map, take, reverse, Option, Some, None, inl, inr, refl, sym, ap, subst, ◌∙◌, arith, option_map, append-nil, slice_get, IsSome, count_by}
 use Rattle.std.specs.Prelude.{◌↔◌}
-use Rattle.std.specs.List.{AllByRecursion, range_with_len}
+use Rattle.std.specs.List.{range_with_len}
 use Rattle.std.specs.Option.{option_and_then}
+use Rattle.std.proofs.lemmas.Bool.{cases_lt}
 use Rattle.std.proofs.lemmas.Option.{same_Some}
 use Rattle.hs_agent.specs.Keeping.{Keeping}
 use Rattle.std.proofs.lemmas.List.{length-drop}
+use Rattle.hs_lists.proofs.Parts.{length_map, take_whole}
+use Rattle.hs_lists.proofs.Alls.{all_at, all_each}
 use Rattle.hs_agent.specs.Placing.{place_of}
 use Rattle.hs_agent.specs.Points.{sheet_in}
 use Rattle.hs_agent.specs.Runs.{Run, Follows, Knows, after_offer, first_place, offered_next, state_of}
@@ -13,6 +16,7 @@ use Rattle.hs_journal.specs.declared.journal.Step.{Step}
 use Rattle.hs_journal.specs.declared.journal.Step.TheVariants as steps
 use Rattle.hs_lawful.specs.Following.{Asks, taken, asks_to, is_from, NodeRun, event_of, perform}
 use Rattle.hs_lawful.specs.Pooled.{buffer_of, page_of, pool_events, pool_history}
+use Rattle.hs_lawful.proofs.Logs.{taken_still}
 use Rattle.hs_lockstep.specs.Lockstep.{Machine, give_steps, agents_give}
 use Rattle.hs_lockstep.specs.Parts.{heard_in, GivesNext, AgentGives, AgentsGiveSo}
 use Rattle.hs_lockstep.specs.Performing.{after_steps, StepByStep}
@@ -32,26 +36,15 @@ use Rattle.hs_base.specs.declared.told.Told.{Told}
 use Rattle.hs_nodes.specs.Parts.{Parts}
 use Rattle.hs_nodes.specs.Passing.{StandsStill, IsGiving, GivesNextOf}
 use Rattle.hs_nodes.specs.Standing.{Remain, PlayersStand, NodeIsAt, IsLent, run_of}
-use Rattle.hs_nodes.proofs.Counting.{taken_still}
 use Rattle.hs_nodes.proofs.Readying.{none_moves}
 use Rattle.hs_nodes.proofs.Passed.{with_steps_stand, restand}
-use Rattle.hs_nodes.proofs.Taken.{one_more, all_mapped}
+use Rattle.hs_nodes.proofs.Taken.{one_more}
 
 -- what the pool's law says
 abbrev pub WhatIsOut : Type 0
 WhatIsOut = (pool : Pool) (history : List pools.Event) (number : ℕ) → IsAfter history pool → (IsOut pool number ↔ pools.MayFollow pool.buffers (reverse history) (pools.Given number))
 
 -- ---- lists
-
-mapped_length : {A B : Type 0} (f : A → B) (xs : List A) → length (map f xs) ≡ length xs
-mapped_length f [] = refl
-mapped_length f (x ∷ xs) = let rest = mapped_length f xs in omega (arith, rest)
-
-take_whole : {A : Type 0} (xs : List A) (k : ℕ) → length xs ≤ k → take k xs ≡ xs
-take_whole [] zero low = refl
-take_whole [] (suc k) low = refl
-take_whole (x ∷ xs) zero low = absurd (omega (arith, low))
-take_whole (x ∷ xs) (suc k) low = ap (λ (l : List _). x ∷ l) (take_whole xs k (omega (arith, low)))
 
 take_one_more : {A : Type 0} (f : ℕ → A) (start count k : ℕ) → k < count → take (suc k) (map f (range_with_len start count)) ≡ take k (map f (range_with_len start count)) ++ f (start + k) ∷ []
 take_one_more f start zero k low = absurd (omega (arith, low))
@@ -86,17 +79,6 @@ taken_there (b ∷ buffers) (chunk ∷ taken_chunks) zero buffer e at f =
     ap f (sym first) ∙ ap (λ (x : Buffer (Unit {0})). f (sheet_in x)) (same_Some b buffer at)
 taken_there (b ∷ buffers) (chunk ∷ taken_chunks) (suc place) buffer e at f = let rest : map sheet_in buffers ≡ sheets_of taken_chunks = cc in taken_there buffers taken_chunks place buffer rest at f
 
-all_at : {A : Type 0} (P : A → Type 0) (xs : List A) (place : ℕ) (x : A) → AllByRecursion P xs → slice_get xs place ≡ Some x → P x
-all_at P [] place x all at = let none : None ≡ Some x = at in absurd cc
-all_at P (y ∷ xs) zero x all at = subst P (same_Some y x at) all.0
-all_at P (y ∷ xs) (suc place) x all at = all_at P xs place x all.1 at
-
-below_or_not : (a b : ℕ) → (a < b) ⊎ (b ≤ a)
-below_or_not zero zero = inr (omega arith)
-below_or_not zero (suc b) = inl (omega arith)
-below_or_not (suc a) zero = inr (omega arith)
-below_or_not (suc a) (suc b) = elim (below_or_not a b) [ inl low ↦ inl (omega (arith, low)) | inr high ↦ inr (omega (arith, high)) ]
-
 module _ (W : PlainWorkload) (m : Machine) (n : ℕ) (start : NodeRun) (given : ℕ) (old : Parts) (giving : IsGiving W m n start given old) where
   abbrev pub now : NodeRun
   now = giving.run
@@ -119,7 +101,7 @@ module _ (W : PlainWorkload) (m : Machine) (n : ℕ) (start : NodeRun) (given : 
   pub all_given : AgentsGiveSo → now.state.hand ≡ [] → given ≡ length start.state.hand
   all_given so empty =
       let within = giving.within in
-      elim (below_or_not given (length start.state.hand)) [
+      elim (cases_lt given (length start.state.hand)) [
         | inl low ↦
             let g = (law_at so).each given now low giving.by in
             let none : None ≡ Some g.place = ap (λ (l : List ℕ). slice_get l 0) (sym empty) ∙ g.first in
@@ -163,10 +145,10 @@ module _ (W : PlainWorkload) (m : Machine) (n : ℕ) (start : NodeRun) (given : 
   pub hand_left : AgentsGiveSo → length old.agent.kept.hand ≡ length start.state.hand - given
   hand_left so =
       let kept = ap length giving.stands.agent.follows.stands.chunks.hand in
-      let places = mapped_length place_of old.agent.kept.hand in
+      let places = length_map place_of old.agent.kept.hand in
       let comes = ap length hand_is in
       let within = giving.within in
-      elim (below_or_not given (length start.state.hand)) [
+      elim (cases_lt given (length start.state.hand)) [
         | inl low ↦
             let hand = ap length ((law_at so).each given now low giving.by).hand in
             let rest = length-drop given start.state.hand in
@@ -187,7 +169,7 @@ module _ (W : PlainWorkload) (m : Machine) (n : ℕ) (start : NodeRun) (given : 
 
     some_left : given < length start.state.hand
     some_left =
-        elim (below_or_not given (length start.state.hand)) [
+        elim (cases_lt given (length start.state.hand)) [
           | inl low ↦ low
           | inr high ↦
               let law = law_at so in
@@ -275,7 +257,7 @@ module _ (W : PlainWorkload) (m : Machine) (n : ℕ) (start : NodeRun) (given : 
                         buffers = held;
                         follows = subst (λ s. Follows agent (run_of W.settings (perform W.settings [] now (Gave (Given s))) held None)) stamp_is follows;
                         comes = ap (λ (s : AgentState). after_event W.settings now.node s event) giving.stands.agent.comes ∙ sym (go_on W.settings now.node now.events (event ∷ []));
-                        lent = all_mapped (IsLent W.settings now) (IsLent W.settings next) held (λ b l. record { drawn = l.drawn; size = l.size }) giving.stands.agent.lent;
+                        lent = all_each (IsLent W.settings now) (IsLent W.settings next) held (λ b l. record { drawn = l.drawn; size = l.size }) giving.stands.agent.lent;
                         sheets = giving.stands.agent.sheets ∙ sym ((adds W.settings now.node now.state).chunks event ∙ append-nil (sheets_of now.state.taken));
                       };
                   pool =

@@ -1,14 +1,19 @@
 -- A client does its next operations: the node is where the machine says then.
-use Rattle.std.proofs.Common.{◌≡◌, ℕ, zero, suc, ◌+◌, ◌*◌, ◌<◌, ◌≤◌, ◌^◌, List, [], ◌∷◌, ◌++◌, length, map, reverse, Option, Some, None, ◌⊎◌, inl, inr, refl, sym, ap, subst, ◌∙◌, arith, slice_get, append-nil, length-set, count_by, fold, get_or, mul-le-mul_right}
+use Rattle.std.proofs.Common.{◌≡◌, ℕ, zero, suc, ◌+◌, ◌*◌, ◌<◌, ◌^◌, List, [], ◌∷◌, ◌++◌, length, map, reverse, Option, Some, None, inl, inr, refl, sym, ap, subst, ◌∙◌, arith, slice_get, append-nil, length-set, count_by, fold, get_or, mul-le-mul_right}
 use Rattle.std.specs.List.{range_with_len}
 use Rattle.std.specs.Option.{option_and_then}
-use Rattle.std.proofs.lemmas.Option.{same_Some, slice_get-get_or}
+use Rattle.std.proofs.lemmas.Bool.{cases_eq}
+use Rattle.std.proofs.lemmas.Option.{same_Some, slice_get-get_or, slice_get_within}
 use Rattle.hs_base.specs.Listing.{Listing}
 use Rattle.hs_base.specs.declared.settings.Settings.{Settings}
 use Rattle.hs_lockstep.specs.Reaching.{Goes, MachinesAreWhole}
 use Rattle.hs_workload.specs.declared.operation.Op.{Op}
 use Rattle.hs_workload.specs.Views.{operation_of}
 use Rattle.std.proofs.lemmas.List.FromFn.{length-map-range_with_len}
+use Rattle.hs_lists.proofs.Numbers.{suc_le}
+use Rattle.hs_lists.proofs.Places.{get_set_cases}
+use Rattle.hs_lists.proofs.Ranges.{map_range_from}
+use Rattle.hs_lists.proofs.Alls.{all_each}
 use Rattle.hs_journal.specs.Views.{PlainJournal}
 use Rattle.hs_agent.specs.Points.{sheet_in}
 use Rattle.hs_base.specs.declared.ids.ClientId.{ClientId}
@@ -34,8 +39,6 @@ use Rattle.hs_nodes.specs.Going.{node_goes, AreOf, IsOneOf}
 use Rattle.hs_nodes.specs.Parts.{Parts}
 use Rattle.hs_nodes.specs.Passing.{StandsStill}
 use Rattle.hs_nodes.specs.Standing.{Remain, PlayerStands, PlayersStand, IsLent, NodeIsAt}
-use Rattle.hs_nodes.proofs.Lists.{found_in, found_within, range_get}
-use Rattle.hs_nodes.proofs.Taken.{all_mapped}
 
 -- ---- pages
 
@@ -51,12 +54,6 @@ drawn_still client number (timed ∷ pages) (draw ∷ draws) more (suc k) page e
 apart_places : (each node client other : ℕ) → (client ≡ other → ⊥) → place_of each node client ≡ place_of each node other → ⊥
 apart_places each node client other apart e = apart (omega (arith, e))
 
-same_or_not : (a b : ℕ) → (a ≡ b) ⊎ (a ≡ b → ⊥)
-same_or_not zero zero = inl refl
-same_or_not zero (suc b) = inr (λ e. omega (arith, e))
-same_or_not (suc a) zero = inr (λ e. omega (arith, e))
-same_or_not (suc a) (suc b) = elim (same_or_not a b) [ inl e ↦ inl (ap suc e) | inr apart ↦ inr (λ e. apart (omega (arith, e))) ]
-
 there_in : (o : Option ClientSends) (k : ℕ) (page : DrawnPage) → option_and_then (λ (c : ClientSends). slice_get c.drawn k) o ≡ Some page
     → (c : ClientSends) × (o ≡ Some c) × (slice_get c.drawn k ≡ Some page)
 there_in None k page e = let none : None ≡ Some page = e in absurd cc
@@ -65,14 +62,11 @@ there_in (Some c) k page e = (c, refl, e)
 sent_at : (W : PlainWorkload) (J : PlainJournal) (n client : ℕ) → client < W.settings.clients → slice_get (node_sends W J n) client ≡ Some (client_sends W J n client)
 sent_at W J n client low =
     let zero_on : 0 + client ≡ client = omega arith in
-    range_get (client_sends W J n) 0 W.settings.clients client low ∙ ap (λ c. Some (client_sends W J n c)) zero_on
+    map_range_from (client_sends W J n) 0 W.settings.clients client low ∙ ap (λ c. Some (client_sends W J n c)) zero_on
 
 drawn_in_page : (page : Option DrawnPage) (number : ℕ) → option_and_then (λ (d : DrawnPage). buffer_of d.draw) page ≡ Some number → (d : DrawnPage) × (page ≡ Some d) × (buffer_of d.draw ≡ Some number)
 drawn_in_page None number e = let none : None ≡ Some number = e in absurd cc
 drawn_in_page (Some d) number e = (d, refl, e)
-
-suc_le : (a b : ℕ) → a < b → suc a ≤ b
-suc_le a b low = omega (arith, low)
 
 module _ (W : PlainWorkload) (m : Machine) (n client : ℕ) (old : Parts) (still : StandsStill W m n old) (low : client < W.settings.clients) (so : ClientsGoSo) where
   abbrev pub run : NodeRun
@@ -122,7 +116,7 @@ module _ (W : PlainWorkload) (m : Machine) (n client : ℕ) (old : Parts) (still
   -- a client's draws with what it drew
   draws_more : (other : ℕ) → (more : List Draw) × (draws_at new_machine.journal (place_of W.settings.clients n other) ≡ draws_at m.journal (place_of W.settings.clients n other) ++ more)
   draws_more other =
-      elim (same_or_not client other) [
+      elim (cases_eq client other) [
         | inl e ↦ (next_drawn W m place run, subst (λ c. draws_at new_machine.journal (place_of W.settings.clients n c) ≡ draws_at m.journal (place_of W.settings.clients n c) ++ next_drawn W m place run) e law.draws)
         | inr apart ↦ ([], law.others_draws (place_of W.settings.clients n other) (apart_places W.settings.clients n client other apart) ∙ sym (append-nil (draws_at m.journal (place_of W.settings.clients n other))))
       ]
@@ -134,7 +128,7 @@ module _ (W : PlainWorkload) (m : Machine) (n client : ℕ) (old : Parts) (still
       let k = sheet.header.page in
       let found = there_in (slice_get run.sends other) k page e in
       let sends : run.sends ≡ node_sends W m.journal n = still.at.stands.sends ∙ ap (node_sends W m.journal) still.at.number in
-      let within = found_within run.sends other found.0 found.1 in
+      let within = slice_get_within run.sends other found.0 found.1 in
       let count = ap length sends ∙ length-map-range_with_len (client_sends W m.journal n) 0 W.settings.clients in
       let low' : other < W.settings.clients = omega (arith, within, count) in
       let same : found.0 ≡ client_sends W m.journal n other = same_Some found.0 (client_sends W m.journal n other) (sym found.1 ∙ ap (λ (l : List ClientSends). slice_get l other) sends ∙ sent_at W m.journal n other low') in
@@ -159,7 +153,7 @@ module _ (W : PlainWorkload) (m : Machine) (n client : ℕ) (old : Parts) (still
     -- each player of the node
     each_there : (other : ℕ) (p : Playing) → slice_get new other ≡ Some p → PlayerStands W new_machine n run.state.log other p
     each_there other p at =
-        elim (found_in old.players client other ch.before ch.now p ch.stood (ap (λ (l : List Playing). slice_get l other) (sym ch.set) ∙ at)) [
+        elim (get_set_cases old.players client other ch.before ch.now p ch.stood (ap (λ (l : List Playing). slice_get l other) (sym ch.set) ∙ at)) [
           | inl h ↦
               let moved : PlayerStands W new_machine n run.state.log client ch.now =
               subst (λ (d : List Draw). IsAt W.settings (record { node = n; number = client }) (operations_at W place) d (done_at new_machine place) (taken (Chunks client) run.state.log) (taken (Crumbs client) run.state.log)
@@ -200,7 +194,7 @@ module _ (W : PlainWorkload) (m : Machine) (n client : ℕ) (old : Parts) (still
                       buffers = still.at.stands.agent.buffers;
                       follows = still.at.stands.agent.follows;
                       comes = still.at.stands.agent.comes;
-                      lent = all_mapped (IsLent W.settings run) (IsLent W.settings next) still.at.stands.agent.buffers lent_still still.at.stands.agent.lent;
+                      lent = all_each (IsLent W.settings run) (IsLent W.settings next) still.at.stands.agent.buffers lent_still still.at.stands.agent.lent;
                       sheets = still.at.stands.agent.sheets;
                     };
                 pool =
@@ -253,7 +247,7 @@ pub still_more : MachinesAreWhole → (W : PlainWorkload) (m : Machine) (n count
 still_more whole W m n count old new still low at =
     let now = node_goes W m n count in
     let nodes = (whole W still.valid now still.reached).count in
-    let there = found_within (followed W now.journal).nodes n still.at.run still.at.at in
+    let there = slice_get_within (followed W now.journal).nodes n still.at.run still.at.at in
     let here : n < W.settings.nodes = omega (arith, nodes, there) in
     subst (λ (k : Machine). StandsStill W k n new) (sym (goes_more W m n count))
     (record { valid = still.valid; reached = Goes now (place_of W.settings.clients n count) (place_there W n count still.valid.count here low) still.reached; at = at })

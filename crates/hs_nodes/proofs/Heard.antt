@@ -1,9 +1,11 @@
 -- A message leaves its node, and the asks to which it leads go to theirs: then all stand where they do when it was heard too.
-use Rattle.std.proofs.Common.{◌≡◌, ◌≢◌, ◌⊎◌, inl, inr, ℕ, zero, suc, ◌+◌, ◌<◌, ◌≤◌, Bool, true, false, cond, List, [], ◌∷◌, ◌++◌, length, set, refl, sym, ap, subst, ◌∙◌, Option, Some, None, arith, option_map, slice_get, count_by, replicate, append_assoc, append-nil, length-append, length-set, eqb, eqb-true, eq-eqb}
-use Rattle.std.specs.List.{AllByRecursion}
+use Rattle.std.proofs.Common.{◌≡◌, ◌≢◌, ◌⊎◌, inl, inr, ℕ, zero, suc, ◌+◌, ◌<◌, ◌≤◌, Bool, true, false, cond, List, [], ◌∷◌, ◌++◌, length, refl, sym, ap, subst, ◌∙◌, Option, Some, None, arith, option_map, slice_get, count_by, replicate, append_assoc, append-nil, length-append, length-set, eqb, eqb-true, eq-eqb}
 use Rattle.std.specs.Option.{option_and_then}
-use Rattle.std.proofs.lemmas.List.Sums.{sum_by-cons, sum_by-append}
-use Rattle.std.proofs.lemmas.Option.{same_Some}
+use Rattle.std.proofs.lemmas.Grind.{replicate_next}
+use Rattle.std.proofs.lemmas.Option.{same_Some, slice_get_past, slice_get_within}
+use Rattle.hs_lists.proofs.Places.{get_there, get_set_cases, get_mid}
+use Rattle.hs_lists.proofs.Alls.{all_at}
+use Rattle.hs_lists.proofs.Counts.{count_push}
 use Rattle.hs_base.specs.declared.limits.TheConstants.{MAX_NODES, MAX_TAKEN}
 use Rattle.hs_base.specs.NodeSets.{has_node}
 use Rattle.hs_base.specs.declared.ids.NodeId.{NodeId}
@@ -21,46 +23,21 @@ use Rattle.hs_lockstep.specs.Conditions.{MachinesTellWithin}
 use Rattle.hs_lockstep.specs.Lockstep.{Machine}
 use Rattle.hs_lockstep.specs.Parts.{node_at}
 use Rattle.hs_lockstep.specs.Performing.{after_names, StepByStep}
+use Rattle.hs_lockstep.proofs.Standing.{message_named}
 use Rattle.hs_model.specs.Leading.{IsToldBelow}
 use Rattle.hs_workload.specs.declared.word.Setting.TheVariants as settings
 use Rattle.hs_nodes.specs.All.{AllHeard}
 use Rattle.hs_nodes.specs.Hearing.{with_ask, with_told, TellsNext, asked_by, AreAsked, name_of, HeardOf, IsHeardOut, waiting, HearsNode}
 use Rattle.hs_nodes.specs.Parts.{Parts}
 use Rattle.hs_nodes.specs.Standing.{Remain, PlayersStand, AgentStands, PoolStands, NodeIsHeard}
-use Rattle.hs_nodes.proofs.Lists.{found_in, at_seam, found_within}
+use Rattle.hs_nodes.proofs.Taken.{more_remain}
 
 -- ---- lists
-
-get_past : {X : Type 0} (xs : List X) (i : ℕ) → length xs ≤ i → slice_get xs i ≡ None
-get_past [] i low = refl
-get_past (x ∷ xs) zero low = absurd (omega (arith, low))
-get_past (x ∷ xs) (suc i) low = get_past xs i (omega (arith, low))
-
-pub get_low : {X : Type 0} (xs : List X) (i : ℕ) → i < length xs → (x : X) × (slice_get xs i ≡ Some x)
-get_low [] i low = absurd (omega (arith, low))
-get_low (x ∷ xs) zero low = (x, refl)
-get_low (x ∷ xs) (suc i) low = get_low xs i (omega (arith, low))
-
-pub set_same : {X : Type 0} (xs : List X) (i : ℕ) (x : X) → slice_get xs i ≡ Some x → set xs i x ≡ xs
-set_same [] i x at = refl
-set_same {X = X} (y ∷ xs) zero x at = ap (λ (z : X). z ∷ xs) (sym (same_Some y x at))
-set_same {X = X} (y ∷ xs) (suc i) x at = ap (λ (rest : List X). y ∷ rest) (set_same xs i x at)
-
-all_at : {X : Type 0} (P : X → Type 0) (xs : List X) (i : ℕ) (x : X) → AllByRecursion P xs → slice_get xs i ≡ Some x → P x
-all_at P [] i x each at = let never : None ≡ Some x = at in absurd cc
-all_at P (y ∷ xs) zero x each at = subst P (same_Some y x at) each.0
-all_at P (y ∷ xs) (suc i) x each at = all_at P xs i x each.1 at
-
-pub count_last : {X : Type 0} (p : X → Bool) (xs : List X) (x : X) → count_by p (xs ++ x ∷ []) ≡ count_by p xs + cond {A = ℕ} (p x) 1 0
-count_last p xs x =
-    let both = sum_by-append (λ x. cond (p x) 1 0) xs (x ∷ []) in
-    let last = sum_by-cons (λ x. cond (p x) 1 0) x [] in
-    omega (arith, both, last)
 
 module _ {X : Type 0} where
   remain_first : (gone : ℕ) (all rest : List X) (x : X) → Remain gone all (x ∷ rest) → slice_get all gone ≡ Some x
   remain_first gone all rest x r =
-      ap (slice_get all) (sym r.count) ∙ ap (λ (l : List X). slice_get l (length r.front)) r.all_is ∙ at_seam r.front x rest
+      ap (slice_get all) (sym r.count) ∙ ap (λ (l : List X). slice_get l (length r.front)) r.all_is ∙ get_mid r.front x rest
 
   remain_less : (gone : ℕ) (all rest : List X) (x : X) → Remain gone all (x ∷ rest) → Remain (gone + 1) all rest
   remain_less gone all rest x r =
@@ -68,14 +45,11 @@ module _ {X : Type 0} where
       let count = r.count in
       record { front = r.front ++ x ∷ []; all_is = r.all_is ∙ sym (append_assoc r.front (x ∷ []) rest); count = omega (arith, long, count) }
 
-  remain_more : (gone : ℕ) (all rest more : List X) → Remain gone all rest → Remain gone (all ++ more) (rest ++ more)
-  remain_more gone all rest more r = record { front = r.front; all_is = ap (λ (l : List X). l ++ more) r.all_is ∙ append_assoc r.front rest more; count = r.count }
-
   remain_none : (gone : ℕ) (all : List X) → Remain gone all [] → slice_get all gone ≡ None
   remain_none gone all r =
       let count = r.count in
       let long = ap length (r.all_is ∙ append-nil r.front) in
-      get_past all gone (omega (arith, count, long))
+      slice_get_past all gone (omega (arith, count, long))
 
 -- ---- one node
 
@@ -95,7 +69,7 @@ record IsBetween (W : PlainWorkload) (m : Machine) (asked told : Messages) (n : 
 module _ (W : PlainWorkload) (m : Machine) (heard : Messages) (n : ℕ) where
   own_count : (run : NodeRun) (told : Told) → run.node ≡ n → count_by (is_from (record { 0 = run.node })) heard + 1 ≡ count_by (is_from (record { 0 = run.node })) (heard ++ message (name_of n) told ∷ [])
   own_count run told number =
-      let all = count_last (is_from (record { 0 = run.node })) heard (message (name_of n) told) in
+      let all = count_push (is_from (record { 0 = run.node })) heard (message (name_of n) told) in
       let own = ap {B = ℕ} (λ b. cond b 1 0) (eq-eqb n run.node (sym number)) in
       omega (arith, all, own)
 
@@ -118,7 +92,7 @@ module _ (W : PlainWorkload) (m : Machine) (heard : Messages) (n : ℕ) where
 
   other_count : (run : NodeRun) (from : ℕ) (told : Told) → run.node ≡ n → from ≢ n → count_by (is_from (record { 0 = run.node })) heard ≡ count_by (is_from (record { 0 = run.node })) (heard ++ message (name_of from) told ∷ [])
   other_count run from told number ne =
-      let all = count_last (is_from (record { 0 = run.node })) heard (message (name_of from) told) in
+      let all = count_push (is_from (record { 0 = run.node })) heard (message (name_of from) told) in
       let none = other (eqb from run.node) refl in
       omega (arith, all, none)
     where
@@ -195,7 +169,7 @@ module _ (steps : StepByStep) (W : PlainWorkload) (m : Machine) (heard : Message
               players = b.players;
               agent = b.agent;
               pool = b.pool;
-              asks = subst (λ (all : List Ask). Remain (taken AskQueue b.run.state.log) all (node.asks ++ more)) asks_are (remain_more (taken AskQueue b.run.state.log) (asks_to b.run.node heard) node.asks more b.asks);
+              asks = subst (λ (all : List Ask). Remain (taken AskQueue b.run.state.log) all (node.asks ++ more)) asks_are (more_remain (taken AskQueue b.run.state.log) (asks_to b.run.node heard) node.asks more b.asks);
               said = b.said;
             };
       })
@@ -230,7 +204,7 @@ module _ (steps : StepByStep) (W : PlainWorkload) (m : Machine) (heard : Message
     heard_next = next_message W m heard from told changes.now from_node
 
     between : (n : ℕ) (node : Parts) → slice_get later n ≡ Some node → IsBetween W m heard (heard ++ msg ∷ []) n node
-    between n node at = either (found_in nodes from n changes.before changes.now node changes.stood (ap (λ (l : List Parts). slice_get l n) (sym changes.set) ∙ at))
+    between n node at = either (get_set_cases nodes from n changes.before changes.now node changes.stood (ap (λ (l : List Parts). slice_get l n) (sym changes.set) ∙ at))
       where
         either : ((from ≡ n) × (changes.now ≡ node)) ⊎ ((from ≡ n → ⊥) × (slice_get nodes n ≡ Some node)) → IsBetween W m heard (heard ++ msg ∷ []) n node
         either (inl e) =
@@ -249,9 +223,9 @@ module _ (steps : StepByStep) (W : PlainWorkload) (m : Machine) (heard : Message
               record {
                 count = asked.count ∙ count_later ∙ all.nodes_are.count;
                 each = λ n node at.
-                    let below = found_within last n node at in
+                    let below = slice_get_within last n node at in
                     let count = asked.count in
-                    let was = get_low later n (omega (arith, below, count)) in
+                    let was = get_there later n (omega (arith, below, count)) in
                     let now = asked.before n was.0 was.1 (omega (arith, below, count)) in
                     subst (NodeIsHeard W m (heard ++ msg ∷ []) n) (same_Some (asked_by asks n was.0) node (sym now ∙ at)) (asked_node steps W m heard msg asks are n was.0 (between n was.0 was.1));
               };
@@ -279,7 +253,7 @@ module _ (steps : StepByStep) (W : PlainWorkload) (m : Machine) (heard : Message
               nodes_are =
                   record {
                     count = ap length changes.set ∙ length-set nodes from changes.now ∙ all.nodes_are.count;
-                    each = λ n node at. either n node (found_in nodes from n changes.before changes.now node changes.stood (ap (λ (l : List Parts). slice_get l n) (sym changes.set) ∙ at));
+                    each = λ n node at. either n node (get_set_cases nodes from n changes.before changes.now node changes.stood (ap (λ (l : List Parts). slice_get l n) (sym changes.set) ∙ at));
                   };
               coordinator_is = all.coordinator_is;
             };
@@ -290,21 +264,6 @@ module _ (steps : StepByStep) (W : PlainWorkload) (m : Machine) (heard : Message
       either n node (inr o) = all.nodes_are.each n node o.1
 
 -- ---- one message after another
-
-replicate_more : {X : Type 0} (k : ℕ) (x : X) → replicate (k + 1) x ≡ replicate k x ++ x ∷ []
-replicate_more zero x = refl
-replicate_more {X = X} (suc k) x = let e : suc k + 1 ≡ suc (k + 1) = omega arith in ap (λ (n : ℕ). replicate n x) e ∙ ap (λ (rest : List X). x ∷ rest) (replicate_more k x)
-
-pub named_by : (runs : List NodeRun) (heard : Messages) (name : NodeId) (m : Message) → message_of runs heard name ≡ Some m → m.node ≡ name
-named_by runs heard name m h = go (slice_get runs name.0) h
-  where
-    mapped : (run : NodeRun) (o : Option Told) → option_map (message name) o ≡ Some m → m.node ≡ name
-    mapped run None h = let never : None ≡ Some m = h in absurd cc
-    mapped run (Some told) h = ap (λ (m : Message). m.node) (sym (same_Some (message name told) m h))
-
-    go : (o : Option NodeRun) → option_and_then (λ (run : NodeRun). option_map (message name) (slice_get run.state.said (count_by (is_from name) heard))) o ≡ Some m → m.node ≡ name
-    go None h = let never : None ≡ Some m = h in absurd cc
-    go (Some run) h = mapped run (slice_get run.state.said (count_by (is_from name) heard)) h
 
 -- so many messages more of a node
 names_counted : (runs : List NodeRun) (n k : ℕ) (heard next : Messages) → after_names runs (replicate k (name_of n)) heard ≡ Some next → count_by (is_from (name_of n)) next ≡ count_by (is_from (name_of n)) heard + k
@@ -317,8 +276,8 @@ names_counted runs n (suc k) heard next h = go (message_of runs heard (name_of n
     go None e h on = let never : None ≡ Some next = h in absurd cc
     go (Some m) e h on =
         let rest = on m h in
-        let last = count_last (is_from (name_of n)) heard m in
-        let own = ap {B = ℕ} (λ (name : NodeId). cond (is_from (name_of n) (record { node = name; told = m.told })) 1 0) (named_by runs heard (name_of n) m e) in
+        let last = count_push (is_from (name_of n)) heard m in
+        let own = ap {B = ℕ} (λ (name : NodeId). cond (is_from (name_of n) (record { node = name; told = m.told })) 1 0) (message_named runs heard (name_of n) m e) in
         let same = ap {B = ℕ} (λ b. cond b 1 0) (eq-eqb n n refl) in
         omega (arith, rest, last, own, same)
 
@@ -329,7 +288,7 @@ module _ (steps : StepByStep) (W : PlainWorkload) (m : Machine) (heard : Message
       record {
         next = one.next;
         by =
-            ap (λ (names : List NodeId). after_names runs names heard) (replicate_more count (name_of n))
+            ap (λ (names : List NodeId). after_names runs names heard) (replicate_next count (name_of n))
             ∙ steps.names runs (replicate count (name_of n)) (name_of n ∷ []) heard
             ∙ ap (option_and_then (after_names runs (name_of n ∷ []))) h.by
             ∙ one.by;
@@ -341,8 +300,8 @@ module _ (steps : StepByStep) (W : PlainWorkload) (m : Machine) (heard : Message
 
   -- no more was heard than was said
   module _ (count : ℕ) (nodes : List Parts) (coordinator : Kept) (h : HeardOf W m heard n count nodes coordinator) (low : n < length nodes) where
-    node_there : NodeIsHeard W m h.next n (get_low nodes n low).0
-    node_there = let there = get_low nodes n low in h.all.nodes_are.each n there.0 there.1
+    node_there : NodeIsHeard W m h.next n (get_there nodes n low).0
+    node_there = let there = get_there nodes n low in h.all.nodes_are.each n there.0 there.1
 
     abbrev run_there : NodeRun
     run_there = node_there.run
@@ -354,7 +313,7 @@ module _ (steps : StepByStep) (W : PlainWorkload) (m : Machine) (heard : Message
         let number = ap (λ (k : ℕ). count_by (is_from (name_of k)) h.next) node_there.number in
         let gone = r.count in
         let long = ap length r.all_is in
-        let both = length-append r.front (get_low nodes n low).0.said in
+        let both = length-append r.front (get_there nodes n low).0.said in
         omega (arith, counted, number, gone, long, both)
 
     pub heard_full : count ≡ MAX_TAKEN → HearsNode W m heard n nodes coordinator

@@ -1,12 +1,14 @@
 -- What a node has left, as the machine has it.
-use Rattle.std.proofs.Common.{◌≡◌, ℕ, zero, suc, ◌+◌, ◌<◌, ◌≤◌, Bool, true, false, ◌&&◌, List, [], ◌∷◌, length, zip, Some, None, ◌⊎◌, inl, inr, refl, sym, ap, subst, ◌∙◌, arith, slice_get, eqb, eq-eqb, ◌==◌, count_by, length-append}
+use Rattle.std.proofs.Common.{◌≡◌, ℕ, zero, suc, ◌+◌, ◌<◌, Bool, true, false, ◌&&◌, List, [], ◌∷◌, length, zip, Some, None, inl, inr, refl, sym, ap, subst, ◌∙◌, arith, slice_get, eqb, eq-eqb, ◌==◌, count_by, length-append}
 use Rattle.std.proofs.lemmas.List.FromFn.{length-map-range_with_len}
 use Rattle.hs_nodes.proofs.Readying.{sends_there}
-use Rattle.std.proofs.lemmas.Bool.{eqb-true}
-use Rattle.std.proofs.lemmas.Option.{same_Some}
-use Rattle.hs_nodes.proofs.Lists.{found_within}
+use Rattle.std.proofs.lemmas.Bool.{eqb-true, cases_lt, and_from, and_parts}
+use Rattle.std.proofs.lemmas.Option.{same_Some, slice_get_within}
 use Rattle.std.specs.Prelude.{◌↔◌, IsTrue, unwrap_or}
-use Rattle.std.specs.List.{AllByRecursion, range_with_len, list_all}
+use Rattle.std.specs.List.{AllByRecursion, range_with_len}
+use Rattle.hs_lists.proofs.Bools.{bool_same}
+use Rattle.hs_lists.proofs.Tests.{list_all_fails, list_all_by_place}
+use Rattle.hs_lists.proofs.Places.{zipped_at}
 use Rattle.hs_lawful.specs.Ends.{took_all}
 use Rattle.hs_lawful.specs.Following.{Chunks, Crumbs, Triggers, Asks, taken, asks_to, is_from, NodeRun, followed}
 use Rattle.hs_lockstep.specs.Lockstep.{Machine}
@@ -21,12 +23,6 @@ use Rattle.hs_workload.specs.declared.word.Setting.TheVariants as settings
 use Rattle.hs_nodes.specs.Left.{done_of, all_of, are_clients_bare}
 use Rattle.hs_nodes.specs.Parts.{Parts}
 use Rattle.hs_nodes.specs.Standing.{Remain, NodeIsAt, PlayersStand}
-
-below_or_not : (a b : ℕ) → (a < b) ⊎ (b ≤ a)
-below_or_not zero zero = inr (omega arith)
-below_or_not zero (suc b) = inl (omega arith)
-below_or_not (suc a) zero = inr (omega arith)
-below_or_not (suc a) (suc b) = elim (below_or_not a b) [ inl low ↦ inl (omega (arith, low)) | inr high ↦ inr (omega (arith, high)) ]
 
 -- the agent took all that a client of its run sent
 abbrev pub AllTaken : NodeRun → ℕ → Type 0
@@ -65,24 +61,12 @@ pub none_left : (W : PlainWorkload) (m : Machine) (n client : ℕ) (node : Parts
 none_left W m n client node player ops flag at stood e tells off =
     let within = (player_at W m n client node player at stood).within in
     let left = left_is W m n client node player ops flag at stood e tells in
-    elim (below_or_not (done_of W m n client) (all_of W n client)) [
+    elim (cases_lt (done_of W m n client) (all_of W n client)) [
       | inl low ↦ let on : flag ≡ true = left.1 low in let never : true ≡ false = sym on ∙ off in absurd cc
       | inr high ↦ omega (arith, within, high)
     ]
 
 -- ---- what was taken
-
-same_flags : (a b : Bool) → (a ≡ true → b ≡ true) → (b ≡ true → a ≡ true) → a ≡ b
-same_flags true b f g = sym (f refl)
-same_flags false true f g = g refl
-same_flags false false f g = refl
-
-both : (a b : Bool) → a ≡ true → b ≡ true → (a && b) ≡ true
-both a b e f = ap (λ x. x && b) e ∙ f
-
-split : (a b : Bool) → (a && b) ≡ true → (a ≡ true) × (b ≡ true)
-split true b e = (refl, e)
-split false b e = let never : false ≡ true = e in absurd cc
 
 module _ (W : PlainWorkload) (m : Machine) (n : ℕ) (node : Parts) (at : NodeIsAt W m n node) (client : ℕ) (player : Playing) (stood : slice_get node.players client ≡ Some player)
     (chunks : AllChunksAreSent) (crumbs : AllCrumbsAreSent) (triggers : AllTriggersAreSent) (valid : IsValid W) (low : client < W.settings.clients) (whole : place_of W.settings.clients n client < length W.clients)
@@ -121,9 +105,9 @@ module _ (W : PlainWorkload) (m : Machine) (n : ℕ) (node : Parts) (at : NodeIs
       let c = eqb (taken (Chunks client) at.run.state.log) (length sends.chunks) in
       let d = eqb (taken (Crumbs client) at.run.state.log) (length sends.crumbs) in
       let e = eqb (taken (Triggers client) at.run.state.log) (length sends.triggers) in
-      same_flags flag (took_all at.run.state.log client sends)
-      (λ on. let all = told.0 on in both (c && d) e (both c d (eq-eqb _ _ (all.0 ∙ all_chunks)) (eq-eqb _ _ (all.1 ∙ all_crumbs))) (eq-eqb _ _ (all.2 ∙ all_triggers)))
-      (λ on. let front = split (c && d) e on in let first = split c d front.0 in told.1 (eqb-true _ _ first.0 ∙ sym all_chunks, eqb-true _ _ first.1 ∙ sym all_crumbs, eqb-true _ _ front.1 ∙ sym all_triggers))
+      bool_same flag (took_all at.run.state.log client sends)
+      (λ on. let all = told.0 on in and_from (c && d) e (and_from c d (eq-eqb _ _ (all.0 ∙ all_chunks)) (eq-eqb _ _ (all.1 ∙ all_crumbs))) (eq-eqb _ _ (all.2 ∙ all_triggers)))
+      (λ on. let front = and_parts (c && d) e on in let first = and_parts c d front.0 in told.1 (eqb-true _ _ first.0 ∙ sym all_chunks, eqb-true _ _ first.1 ∙ sym all_crumbs, eqb-true _ _ front.1 ∙ sym all_triggers))
 
   there : slice_get at.run.sends client ≡ Some sends
   there = sends_there W m at.run client at.stands.sends low ∙ ap (λ i. Some (client_sends W m.journal i client)) at.number
@@ -135,29 +119,6 @@ module _ (W : PlainWorkload) (m : Machine) (n : ℕ) (node : Parts) (at : NodeIs
 
 -- ---- all that is left
 
--- what holds below a number and at it holds below the next
-pub below_more : (P : ℕ → Type 0) (i : ℕ) → ((k : ℕ) → k < i → P k) → P i → (k : ℕ) → k < i + 1 → P k
-below_more P i below here k low =
-    elim (below_or_not k i) [ inl lower ↦ below k lower | inr high ↦ let same : i ≡ k = omega (arith, low, high) in subst P same here ]
-
-failing : {A : Type 0} (p : A → Bool) (xs : List A) (place : ℕ) (x : A) → slice_get xs place ≡ Some x → p x ≡ false → list_all p xs ≡ false
-failing p [] place x at no_good = let none : None ≡ Some x = at in absurd cc
-failing p (y ∷ xs) zero x at no_good = ap (λ z. p z && list_all p xs) (same_Some y x at) ∙ ap (λ b. b && list_all p xs) no_good
-failing p (y ∷ xs) (suc place) x at no_good = and_false (p y) (list_all p xs) (failing p xs place x at no_good)
-  where
-    and_false : (a b : Bool) → b ≡ false → (a && b) ≡ false
-    and_false true b e = e
-    and_false false b e = refl
-
-all_pass : {A : Type 0} (p : A → Bool) (xs : List A) → ((place : ℕ) (x : A) → slice_get xs place ≡ Some x → p x ≡ true) → list_all p xs ≡ true
-all_pass p [] each = refl
-all_pass p (x ∷ xs) each = both (p x) (list_all p xs) (each 0 x refl) (all_pass p xs (λ place y at. each (suc place) y at))
-
-zipped_at : {A : Type 0} (start : ℕ) (xs : List A) (place : ℕ) (x : A) → slice_get xs place ≡ Some x → slice_get (zip (range_with_len start (length xs)) xs) place ≡ Some (start + place, x)
-zipped_at start [] place x at = let none : None ≡ Some x = at in absurd cc
-zipped_at start (y ∷ xs) zero x at = let same : start ≡ start + 0 = omega arith in ap (λ z. Some (start, z)) (same_Some y x at) ∙ ap (λ i. Some (i, x)) same
-zipped_at start (y ∷ xs) (suc place) x at = let same : start + 1 + place ≡ start + suc place = omega arith in zipped_at (start + 1) xs place x at ∙ ap (λ i. Some (i, x)) same
-
 zipped_from : {A : Type 0} (start : ℕ) (xs : List A) (place : ℕ) (c : ℕ × A) → slice_get (zip (range_with_len start (length xs)) xs) place ≡ Some c → (c.0 ≡ start + place) × (slice_get xs place ≡ Some c.1)
 zipped_from start [] place c at = let none : None ≡ Some c = at in absurd cc
 zipped_from start (y ∷ xs) zero c at = let same : (start, y) ≡ c = same_Some (start, y) c at in let here : start ≡ c.0 = ap (λ p. p.0) same in (omega (arith, here), ap (λ p. Some p.1) same)
@@ -166,17 +127,17 @@ zipped_from start (y ∷ xs) (suc place) c at = let rest = zipped_from (start + 
 -- all clients are bare, or one is not
 pub clients_bare : (run : NodeRun) → ((client : ℕ) → client < length run.sends → AllTaken run client) → are_clients_bare run ≡ true
 clients_bare run each =
-    all_pass (λ (c : ℕ × ClientSends). took_all run.state.log c.0 c.1) (zip (range_with_len 0 (length run.sends)) run.sends)
+    list_all_by_place (λ (c : ℕ × ClientSends). took_all run.state.log c.0 c.1) (zip (range_with_len 0 (length run.sends)) run.sends)
     (λ place c at.
     let from = zipped_from 0 run.sends place c at in
     let same : place ≡ c.0 = let here = from.0 in omega (arith, here) in
-    let within = found_within run.sends place c.1 from.1 in
+    let within = slice_get_within run.sends place c.1 from.1 in
     subst (λ i. took_all run.state.log i c.1 ≡ true) same (each place within c.1 from.1))
 
 pub client_not_bare : (run : NodeRun) (client : ℕ) (sends : ClientSends) → slice_get run.sends client ≡ Some sends → took_all run.state.log client sends ≡ false → are_clients_bare run ≡ false
 client_not_bare run client sends at not_taken =
     let zero_on : 0 + client ≡ client = omega arith in
-    failing (λ (c : ℕ × ClientSends). took_all run.state.log c.0 c.1) (zip (range_with_len 0 (length run.sends)) run.sends) client (client, sends) (zipped_at 0 run.sends client sends at ∙ ap (λ i. Some (i, sends)) zero_on) not_taken
+    list_all_fails (λ (c : ℕ × ClientSends). took_all run.state.log c.0 c.1) (zip (range_with_len 0 (length run.sends)) run.sends) client (client, sends) (zipped_at 0 run.sends client sends at ∙ ap (λ i. Some (i, sends)) zero_on) not_taken
 
 -- the whole node
 pub bare_is_so : (a b c d : Bool) (a' b' c' d' : Bool) → a ≡ a' → b ≡ b' → c ≡ c' → d ≡ d' → (a && b && c && d) ≡ (a' && b' && c' && d')
@@ -215,7 +176,7 @@ remain_flag gone all rest count flag r same e =
     let whole = ap length r.all_is in
     let parts = length-append r.front rest in
     let front = r.count in
-    same_flags flag (eqb gone (length all)) (λ on. let none = eqb-true count 0 (sym e ∙ on) in eq-eqb gone (length all) (omega (arith, whole, parts, front, same, none)))
+    bool_same flag (eqb gone (length all)) (λ on. let none = eqb-true count 0 (sym e ∙ on) in eq-eqb gone (length all) (omega (arith, whole, parts, front, same, none)))
     (λ on. let full = eqb-true gone (length all) on in e ∙ eq-eqb count 0 (omega (arith, whole, parts, front, same, full)))
 
 -- whether nothing waits among the asks of a node, or among its messages, and whether nothing is pinned

@@ -1,9 +1,9 @@
 -- What waits in a queue is taken item by item.
 use Rattle.std.proofs.Common.{◌≡◌, ℕ, zero, suc, ◌+◌, ◌-◌, ◌≤◌, min, Bool, true, false, List, [], ◌∷◌, ◌++◌, length, replicate, refl, sym, ap, subst, ◌∙◌, arith, append_assoc, append-nil, eq-eqb}
-use Rattle.std.proofs.lemmas.List.Sums.{sum_by-append}
 use Rattle.std.proofs.lemmas.Bool.{ne_eqb}
 use Rattle.std.specs.List.{flat_map, range_with_len}
 use Rattle.std.specs.Option.{option_and_then}
+use Rattle.hs_lists.proofs.Counts.{one_if}
 use Rattle.hs_base.specs.declared.limits.TheConstants.{MAX_TAKEN}
 use Rattle.hs_journal.specs.declared.journal.Step.{Step}
 use Rattle.hs_journal.specs.declared.journal.Step.TheVariants as steps
@@ -12,13 +12,13 @@ use Rattle.hs_lawful.specs.Following.{NodeRun, takes, taken}
 use Rattle.hs_lockstep.specs.Lockstep.{Machine}
 use Rattle.hs_lockstep.specs.Parts.{heard_in}
 use Rattle.hs_lockstep.specs.Performing.{after_steps, StepByStep}
+use Rattle.hs_lockstep.proofs.Items.{taken_both}
 use Rattle.hs_records.specs.Plain.{PlainWorkload}
 use Rattle.hs_nodes.specs.declared.queue.Queue.{Queue}
 use Rattle.hs_nodes.specs.declared.queue.Queue.TheVariants as queues
 use Rattle.hs_nodes.specs.Parts.{Parts}
 use Rattle.hs_nodes.specs.Passing.{IsAmid, IsDrained, WentBy, TookOne, TookSome, TakesNext, sent_to, takes_by, takes_of_client, takes_first}
 use Rattle.hs_nodes.specs.Queues.{queue_of, step_from, IsQueueOf}
-use Rattle.hs_nodes.proofs.Counting.{one}
 
 -- ---- counts
 
@@ -35,14 +35,11 @@ replicate_more count step = let one_more : count + 1 ≡ suc count = omega arith
     grown zero step = refl
     grown (suc count) step = ap (λ (l : List Step). step ∷ l) (grown count step)
 
-pub taken_append : (queue : following.Queue) (front behind : List Step) → taken queue (front ++ behind) ≡ taken queue front + taken queue behind
-taken_append queue front behind = sum_by-append (λ (s : Step). one (takes queue s)) front behind
-
 pub taken_replicate : (queue : following.Queue) (count : ℕ) (step : Step) → takes queue step ≡ true → taken queue (replicate count step) ≡ count
 taken_replicate queue zero step own = refl
 taken_replicate queue (suc count) step own =
-    let both = taken_append queue (step ∷ []) (replicate count step) in
-    let here = ap one own in
+    let both = taken_both queue (step ∷ []) (replicate count step) in
+    let here = ap one_if own in
     let rest = taken_replicate queue count step own in
     omega (arith, both, here, rest)
 
@@ -73,7 +70,7 @@ module _ (W : PlainWorkload) (m : Machine) (n : ℕ) (queue : Queue) (run : Node
   taken_so : (count : ℕ) (next : NodeRun) → next.state.log ≡ run.state.log ++ replicate count (step_from queue) → taken (queue_of queue) next.state.log ≡ taken (queue_of queue) run.state.log + count
   taken_so count next e =
       let all = ap (taken (queue_of queue)) e in
-      let both = taken_append (queue_of queue) run.state.log (replicate count (step_from queue)) in
+      let both = taken_both (queue_of queue) run.state.log (replicate count (step_from queue)) in
       let some = taken_replicate (queue_of queue) count (step_from queue) (own_step queue) in
       omega (arith, all, both, some)
 
@@ -124,13 +121,13 @@ abbrev pub Spares : following.Queue → List Step → Type 0
 Spares queue steps = taken queue steps ≡ 0
 
 pub spares_append : (queue : following.Queue) (front behind : List Step) → Spares queue front → Spares queue behind → Spares queue (front ++ behind)
-spares_append queue front behind f b = let both = taken_append queue front behind in omega (arith, both, f, b)
+spares_append queue front behind f b = let both = taken_both queue front behind in omega (arith, both, f, b)
 
 pub spares_replicate : (queue : following.Queue) (count : ℕ) (step : Step) → takes queue step ≡ false → Spares queue (replicate count step)
 spares_replicate queue zero step other = refl
 spares_replicate queue (suc count) step other =
-    let both = taken_append queue (step ∷ []) (replicate count step) in
-    let here = ap one other in
+    let both = taken_both queue (step ∷ []) (replicate count step) in
+    let here = ap one_if other in
     let rest = spares_replicate queue count step other in
     omega (arith, both, here, rest)
 
@@ -139,7 +136,7 @@ pub same_takes : (W : PlainWorkload) (m : Machine) (queue : Queue) (run next : N
     → takes_by W m next queue ≡ takes_by W m run queue
 same_takes W m queue run next steps number log spares =
     let all = ap (taken (queue_of queue)) log in
-    let both = taken_append (queue_of queue) run.state.log steps in
+    let both = taken_both (queue_of queue) run.state.log steps in
     let same : taken (queue_of queue) next.state.log ≡ taken (queue_of queue) run.state.log = omega (arith, all, both, spares) in
     ap (λ i. replicate (min (sent_to W m i queue - taken (queue_of queue) next.state.log) MAX_TAKEN) (step_from queue)) number
     ∙ ap (λ k. replicate (min (sent_to W m run.node queue - k) MAX_TAKEN) (step_from queue)) same

@@ -1,11 +1,13 @@
 -- What the clients of one node do leaves all other nodes where they are.
-use Rattle.std.proofs.Common.{◌≡◌, ◌≢◌, ◌⊎◌, inl, inr, ℕ, zero, suc, ◌+◌, ◌*◌, ◌/◌, ◌<◌, ◌≤◌, List, [], ◌∷◌, ◌++◌, length, take, drop, fold, map, refl, sym, ap, subst, ◌∙◌, Some, None, arith, slice_get, unwrap_or, length-set, length-take, length-drop}
+use Rattle.std.proofs.Common.{◌≡◌, ◌≢◌, ◌⊎◌, inl, inr, ℕ, zero, suc, ◌+◌, ◌*◌, ◌/◌, ◌<◌, ◌≤◌, List, [], length, take, drop, fold, map, refl, sym, ap, subst, ◌∙◌, Some, arith, slice_get, unwrap_or, length-set, length-take, length-drop}
 use Rattle.std.proofs.lemmas.List.{length-map}
 use Rattle.std.specs.List.{range_with_len}
-use Rattle.std.proofs.Math.Nat.{suc-mul, mul-le-mul, mul-le-mul_right}
+use Rattle.std.proofs.Math.Nat.{suc-mul}
 use Rattle.std.proofs.lemmas.List.Sums.{fold-append}
 use Rattle.std.proofs.lemmas.Nat.{mul-add-lt, div-mul-add}
-use Rattle.std.proofs.lemmas.Option.{same_Some}
+use Rattle.std.proofs.lemmas.Option.{slice_get_within}
+use Rattle.hs_lists.proofs.Places.{get_there, get_set_cases}
+use Rattle.hs_lists.proofs.Ranges.{range_append}
 use Rattle.hs_base.specs.declared.limits.TheConstants.{MAX_NODES, MAX_CLIENTS}
 use Rattle.hs_base.specs.Listing.{Listing}
 use Rattle.hs_base.specs.Changing.{ChangesAt}
@@ -26,24 +28,13 @@ use Rattle.hs_workload.specs.Views.{operations_of, workload_of}
 use Rattle.hs_workload.specs.declared.operation.Workload.{Workload}
 use Rattle.hs_workload.specs.declared.word.Setting.TheVariants as settings
 use Rattle.hs_workload.specs.declared.operation.Op.{Op}
+use Rattle.hs_workload.proofs.Sizes.{product_few, last_low, operations_sliced}
 use Rattle.hs_nodes.specs.All.{HasHeard, AllAt, NodesAt, clients_gone, NodesBetween}
 use Rattle.hs_nodes.specs.Going.{node_goes, AreOf}
 use Rattle.hs_nodes.specs.Parts.{Parts}
 use Rattle.hs_nodes.specs.Standing.{PlayerStands, NodeIsHeard, NodeIsAt}
-use Rattle.hs_nodes.proofs.Heard.{get_low}
-use Rattle.hs_nodes.proofs.Lists.{found_in, found_within}
 
 -- ---- lists
-
-range_parts : (start a b : ℕ) → range_with_len start (a + b) ≡ range_with_len start a ++ range_with_len (start + a) b
-range_parts start zero b =
-    let same : 0 + b ≡ b = omega arith in
-    let here : start ≡ start + 0 = omega arith in
-    ap (range_with_len start) same ∙ ap (λ (n : ℕ). range_with_len n b) here
-range_parts start (suc a) b =
-    let same : suc a + b ≡ suc (a + b) = omega arith in
-    let here : start + 1 + a ≡ start + suc a = omega arith in
-    ap (range_with_len start) same ∙ ap (λ (rest : List ℕ). start ∷ rest) (range_parts (start + 1) a b) ∙ ap (λ (n : ℕ). start ∷ (range_with_len (start + 1) a ++ range_with_len n b)) here
 
 pub place_below : (W : PlainWorkload) → IsValid W → (n client : ℕ) → n < W.settings.nodes → client < W.settings.clients → place_of W.settings.clients n client < length W.clients
 place_below W valid n client node_low low =
@@ -61,7 +52,7 @@ module _ (whole : MachinesAreWhole) (goes : ClientsGoSo) (W : PlainWorkload) (va
   low_place n client node_low low = place_below W valid n client node_low low
 
   pub run_at : (m : Machine) → IsReached W m → (n : ℕ) → n < W.settings.nodes → (run : NodeRun) × (node_at W m.journal n ≡ Some run)
-  run_at m r n low = let count = (whole W valid m r).count in get_low (followed W m.journal).nodes n (omega (arith, low, count))
+  run_at m r n low = let count = (whole W valid m r).count in get_there (followed W m.journal).nodes n (omega (arith, low, count))
 
   module _ (m : Machine) (r : IsReached W m) (n client : ℕ) (node_low : n < W.settings.nodes) (low : client < each) where
     abbrev pub place : ℕ
@@ -92,7 +83,7 @@ module _ (whole : MachinesAreWhole) (goes : ClientsGoSo) (W : PlainWorkload) (va
           stands =
               record {
                 sends = performed.sends ∙ ap (node_sends W new.journal) (sym h.number);
-                players = record { count = s.players.count; each = λ number player found. player_stays number player (found_within node.players number player found) (s.players.each number player found) };
+                players = record { count = s.players.count; each = λ number player found. player_stays number player (slice_get_within node.players number player found) (s.players.each number player found) };
                 agent = s.agent;
                 pool = s.pool;
                 asks = s.asks;
@@ -157,7 +148,7 @@ module _ (whole : MachinesAreWhole) (goes : ClientsGoSo) (W : PlainWorkload) (va
           nodes_are =
               record {
                 count = ap length changes.set ∙ length-set nodes n changes.now ∙ at.nodes_are.count;
-                each = λ other node found. either other node (found_in nodes n other changes.before changes.now node changes.stood (ap (λ (l : List Parts). slice_get l other) (sym changes.set) ∙ found));
+                each = λ other node found. either other node (get_set_cases nodes n other changes.before changes.now node changes.stood (ap (λ (l : List Parts). slice_get l other) (sym changes.set) ∙ found));
               };
         }
       where
@@ -172,7 +163,7 @@ module _ (W : PlainWorkload) where
       let zeroth : 0 + n * W.settings.clients ≡ n * W.settings.clients = omega arith in
       sym
       (ap (λ (k : ℕ). fold (client_goes W) m (range_with_len 0 k)) product
-      ∙ ap (fold (client_goes W) m) (range_parts 0 (n * W.settings.clients) W.settings.clients)
+      ∙ ap (fold (client_goes W) m) (range_append 0 (n * W.settings.clients) W.settings.clients)
       ∙ fold-append (client_goes W) m (range_with_len 0 (n * W.settings.clients)) (range_with_len (0 + n * W.settings.clients) W.settings.clients)
       ∙ ap (λ (k : ℕ). fold (client_goes W) (fold (client_goes W) m (range_with_len 0 (n * W.settings.clients))) (range_with_len k W.settings.clients)) zeroth)
 
@@ -181,34 +172,6 @@ module _ (W : PlainWorkload) where
 
   pub gone_all : IsValid W → (m : Machine) (n : ℕ) → n ≡ W.settings.nodes → clients_gone W m n ≡ clients_go W m
   gone_all valid m n same = ap (λ (k : ℕ). fold (client_goes W) m (range_with_len 0 (k * W.settings.clients))) same ∙ ap (λ (k : ℕ). fold (client_goes W) m (range_with_len 0 k)) (sym valid.count)
-
--- ---- the operations of a node's clients
-
-sliced : {X : Type 0} (xs : List X) (from count i : ℕ) (x : X) → slice_get (take count (drop from xs)) i ≡ Some x → (i < count) × (slice_get xs (from + i) ≡ Some x)
-sliced [] zero zero i x h = let never : None ≡ Some x = h in absurd cc
-sliced [] zero (suc count) i x h = let never : None ≡ Some x = h in absurd cc
-sliced [] (suc from) zero i x h = let never : None ≡ Some x = h in absurd cc
-sliced [] (suc from) (suc count) i x h = let never : None ≡ Some x = h in absurd cc
-sliced (y ∷ xs) zero zero i x h = let never : None ≡ Some x = h in absurd cc
-sliced (y ∷ xs) zero (suc count) zero x h = (omega arith, h)
-sliced (y ∷ xs) zero (suc count) (suc i) x h =
-    let rest = sliced xs zero count i x h in
-    let same : 0 + i ≡ i = omega arith in
-    let there : 0 + suc i ≡ suc i = omega arith in
-    let low = rest.0 in
-    (omega (arith, low), ap (slice_get (y ∷ xs)) there ∙ ap (slice_get xs) (sym same) ∙ rest.1)
-sliced (y ∷ xs) (suc from) count i x h =
-    let rest = sliced xs from count i x h in
-    let there : suc from + i ≡ suc (from + i) = omega arith in
-    (rest.0, ap (slice_get (y ∷ xs)) there ∙ rest.1)
-
-mapped_at : {X Y : Type 0} (f : X → Y) (xs : List X) (i : ℕ) (x : X) (d : Y) → slice_get xs i ≡ Some x → unwrap_or (slice_get (map f xs) i) d ≡ f x
-mapped_at f [] i x d h = let never : None ≡ Some x = h in absurd cc
-mapped_at f (y ∷ xs) zero x d h = ap f (same_Some y x h)
-mapped_at f (y ∷ xs) (suc i) x d h = mapped_at f xs i x d h
-
-pub operations_sliced : (clients : List (Listing Op)) (from count client : ℕ) (ops : Listing Op) → slice_get (take count (drop from clients)) client ≡ Some ops → operations_of ops ≡ unwrap_or (slice_get (map operations_of clients) (from + client)) []
-operations_sliced clients from count client ops h = sym (mapped_at operations_of clients (from + client) ops [] (sliced clients from count client ops h).1)
 
 -- ---- passes
 
@@ -234,7 +197,7 @@ module _ (W : PlainWorkload) (m next : Machine) where
       }
     where
       there : (n : ℕ) (node : Parts) → slice_get later n ≡ Some node → ((first ≡ n) × (changes.now ≡ node)) ⊎ ((first ≡ n → ⊥) × (slice_get nodes n ≡ Some node))
-      there n node found = found_in nodes first n changes.before changes.now node changes.stood (ap (λ (l : List Parts). slice_get l n) (sym changes.set) ∙ found)
+      there n node found = get_set_cases nodes first n changes.before changes.now node changes.stood (ap (λ (l : List Parts). slice_get l n) (sym changes.set) ∙ found)
 
       before_case : (n : ℕ) (node : Parts) → n < first + 1 → ((first ≡ n) × (changes.now ≡ node)) ⊎ ((first ≡ n → ⊥) × (slice_get nodes n ≡ Some node)) → NodeIsAt W next n node
       before_case n node low (inl e) = subst (λ (k : ℕ). NodeIsAt W next k node) e.0 (subst (NodeIsAt W next first) e.1 changes.became)
@@ -255,7 +218,7 @@ module _ (W : PlainWorkload) (m next : Machine) where
       record {
         valid = b.valid;
         reached = reached;
-        nodes_are = record { count = b.count; each = λ n node found. let low = found_within nodes n node found in b.before n node found (omega (arith, low, all)) };
+        nodes_are = record { count = b.count; each = λ n node found. let low = slice_get_within nodes n node found in b.before n node found (omega (arith, low, all)) };
       }
 
 -- the agents leave what was heard
@@ -263,15 +226,12 @@ pub heard_still : AgentsTakeSo → AgentsGiveSo → MachinesAreWhole → (W : Pl
 heard_still takes gives whole W valid some m r =
     let taken = reaching.Takes m r in
     let count = (whole W valid m r).count in
-    let run = get_low (followed W m.journal).nodes 0 (omega (arith, some, count)) in
+    let run = get_there (followed W m.journal).nodes 0 (omega (arith, some, count)) in
     let took = takes W valid m r 0 run.0 run.1 in
     let gave = gives W valid (agents_take W m) taken 0 took.later took.node in
     gave.heard ∙ took.heard
 
 -- ---- sizes
-
-product_few : (a b : ℕ) → a ≤ MAX_NODES → b ≤ MAX_CLIENTS → a * b ≤ MAX_NODES * MAX_CLIENTS
-product_few a b x y = mul-le-mul x y
 
 -- nodes and clients are few
 pub record AreFew (W : PlainWorkload) : Type 0 where
@@ -284,15 +244,6 @@ are_few W valid = let n = valid.head settings.Nodes in let c = valid.head settin
 
 pub first_few : (W : PlainWorkload) → IsValid W → (n : ℕ) → n < W.settings.nodes → n * W.settings.clients ≤ MAX_NODES * MAX_CLIENTS
 first_few W valid n low = let few = are_few W valid in let a = few.nodes in product_few n W.settings.clients (omega (arith, low, a)) few.clients
-
--- the clients of a node are among all
-pub last_low : (W : PlainWorkload) → IsValid W → (n : ℕ) → n < W.settings.nodes → n * W.settings.clients + W.settings.clients ≤ length W.clients
-last_low W valid n low =
-    let more : n + 1 ≤ W.settings.nodes = omega (arith, low) in
-    let row = mul-le-mul_right W.settings.clients more in
-    let product : (n + 1) * W.settings.clients ≡ n * W.settings.clients + W.settings.clients = let e : n + 1 ≡ suc n = omega arith in ap (λ (k : ℕ). k * W.settings.clients) e ∙ suc-mul n W.settings.clients in
-    let count = valid.count in
-    omega (arith, row, product, count)
 
 -- the operations of a node's clients, as they lie in the workload
 pub clients_are : (w : Workload) → IsValid (workload_of w) → (n : ℕ) → n < w.settings.nodes → (given : List (Listing Op)) → given ≡ w.clients.items → (count : ℕ) → count ≡ w.settings.clients

@@ -3,6 +3,8 @@ use Rattle.std.proofs.Common.{◌≡◌, ℕ, ◌+◌, ◌<◌, true, false, Lis
 use Rattle.std.proofs.lemmas.Bool.{ne_eqb}
 use Rattle.std.specs.Prelude.{slice_get}
 use Rattle.std.specs.Option.{option_and_then}
+use Rattle.hs_lists.proofs.Places.{get_set_cases}
+use Rattle.hs_lists.proofs.Ranges.{map_range_from}
 use Rattle.hs_agent.specs.Points.{sheet_in}
 use Rattle.hs_base.specs.declared.told.Crumb.{Crumb}
 use Rattle.hs_base.specs.declared.told.Trigger.{Trigger}
@@ -10,6 +12,7 @@ use Rattle.hs_journal.specs.declared.journal.Step.{Step}
 use Rattle.hs_journal.specs.declared.journal.Step.TheVariants as steps
 use Rattle.hs_lawful.specs.Following.{Queue, Chunks, Crumbs, Triggers, takes, taken, NodeRun, event_of, next_of}
 use Rattle.hs_lawful.specs.Pooled.{page_of, buffer_of as buffer_in_draw}
+use Rattle.hs_lawful.proofs.Logs.{taken_still}
 use Rattle.hs_lockstep.specs.Lockstep.{Machine, done_at}
 use Rattle.hs_lockstep.specs.Parts.{heard_in}
 use Rattle.hs_model.specs.Stepping.{Event, Took, Chunk, Crumbed, Triggered}
@@ -20,8 +23,7 @@ use Rattle.hs_sent.specs.Drawn.{DrawnPage}
 use Rattle.hs_sent.specs.Sending.{Sent, ClientSends, client_sends, node_sends, draws_at, operations_at, place_of}
 use Rattle.hs_words.specs.Pages.{Sheet}
 use Rattle.hs_nodes.specs.Standing.{PlayerStands, PlayersStand, IsLent}
-use Rattle.hs_nodes.proofs.Lists.{found_in, range_get}
-use Rattle.hs_nodes.proofs.Counting.{taken_still, taken_once}
+use Rattle.hs_nodes.proofs.Counting.{taken_once}
 
 -- ---- players
 
@@ -63,7 +65,7 @@ one_moves W m node log log' client players before now stood others moved stand =
       count = length_set players client now ∙ stand.count;
       each =
           λ other player at.
-          elim (found_in players client other before now player stood at) [
+          elim (get_set_cases players client other before now player stood at) [
             | inl h ↦ subst (λ (p : Playing). PlayerStands W m node log' other p) h.1 (subst (λ (c : ℕ). PlayerStands W m node log' c now) h.0 moved)
             | inr h ↦ let same = others other h.0 in as_much W m node log log' other player same.0 same.1 same.2 (stand.each other player h.1)
           ];
@@ -75,7 +77,7 @@ pub sends_there : (W : PlainWorkload) (m : Machine) (run : NodeRun) (client : �
     → slice_get run.sends client ≡ Some (client_sends W m.journal run.node client)
 sends_there W m run client e low =
     let zero_on : 0 + client ≡ client = omega arith in
-    ap (λ (s : List ClientSends). slice_get s client) e ∙ range_get (client_sends W m.journal run.node) 0 W.settings.clients client low ∙ ap (λ c. Some (client_sends W m.journal run.node c)) zero_on
+    ap (λ (s : List ClientSends). slice_get s client) e ∙ map_range_from (client_sends W m.journal run.node) 0 W.settings.clients client low ∙ ap (λ c. Some (client_sends W m.journal run.node c)) zero_on
 
 event_there : {A : Type 0} (f : A → Event) (queue : Queue) (pick : ClientSends → List (Sent A)) (run : NodeRun) (client : ℕ) (sends : ClientSends) (item : Sent A) → slice_get run.sends client ≡ Some sends
     → slice_get (pick sends) (taken queue run.state.log) ≡ Some item

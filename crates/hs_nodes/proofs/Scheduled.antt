@@ -1,8 +1,10 @@
 -- Rounds and closing: what is left, what is bare, and how far the schedule is.
-use Rattle.std.proofs.Common.{◌≡◌, ◌⊎◌, inl, inr, ℕ, zero, suc, ◌+◌, ◌*◌, ◌/◌, ◌%◌, ◌<◌, ◌≤◌, Bool, true, false, ◌&&◌, List, [], ◌∷◌, length, take, drop, fold, refl, sym, ap, subst, ◌∙◌, Some, None, arith, slice_get}
-use Rattle.std.specs.List.{range_with_len, list_all}
+use Rattle.std.proofs.Common.{◌≡◌, ◌⊎◌, inl, inr, ℕ, zero, suc, ◌+◌, ◌*◌, ◌/◌, ◌%◌, ◌<◌, ◌≤◌, true, false, List, length, take, drop, fold, refl, sym, ap, subst, ◌∙◌, Some, arith, slice_get}
+use Rattle.std.specs.List.{range_with_len}
 use Rattle.std.proofs.Math.Nat.{div-add-mod, div-lt_iff_lt-mul, mod-lt, mul_comm}
-use Rattle.std.proofs.lemmas.Option.{same_Some}
+use Rattle.std.proofs.lemmas.Bool.{cases_lt}
+use Rattle.std.proofs.lemmas.Option.{slice_get_within}
+use Rattle.hs_lists.proofs.Tests.{list_all_fails, list_all_by_place}
 use Rattle.hs_base.specs.Listing.{Listing}
 use Rattle.hs_coord.specs.Kept.{Kept}
 use Rattle.hs_lawful.specs.Ends.{is_left_bare, is_bare, rounds_of}
@@ -23,7 +25,6 @@ use Rattle.hs_nodes.specs.All.{NodesAt, AllAt, TellsLeft, AllClosed}
 use Rattle.hs_nodes.specs.Left.{HasClients, IsNodeDone, TellsNodeLeft}
 use Rattle.hs_nodes.specs.Parts.{Parts}
 use Rattle.hs_nodes.specs.Passing.{StandsStill}
-use Rattle.hs_nodes.proofs.Lists.{found_within}
 use Rattle.hs_nodes.proofs.Others.{place_below, gone, clients_are, all_still}
 
 -- each place is that of a client of a node
@@ -71,31 +72,18 @@ module _ (W : PlainWorkload) (valid : IsValid W) (m : Machine) where
 
 -- ---- what is bare
 
-not_all : {X : Type 0} (p : X → Bool) (xs : List X) (i : ℕ) (x : X) → slice_get xs i ≡ Some x → p x ≡ false → list_all p xs ≡ false
-not_all p [] i x at off = let never : None ≡ Some x = at in absurd cc
-not_all p (y ∷ xs) zero x at off = ap (λ b. b && list_all p xs) (ap p (same_Some y x at) ∙ off)
-not_all p (y ∷ xs) (suc i) x at off = and_no (p y) (not_all p xs i x at off)
-  where
-    and_no : (b : Bool) → list_all p xs ≡ false → (b && list_all p xs) ≡ false
-    and_no true h = h
-    and_no false h = refl
-
-all_of_them : {X : Type 0} (p : X → Bool) (xs : List X) → ((i : ℕ) (x : X) → slice_get xs i ≡ Some x → p x ≡ true) → list_all p xs ≡ true
-all_of_them p [] each = refl
-all_of_them p (x ∷ xs) each = ap (λ b. b && list_all p xs) (each 0 x refl) ∙ all_of_them p xs (λ i y at. each (suc i) y at)
-
 pub bare_not : (W : PlainWorkload) (m : Machine) (n : ℕ) (run : NodeRun) → node_at W m.journal n ≡ Some run → is_left_bare (followed W m.journal) run ≡ false → is_bare (played W m.journal) ≡ false
-bare_not W m n run at off = not_all (is_left_bare (followed W m.journal)) (followed W m.journal).nodes n run at off
+bare_not W m n run at off = list_all_fails (is_left_bare (followed W m.journal)) (followed W m.journal).nodes n run at off
 
 pub bare_all : (W : PlainWorkload) (m : Machine) → ((n : ℕ) (run : NodeRun) → node_at W m.journal n ≡ Some run → is_left_bare (followed W m.journal) run ≡ true) → is_bare (played W m.journal) ≡ true
-bare_all W m each = all_of_them (is_left_bare (followed W m.journal)) (followed W m.journal).nodes each
+bare_all W m each = list_all_by_place (is_left_bare (followed W m.journal)) (followed W m.journal).nodes each
 
 -- a node that stands still
 pub still_at : (W : PlainWorkload) (m : Machine) (nodes : List Parts) → NodesAt W m nodes → (n : ℕ) (node : Parts) → slice_get nodes n ≡ Some node → StandsStill W m n node
 still_at W m nodes at n node there = record { valid = at.valid; reached = at.reached; at = at.nodes_are.each n node there }
 
 pub node_low : MachinesAreWhole → (W : PlainWorkload) → IsValid W → (m : Machine) → IsReached W m → (n : ℕ) (run : NodeRun) → node_at W m.journal n ≡ Some run → n < W.settings.nodes
-node_low whole W valid m r n run found = let count = (whole W valid m r).count in let low = found_within (followed W m.journal).nodes n run found in omega (arith, count, low)
+node_low whole W valid m r n run found = let count = (whole W valid m r).count in let low = slice_get_within (followed W m.journal).nodes n run found in omega (arith, count, low)
 
 pub same_or_less : {P : Type 0} (n k : ℕ) → n < k + 1 → (n < k → P) → (n ≡ k → P) → P
 same_or_less n zero low less same = same (omega (arith, low))
@@ -127,13 +115,8 @@ done_still W (suc n) m all place low = done_still W n m all place low
 
 -- ---- how far
 
-below_or : (a b : ℕ) → (a < b) ⊎ (b ≤ a)
-below_or a zero = inr (omega arith)
-below_or zero (suc b) = inl (omega arith)
-below_or (suc a) (suc b) = elim (below_or a b) as (λ _. (suc a < suc b) ⊎ (suc b ≤ suc a)) [ inl less ↦ inl (omega (arith, less)) | inr more ↦ inr (omega (arith, more)) ]
-
 pub round_left : (W : PlainWorkload) (n : ℕ) → HasRounds W n → TellsLeft W (rounds n W (machine_start W)) true → n < rounds_of W
-round_left W n h left = either (below_or n (rounds_of W))
+round_left W n h left = either (cases_lt n (rounds_of W))
   where
     either : (n < rounds_of W) ⊎ (rounds_of W ≤ n) → n < rounds_of W
     either (inl less) = less
@@ -152,7 +135,7 @@ pub closing_done : (W : PlainWorkload) (n : ℕ) → HasRounds W (rounds_of W) �
 closing_done W n h = done_still W n (behind_rounds W) (h.behind (omega arith))
 
 pub pass_left : (W : PlainWorkload) (n : ℕ) (closing : HasClosing W) → n ≤ closing.count → is_bare (played W (passed n W (behind_rounds W)).journal) ≡ false → n < closing.count
-pass_left W n closing few off = either (below_or n closing.count)
+pass_left W n closing few off = either (cases_lt n closing.count)
   where
     either : (n < closing.count) ⊎ (closing.count ≤ n) → n < closing.count
     either (inl less) = less
@@ -166,7 +149,7 @@ pass_more W n nodes coordinator at = let e : suc n ≡ n + 1 = omega arith in su
 
 pub closed_at : (W : PlainWorkload) (n : ℕ) (closing : HasClosing W) (nodes : List Parts) (coordinator : Kept) → HasRounds W (rounds_of W) → n ≤ closing.count → is_bare (played W (passed n W (behind_rounds W)).journal) ≡ true
     → AllAt W (passed n W (behind_rounds W)) nodes coordinator → AllClosed W nodes coordinator
-closed_at W n closing nodes coordinator h few bare at = either (below_or n closing.count)
+closed_at W n closing nodes coordinator h few bare at = either (cases_lt n closing.count)
   where
     either : (n < closing.count) ⊎ (closing.count ≤ n) → AllClosed W nodes coordinator
     either (inl less) = let never : true ≡ false = sym bare ∙ closing.waits n less in absurd cc

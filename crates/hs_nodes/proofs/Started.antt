@@ -1,5 +1,6 @@
 -- All nodes where nothing was done, and their coordinator.
 use Rattle.std.proofs.Common.{◌≡◌, inl, inr, ℕ, zero, suc, ◌+◌, List, [], ◌∷◌, ◌++◌, length, Some, None, Result, Ok, Err, IfOk, sym, ap, subst, ◌∙◌, arith, slice_get, length-append}
+use Rattle.hs_lists.proofs.Places.{get_push_cases}
 use Rattle.hs_coord.specs.Following.{Messages}
 use Rattle.hs_coord.specs.Kept.{Kept, HasTaken}
 use Rattle.hs_lawful.specs.Following.{Run}
@@ -11,7 +12,6 @@ use Rattle.hs_nodes.specs.All.{AllAt, NodesAt}
 use Rattle.hs_nodes.specs.Making.{AreMade}
 use Rattle.hs_nodes.specs.Parts.{Parts}
 use Rattle.hs_nodes.specs.Standing.{NodeIsAt}
-use Rattle.hs_nodes.proofs.Begun.{pushed_at}
 
 nothing_at : (W : PlainWorkload) (nodes : List Parts) (place : ℕ) (node : Parts) → nodes ≡ [] → slice_get nodes place ≡ Some node → NodeIsAt W (machine_start W) place node
 nothing_at W [] zero node none at = let nobody : None ≡ Some node = at in absurd cc
@@ -27,7 +27,7 @@ one_more_made W count nodes node made at =
       many = let all = length-append nodes (node ∷ []) in let many = made.many in omega (arith, all, many);
       each =
           λ other n stood.
-          elim (pushed_at nodes node n other stood) [
+          elim (get_push_cases nodes node n other stood) [
             | inl h ↦ made.each other n h
             | inr h ↦
                 let same : count ≡ other = sym made.many ∙ h.0 in

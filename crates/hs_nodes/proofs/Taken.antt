@@ -1,13 +1,15 @@
 -- The agent takes an item that was taken out for it: the node's run performed the step.
-use Rattle.std.proofs.Common.{◌≡◌, ℕ, ◌+◌, ◌<◌, ◌^◌, List, [], ◌∷◌, ◌++◌, map, Option, Some, None, refl, sym, ap, subst, ◌∙◌, option_map, append_assoc, count_by}
+use Rattle.std.proofs.Common.{◌≡◌, ℕ, ◌+◌, ◌<◌, ◌^◌, List, [], ◌∷◌, ◌++◌, map, Option, Some, None, sym, ap, subst, ◌∙◌, option_map, append_assoc, count_by}
 use Rattle.std.proofs.lemmas.List.{map-append}
 use Rattle.std.specs.List.{AllByRecursion}
 use Rattle.std.specs.Option.{option_and_then, option_to_list}
+use Rattle.hs_lists.proofs.Alls.{all_each, all_append}
 use Rattle.hs_agent.specs.declared.input.Input.{Input}
 use Rattle.hs_agent.specs.declared.input.Input.TheVariants as inputs
 use Rattle.hs_agent.specs.Keeping.{Keeping}
 use Rattle.hs_agent.specs.Points.{sheet_in}
 use Rattle.hs_agent.specs.Runs.{Follows, IsTakable, Knows, after_input, buffers_in, input_of, point_of, told_in}
+use Rattle.hs_agent.proofs.Brought.{sheets_brought}
 use Rattle.hs_base.specs.declared.told.Told.{Told}
 use Rattle.hs_coord.specs.Following.{Messages}
 use Rattle.hs_journal.specs.declared.journal.Step.{Step}
@@ -16,7 +18,7 @@ use Rattle.hs_lockstep.specs.Conditions.{MayTake, MachinesFit}
 use Rattle.hs_lockstep.specs.Lockstep.{Machine}
 use Rattle.hs_lockstep.specs.Parts.{heard_in}
 use Rattle.hs_lockstep.specs.Performing.{after_steps, StepByStep}
-use Rattle.hs_model.specs.Laws.{EventsGoOn, EventsAddThis, StepsSayWhatTheyTell, brought_by, sheets_of}
+use Rattle.hs_model.specs.Laws.{EventsGoOn, EventsAddThis, StepsSayWhatTheyTell, sheets_of}
 use Rattle.hs_model.specs.State.{AgentState}
 use Rattle.hs_model.specs.Stepping.{Event, Took, after, after_event, told_by}
 use Rattle.hs_records.specs.Plain.{PlainSettings, PlainWorkload}
@@ -29,14 +31,6 @@ use Rattle.hs_nodes.specs.declared.queue.Queue.{Queue}
 use Rattle.hs_nodes.specs.Standing.{Remain, PlayersStand, AgentStands, IsLent, run_of}
 
 -- ---- lists
-
-pub all_mapped : {A : Type 0} (P Q : A → Type 0) (xs : List A) → ((x : A) → P x → Q x) → AllByRecursion P xs → AllByRecursion Q xs
-all_mapped P Q [] each all = tt
-all_mapped P Q (x ∷ xs) each all = (each x all.0, all_mapped P Q xs each all.1)
-
-pub all_more : {A : Type 0} (P : A → Type 0) (xs ys : List A) → AllByRecursion P xs → AllByRecursion P ys → AllByRecursion P (xs ++ ys)
-all_more P [] ys xs_all all = all
-all_more P (x ∷ xs) ys xs_all all = (xs_all.0, all_more P xs ys xs_all.1 all)
 
 -- what remains when the whole has more behind it
 pub more_remain : {A : Type 0} (gone : ℕ) (all rest more : List A) → Remain gone all rest → Remain gone (all ++ more) (rest ++ more)
@@ -52,14 +46,6 @@ one_more by_steps settings heard steps step start run event came ready =
     ∙ ap (λ (o : Option Event). option_and_then (after_steps settings heard []) (option_map (perform settings [] run) o)) ready
 
 -- ---- inputs
-
--- the pages that an input brings
-brought : {g : _} (input : Input (Unit {0}) g) → map sheet_in (buffers_in input) ≡ brought_by (Took (input_of input))
-brought (inputs.Chunk client held) = refl
-brought (inputs.Crumb client crumb) = refl
-brought (inputs.Trigger client trigger) = refl
-brought (inputs.Ask ask) = refl
-brought inputs.Turn = refl
 
 -- the chunk that an input brings, in its buffer
 brings_lent : {g : _} (settings : PlainSettings) (run : NodeRun) (input : Input (Unit {0}) g) → FitsChunk settings run input → AllByRecursion (IsLent settings run) (buffers_in input)
@@ -112,11 +98,11 @@ module _ (W : PlainWorkload) (m : Machine) (n : ℕ) (run : NodeRun) (step : Ste
             follows = follows;
             comes = next_comes;
             lent =
-                all_mapped (IsLent W.settings run) (IsLent W.settings next) (stood.buffers ++ buffers_in input) (λ buffer l. record { drawn = l.drawn; size = l.size })
-                (all_more (IsLent W.settings run) stood.buffers (buffers_in input) stood.lent (brings_lent W.settings run input ready.chunk));
+                all_each (IsLent W.settings run) (IsLent W.settings next) (stood.buffers ++ buffers_in input) (λ buffer l. record { drawn = l.drawn; size = l.size })
+                (all_append (IsLent W.settings run) stood.buffers (buffers_in input) stood.lent (brings_lent W.settings run input ready.chunk));
             sheets =
                 map-append sheet_in stood.buffers (buffers_in input) ∙ ap (λ (l : List Sheet). l ++ map sheet_in (buffers_in input)) stood.sheets
-                ∙ ap (λ (l : List Sheet). sheets_of run.state.taken ++ l) (brought input) ∙ sym ((adds W.settings run.node run.state).chunks event);
+                ∙ ap (λ (l : List Sheet). sheets_of run.state.taken ++ l) (sheets_brought input) ∙ sym ((adds W.settings run.node run.state).chunks event);
           }
 
       told_is : told ≡ told_by W.settings run.node run.state (input_of input)

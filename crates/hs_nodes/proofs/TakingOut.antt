@@ -1,6 +1,8 @@
 -- What each call that takes an item out of a queue leads to.
 use Rattle.std.proofs.Common.{◌≡◌, ℕ, ◌<◌, false, List, [], ◌∷◌, ◌++◌, length, Option, Some, None, refl, sym, ap, subst, ◌∙◌, arith, option_map, append_assoc, append-nil, length-append}
 use Rattle.std.specs.Prelude.{slice_get, IsSome}
+use Rattle.std.proofs.lemmas.Option.{slice_get_within}
+use Rattle.hs_lists.proofs.Places.{get_mid}
 use Rattle.hs_agent.specs.declared.input.Input.{Input}
 use Rattle.hs_agent.specs.declared.input.Input.TheVariants as inputs
 use Rattle.hs_base.specs.declared.told.Ask.{Ask}
@@ -21,13 +23,13 @@ use Rattle.hs_words.specs.declared.token.Held.{Held}
 use Rattle.hs_words.specs.Buffers.{buffer_of}
 use Rattle.hs_agent.specs.Points.{sheet_in}
 use Rattle.hs_lawful.specs.Pooled.{pool_history}
+use Rattle.hs_lawful.proofs.Logs.{taken_still}
 use Rattle.hs_words.specs.Pages.{Sheet}
 use Rattle.hs_nodes.specs.declared.queue.Queue.TheVariants as queues
 use Rattle.hs_nodes.specs.Parts.{Parts}
 use Rattle.hs_nodes.specs.Passing.{IsAmid, IsReady, IsDrained, IsThere}
 use Rattle.hs_nodes.specs.Standing.{Remain, PlayersStand, Stands}
-use Rattle.hs_nodes.proofs.Lists.{at_seam, found_within}
-use Rattle.hs_nodes.proofs.Counting.{taken_still, taken_once}
+use Rattle.hs_nodes.proofs.Counting.{taken_once}
 use Rattle.hs_nodes.proofs.Readying.{none_moves, sheet_is, chunk_ready, crumb_ready, trigger_ready, chunk_lent, chunk_moved, crumb_moved, trigger_moved, players_set, players_same, chunks_else, crumbs_else, triggers_else}
 
 module _ (W : PlainWorkload) (m : Machine) (n : ℕ) (run : NodeRun) (old : Parts) (amid : IsAmid W m n run old) where
@@ -159,21 +161,21 @@ module _ (W : PlainWorkload) (m : Machine) (n : ℕ) (run : NodeRun) (old : Part
     chunk_there held ch =
         let at = ch.became W.settings (record { node = run.node; number = client }) (operations_at W place) (draws_at m.journal place) (done_at m place)
         (taken (Chunks client) run.state.log) (taken (Crumbs client) run.state.log) (taken (Triggers client) run.state.log) (amid.stands.players.each client ch.before ch.stood) in
-        record { ready = chunk_out held ch; within = found_within _ _ _ at.0.within }
+        record { ready = chunk_out held ch; within = slice_get_within _ _ _ at.0.within }
 
     pub crumb_there : {g : _} (crumb : Crumb) → ChangesAt client old.players new (λ before now. TakesCrumb before (Some crumb) now)
         → IsThere {g = g} W m n (queues.Crumbs client) run (inputs.Crumb client crumb) (record old { players = new })
     crumb_there crumb ch =
         let at = ch.became W.settings (record { node = run.node; number = client }) (operations_at W place) (draws_at m.journal place) (done_at m place)
         (taken (Chunks client) run.state.log) (taken (Crumbs client) run.state.log) (taken (Triggers client) run.state.log) (amid.stands.players.each client ch.before ch.stood) in
-        record { ready = crumb_out crumb ch; within = found_within _ _ _ at.0.within }
+        record { ready = crumb_out crumb ch; within = slice_get_within _ _ _ at.0.within }
 
     pub trigger_there : {g : _} (trigger : Trigger) → ChangesAt client old.players new (λ before now. TakesTrigger before (Some trigger) now)
         → IsThere {g = g} W m n (queues.Triggers client) run (inputs.Trigger client trigger) (record old { players = new })
     trigger_there trigger ch =
         let at = ch.became W.settings (record { node = run.node; number = client }) (operations_at W place) (draws_at m.journal place) (done_at m place)
         (taken (Chunks client) run.state.log) (taken (Crumbs client) run.state.log) (taken (Triggers client) run.state.log) (amid.stands.players.each client ch.before ch.stood) in
-        record { ready = trigger_out trigger ch; within = found_within _ _ _ at.0.within }
+        record { ready = trigger_out trigger ch; within = slice_get_within _ _ _ at.0.within }
 
   -- ---- asks
 
@@ -197,7 +199,7 @@ module _ (W : PlainWorkload) (m : Machine) (n : ℕ) (run : NodeRun) (old : Part
             });
         ready =
             ap (λ (l : List Ask). option_map (λ (a : Ask). Took (Asked a)) (slice_get l (taken Asks run.state.log))) whole
-            ∙ ap (λ k. option_map (λ (a : Ask). Took (Asked a)) (slice_get (asks.front ++ ask ∷ rest) k)) (sym asks.count) ∙ ap (option_map (λ (a : Ask). Took (Asked a))) (at_seam asks.front ask rest);
+            ∙ ap (λ k. option_map (λ (a : Ask). Took (Asked a)) (slice_get (asks.front ++ ask ∷ rest) k)) (sym asks.count) ∙ ap (option_map (λ (a : Ask). Took (Asked a))) (get_mid asks.front ask rest);
         noted = refl;
         chunk = tt;
       }

@@ -1,40 +1,25 @@
 -- Who is in a group's asked set stays in it, and who has an ask keeps it; and a node has each ask that it was sent.
-use Rattle.std.proofs.Common.{◌≡◌, ℕ, Bool, true, false, cond, not, ◌||◌, ◌&&◌, List, [], ◌∷◌, ◌++◌, Option, Some, None, find, unwrap_or, refl, sym, ap, subst, ◌∙◌, ⊎_elim, append-nil, append_assoc, true≢false, slice_get, nat_eq}
+use Rattle.std.proofs.Common.{◌≡◌, ℕ, true, false, not, ◌||◌, ◌&&◌, [], ◌∷◌, ◌++◌, Option, Some, None, find, unwrap_or, refl, sym, ap, subst, ◌∙◌, ⊎_elim, append-nil, append_assoc, true≢false, slice_get, nat_eq}
 use Rattle.std.specs.List.{AllByRecursion}
 use Rattle.std.specs.Option.{option_map_or}
-use Rattle.std.proofs.lemmas.Bool.{and_parts, and_from, or_cases, or_left, or_right, eqb-true, cond_both}
+use Rattle.std.proofs.lemmas.Bool.{and_parts, and_from, or_cases, or_left, or_right, cond_both}
+use Rattle.hs_lists.proofs.Alls.{all_at, all_append}
+use Rattle.hs_lists.proofs.Filters.{find_passes}
 use Rattle.hs_base.specs.declared.ids.GroupId.{GroupId}
 use Rattle.hs_base.specs.declared.told.Ask.{Ask}
 use Rattle.hs_base.specs.NodeSets.{has_node}
 use Rattle.hs_coord.specs.Following.{Message, Messages, same_group, is_of, has_crumb, has_ask, is_asked, is_first_sender, first_of, is_newly_asked}
 use Rattle.hs_coord.proofs.FollowingLemmas.{first_stays, has_crumb-push, no_message_no_crumb}
-use Rattle.hs_coord.proofs.KeptLemmas.{first_bit}
+use Rattle.hs_coord.proofs.KeptLemmas.{first_bit, same_group-true}
 use Rattle.hs_lawful.specs.Following.{ask_by, asks_behind, asks_to}
-use Rattle.hs_lawful.proofs.Extending.{all_get}
-use Rattle.hs_lawful.proofs.Steps.{some_same}
-use Rattle.hs_sent.proofs.Cutting.{all_both}
-
--- what is found passes the test
-found : {X : Type 0} (p : X → Bool) (xs : List X) (x : X) → find p xs ≡ Some x → p x ≡ true
-found p [] x h = let no : None ≡ Some x = h in absurd cc
-found p (y ∷ xs) x h = by (p y) refl h (found p xs x)
-  where
-    by : (b : Bool) → p y ≡ b → cond b (Some y) (find p xs) ≡ Some x → (find p xs ≡ Some x → p x ≡ true) → p x ≡ true
-    by true e h rest = ap p (sym (some_same y x h)) ∙ e
-    by false e h rest = rest h
-
-same_id : (a b : GroupId) → same_group a b ≡ true → a ≡ b
-same_id a b e =
-    let parts = and_parts (nat_eq a.node b.node) (nat_eq a.number b.number) e in
-    λ i. record { node = eqb-true a.node b.node parts.0 i; number = eqb-true a.number b.number parts.1 i }
 
 -- the first message of a message's group is of that group
-first_id : (before : Messages) (m : Message) → (first_of before m).told.group.id ≡ m.told.group.id
+pub first_id : (before : Messages) (m : Message) → (first_of before m).told.group.id ≡ m.told.group.id
 first_id before m = by (find (is_of m.told.group.id) before) refl
   where
     by : (o : Option Message) → find (is_of m.told.group.id) before ≡ o → (unwrap_or o m).told.group.id ≡ m.told.group.id
     by None e = refl
-    by (Some x) e = sym (same_id m.told.group.id x.told.group.id (found (is_of m.told.group.id) before x e))
+    by (Some x) e = sym (same_group-true m.told.group.id x.told.group.id (find_passes (is_of m.told.group.id) before x e))
 
 module _ (group : GroupId) where
   -- where nothing was heard of a group nobody is asked
@@ -88,7 +73,7 @@ module _ (group : GroupId) where
   newly_asked : (before later : Messages) (m : Message) (node : ℕ) → is_newly_asked before m node ≡ true → same_group group (first_of before m).told.group.id ≡ true → has_ask group (before ++ m ∷ later) node ≡ true
   newly_asked before later m node newly own =
       let ask = (and_parts (has_ask m.told.group.id (before ++ m ∷ []) node) (not (has_ask m.told.group.id before node)) newly).0 in
-      let same : m.told.group.id ≡ group = sym (same_id group (first_of before m).told.group.id own ∙ first_id before m) in
+      let same : m.told.group.id ≡ group = sym (same_group-true group (first_of before m).told.group.id own ∙ first_id before m) in
       subst (λ (messages : Messages). has_ask group messages node ≡ true) (append_assoc before (m ∷ []) later)
       (ask_remains (before ++ m ∷ []) later node (subst (λ (g : GroupId). has_ask g (before ++ m ∷ []) node ≡ true) same ask))
 
@@ -97,9 +82,9 @@ module _ (group : GroupId) where
   asks_had node before (m ∷ later) =
       let first = (first_of before m).told in
       let ask : Ask = record { group = first.group; laterals = first.laterals } in
-      all_both (IsHad (before ++ m ∷ later) node) (ask_by node before m) (asks_behind node (before ++ m ∷ []) later)
+      all_append (IsHad (before ++ m ∷ later) node) (ask_by node before m) (asks_behind node (before ++ m ∷ []) later)
       (cond_both (is_newly_asked before m node) (ask ∷ []) [] (AllByRecursion (IsHad (before ++ m ∷ later) node)) (λ newly. (newly_asked before later m node newly, tt)) (λ no. tt))
       (subst (λ (messages : Messages). AllByRecursion (IsHad messages node) (asks_behind node (before ++ m ∷ []) later)) (append_assoc before (m ∷ []) later) (asks_had node (before ++ m ∷ []) later))
 
   pub asked_for : (node : ℕ) (heard : Messages) (place : ℕ) (ask : Ask) → slice_get (asks_to node heard) place ≡ Some ask → IsHad heard node ask
-  asked_for node heard place ask there = all_get (IsHad heard node) (asks_to node heard) place ask (asks_had node [] heard) there
+  asked_for node heard place ask there = all_at (IsHad heard node) (asks_to node heard) place ask (asks_had node [] heard) there

@@ -4,10 +4,13 @@ use Rattle.std.proofs.Common.{◌≡◌, ◌⊎◌, inl, inr, ℕ, ◌<◌, Bool
 use Rattle.std.proofs.Math.Bool.{or-false}
 use Rattle.std.specs.List.{list_any, range_with_len}
 use Rattle.std.specs.Option.{option_and_then, option_map_or}
-use Rattle.std.proofs.lemmas.Bool.{and_parts, false_from_ne_true, or_cases, or_left, or_right}
+use Rattle.std.proofs.lemmas.Bool.{and_parts, false_from_ne_true, or_cases, or_left, or_right, cases_eq}
 use Rattle.std.proofs.lemmas.List.FromFn.{get_or-range_with_len, length-range_with_len}
 use Rattle.std.proofs.lemmas.List.Folds.{list_any-append}
-use Rattle.std.proofs.lemmas.Option.{slice_get-map, slice_get_within, get_or_from_slice_get}
+use Rattle.std.proofs.lemmas.Option.{slice_get-map, slice_get_within, get_or_from_slice_get, same_Some}
+use Rattle.hs_lists.proofs.Alls.{all_at}
+use Rattle.hs_lists.proofs.Places.{get_set, get_other}
+use Rattle.hs_lists.proofs.Options.{mapped_from}
 use Rattle.hs_base.specs.declared.ids.GroupId.{GroupId}
 use Rattle.hs_base.specs.declared.ids.NodeId.{NodeId}
 use Rattle.hs_base.specs.declared.told.Told.{Told}
@@ -20,9 +23,7 @@ use Rattle.hs_model.specs.Laws.{EventsAddFew, StepsSayWhatTheyTell}
 use Rattle.hs_records.specs.Plain.{PlainSettings, PlainWorkload}
 use Rattle.hs_lawful.specs.Following.{NodeRun, Run, is_from, node_start, run_start}
 use Rattle.hs_lawful.specs.Orders.{StepsNode, Performs, Leads, Stays, Goes}
-use Rattle.hs_lawful.proofs.Extending.{all_get}
-use Rattle.hs_lawful.proofs.Orders.{same_or, get_set, get_other}
-use Rattle.hs_lawful.proofs.Steps.{some_same, mapped_from, step_from, heard_from}
+use Rattle.hs_lawful.proofs.Steps.{step_from, heard_from}
 use Rattle.hs_orderly.specs.Speaking.{MessagesAreOrderly, AnswersComeFromAsked}
 use Rattle.hs_orderly.proofs.Asked.{nobody_asked, asked_stays, ask_stays}
 use Rattle.hs_orderly.proofs.Speaking.{MaySay, KeepsToIt, keeps_more, step_keeps}
@@ -141,13 +142,13 @@ module _ (group : GroupId) where
 
   module _ (says : StepsSayWhatTheyTell) (few : EventsAddFew) (settings : PlainSettings) where
     node_stands : (run next : Run) → Stands run → (s : StepsNode settings run next) → (place : ℕ) (node : NodeRun) → slice_get (set run.nodes s.place s.stepped) place ≡ Some node → IsAtPlace run.heard place node
-    node_stands run next st s place node stands = by (same_or s.place place)
+    node_stands run next st s place node stands = by (cases_eq s.place place)
       where
         by : (s.place ≡ place) ⊎ (s.place ≡ place → ⊥) → IsAtPlace run.heard place node
         by (inl e) =
             let step = step_from settings run.heard s.node s.stepped s.ready in
             let was = st.nodes s.place s.node s.stands in
-            let is : s.stepped ≡ node = some_same s.stepped node (sym (get_set run.nodes s.place s.node s.stepped s.stands) ∙ ap (slice_get (set run.nodes s.place s.stepped)) e ∙ stands) in
+            let is : s.stepped ≡ node = same_Some s.stepped node (sym (get_set run.nodes s.place s.node s.stepped s.stands) ∙ ap (slice_get (set run.nodes s.place s.stepped)) e ∙ stands) in
             subst (IsAtPlace run.heard place) is
             (record { number = ap (λ (r : NodeRun). r.node) step.is ∙ was.number ∙ e; keeps = step_keeps group settings run.heard s.node was.keeps says few s.stepped s.ready })
         by (inr ne) = st.nodes place node (sym (get_other run.nodes s.place place s.stepped ne) ∙ stands)
@@ -160,7 +161,7 @@ module _ (group : GroupId) where
         let said = said_from run.nodes run.heard s.node s.heard (slice_get run.nodes s.node.0) refl s.told in
         let at = st.nodes s.node.0 said.run said.stands in
         let may : MaySay group run.heard s.node.0 said.told =
-        subst (λ (node : ℕ). MaySay group run.heard node said.told) at.number (all_get (MaySay group run.heard said.run.node) said.run.state.said said.place said.told at.keeps.said said.there)
+        subst (λ (node : ℕ). MaySay group run.heard node said.told) at.number (all_at (MaySay group run.heard said.run.node) said.run.state.said said.place said.told at.keeps.said said.there)
         in
         let known : is_of group s.heard ≡ true → is_known_sender group run.heard s.heard ≡ true =
         subst (λ (m : Message). is_of group m ≡ true → is_known_sender group run.heard m ≡ true) (sym said.is) (known_if run.heard s.node said.told st.admitting may)

@@ -1,10 +1,11 @@
 -- An agent claims for a group, and speaks of it, only where it admitted the group's trigger or is in the group's asked set. And it
 -- tells an `Answer` of the group only where it has an ask for it.
-use Rattle.std.proofs.Common.{◌≡◌, ℕ, Bool, true, false, cond, not, ◌||◌, ◌&&◌, List, [], ◌∷◌, ◌++◌, Option, Some, None, find, option_map, refl, sym, subst, ◌∙◌, slice_get, eqb, true≢false}
-use Rattle.std.specs.List.{AllByRecursion, position_or_len}
+use Rattle.std.proofs.Common.{◌≡◌, ℕ, Bool, true, false, cond, not, ◌||◌, ◌&&◌, List, [], ◌∷◌, ◌++◌, Option, Some, None, option_map, refl, sym, subst, ◌∙◌, slice_get, eqb, true≢false}
+use Rattle.std.specs.List.{AllByRecursion}
 use Rattle.std.specs.Option.{option_and_then, option_to_list}
 use Rattle.std.proofs.lemmas.Bool.{cond_both}
-use Rattle.std.proofs.lemmas.List.Folds.{find_at}
+use Rattle.hs_lists.proofs.Alls.{all_find, all_append}
+use Rattle.hs_lists.proofs.Options.{mapped_from}
 use Rattle.hs_base.specs.declared.ids.GroupId.{GroupId}
 use Rattle.hs_base.specs.declared.told.Crumb.{Crumb}
 use Rattle.hs_base.specs.declared.told.Group.{Group}
@@ -21,14 +22,9 @@ use Rattle.hs_model.specs.State.{ClaimedTrace, claim_of}
 use Rattle.hs_model.specs.Stepping.{Input, Chunk, Crumbed, Triggered, Asked, Turn, Event, Took, Gave, admits, group_of, told_by}
 use Rattle.hs_records.specs.Plain.{PlainSettings}
 use Rattle.hs_sent.specs.Sending.{ClientSends}
-use Rattle.hs_sent.proofs.Cutting.{all_both}
 use Rattle.hs_lawful.specs.Following.{Chunks, Crumbs, Triggers, Asks, taken, asks_to, NodeRun, next_of, event_of, perform, step_node}
-use Rattle.hs_lawful.proofs.Extending.{all_get}
-use Rattle.hs_lawful.proofs.Steps.{mapped_from, step_from}
+use Rattle.hs_lawful.proofs.Steps.{step_from}
 use Rattle.hs_orderly.proofs.Asked.{IsHad, ask_asked, asked_stays, ask_stays, asked_for}
-
-all_found : {X : Type 0} (P : X → Type 0) (p : X → Bool) (xs : List X) (x : X) → AllByRecursion P xs → find p xs ≡ Some x → P x
-all_found P p xs x all h = all_get P xs (position_or_len p xs) x all (sym (find_at p xs) ∙ h)
 
 -- ---- of which groups a node may speak
 
@@ -137,7 +133,7 @@ module _ (group : GroupId) where
       crumb_told crumb None e = tt
       crumb_told crumb (Some claim) e =
           let may =
-          all_found (λ (claim : ClaimedTrace). may_speak heard run.node claim.group ≡ true) (λ (claim : ClaimedTrace). same_trace crumb.trace claim.trace) run.state.claims claim k.claims e
+          all_find (λ (claim : ClaimedTrace). may_speak heard run.node claim.group ≡ true) (λ (claim : ClaimedTrace). same_trace crumb.trace claim.trace) run.state.claims claim k.claims e
           in
           cond_both (has_crumb run.state.crumbs crumb) None (Some (late_of claim crumb)) Says (λ known. tt) (λ new. (no_answer (late_of claim crumb) may refl, tt))
 
@@ -161,7 +157,7 @@ module _ (group : GroupId) where
               claims = (few settings run.node run.state).claims (may_speak heard run.node) input k.claims (passed input had);
               said =
                   subst (AllByRecursion (MaySay heard run.node)) (sym ((says settings run.node run.state).inputs input))
-                  (all_both (MaySay heard run.node) run.state.said (option_to_list (told_by settings run.node run.state input)) k.said (told input had));
+                  (all_append (MaySay heard run.node) run.state.said (option_to_list (told_by settings run.node run.state input)) k.said (told input had));
             }
         event_keeps rest (Gave answer) had =
             record {

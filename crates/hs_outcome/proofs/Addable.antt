@@ -1,14 +1,16 @@
 -- The reported pages can be added to a collector: those of one client differ in number, those of one client and trace go on one behind
 -- another, and no page goes past the last record.
-use Rattle.std.proofs.Common.{◌≡◌, ◌⊎◌, inl, inr, ℕ, zero, suc, ◌+◌, ◌<◌, ◌≤◌, ◌^◌, true, false, eq-or-lt_of_le, List, [], ◌∷◌, ◌++◌, length, refl, sym, ap, subst, ◌∙◌, Some, arith, slice_get}
+use Rattle.std.proofs.Common.{◌≡◌, ◌⊎◌, inl, inr, ℕ, zero, suc, ◌+◌, ◌<◌, ◌≤◌, ◌^◌, false, eq-or-lt_of_le, List, [], ◌∷◌, ◌++◌, length, sym, ap, subst, ◌∙◌, Some, arith, slice_get}
 use Rattle.std.specs.List.{AllByRecursion, AllPairs, flat_map, range_with_len}
-use Rattle.std.proofs.lemmas.Bool.Decides.{nat_tests}
 use Rattle.std.proofs.lemmas.List.{length-map, length-append}
 use Rattle.std.proofs.lemmas.List.Elements.{All-from_recursion}
 use Rattle.std.proofs.lemmas.List.Kept.{AllPairs-cons}
+use Rattle.std.proofs.lemmas.Option.{same_Some}
+use Rattle.hs_lists.proofs.Alls.{all_by_place, all_each_both, all_each, all_filter}
 use Rattle.hs_base.specs.declared.ids.ClientId.{ClientId}
 use Rattle.hs_client.specs.Calls.{written, sheet_for}
 use Rattle.hs_collect.specs.Collected.{CanPrecede, CanBeAdded, GoesOn, KeepsRuns, end_of, is_by}
+use Rattle.hs_collect.proofs.Reordered.{own_run}
 use Rattle.hs_model.specs.Laws.{ClientsPagesRise}
 use Rattle.hs_records.specs.Laws.{PagesHoldThePieces}
 use Rattle.hs_records.specs.Pages.{PlainPage, first_record, pages_of}
@@ -29,19 +31,10 @@ use Rattle.hs_outcome.proofs.ClientBooks.{length_named}
 use Rattle.hs_outcome.proofs.ClientPages.{page_carries, ends_within, goes_on}
 use Rattle.hs_outcome.proofs.Entries.{PagesCarryTheRecords, ends_at}
 use Rattle.hs_outcome.proofs.GotPages.{place_below}
-use Rattle.hs_outcome.proofs.Lists.{some_same, all_filter, all_each}
 use Rattle.hs_outcome.proofs.Origins.{unfilter}
 use Rattle.hs_outcome.proofs.ReportedRuns.{Above, RunsRise, reported_rise, reported_paged}
 
 -- ---- lists
-
-each_at : {X : Type 0} (P : X → Type 0) (xs : List X) → ((i : ℕ) (x : X) → slice_get xs i ≡ Some x → P x) → AllByRecursion P xs
-each_at P [] each = tt
-each_at P (x ∷ xs) each = (each 0 x refl, each_at P xs (λ i. each (suc i)))
-
-pub both_each : {X : Type 0} (P Q R : X → Type 0) (xs : List X) → ((x : X) → P x → Q x → R x) → AllByRecursion P xs → AllByRecursion Q xs → AllByRecursion R xs
-both_each P Q R [] on p q = tt
-both_each P Q R (x ∷ xs) on p q = (on x p.0 q.0, both_each P Q R xs on p.1 q.1)
 
 part_length : {X : Type 0} (f : ℕ → List X) (start count place : ℕ) → start ≤ place → place < start + count → length (f place) ≤ length (flat_map f (range_with_len start count))
 part_length f start zero place low high = absurd (omega (arith, low, high))
@@ -56,12 +49,9 @@ part_length {X = X} f start (suc count) place low high = either (λ later. part_
 
 -- ---- what holds in one order of the runs holds in another
 
-own_run : (sheet : Sheet) → is_by sheet.header.client sheet.header.trace sheet ≡ true
-own_run sheet = grind (arith, nat_tests)
-
 pub along : (P : Sheet → Type 0) (sheets others : List Sheet) → KeepsRuns sheets others → AllByRecursion P sheets → AllByRecursion P others
 along P sheets others kept all =
-    each_at P others
+    all_by_place P others
     (λ i sheet h.
     let its = is_by sheet.header.client sheet.header.trace in
     unfilter P its others i sheet h (own_run sheet) (subst (AllByRecursion P) (kept sheet.header.client sheet.header.trace) (all_filter P its sheets all)))
@@ -83,7 +73,7 @@ module _ (carried : PagesCarryTheRecords) (held : PagesHoldThePieces) (W : Plain
       record {
         differ = λ client page.
             let there = page_there a.header.client b.header.client b.header.page q.page client q.there in
-            let same : p.page ≡ q.page = some_same p.page q.page (sym p.there ∙ ap (slice_get (pages_of W.settings.size (ops_of a.header.client))) page ∙ there) in
+            let same : p.page ≡ q.page = same_Some p.page q.page (sym p.there ∙ ap (slice_get (pages_of W.settings.size (ops_of a.header.client))) page ∙ there) in
             let trace : b.header.trace ≡ a.header.trace = ap (λ (s : Sheet). s.header.trace) q.is ∙ ap (λ (p : PlainPage). p.trace) (sym same) ∙ ap (λ (s : Sheet). s.header.trace) (sym p.is) in
             let less = above (sym client) trace in
             absurd (omega (arith, less, page));
@@ -99,7 +89,7 @@ module _ (carried : PagesCarryTheRecords) (held : PagesHoldThePieces) (W : Plain
   pairs [] rise all = λ i j d lt within. absurd (omega arith)
   pairs (sheet ∷ sheets) rise all =
       AllPairs-cons CanPrecede sheet sheets
-      (All-from_recursion (CanPrecede sheet) sheets (both_each (IsClientsPage W) (Above sheet) (CanPrecede sheet) sheets (λ later q above. pair sheet later all.0 q above) all.1 rise.0))
+      (All-from_recursion (CanPrecede sheet) sheets (all_each_both (IsClientsPage W) (Above sheet) (CanPrecede sheet) sheets (λ later q above. pair sheet later all.0 q above) all.1 rise.0))
       (pairs sheets rise.1 all.1)
 
   has_piece : (sheet : Sheet) → IsClientsPage W sheet → 0 < length sheet.pieces

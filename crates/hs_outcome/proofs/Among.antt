@@ -2,14 +2,10 @@
 use Rattle.std.proofs.Common.{◌≡◌, ℕ, zero, suc, ◌<◌, Bool, true, false, ◌||◌, cond, List, [], ◌∷◌, length, Contains, refl, sym, ap, ◌∙◌, Option, Some, None, arith, filter, filter_map, slice_get, find}
 use Rattle.std.specs.Prelude.{slice_index_or}
 use Rattle.std.specs.List.{AllByRecursion, cons_option, list_any}
+use Rattle.std.proofs.lemmas.Option.{same_Some, slice_get_within}
+use Rattle.hs_lists.proofs.Places.{IsIn}
+use Rattle.hs_lists.proofs.Alls.{all_at}
 use Rattle.hs_outcome.proofs.GotPages.{index_of}
-use Rattle.hs_outcome.proofs.Lists.{some_same, all_at}
-use Rattle.hs_outcome.proofs.Origins.{within}
-
--- an item stands among others
-pub record IsIn {X : Type 0} (xs : List X) (x : X) : Type 0 where
-  pub place : ℕ
-  pub there : slice_get xs place ≡ Some x
 
 module _ {X : Type 0} where
   pub is_first : (y x : X) (xs : List X) → y ≡ x → IsIn (y ∷ xs) x
@@ -23,14 +19,14 @@ module _ {X : Type 0} where
   at_head {P = P} y x xs h first later = go h.place h.there
     where
       go : (place : ℕ) → slice_get (y ∷ xs) place ≡ Some x → P
-      go zero e = first (some_same y x e)
+      go zero e = first (same_Some y x e)
       go (suc place) e = later (record { place = place; there = e })
 
   pub none_in : {P : Type 0} (x : X) → IsIn [] x → P
   none_in x h = let no : None ≡ Some x = h.there in absurd cc
 
   pub contained : (xs : List X) (x : X) → IsIn xs x → Contains xs x
-  contained xs x h = (h.place, within xs h.place x h.there, index_of xs h.place x x h.there)
+  contained xs x h = (h.place, slice_get_within xs h.place x h.there, index_of xs h.place x x h.there)
 
   get_index : (xs : List X) (k : ℕ) (d x : X) → k < length xs → slice_index_or xs k d ≡ x → slice_get xs k ≡ Some x
   get_index [] k d x low h = absurd (omega (arith, low))
@@ -93,7 +89,7 @@ module _ {X : Type 0} where
     from_find (y ∷ xs) x h = go (p y) refl h (from_find xs x)
       where
         go : (b : Bool) → p y ≡ b → cond b (Some y) (find p xs) ≡ Some x → (find p xs ≡ Some x → IsIn xs x × (p x ≡ true)) → IsIn (y ∷ xs) x × (p x ≡ true)
-        go true t h on = let same = some_same y x h in (is_first y x xs same, ap p (sym same) ∙ t)
+        go true t h on = let same = same_Some y x h in (is_first y x xs same, ap p (sym same) ∙ t)
         go false t h on = let rest = on h in (is_later y x xs rest.0, rest.1)
 
     pub find_first : (xs : List X) → find p xs ≡ slice_get (filter p xs) 0
@@ -113,7 +109,7 @@ module _ {X Y : Type 0} (f : X → Option Y) where
     where
       here : (o : Option Y) → o ≡ Some y → IsIn (cons_option o (filter_map f xs)) y
       here None e = let no : None ≡ Some y = e in absurd cc
-      here (Some z) e = is_first z y (filter_map f xs) (some_same z y e)
+      here (Some z) e = is_first z y (filter_map f xs) (same_Some z y e)
 
       there : (o : Option Y) → IsIn (filter_map f xs) y → IsIn (cons_option o (filter_map f xs)) y
       there None h = h

@@ -1,18 +1,11 @@
 -- Items by their stamps are the same items: where all stamps are below the bound, whatever is counted of them is counted as before.
 use Rattle.std.proofs.Common.{◌≡◌, ℕ, zero, suc, ◌+◌, Bool, true, false, ◌&&◌, cond, List, [], ◌∷◌, ◌++◌, refl, sym, ap, ◌∙◌, arith, map, count_by, append-nil, eqb, ltb, ltb-true}
 use Rattle.std.specs.List.{AllByRecursion, flat_map, range_with_len}
+use Rattle.hs_lists.proofs.Counts.{one_if, count_cons, count_append}
 use Rattle.hs_lawful.specs.Pooled.{by_stamp}
-use Rattle.hs_outcome.proofs.Stamps.{one, count_cons, count_both, below_case, with_stamp, range_split, flat_both}
+use Rattle.hs_outcome.proofs.Stamps.{below_case, with_stamp, range_split, flat_both}
 
-pub count_map : {X Y : Type 0} (p : Y → Bool) (f : X → Y) (xs : List X) → count_by p (map f xs) ≡ count_by (λ x. p (f x)) xs
-count_map p f [] = refl
-count_map p f (x ∷ xs) =
-    let a = count_cons p (f x) (map f xs) in
-    let b = count_cons (λ x. p (f x)) x xs in
-    let rest = count_map p f xs in
-    omega (arith, a, b, rest)
-
-sum_case : (a b c q : Bool) → one a ≡ one b + one c → one (a && q) ≡ one (b && q) + one (c && q)
+sum_case : (a b c q : Bool) → one_if a ≡ one_if b + one_if c → one_if (a && q) ≡ one_if (b && q) + one_if (c && q)
 sum_case true true true q h = absurd (omega (arith, h))
 sum_case true true false q h = omega arith
 sum_case true false true q h = omega arith
@@ -26,7 +19,7 @@ module _ {A : Type 0} (stamp : A → ℕ) (p : A → Bool) where
   abbrev below : ℕ → A → Bool
   below k x = ltb (stamp x) k && p x
 
-  kept_case : (x : A) (kept : List A) (b : Bool) → count_by p (cond b (x ∷ kept) kept) ≡ one (b && p x) + count_by p kept
+  kept_case : (x : A) (kept : List A) (b : Bool) → count_by p (cond b (x ∷ kept) kept) ≡ one_if (b && p x) + count_by p kept
   kept_case x kept true = count_cons p x kept
   kept_case x kept false = omega arith
 
@@ -41,7 +34,7 @@ module _ {A : Type 0} (stamp : A → ℕ) (p : A → Bool) where
       let rest = one_more k items in
       omega (arith, a, b, c, here, rest)
 
-  none_case : (x : A) (b : Bool) → ltb (stamp x) 0 ≡ b → one (b && p x) ≡ 0
+  none_case : (x : A) (b : Bool) → ltb (stamp x) 0 ≡ b → one_if (b && p x) ≡ 0
   none_case x true e = let low = ltb-true (stamp x) 0 e in absurd (omega (arith, low))
   none_case x false e = refl
 
@@ -63,7 +56,7 @@ module _ {A : Type 0} (stamp : A → ℕ) (p : A → Bool) where
       ap (λ n. flat_map (with_stamp stamp items) (range_with_len 0 n)) next ∙ ap (flat_map (with_stamp stamp items)) (range_split stamp 0 k 0)
       ∙ flat_both stamp (with_stamp stamp items) (range_with_len 0 k) ((0 + k) ∷ []) ∙ ap (λ rest. front ++ rest) (append-nil (with_stamp stamp items (0 + k)) ∙ ap (with_stamp stamp items) at)
       in
-      let both = count_both p front (with_stamp stamp items k) in
+      let both = count_append p front (with_stamp stamp items k) in
       let so_far = counted_to k items in
       let more = one_more k items in
       let whole = ap (λ n. count_by (below n) items) next in
@@ -75,7 +68,7 @@ module _ {A : Type 0} (stamp : A → ℕ) (p : A → Bool) where
   all_low k (x ∷ items) all =
       let a = count_cons (below k) x items in
       let b = count_cons p x items in
-      let here = ap (λ b. one (b && p x)) all.0 in
+      let here = ap (λ b. one_if (b && p x)) all.0 in
       let rest = all_low k items all.1 in
       omega (arith, a, b, here, rest)
 

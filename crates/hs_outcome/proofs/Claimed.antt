@@ -4,6 +4,8 @@ use Rattle.std.specs.List.{list_any}
 use Rattle.std.specs.Option.{option_map_or}
 use Rattle.std.proofs.lemmas.List.{take-append-drop}
 use Rattle.std.proofs.lemmas.Option.{slice_get-map}
+use Rattle.hs_lists.proofs.Alls.{all_each}
+use Rattle.hs_lists.proofs.Places.{get_front}
 use Rattle.hs_base.specs.declared.ids.TraceId.{TraceId}
 use Rattle.hs_base.specs.Ids.{same_trace}
 use Rattle.hs_model.specs.Laws.{EventsAddThis, EventsGoOn, ClaimsHoldForGood, NothingClaimedIsEvicted, brought_by, sheets_of}
@@ -16,8 +18,6 @@ use Rattle.hs_lawful.specs.Extending.{HasMore}
 use Rattle.hs_lawful.specs.Following.{followed}
 use Rattle.hs_lawful.specs.Laws.{ComesByEvents, AgentsComeByEvents}
 use Rattle.hs_outcome.specs.Causes.{KeepsItsClaims, NothingClaimedWasEvicted}
-use Rattle.hs_outcome.proofs.Lists.{all_each}
-use Rattle.hs_outcome.proofs.Sheets.{get_front}
 
 -- whether the page at a place is of the trace
 abbrev page_of_trace : TraceId → Option Sheet → Bool

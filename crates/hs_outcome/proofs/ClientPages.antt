@@ -1,8 +1,10 @@
 -- The pages of a client carry the pieces of its records, with their traces and moments. None goes past the last record, and a later
 -- page goes on behind an earlier one: with a later record, or with that page's last one, whose moment is the same.
-use Rattle.std.proofs.Common.{◌≡◌, ◌⊎◌, inl, inr, ℕ, zero, suc, ◌+◌, ◌<◌, ◌≤◌, false, List, [], ◌∷◌, ◌++◌, length, sym, ap, subst, ◌∙◌, Option, Some, None, arith, map, option_map, slice_get, eq-or-lt_of_le}
+use Rattle.std.proofs.Common.{◌≡◌, ◌⊎◌, inl, inr, ℕ, zero, suc, ◌+◌, ◌<◌, ◌≤◌, false, List, [], ◌∷◌, length, sym, ap, subst, ◌∙◌, Option, Some, None, arith, map, option_map, slice_get, eq-or-lt_of_le}
 use Rattle.std.specs.List.{AllByRecursion, last_or}
 use Rattle.std.proofs.lemmas.List.{length-map}
+use Rattle.std.proofs.lemmas.Option.{same_Some}
+use Rattle.hs_lists.proofs.Alls.{all_append, all_front, all_back, all_at}
 use Rattle.hs_base.specs.declared.ids.ClientId.{ClientId}
 use Rattle.hs_base.specs.declared.ids.TraceId.{TraceId}
 use Rattle.hs_base.specs.declared.limits.TheConstants.{MIN_SIZE}
@@ -14,7 +16,6 @@ use Rattle.hs_records.specs.Plain.{Operation}
 use Rattle.hs_records.specs.Records.{AreBracketed, Piece, Record, payload_pieces, records_of}
 use Rattle.hs_words.specs.Pages as words
 use Rattle.hs_outcome.proofs.Entries.{PagesCarryTheRecords, piece_traced, follow_first}
-use Rattle.hs_outcome.proofs.Lists.{some_same, all_at}
 
 -- ---- where pages end
 
@@ -37,13 +38,13 @@ module _ (traces : Traces) where
   page_ends : (next : ℕ) (trace : TraceId) (pages : List PlainPage) (i : ℕ) (page : PlainPage) → AllFollow next trace pages → AllByRecursion (CarriesRecords traces) pages → slice_get pages i ≡ Some page
       → end_of page ≤ end_from next pages
   page_ends next trace [] i page follow each h = let no : None ≡ Some page = h in absurd cc
-  page_ends next trace (p ∷ pages) zero page follow each h = subst (λ (q : PlainPage). end_of q ≤ end_from (end_of p) pages) (some_same p page h) (ends_rise (end_of p) p.trace pages follow.1 each.1)
+  page_ends next trace (p ∷ pages) zero page follow each h = subst (λ (q : PlainPage). end_of q ≤ end_from (end_of p) pages) (same_Some p page h) (ends_rise (end_of p) p.trace pages follow.1 each.1)
   page_ends next trace (p ∷ pages) (suc i) page follow each h = page_ends (end_of p) p.trace pages i page follow.1 each.1 h
 
   behind_next : (next : ℕ) (trace : TraceId) (pages : List PlainPage) (i : ℕ) (page : PlainPage) → AllFollow next trace pages → AllByRecursion (CarriesRecords traces) pages → slice_get pages i ≡ Some page
       → next ≤ first_record page + 1
   behind_next next trace [] i page follow each h = let no : None ≡ Some page = h in absurd cc
-  behind_next next trace (p ∷ pages) zero page follow each h = subst (λ (q : PlainPage). next ≤ first_record q + 1) (some_same p page h) (near p next trace follow.0).1
+  behind_next next trace (p ∷ pages) zero page follow each h = subst (λ (q : PlainPage). next ≤ first_record q + 1) (same_Some p page h) (near p next trace follow.0).1
   behind_next next trace (p ∷ pages) (suc i) page follow each h =
       let below = next_below p next trace follow.0 each.0 in let rest = behind_next (end_of p) p.trace pages i page follow.1 each.1 h in omega (arith, below, rest)
 
@@ -52,7 +53,7 @@ module _ (traces : Traces) where
   later_behind next trace [] i j a b follow each less h g = let no : None ≡ Some a = h in absurd cc
   later_behind next trace (p ∷ pages) i zero a b follow each less h g = absurd (omega (arith, less))
   later_behind next trace (p ∷ pages) zero (suc j) a b follow each less h g =
-      subst (λ (q : PlainPage). end_of q ≤ first_record b + 1) (some_same p a h) (behind_next (end_of p) p.trace pages j b follow.1 each.1 g)
+      subst (λ (q : PlainPage). end_of q ≤ first_record b + 1) (same_Some p a h) (behind_next (end_of p) p.trace pages j b follow.1 each.1 g)
   later_behind next trace (p ∷ pages) (suc i) (suc j) a b follow each less h g = later_behind (end_of p) p.trace pages i j a b follow.1 each.1 (omega (arith, less)) h g
 
 -- ---- moments
@@ -67,19 +68,6 @@ moments_of records number = option_map (λ (r : Record). r.moment) (slice_get re
 abbrev IsTimed : Moments → Piece → Type 0
 IsTimed moments piece = moments piece.number ≡ Some piece.moment
 
-module _ {X : Type 0} (P : X → Type 0) where
-  pub all_both : (xs ys : List X) → AllByRecursion P xs → AllByRecursion P ys → AllByRecursion P (xs ++ ys)
-  all_both [] ys a b = b
-  all_both (x ∷ xs) ys a b = (a.0, all_both xs ys a.1 b)
-
-  pub all_front : (xs ys : List X) → AllByRecursion P (xs ++ ys) → AllByRecursion P xs
-  all_front [] ys all = tt
-  all_front (x ∷ xs) ys all = (all.0, all_front xs ys all.1)
-
-  pub all_back : (xs ys : List X) → AllByRecursion P (xs ++ ys) → AllByRecursion P ys
-  all_back [] ys all = all
-  all_back (x ∷ xs) ys all = all_back xs ys all.1
-
 module _ (moments : Moments) where
   of_record : (number moment : ℕ) (parts : List (List ℕ)) → moments number ≡ Some moment → AllByRecursion (IsTimed moments) (map (λ bytes. record { number = number; moment = moment; payload = bytes }) parts)
   of_record number moment [] is = tt
@@ -89,7 +77,7 @@ module _ (moments : Moments) where
   of_records size start [] agree = tt
   of_records size start (r ∷ records) agree =
       let here : start ≡ start + 0 = omega arith in
-      all_both (IsTimed moments) (map (λ bytes. record { number = start; moment = r.moment; payload = bytes }) (payload_pieces size r.payload)) (pieces_of_records size (start + 1) records)
+      all_append (IsTimed moments) (map (λ bytes. record { number = start; moment = r.moment; payload = bytes }) (payload_pieces size r.payload)) (pieces_of_records size (start + 1) records)
       (of_record start r.moment (payload_pieces size r.payload) (ap moments here ∙ agree 0))
       (of_records size (start + 1) records (λ i. let more : start + 1 + i ≡ start + suc i = omega arith in ap moments more ∙ agree (suc i)))
 
@@ -114,7 +102,7 @@ module _ (moments : Moments) where
 -- what holds of all pieces on pages holds of those of each page
 by_page : (P : Piece → Type 0) (pages : List PlainPage) (i : ℕ) (page : PlainPage) → AllByRecursion P (pieces_on pages) → slice_get pages i ≡ Some page → AllByRecursion P page.pieces
 by_page P [] i page all h = let no : None ≡ Some page = h in absurd cc
-by_page P (p ∷ pages) zero page all h = subst (λ (q : PlainPage). AllByRecursion P q.pieces) (some_same p page h) (all_front P p.pieces (pieces_on pages) all)
+by_page P (p ∷ pages) zero page all h = subst (λ (q : PlainPage). AllByRecursion P q.pieces) (same_Some p page h) (all_front P p.pieces (pieces_on pages) all)
 by_page P (p ∷ pages) (suc i) page all h = by_page P pages i page (all_back P p.pieces (pieces_on pages) all) h
 
 -- ---- the pages of a client

@@ -2,13 +2,18 @@
 -- same records. Each that was reported has all its pieces, in order, so it is joined to the whole record of the workload.
 use Rattle.std.proofs.Common.{◌≡◌, ◌⊎◌, inl, inr, ℕ, zero, suc, ◌+◌, ◌<◌, ◌≤◌, ◌&&◌, Bool, true, false, cond, List, [], ◌∷◌, length, refl, sym, ap, subst, ◌∙◌, Option, Some, None, arith, map, filter, option_map, slice_get, eqb-true, eq-eqb, nat_eq, find}
 use Rattle.std.specs.List.{AllByRecursion, AllPairs, Any, flat_map, concat}
+use Rattle.std.proofs.lemmas.Bool.{and_parts, and_from}
 use Rattle.std.proofs.lemmas.List.{length-map}
 use Rattle.std.proofs.lemmas.List.Elements.{recursion_from_All}
+use Rattle.std.proofs.lemmas.Option.{same_Some}
+use Rattle.hs_lists.proofs.Alls.{all_each_both, all_filter, all_unmap}
+use Rattle.hs_lists.proofs.Places.{IsIn}
 use Rattle.hs_base.specs.declared.ids.ClientId.{ClientId}
 use Rattle.hs_base.specs.declared.ids.RecordId.{RecordId}
 use Rattle.hs_base.specs.declared.ids.TraceId.{TraceId}
 use Rattle.hs_client.specs.Calls.{written, sheet_for}
 use Rattle.hs_collect.specs.Collected.{Placed, Precedes, is_of as is_page_of, is_same, is_piece_of, pieces_from, page_pieces, pieces_of, IsWhole, AreWholes, is_by, KeepsRuns}
+use Rattle.hs_collect.proofs.Ids.{same_ids}
 use Rattle.hs_journal.specs.Views.{PlainJournal}
 use Rattle.hs_ledger.specs.declared.ledger.Entry.{Entry}
 use Rattle.hs_ledger.specs.Totals.{is_reported}
@@ -31,16 +36,15 @@ use Rattle.hs_outcome.specs.Origins.{HasItsClients, TakenPagesWereDrawn}
 use Rattle.hs_outcome.specs.Outcomes.{outcome_of}
 use Rattle.hs_outcome.specs.Records.{EndsItsTraces, EachRecordHasOneEntry, name_of, placed_ids, ComeInOrder}
 use Rattle.hs_outcome.specs.Reports.{whole_of, is_of, report_of}
-use Rattle.hs_outcome.proofs.Addable.{both_each}
-use Rattle.hs_outcome.proofs.Among.{IsIn, is_first, is_later, at_head, none_in, from_contained, of_all, in_filter, from_filter, from_any, to_any, from_find, find_first, in_filter_map, from_filter_map}
+use Rattle.hs_outcome.proofs.Among.{is_first, is_later, at_head, none_in, from_contained, of_all, in_filter, from_filter, from_any, to_any, from_find, find_first, in_filter_map, from_filter_map}
 use Rattle.hs_outcome.proofs.ClientBooks.{compare}
 use Rattle.hs_outcome.proofs.ClientPages.{trace_on}
 use Rattle.hs_outcome.proofs.Entries.{PagesCarryTheRecords, ends_at}
-use Rattle.hs_outcome.proofs.Lists.{and_parts, some_same, all_filter, filter_passes}
-use Rattle.hs_outcome.proofs.Origins.{in_parts, same_client, both_true}
+use Rattle.hs_outcome.proofs.Lists.{filter_passes}
+use Rattle.hs_outcome.proofs.Origins.{in_parts, same_client}
 use Rattle.hs_outcome.proofs.RecordPieces.{placed_as, sheets_from, own_pieces, by_page, by_run, outside_page, on_all_pages, joined_payload, Rise, IsPage, same_as_all}
 use Rattle.hs_outcome.proofs.ReportedRuns.{Above, RunsRise, reported_rise, reported_paged}
-use Rattle.hs_outcome.proofs.Shown.{IsKnown, all_known, all_mapped, same_trace, shows}
+use Rattle.hs_outcome.proofs.Shown.{IsKnown, all_known, same_trace, shows}
 
 -- ---- records in order
 
@@ -60,7 +64,7 @@ pairs_ordered (whole ∷ wholes) pairs = (
 
 ids_ordered : (wholes : List Placed) → ComeInOrder (placed_ids wholes) → Ordered wholes
 ids_ordered [] order = tt
-ids_ordered (whole ∷ wholes) order = (all_mapped (Precedes whole.id) (λ (p : Placed). p.id) wholes order.0, ids_ordered wholes order.1)
+ids_ordered (whole ∷ wholes) order = (all_unmap (Precedes whole.id) (λ (p : Placed). p.id) wholes order.0, ids_ordered wholes order.1)
 
 filter_ordered : (p : Placed → Bool) (wholes : List Placed) → Ordered wholes → Ordered (filter p wholes)
 filter_ordered p [] order = tt
@@ -106,17 +110,10 @@ same_records (x ∷ xs) (y ∷ ys) a b to from = ap (λ z. z ∷ xs) same ∙ ap
 
 -- ---- tests
 
-same_ids : (a b : RecordId) → is_same a b ≡ true → a ≡ b
-same_ids a b h =
-    let outer = and_parts (nat_eq a.client.node b.client.node && nat_eq a.client.number b.client.number) (nat_eq a.number b.number) h in
-    let inner = and_parts (nat_eq a.client.node b.client.node) (nat_eq a.client.number b.client.number) outer.0 in
-    let client = same_client a.client b.client (eqb-true a.client.node b.client.node inner.0) (eqb-true a.client.number b.client.number inner.1) in
-    ap (λ (c : ClientId). record { client = c; number = a.number }) client ∙ ap (λ n. record { client = b.client; number = n }) (eqb-true a.number b.number outer.1)
-
 ids_same : (a b : RecordId) → a ≡ b → is_same a b ≡ true
 ids_same a b same =
-    both_true (nat_eq a.client.node b.client.node && nat_eq a.client.number b.client.number) (nat_eq a.number b.number)
-    (both_true (nat_eq a.client.node b.client.node) (nat_eq a.client.number b.client.number) (eq-eqb a.client.node b.client.node (ap (λ (i : RecordId). i.client.node) same))
+    and_from (nat_eq a.client.node b.client.node && nat_eq a.client.number b.client.number) (nat_eq a.number b.number)
+    (and_from (nat_eq a.client.node b.client.node) (nat_eq a.client.number b.client.number) (eq-eqb a.client.node b.client.node (ap (λ (i : RecordId). i.client.node) same))
     (eq-eqb a.client.number b.client.number (ap (λ (i : RecordId). i.client.number) same)))
     (eq-eqb a.number b.number (ap (λ (i : RecordId). i.number) same))
 
@@ -130,8 +127,8 @@ of_run client trace sheet h =
 
 is_of_run : (client : ClientId) (trace : TraceId) (sheet : Sheet) → sheet.header.client ≡ client → sheet.header.trace ≡ trace → is_by client trace sheet ≡ true
 is_of_run client trace sheet own its =
-    both_true (nat_eq sheet.header.client.node client.node && nat_eq sheet.header.client.number client.number) (nat_eq sheet.header.trace.0 trace.0)
-    (both_true (nat_eq sheet.header.client.node client.node) (nat_eq sheet.header.client.number client.number) (eq-eqb sheet.header.client.node client.node (ap (λ (c : ClientId). c.node) own))
+    and_from (nat_eq sheet.header.client.node client.node && nat_eq sheet.header.client.number client.number) (nat_eq sheet.header.trace.0 trace.0)
+    (and_from (nat_eq sheet.header.client.node client.node) (nat_eq sheet.header.client.number client.number) (eq-eqb sheet.header.client.node client.node (ap (λ (c : ClientId). c.node) own))
     (eq-eqb sheet.header.client.number client.number (ap (λ (c : ClientId). c.number) own)))
     (eq-eqb sheet.header.trace.0 trace.0 (ap (λ (t : TraceId). t.0) its))
 
@@ -145,7 +142,7 @@ run_rises client trace (sheet ∷ sheets) rise = go (is_by client trace sheet) r
     above : its sheet ≡ true → AllByRecursion (λ (later : Sheet). sheet.header.page < later.header.page) (filter (is_by client trace) sheets)
     above own =
         let here = of_run client trace sheet own in
-        both_each (Above sheet) (λ (later : Sheet). is_by client trace later ≡ true) (λ (later : Sheet). sheet.header.page < later.header.page) (filter (is_by client trace) sheets)
+        all_each_both (Above sheet) (λ (later : Sheet). is_by client trace later ≡ true) (λ (later : Sheet). sheet.header.page < later.header.page) (filter (is_by client trace) sheets)
         (λ later less passes. let there = of_run client trace later passes in less (there.0 ∙ sym here.0) (there.1 ∙ sym here.1)) (all_filter (Above sheet) (is_by client trace) sheets rise.0) (filter_passes (is_by client trace) sheets)
 
     go : (b : Bool) → its sheet ≡ b → Rise (filter (is_by client trace) sheets) → Rise (cond b (sheet ∷ filter (is_by client trace) sheets) (filter (is_by client trace) sheets))
@@ -167,7 +164,7 @@ piece_at client first (piece ∷ pieces) zero placed h =
     record {
       at = 0;
       low = omega arith;
-      is = ap (λ (p : Placed). p.id) (sym (some_same (record { id = record { client = client; number = first }; moment = piece.moment; payload = piece.payload }) placed h)) ∙ ap (λ n. record { client = client; number = n }) zeroth;
+      is = ap (λ (p : Placed). p.id) (sym (same_Some (record { id = record { client = client; number = first }; moment = piece.moment; payload = piece.payload }) placed h)) ∙ ap (λ n. record { client = client; number = n }) zeroth;
     }
 piece_at client first (piece ∷ pieces) (suc k) placed h =
     let rest = piece_at client (first + 1) pieces k placed h in
@@ -218,7 +215,7 @@ module _ (plays : FollowingPlaysOut) (runs : RunsAreOfTheJournal) (timed : Timed
     paged = reported_paged plays runs timed drawn W J ends
 
     known : AllByRecursion (λ (e : Entry). IsKnown W (name_of e)) entries
-    known = all_mapped (IsKnown W) name_of entries (subst (AllByRecursion (IsKnown W)) (sym (named W J ends lawful.L1)) (all_known W))
+    known = all_unmap (IsKnown W) name_of entries (subst (AllByRecursion (IsKnown W)) (sym (named W J ends lawful.L1)) (all_known W))
 
     -- a reported record with its trace
     module _ (entry : Entry) (among : IsIn entries entry) (shown : is_reported entry.fate ≡ true) where
@@ -254,7 +251,7 @@ module _ (plays : FollowingPlaysOut) (runs : RunsAreOfTheJournal) (timed : Timed
 
       trace_is : (at : ℕ) (page : PlainPage) → slice_get pages at ≡ Some page → first_record page ≤ n → n < end_of page → page.trace ≡ entry.trace
       trace_is at page h low high =
-          some_same page.trace entry.trace
+          same_Some page.trace entry.trace
           (sym (trace_on carried size (ops_of client) ends.size (brackets client) at n page h low high) ∙ ap (option_map (λ (r : Record). r.trace)) there ∙ ap Some known_record.traced)
 
       own_page : (sheet : Sheet) → IsClientsPage W sheet → is_by client entry.trace sheet ≡ true → IsPage client 0 pages sheet
@@ -270,7 +267,7 @@ module _ (plays : FollowingPlaysOut) (runs : RunsAreOfTheJournal) (timed : Timed
 
       own_pages : AllByRecursion (IsPage client 0 pages) run
       own_pages =
-          both_each (IsClientsPage W) (λ (sheet : Sheet). is_by client entry.trace sheet ≡ true) (IsPage client 0 pages) run own_page (all_filter (IsClientsPage W) (is_by client entry.trace) reported paged)
+          all_each_both (IsClientsPage W) (λ (sheet : Sheet). is_by client entry.trace sheet ≡ true) (IsPage client 0 pages) run own_page (all_filter (IsClientsPage W) (is_by client entry.trace) reported paged)
           (filter_passes (is_by client entry.trace) reported)
 
       has_page : (at : ℕ) (page : PlainPage) → slice_get pages at ≡ Some page → (own_pieces entry.id (sheet_for client (0 + at) page) ≡ []) ⊎ IsIn run (sheet_for client (0 + at) page)
@@ -313,7 +310,7 @@ module _ (plays : FollowingPlaysOut) (runs : RunsAreOfTheJournal) (timed : Timed
           is.payload ∙ ap (flat_map (λ (piece : Placed). piece.payload)) own ∙ joined_payload client n r.moment (payload_pieces size r.payload) ∙ join size r.payload
           in
           let moment : w.moment ≡ r.moment =
-          some_same w.moment r.moment
+          same_Some w.moment r.moment
           (sym is.moment ∙ ap (option_map (λ (first : Placed). first.moment)) (find_first (is_piece_of w.id) pieces ∙ ap (λ ps. slice_get ps 0) own) ∙ first_moment (payload_pieces size r.payload) (counted_some r.payload))
           in
           ap (λ id. record { id = id; moment = w.moment; payload = w.payload }) same
@@ -361,11 +358,11 @@ module _ (plays : FollowingPlaysOut) (runs : RunsAreOfTheJournal) (timed : Timed
           let f = from_filter its entries entry e.1 in
           let parts = and_parts (is_of trace entry) (is_reported entry.fate) f.1 in
           let same : entry.trace ≡ trace = same_trace entry.trace trace parts.0 in
-          let is : whole entry f.0 parts.1 ≡ x = some_same (whole entry f.0 parts.1) x (sym (is_whole entry f.0 parts.1) ∙ e.2) in
+          let is : whole entry f.0 parts.1 ≡ x = same_Some (whole entry f.0 parts.1) x (sym (is_whole entry f.0 parts.1) ∙ e.2) in
           let here : IsIn wholes x = subst (IsIn wholes) is (is_joined entry f.0 parts.1 wholes (subst (λ (t : TraceId). AreWholes (pieces_of t reported) wholes) (sym same) are)) in
           in_filter (λ (w : Placed). was_reported entries w.id) wholes x here
           (to_any (λ (other : Entry). is_same other.id x.id && is_reported other.fate) entries entry f.0
-          (both_true (is_same entry.id x.id) (is_reported entry.fate) (ids_same entry.id x.id (ap (λ (w : Placed). w.id) is)) parts.1))
+          (and_from (is_same entry.id x.id) (is_reported entry.fate) (ids_same entry.id x.id (ap (λ (w : Placed). w.id) is)) parts.1))
 
       -- a record of which the trace has a piece is of the trace
       traced : (entry : Entry) → IsIn entries entry → is_reported entry.fate ≡ true → (x : Placed) → IsWhole (pieces_of trace reported) x → entry.id ≡ x.id → entry.trace ≡ trace
@@ -405,7 +402,7 @@ module _ (plays : FollowingPlaysOut) (runs : RunsAreOfTheJournal) (timed : Timed
           let same = traced entry e.1 parts.1 x is id in
           let joined = joined_is entry e.1 parts.1 x (subst (λ (t : TraceId). IsWhole (pieces_of t reported) x) (sym same) is) (sym id) in
           in_filter_map (whole_of W) (filter its entries) entry x
-          (in_filter its entries entry e.1 (both_true (is_of trace entry) (is_reported entry.fate) (eq-eqb entry.trace.0 trace.0 (ap (λ (t : TraceId). t.0) same)) parts.1))
+          (in_filter its entries entry e.1 (and_from (is_of trace entry) (is_reported entry.fate) (eq-eqb entry.trace.0 trace.0 (ap (λ (t : TraceId). t.0) same)) parts.1))
           (is_whole entry e.1 parts.1 ∙ ap Some (sym joined))
 
       both_same : left ≡ records

@@ -1,8 +1,11 @@
 -- Each chunk that an agent took is of a page of its node's clients, at the page's place, and the page has a buffer.
-use Rattle.std.proofs.Common.{◌≡◌, ℕ, zero, suc, ◌+◌, Bool, true, false, cond, List, [], ◌∷◌, refl, sym, ap, subst, ◌∙◌, Option, Some, None, arith, map, filter, option_map, slice_get, take, eq-eqb}
+use Rattle.std.proofs.Common.{◌≡◌, ℕ, zero, suc, ◌+◌, Bool, true, false, cond, List, [], ◌∷◌, refl, sym, ap, subst, ◌∙◌, Option, Some, None, arith, map, filter, option_map, slice_get, eq-eqb}
 use Rattle.std.specs.List.{AllByRecursion, range_with_len}
 use Rattle.std.specs.Option.{option_and_then, option_map_or}
-use Rattle.std.proofs.lemmas.Option.{slice_get-map}
+use Rattle.std.proofs.lemmas.Option.{slice_get-map, same_Some}
+use Rattle.hs_lists.proofs.Ranges.{range_found}
+use Rattle.hs_lists.proofs.Options.{option_map_parts}
+use Rattle.hs_lists.proofs.Alls.{all_take}
 use Rattle.hs_base.specs.declared.ids.ClientId.{ClientId}
 use Rattle.hs_journal.specs.declared.journal.Draw.{Draw}
 use Rattle.hs_journal.specs.Views.{PlainJournal}
@@ -18,7 +21,6 @@ use Rattle.hs_lawful.specs.Following.{Chunks, taken, NodeRun, followed}
 use Rattle.hs_lawful.specs.Orders.{FollowingPlaysOut}
 use Rattle.hs_lawful.specs.Taking.{is_by, sheets_sent, TakesInOrder, ChunksAreTakenInOrder}
 use Rattle.hs_outcome.specs.Origins.{IsOfDrawnPage, TakenPagesWereDrawn}
-use Rattle.hs_outcome.proofs.Lists.{some_same}
 
 -- ---- what is sent is of a drawn page
 
@@ -52,7 +54,7 @@ sent_case client k first drawn zero item true got number own on h =
       number = omega (arith, number);
       client_is = own;
       got = got;
-      is = ap (λ (s : Sent Sheet). s.item) (some_same (item_of first) item h);
+      is = ap (λ (s : Sent Sheet). s.item) (same_Some (item_of first) item h);
     }
 sent_case client k first drawn (suc n) item true got number own on h = later_place client k first drawn item.item (on n h)
 sent_case client k first drawn n item false got number own on h = later_place client k first drawn item.item (on n h)
@@ -65,28 +67,12 @@ sent_at client k (page ∷ timed) (draw ∷ draws) n item h =
     sent_case client k (record { client = client; number = k; page = page.page; started = page.started; sent = page.sent; draw = draw }) (drawn_from client (k + 1) timed draws) n item (has_buffer draw) refl refl refl
     (λ n h. sent_at client (k + 1) timed draws n item h) h
 
--- ---- a client of a node
-
-in_range : (start count i n : ℕ) → slice_get (range_with_len start count) i ≡ Some n → n ≡ start + i
-in_range start zero i n h = let no : None ≡ Some n = h in absurd cc
-in_range start (suc count) zero n h = let same = some_same start n h in omega (arith, same)
-in_range start (suc count) (suc i) n h = let rest = in_range (start + 1) count i n h in omega (arith, rest)
-
-unmapped : {X Y : Type 0} (f : X → Y) (o : Option X) (y : Y) → option_map f o ≡ Some y → (x : X) × (o ≡ Some x) × (y ≡ f x)
-unmapped f None y h = let no : None ≡ Some y = h in absurd cc
-unmapped f (Some x) y h = (x, refl, sym (some_same (f x) y h))
-
 -- ---- what holds of all pages
 
 module _ (P : Sheet → Type 0) where
   each_item : (items : List (Sent Sheet)) → ((n : ℕ) (item : Sent Sheet) → slice_get items n ≡ Some item → P item.item) → AllByRecursion P (map (λ (item : Sent Sheet). item.item) items)
   each_item [] on = tt
   each_item (item ∷ items) on = (on 0 item refl, each_item items (λ n item h. on (suc n) item h))
-
-  all_take : (n : ℕ) (sheets : List Sheet) → AllByRecursion P sheets → AllByRecursion P (take n sheets)
-  all_take zero sheets all = tt
-  all_take (suc n) [] all = tt
-  all_take (suc n) (sheet ∷ sheets) all = (all.0, all_take n sheets all.1)
 
   first_case : (sheet : Sheet) (kept : List Sheet) (b : Bool) → b ≡ true → AllByRecursion P (cond b (sheet ∷ kept) kept) → P sheet
   first_case sheet kept true e all = all.0
@@ -112,8 +98,8 @@ module _ (W : PlainWorkload) (J : PlainJournal) where
       let found : option_map (client_sends W J run.node) (slice_get (range_with_len 0 W.settings.clients) client) ≡ Some s =
       sym (slice_get-map (client_sends W J run.node) (range_with_len 0 W.settings.clients) client) ∙ ap (λ (all : List ClientSends). slice_get all client) (sym sends) ∙ there
       in
-      let c = unmapped (client_sends W J run.node) (slice_get (range_with_len 0 W.settings.clients) client) s found in
-      let number : c.0 ≡ client = let is = in_range 0 W.settings.clients client c.0 c.1 in omega (arith, is) in
+      let c = option_map_parts (client_sends W J run.node) (slice_get (range_with_len 0 W.settings.clients) client) s found in
+      let number : c.0 ≡ client = let is = range_found 0 W.settings.clients client c.0 c.1 in omega (arith, is) in
       let own : s ≡ client_sends W J run.node client = c.2 ∙ ap (client_sends W J run.node) number in
       let a = sent_at (record { node = run.node; number = client }) 0 _ _ n item (ap (λ (s : ClientSends). slice_get s.chunks n) (sym own) ∙ h) in
       let page_number = a.number in

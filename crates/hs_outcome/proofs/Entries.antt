@@ -2,8 +2,12 @@
 -- and the first such page names the record's trace.
 use Rattle.std.proofs.Common.{◌≡◌, ◌⊎◌, inl, inr, ℕ, zero, suc, ◌+◌, ◌<◌, ◌≤◌, Bool, true, false, ◌&&◌, cond, List, [], ◌∷◌, ◌++◌, length, refl, sym, ap, subst, ◌∙◌, Some, None, arith, map, filter, option_map, slice_get, unwrap_or, leb, ltb, leb-true, ltb-true, leb-false, ltb-false, eqb-true, eq-or-lt_of_le, nat_eq}
 use Rattle.std.specs.List.{AllByRecursion, flat_map, range_with_len}
+use Rattle.std.proofs.lemmas.Bool.{and_parts, and_cases}
 use Rattle.std.proofs.lemmas.List.{length-map}
 use Rattle.std.proofs.lemmas.List.Folds.{flat_map-map}
+use Rattle.std.proofs.lemmas.Option.{same_Some}
+use Rattle.hs_lists.proofs.Parts.{map_flat}
+use Rattle.hs_lists.proofs.Ranges.{flat_range_alike}
 use Rattle.hs_base.specs.declared.ids.ClientId.{ClientId}
 use Rattle.hs_base.specs.declared.ids.TraceId.{TraceId}
 use Rattle.hs_base.specs.declared.limits.TheConstants.{MIN_SIZE}
@@ -26,7 +30,6 @@ use Rattle.hs_lawful.specs.Played.{played}
 use Rattle.hs_lawful.specs.Shape.{same_counts, has_shape}
 use Rattle.hs_outcome.specs.Outcomes.{client_at, client_book, client_books, agent_books}
 use Rattle.hs_outcome.specs.Records.{named_from, client_records, name_of, EachRecordHasOneEntry}
-use Rattle.hs_outcome.proofs.Lists.{and_parts, and_false, some_same, map_flat, flat_alike}
 
 -- what is said of the pages of a client
 abbrev pub PagesCarryTheRecords : Type 0
@@ -75,7 +78,7 @@ module _ (traces : Traces) (client : ClientId) (n : ℕ) where
       let both = and_parts (leb (first_record page) n) (ltb n (end_of page)) test in
       on_page page rest fate carries (leb-true (first_record page) n both.0) (ltb-true n (end_of page) both.1)
   page_case page rest fate next false test carries low high on =
-      elim (and_false (leb (first_record page) n) (ltb n (end_of page)) test) as (λ _. HasEntry traces client n (entry_on client n rest)) [
+      elim (and_cases (leb (first_record page) n) (ltb n (end_of page)) test) as (λ _. HasEntry traces client n (entry_on client n rest)) [
         | inl not_low ↦ let less = leb-false (first_record page) n not_low in absurd (omega (arith, less, low, high))
         | inr not_high ↦ on (ltb-false n (end_of page) not_high)
       ]
@@ -128,7 +131,7 @@ named_each client entries start (r ∷ records) each =
     ∙ ap (λ rest. record { id = record { client = client; number = start }; trace = r.trace } ∷ rest) (sym (map_flat entries name_of (range_with_len (start + 1) (length records))) ∙ later)
 
 trace_is : (records : List Record) (n : ℕ) (r : Record) (trace : TraceId) → slice_get records n ≡ Some r → traces_of records n ≡ Some trace → trace ≡ r.trace
-trace_is records n r trace h traced = some_same trace r.trace (sym traced ∙ ap (option_map (λ (r : Record). r.trace)) h)
+trace_is records n r trace h traced = same_Some trace r.trace (sym traced ∙ ap (option_map (λ (r : Record). r.trace)) h)
 
 module _ (carried : PagesCarryTheRecords) (client : ClientId) (fates : ℕ → Draw → Fate) (size : ℕ) (ops : List Operation) (draws : List Draw) where
   abbrev fated : List FatedPage
@@ -190,6 +193,13 @@ each_record_has_one_entry carried W J ends shape =
     let counts = shape_counts W J shape in
     map_flat (λ (book : PlainClientBook). book_entries book.client (fated_pages agents book)) name_of (client_books W J)
     ∙ flat_map-map (λ (book : PlainClientBook). map name_of (book_entries book.client (fated_pages agents book))) (client_book W J) (range_with_len 0 (length W.clients))
-    ∙ flat_alike (λ place. map name_of (book_entries (client_at W.settings.clients place) (fated_pages agents (client_book W J place)))) (client_records W) 0 (length W.clients)
+    ∙ flat_range_alike (λ place. map name_of (book_entries (client_at W.settings.clients place) (fated_pages agents (client_book W J place)))) (client_records W) 0 (length W.clients)
     (λ place h. book_named carried (client_at W.settings.clients place) (page_fate agents (client_at W.settings.clients place)) W.settings.size (operations_at W place) (draws_at J place) ends.size
     (ends_at W.clients place ends.ends) (same_length J.draws W.clients W.settings.size place counts))
+
+pub same_many : (draws : List (List Draw)) (clients : List (List Operation)) (size : ℕ) → same_counts (map length draws) (map (λ ops. length (pages_of size ops)) clients) ≡ true → length draws ≡ length clients
+same_many [] [] size h = refl
+same_many [] (ops ∷ clients) size h = let never : false ≡ true = h in absurd cc
+same_many (drawn ∷ draws) [] size h = let never : false ≡ true = h in absurd cc
+same_many (drawn ∷ draws) (ops ∷ clients) size h =
+    ap suc (same_many draws clients size (and_parts (nat_eq (length drawn) (length (pages_of size ops))) (same_counts (map length draws) (map (λ ops. length (pages_of size ops)) clients)) h).1)

@@ -6,7 +6,9 @@ use Rattle.std.specs.Option.{option_and_then}
 use Rattle.std.proofs.lemmas.List.{length-map}
 use Rattle.std.proofs.lemmas.List.FromFn.{length-range_with_len}
 use Rattle.std.proofs.lemmas.List.Elements.{All-from_recursion}
-use Rattle.std.proofs.lemmas.Option.{slice_get-map}
+use Rattle.std.proofs.lemmas.Option.{slice_get-map, same_Some}
+use Rattle.hs_lists.proofs.Options.{option_unmap}
+use Rattle.hs_lists.proofs.Ranges.{range_at}
 use Rattle.hs_base.specs.declared.ids.ClientId.{ClientId}
 use Rattle.hs_journal.specs.declared.journal.Draw.{Draw}
 use Rattle.hs_journal.specs.declared.journal.Draw.TheVariants.{Got, Empty}
@@ -27,7 +29,6 @@ use Rattle.hs_outcome.specs.ClientBooks.{StandingsAreOfGotPages}
 use Rattle.hs_outcome.specs.Origins.{HasItsClients, IsOfDrawnPage, TakenPagesWereDrawn}
 use Rattle.hs_outcome.specs.Outcomes.{client_at, client_book, client_books, agent_books}
 use Rattle.hs_outcome.proofs.ClientBooks.{compare}
-use Rattle.hs_outcome.proofs.Lists.{some_same}
 
 -- ---- the place of a client
 
@@ -72,23 +73,14 @@ module _ {X Y : Type 0} where
   then_parts f None y h = let no : None ≡ Some y = h in absurd cc
   then_parts f (Some x) y h = (x, refl, h)
 
-  pub unmapped : (f : X → Y) (o : Option X) (y : Y) → option_map f o ≡ Some y → (x : X) × (o ≡ Some x) × (f x ≡ y)
-  unmapped f None y h = let no : None ≡ Some y = h in absurd cc
-  unmapped f (Some x) y h = (x, refl, some_same (f x) y h)
-
 pub index_of : {X : Type 0} (xs : List X) (k : ℕ) (x d : X) → slice_get xs k ≡ Some x → slice_index_or xs k d ≡ x
 index_of [] k x d h = let no : None ≡ Some x = h in absurd cc
-index_of (y ∷ xs) zero x d h = some_same y x h
+index_of (y ∷ xs) zero x d h = same_Some y x h
 index_of (y ∷ xs) (suc k) x d h = index_of xs k x d h
-
-pub range_at : (start count i : ℕ) → i < count → slice_get (range_with_len start count) i ≡ Some (start + i)
-range_at start zero i h = absurd (omega (arith, h))
-range_at start (suc count) zero h = let same : start ≡ start + 0 = omega arith in ap Some same
-range_at start (suc count) (suc i) h = let more : start + 1 + i ≡ start + suc i = omega arith in range_at (start + 1) count i (omega (arith, h)) ∙ ap Some more
 
 pub in_range : (start count i n : ℕ) → slice_get (range_with_len start count) i ≡ Some n → (n ≡ start + i) × (i < count)
 in_range start zero i n h = let no : None ≡ Some n = h in absurd cc
-in_range start (suc count) zero n h = let same = some_same start n h in (omega (arith, same), omega arith)
+in_range start (suc count) zero n h = let same = same_Some start n h in (omega (arith, same), omega arith)
 in_range start (suc count) (suc i) n h = let rest = in_range (start + 1) count i n h in let is = rest.0 in let low = rest.1 in (omega (arith, is), omega (arith, low))
 
 pub all_below : (start count end : ℕ) → start + count ≤ end → AllByRecursion (λ n. n < end) (range_with_len start count)
@@ -100,7 +92,7 @@ draw_of : (client : ClientId) (k : ℕ) (timed : List TimedPage) (draws : List D
 draw_of client k [] draws at page h = let no : None ≡ Some page = h in absurd cc
 draw_of client k (t ∷ timed) [] at page h = let no : None ≡ Some page = h in absurd cc
 draw_of client k (t ∷ timed) (draw ∷ draws) zero page h =
-    let same = some_same (record { client = client; number = k; page = t.page; started = t.started; sent = t.sent; draw = draw }) page h in
+    let same = same_Some (record { client = client; number = k; page = t.page; started = t.started; sent = t.sent; draw = draw }) page h in
     (ap (λ (d : DrawnPage). Some d.draw) same, ap (λ (d : DrawnPage). d.client) (sym same))
 draw_of client k (t ∷ timed) (draw ∷ draws) (suc at) page h = draw_of client (k + 1) timed draws at page h
 
@@ -129,7 +121,7 @@ module _ (W : PlainWorkload) (J : PlainJournal) (laid : HasItsClients W) where
         let c = chunk.sheet.header.client.number in
         let at = chunk.sheet.header.page in
         let s = then_parts (λ (s : ClientSends). slice_get s.drawn at) (slice_get run.sends c) o.page o.there in
-        let found = unmapped (client_sends W J run.node) (slice_get (range_with_len 0 W.settings.clients) c) s.0
+        let found = option_unmap (client_sends W J run.node) (slice_get (range_with_len 0 W.settings.clients) c) s.0
         (sym (slice_get-map (client_sends W J run.node) (range_with_len 0 W.settings.clients) c) ∙ ap (λ (all : List ClientSends). slice_get all c) (sym sends) ∙ s.1)
         in
         let range = in_range 0 W.settings.clients c found.0 found.1 in

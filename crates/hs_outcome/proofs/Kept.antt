@@ -1,11 +1,11 @@
 -- The laws of the agent's model at the nodes of a journal.
 use Rattle.std.proofs.Common.{sym, subst}
+use Rattle.hs_lists.proofs.Alls.{all_each}
 use Rattle.hs_model.specs.Laws.{AllWereOver, EvictedWereOver, ListsHaveTheirChunks, LimitsHold, TracesAreClaimedOnce, ChunksStandByTheirClaim}
 use Rattle.hs_model.specs.State.{AgentState}
 use Rattle.hs_lawful.specs.Following.{NodeRun, followed}
 use Rattle.hs_lawful.specs.Laws.{ComesByEvents, AgentsComeByEvents}
 use Rattle.hs_outcome.specs.Causes.{KeepsItsModel, AgentsKeepTheirModel, EvictedOnlyWhereOver}
-use Rattle.hs_outcome.proofs.Lists.{all_each}
 
 pub evicted_only_where_over : EvictedWereOver → AgentsComeByEvents → EvictedOnlyWhereOver
 evicted_only_where_over over comes W J =

@@ -1,27 +1,18 @@
 -- What was given back is among what was let go, where each chunk stands once.
-use Rattle.std.proofs.Common.{◌≡◌, ℕ, ◌+◌, ◌≤◌, Bool, true, false, cond, List, [], ◌∷◌, ◌++◌, refl, ap, arith, map, eq-eqb}
+use Rattle.std.proofs.Common.{◌≡◌, ℕ, ◌≤◌, Bool, true, false, cond, List, [], ◌∷◌, ◌++◌, refl, ap, arith, map, eq-eqb}
 use Rattle.std.specs.List.{AllByRecursion}
+use Rattle.hs_lists.proofs.Counts.{one_if, one_few}
+use Rattle.hs_lists.proofs.Alls.{all_each}
 use Rattle.hs_model.specs.Laws.{count_of, given_places, PlacesMatch}
 use Rattle.hs_model.specs.Standings.{is_let_go, stands}
 use Rattle.hs_model.specs.State.{AgentState, GivenPlace}
+use Rattle.hs_model.proofs.Counts.{count-append}
 use Rattle.hs_lawful.specs.Following.{NodeRun, followed}
 use Rattle.hs_outcome.specs.Causes.{KeepsItsModel, AgentsKeepTheirModel, GaveWhatWasLetGo, GivenWereLetGo}
-use Rattle.hs_outcome.proofs.Lists.{all_each}
-
-abbrev one_or_none : Bool → ℕ
-one_or_none b = cond b 1 0
-
-count_both : (a b : List ℕ) (place : ℕ) → count_of (a ++ b) place ≡ count_of a place + count_of b place
-count_both [] b place = omega arith
-count_both (p ∷ a) b place = let rest = count_both a b place in omega (arith, rest)
 
 there_case : (b : Bool) (n : ℕ) → n ≤ cond b 1 0 → 1 ≤ n → b ≡ true
 there_case true n most some = refl
 there_case false n most some = absurd (omega (arith, most, some))
-
-few_case : (b : Bool) → cond b 1 0 ≤ 1
-few_case true = omega arith
-few_case false = omega arith
 
 -- each of these gives stands among all of them
 counted : (front given : List GivenPlace) (P : GivenPlace → Type 0) → ((g : GivenPlace) → 1 ≤ count_of (map (λ (g : GivenPlace). g.place) (front ++ given)) g.place → P g) → AllByRecursion P given
@@ -30,7 +21,7 @@ counted front (g ∷ given) P on =
     (on g (here front), counted (front ++ g ∷ []) given P (λ h some. on h (moved h some)))
   where
     here : (front : List GivenPlace) → 1 ≤ count_of (map (λ (g : GivenPlace). g.place) (front ++ g ∷ given)) g.place
-    here [] = let own = ap one_or_none (eq-eqb g.place g.place refl) in omega (arith, own)
+    here [] = let own = ap one_if (eq-eqb g.place g.place refl) in omega (arith, own)
     here (f ∷ front) = let rest = here front in omega (arith, rest)
 
     assoc : (front : List GivenPlace) → (front ++ g ∷ []) ++ given ≡ front ++ g ∷ given
@@ -47,12 +38,12 @@ let_go state m =
           counted [] state.given (λ (g : GivenPlace). stands is_let_go state.taken g.place ≡ true)
           (λ g some.
           let each = m.gone_each g.place in
-          let both = count_both (given_places state) state.hand g.place in
+          let both = count-append (given_places state) state.hand g.place in
           there_case (stands is_let_go state.taken g.place) (count_of (given_places state) g.place) (omega (arith, each, both)) some);
       once = λ place.
           let each = m.gone_each place in
-          let both = count_both (given_places state) state.hand place in
-          let few = few_case (stands is_let_go state.taken place) in
+          let both = count-append (given_places state) state.hand place in
+          let few = one_few (stands is_let_go state.taken place) in
           omega (arith, each, both, few);
     }
 

@@ -1,8 +1,11 @@
 -- In the end an agent has taken all chunks that its clients sent, in order, so the page of each stands once in its book.
 use Rattle.std.proofs.Common.{◌≡◌, ℕ, zero, suc, ◌+◌, ◌<◌, ◌≤◌, Bool, true, false, ◌&&◌, cond, List, [], ◌∷◌, ◌++◌, length, refl, sym, ap, ap₂, ◌∙◌, Some, None, arith, map, filter, slice_get, nat_eq, eqb-true, eq-eqb, append-nil}
 use Rattle.std.specs.List.{AllByRecursion, flat_map, range_with_len}
+use Rattle.std.proofs.lemmas.Bool.{and_parts}
 use Rattle.std.proofs.lemmas.List.{length-map}
 use Rattle.std.proofs.lemmas.List.Elements.{All-from_recursion, recursion_from_All}
+use Rattle.std.proofs.lemmas.Option.{same_Some}
+use Rattle.hs_lists.proofs.Filters.{filter_weaker}
 use Rattle.hs_base.specs.declared.ids.ClientId.{ClientId}
 use Rattle.hs_journal.specs.declared.books.Standing.{Standing}
 use Rattle.hs_journal.specs.declared.journal.Draw.{Draw}
@@ -30,7 +33,6 @@ use Rattle.hs_outcome.specs.Origins.{HasItsClients}
 use Rattle.hs_outcome.specs.Outcomes.{client_at, client_book, client_books, agent_books}
 use Rattle.hs_outcome.specs.Records.{EndsItsTraces}
 use Rattle.hs_outcome.proofs.Entries.{ends_at, same_length, shape_counts}
-use Rattle.hs_outcome.proofs.Lists.{and_parts, some_same}
 use Rattle.hs_outcome.proofs.Origins as origins
 
 -- ---- filters
@@ -40,11 +42,6 @@ module _ {X : Type 0} where
   passes_case p q x xs true b e f on rest = ap (λ (b : Bool). cond b (x ∷ filter p (filter q xs)) (filter p (filter q xs))) f ∙ ap (λ kept. cond b (x ∷ kept) kept) rest
   passes_case p q x xs false true e f on rest = let no : false ≡ true = on refl in absurd cc
   passes_case p q x xs false false e f on rest = rest
-
-  -- what passes one test of all is what passes it among those that pass a weaker one
-  filter_weaker : (p q : X → Bool) → ((x : X) → p x ≡ true → q x ≡ true) → (xs : List X) → filter p (filter q xs) ≡ filter p xs
-  filter_weaker p q on [] = refl
-  filter_weaker p q on (x ∷ xs) = passes_case p q x xs (q x) (p x) refl refl (on x) (filter_weaker p q on xs)
 
 module _ {X Y : Type 0} where
   counted_case : (f : X → Y) (x : X) (kept : List X) (more : List Y) (b : Bool) → length kept ≡ length more → length (cond b (x ∷ kept) kept) ≡ length (cond b (f x ∷ more) more)
@@ -89,7 +86,7 @@ module _ (client : ClientId) where
       → length (filter (is_page client (k + at)) (items (sent_chunks (drawn_from client k timed draws)))) ≡ 1
   one_there k at [] draws buffer stamp h low = absurd (omega (arith, low))
   one_there k at (t ∷ timed) [] buffer stamp h low = let no : None ≡ Some (Got buffer stamp) = h in absurd cc
-  one_there k zero (t ∷ timed) (Empty other ∷ draws) buffer stamp h low = let no : Empty other ≡ Got buffer stamp = some_same (Empty other) (Got buffer stamp) h in absurd cc
+  one_there k zero (t ∷ timed) (Empty other ∷ draws) buffer stamp h low = let no : Empty other ≡ Got buffer stamp = same_Some (Empty other) (Got buffer stamp) h in absurd cc
   one_there k zero (t ∷ timed) (Got b s ∷ draws) buffer stamp h low =
       let same : nat_eq k (k + 0) ≡ true = eq-eqb k (k + 0) (omega arith) in
       rw (own, same) (ap (λ (rest : List Sheet). suc (length rest)) (none_there (k + 1) (k + 0) timed draws (omega arith)))
@@ -133,7 +130,7 @@ standings_are (n ∷ nodes) v start (suc count) zero node are is h =
     ap (λ (b : Bool). cond b (map page_standing n.state.taken) [] ++ flat_map (standings_if v) (map book nodes)) here
     ∙ ap (λ (more : List Standing). map page_standing n.state.taken ++ more) (not_theirs nodes v (start + 1) count rest (omega (arith, is)))
     ∙ append-nil (map page_standing n.state.taken)
-    ∙ ap (λ (n : NodeRun). map page_standing n.state.taken) (some_same n node h)
+    ∙ ap (λ (n : NodeRun). map page_standing n.state.taken) (same_Some n node h)
 standings_are (n ∷ nodes) v start (suc count) (suc i) node are is h =
     let both : n.node ∷ numbers_in nodes ≡ start ∷ range_with_len (start + 1) count = are in
     let first : n.node ≡ start = cc in

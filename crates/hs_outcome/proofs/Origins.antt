@@ -2,12 +2,18 @@
 use Rattle.std.proofs.Common.{◌≡◌, ◌⊎◌, inl, inr, ℕ, zero, suc, ◌+◌, ◌*◌, ◌<◌, Bool, true, false, ◌&&◌, cond, List, [], ◌∷◌, ◌++◌, length, take, refl, sym, ap, subst, ◌∙◌, Option, Some, None, arith, map, filter, option_map, slice_get, unwrap_or, count_by, leb, ltb, leb-true, ltb-true, eqb-true, eq-eqb, nat_eq, find, mod-lt, zip, eq-zero-or-pos}
 use Rattle.std.specs.List.{AllByRecursion, flat_map, range_with_len, list_all}
 use Rattle.std.specs.Option.{option_map_or}
+use Rattle.std.proofs.lemmas.Bool.{and_parts, and_from}
 use Rattle.std.proofs.lemmas.List.{length-map}
 use Rattle.std.proofs.lemmas.List.FromFn.{length-range_with_len}
 use Rattle.std.proofs.Math.Nat.{div-lt_iff_lt-mul}
 use Rattle.std.proofs.lemmas.List.Folds.{flat_map-map}
 use Rattle.std.proofs.lemmas.Nat.{div-add-mod'}
-use Rattle.std.proofs.lemmas.Option.{slice_get-map}
+use Rattle.std.proofs.lemmas.Option.{slice_get-map, same_Some}
+use Rattle.hs_lists.proofs.Alls.{all_at, all_each, all_flat_map, all_flat_range, all_unmap}
+use Rattle.hs_lists.proofs.Places.{get_front, get_behind, get_there}
+use Rattle.hs_lists.proofs.Ranges.{range_found, range_at}
+use Rattle.hs_lists.proofs.Options.{option_map_parts}
+use Rattle.hs_lists.proofs.Parts.{take_length}
 use Rattle.hs_base.specs.declared.ids.ClientId.{ClientId}
 use Rattle.hs_base.specs.declared.ids.RecordId.{RecordId}
 use Rattle.hs_base.specs.declared.told.Fate.{Fate}
@@ -43,27 +49,11 @@ use Rattle.hs_outcome.specs.Origins.{HasItsClients, WasTaken, Gives, HasItsCause
 use Rattle.hs_outcome.specs.Outcomes.{client_at, client_book, agent_books, outcome_of}
 use Rattle.hs_outcome.specs.Records.{EndsItsTraces}
 use Rattle.hs_outcome.proofs.Entries.{ends_at}
-use Rattle.hs_outcome.proofs.Lists.{and_parts, some_same, all_at, all_each}
 use Rattle.hs_outcome.proofs.Sheets.{IsTaken, filtered_taken}
 
 -- ---- lists
 
 module _ {X : Type 0} where
-  pub all_append : (P : X → Type 0) (xs ys : List X) → AllByRecursion P xs → AllByRecursion P ys → AllByRecursion P (xs ++ ys)
-  all_append P [] ys a b = b
-  all_append P (x ∷ xs) ys a b = (a.0, all_append P xs ys a.1 b)
-
-  pub all_flat : {Y : Type 0} (P : X → Type 0) (f : Y → List X) (ys : List Y) → ((y : Y) → AllByRecursion P (f y)) → AllByRecursion P (flat_map f ys)
-  all_flat P f [] each = tt
-  all_flat P f (y ∷ ys) each = all_append P (f y) (flat_map f ys) (each y) (all_flat P f ys each)
-
-  pub all_range : (P : X → Type 0) (f : ℕ → List X) (start count : ℕ) → ((n : ℕ) → n < start + count → AllByRecursion P (f n)) → AllByRecursion P (flat_map f (range_with_len start count))
-  all_range P f start zero each = tt
-  all_range P f start (suc count) each =
-      let here : start < start + suc count = omega arith in
-      all_append P (f start) (flat_map f (range_with_len (start + 1) count)) (each start here)
-      (all_range P f (start + 1) count (λ n h. let below : n < start + suc count = omega (arith, h) in each n below))
-
   -- one of the list passes
   record Passes (p : X → Bool) (xs : List X) (x : X) : Type 0 where
     place : ℕ
@@ -90,7 +80,7 @@ module _ {X : Type 0} where
 
   found_there : (p : X → Bool) (xs : List X) (place : ℕ) (x : X) → slice_get xs place ≡ Some x → p x ≡ true → Found p xs
   found_there p [] place x h e = let no : None ≡ Some x = h in absurd cc
-  found_there p (y ∷ xs) zero x h e = found_first p y xs (ap p (some_same y x h) ∙ e)
+  found_there p (y ∷ xs) zero x h e = found_first p y xs (ap p (same_Some y x h) ∙ e)
   found_there p (y ∷ xs) (suc place) x h e = found_case p y xs (p y) refl (found_there p xs place x h e)
 
   -- where an item of joined lists stands
@@ -114,30 +104,11 @@ module _ {X : Type 0} where
         | inr later ↦ let rest = in_parts f ys later.0 x later.1 in record { part = rest.part; at = suc rest.at; part_there = rest.part_there; place = rest.place; there = rest.there }
       ]
 
-  pub get_first : (xs ys : List X) (place : ℕ) (x : X) → slice_get xs place ≡ Some x → slice_get (xs ++ ys) place ≡ Some x
-  get_first [] ys place x h = let no : None ≡ Some x = h in absurd cc
-  get_first (y ∷ xs) ys zero x h = h
-  get_first (y ∷ xs) ys (suc place) x h = get_first xs ys place x h
-
-  pub get_later : (xs ys : List X) (place : ℕ) (x : X) → slice_get ys place ≡ Some x → slice_get (xs ++ ys) (length xs + place) ≡ Some x
-  get_later [] ys place x h = let same : place ≡ 0 + place = omega arith in ap (slice_get ys) (sym same) ∙ h
-  get_later (y ∷ xs) ys place x h = let same : suc (length xs) + place ≡ suc (length xs + place) = omega arith in ap (slice_get (y ∷ (xs ++ ys))) same ∙ get_later xs ys place x h
-
   pub in_flat : {Y : Type 0} (f : Y → List X) (ys : List Y) (at : ℕ) (y : Y) (place : ℕ) (x : X) → slice_get ys at ≡ Some y → slice_get (f y) place ≡ Some x → (n : ℕ) × (slice_get (flat_map f ys) n ≡ Some x)
   in_flat f [] at y place x h k = let no : None ≡ Some y = h in absurd cc
-  in_flat f (z ∷ ys) zero y place x h k = (place, get_first (f z) (flat_map f ys) place x (ap (λ (y : _). slice_get (f y) place) (some_same z y h) ∙ k))
+  in_flat f (z ∷ ys) zero y place x h k = (place, get_front (f z) (flat_map f ys) place x (ap (λ (y : _). slice_get (f y) place) (same_Some z y h) ∙ k))
   in_flat f (z ∷ ys) (suc at) y place x h k =
-      let rest = in_flat f ys at y place x h k in (length (f z) + rest.0, get_later (f z) (flat_map f ys) rest.0 x rest.1)
-
-  pub get_there : (xs : List X) (i : ℕ) → i < length xs → (x : X) × (slice_get xs i ≡ Some x)
-  get_there [] i h = absurd (omega (arith, h))
-  get_there (x ∷ xs) zero h = (x, refl)
-  get_there (x ∷ xs) (suc i) h = get_there xs i (omega (arith, h))
-
-  pub within : (xs : List X) (i : ℕ) (x : X) → slice_get xs i ≡ Some x → i < length xs
-  within [] i x h = let no : None ≡ Some x = h in absurd cc
-  within (y ∷ xs) zero x h = omega arith
-  within (y ∷ xs) (suc i) x h = let rest = within xs i x h in omega (arith, rest)
+      let rest = in_flat f ys at y place x h k in (length (f z) + rest.0, get_behind (f z) (flat_map f ys) rest.0 x rest.1)
 
   -- what holds of the items that pass holds of one that does
   unfilter_case : (P : X → Type 0) (p : X → Bool) (y x : X) (kept : List X) (b : Bool) → p y ≡ b → y ≡ x → p x ≡ true → AllByRecursion P (cond b (y ∷ kept) kept) → P x
@@ -150,12 +121,8 @@ module _ {X : Type 0} where
 
   pub unfilter : (P : X → Type 0) (p : X → Bool) (xs : List X) (i : ℕ) (x : X) → slice_get xs i ≡ Some x → p x ≡ true → AllByRecursion P (filter p xs) → P x
   unfilter P p [] i x h e all = let no : None ≡ Some x = h in absurd cc
-  unfilter P p (y ∷ xs) zero x h e all = unfilter_case P p y x (filter p xs) (p y) refl (some_same y x h) e all
+  unfilter P p (y ∷ xs) zero x h e all = unfilter_case P p y x (filter p xs) (p y) refl (same_Some y x h) e all
   unfilter P p (y ∷ xs) (suc i) x h e all = unfilter P p xs i x h e (unfilter_rest P y (filter p xs) (p y) all)
-
-all_mapped : {X Y : Type 0} (P : Y → Type 0) (f : X → Y) (xs : List X) → AllByRecursion P (map f xs) → AllByRecursion (λ x. P (f x)) xs
-all_mapped P f [] all = tt
-all_mapped P f (x ∷ xs) all = (all.0, all_mapped P f xs all.1)
 
 -- ---- a fate and its page
 
@@ -238,7 +205,7 @@ from_page client n P (page ∷ pages) all =
     pick : (list : List FatedPage) (place : ℕ) (fate : Fate) → slice_get (map (λ (other : FatedPage). other.fate) list) place ≡ Some fate → AllByRecursion P list
         → (fated : FatedPage) × P fated × (fate ≡ fated.fate)
     pick [] place fate h all = let no : None ≡ Some fate = h in absurd cc
-    pick (f ∷ list) zero fate h all = (f, all.0, sym (some_same f.fate fate h))
+    pick (f ∷ list) zero fate h all = (f, all.0, sym (same_Some f.fate fate h))
     pick (f ∷ list) (suc place) fate h all = pick list place fate h all.1
 
 both_case : {X : Type 0} (P : X → Type 0) (p : X → Bool) (x : X) (kept : List X) (b : Bool) → p x ≡ b → P x → AllByRecursion (λ x. P x × (p x ≡ true)) kept → AllByRecursion (λ x. P x × (p x ≡ true)) (cond b (x ∷ kept) kept)
@@ -260,30 +227,12 @@ is_of_parts client page standing h =
     let inner = and_parts (nat_eq standing.client.node client.node) (nat_eq standing.client.number client.number) outer.0 in
     (same_client standing.client client (eqb-true standing.client.node client.node inner.0) (eqb-true standing.client.number client.number inner.1), eqb-true standing.page page outer.1)
 
-pub both_true : (a b : Bool) → a ≡ true → b ≡ true → (a && b) ≡ true
-both_true true b e f = f
-both_true false b e f = e
-
 is_of_true : (client : ClientId) (page : ℕ) (standing : Standing) → standing.client ≡ client → standing.page ≡ page → is_of client page standing ≡ true
 is_of_true client page standing e f =
-    both_true (nat_eq standing.client.node client.node && nat_eq standing.client.number client.number) (nat_eq standing.page page)
-    (both_true (nat_eq standing.client.node client.node) (nat_eq standing.client.number client.number) (eq-eqb standing.client.node client.node (ap (λ (c : ClientId). c.node) e))
+    and_from (nat_eq standing.client.node client.node && nat_eq standing.client.number client.number) (nat_eq standing.page page)
+    (and_from (nat_eq standing.client.node client.node) (nat_eq standing.client.number client.number) (eq-eqb standing.client.node client.node (ap (λ (c : ClientId). c.node) e))
     (eq-eqb standing.client.number client.number (ap (λ (c : ClientId). c.number) e)))
     (eq-eqb standing.page page f)
-
-in_range : (start count i n : ℕ) → slice_get (range_with_len start count) i ≡ Some n → n ≡ start + i
-in_range start zero i n h = let no : None ≡ Some n = h in absurd cc
-in_range start (suc count) zero n h = let same = some_same start n h in omega (arith, same)
-in_range start (suc count) (suc i) n h = let rest = in_range (start + 1) count i n h in omega (arith, rest)
-
-range_at : (start count i : ℕ) → i < count → slice_get (range_with_len start count) i ≡ Some (start + i)
-range_at start zero i h = absurd (omega (arith, h))
-range_at start (suc count) zero h = let same : start ≡ start + 0 = omega arith in ap Some same
-range_at start (suc count) (suc i) h = let more : start + 1 + i ≡ start + suc i = omega arith in range_at (start + 1) count i (omega (arith, h)) ∙ ap Some more
-
-unmapped : {X Y : Type 0} (f : X → Y) (o : Option X) (y : Y) → option_map f o ≡ Some y → (x : X) × (o ≡ Some x) × (y ≡ f x)
-unmapped f None y h = let no : None ≡ Some y = h in absurd cc
-unmapped f (Some x) y h = (x, refl, sym (some_same (f x) y h))
 
 if_case : (b : Bool) (standings : List Standing) (place : ℕ) (standing : Standing) → slice_get (cond b standings []) place ≡ Some standing → (b ≡ true) × (slice_get standings place ≡ Some standing)
 if_case true standings place standing h = (refl, h)
@@ -304,7 +253,7 @@ module _ (plays : FollowingPlaysOut) (runs : RunsAreOfTheJournal) (W : PlainWork
       let found : slice_get (range_with_len 0 W.settings.nodes) i ≡ Some node.node =
       ap (λ ns. slice_get ns i) (sym numbers) ∙ slice_get-map (λ (node : NodeRun). node.node) run.nodes i ∙ ap (option_map (λ (node : NodeRun). node.node)) h
       in
-      let is = in_range 0 W.settings.nodes i node.node found in omega (arith, is)
+      let is = range_found 0 W.settings.nodes i node.node found in omega (arith, is)
 
   pub count_nodes : length run.nodes ≡ W.settings.nodes
   count_nodes = sym (length-map run.nodes (λ (node : NodeRun). node.node)) ∙ ap length numbers ∙ length-range_with_len 0 W.settings.nodes
@@ -324,12 +273,12 @@ module _ (plays : FollowingPlaysOut) (runs : RunsAreOfTheJournal) (W : PlainWork
   at_node : (v place : ℕ) (standing : Standing) → slice_get (standings_at (agent_books run) v) place ≡ Some standing → AtNode v standing
   at_node v place standing h =
       let p = in_parts (standings_if v) (agent_books run) place standing h in
-      let b = unmapped book (slice_get run.nodes p.at) p.part (sym (slice_get-map book run.nodes p.at) ∙ p.part_there) in
+      let b = option_map_parts book (slice_get run.nodes p.at) p.part (sym (slice_get-map book run.nodes p.at) ∙ p.part_there) in
       let own = if_case (nat_eq p.part.node.0 v) p.part.standings p.place standing p.there in
       let number : b.0.node ≡ v = ap (λ (a : PlainAgentBook). a.node.0) (sym b.2) ∙ eqb-true p.part.node.0 v own.0 in
       let at : p.at ≡ v = sym (number_is p.at b.0 b.1) ∙ number in
       let of_book : slice_get (map page_standing b.0.state.taken) p.place ≡ Some standing = ap (λ (a : PlainAgentBook). slice_get a.standings p.place) (sym b.2) ∙ own.1 in
-      let c = unmapped page_standing (slice_get b.0.state.taken p.place) standing (sym (slice_get-map page_standing b.0.state.taken p.place) ∙ of_book) in
+      let c = option_map_parts page_standing (slice_get b.0.state.taken p.place) standing (sym (slice_get-map page_standing b.0.state.taken p.place) ∙ of_book) in
       record {
         node = b.0;
         place = p.place;
@@ -350,7 +299,7 @@ module _ (plays : FollowingPlaysOut) (runs : RunsAreOfTheJournal) (W : PlainWork
 
   standing_found : (client : ClientId) (page : ℕ) → IsThere client page → Found (is_of client page) (standings_at (agent_books run) client.node)
   standing_found client page t =
-      let chunk = unmapped (λ (c : Taken). c.sheet) (slice_get t.node.state.taken t.taken_there.place) t.sheet (sym (slice_get-map (λ (c : Taken). c.sheet) t.node.state.taken t.taken_there.place) ∙ t.taken_there.there) in
+      let chunk = option_map_parts (λ (c : Taken). c.sheet) (slice_get t.node.state.taken t.taken_there.place) t.sheet (sym (slice_get-map (λ (c : Taken). c.sheet) t.node.state.taken t.taken_there.place) ∙ t.taken_there.there) in
       let own : nat_eq (book t.node).node.0 client.node ≡ true = eq-eqb t.node.node client.node (number_is client.node t.node t.here) in
       let standing : slice_get (standings_if client.node (book t.node)) t.taken_there.place ≡ Some (page_standing chunk.0) =
       ap (λ b. slice_get (cond b (map page_standing t.node.state.taken) []) t.taken_there.place) own
@@ -389,8 +338,8 @@ drawn_at client k [] draws at page draw h d = let no : None ≡ Some page = h in
 drawn_at client k (p ∷ timed) [] at page draw h d = let no : None ≡ Some draw = d in absurd cc
 drawn_at client k (p ∷ timed) (e ∷ draws) zero page draw h d =
     let zeroth : k ≡ k + 0 = omega arith in
-    let first = some_same p page h in
-    let second = some_same e draw d in
+    let first = same_Some p page h in
+    let second = same_Some e draw d in
     ap (λ (p : TimedPage). Some (record { client = client; number = k; page = p.page; started = p.started; sent = p.sent; draw = e })) first
     ∙ ap (λ (e : Draw). Some (record { client = client; number = k; page = page.page; started = page.started; sent = page.sent; draw = e })) second
     ∙ ap (λ (n : ℕ). Some (record { client = client; number = n; page = page.page; started = page.started; sent = page.sent; draw = draw })) zeroth
@@ -399,17 +348,13 @@ drawn_at client k (p ∷ timed) (e ∷ draws) (suc at) page draw h d =
     drawn_at client (k + 1) timed draws at page draw h d
     ∙ ap (λ (n : ℕ). Some (record { client = client; number = n; page = page.page; started = page.started; sent = page.sent; draw = draw })) more
 
-pub take_length : {X : Type 0} (xs : List X) → take (length xs) xs ≡ xs
-take_length [] = refl
-take_length (x ∷ xs) = ap (λ rest. x ∷ rest) (take_length xs)
-
 bare_client : (log : List Step) (start : ℕ) (sends : List ClientSends) → list_all (λ (c : ℕ × ClientSends). took_all log c.0 c.1) (zip (range_with_len start (length sends)) sends) ≡ true
     → (i : ℕ) (s : ClientSends) → slice_get sends i ≡ Some s → took_all log (start + i) s ≡ true
 bare_client log start [] h i s there = let no : None ≡ Some s = there in absurd cc
 bare_client log start (first ∷ sends) h zero s there =
     let both = and_parts (took_all log start first) (list_all (λ (c : ℕ × ClientSends). took_all log c.0 c.1) (zip (range_with_len (start + 1) (length sends)) sends)) h in
     let zeroth : start + 0 ≡ start = omega arith in
-    ap (λ (n : ℕ). took_all log n s) zeroth ∙ ap (took_all log start) (sym (some_same first s there)) ∙ both.0
+    ap (λ (n : ℕ). took_all log n s) zeroth ∙ ap (took_all log start) (sym (same_Some first s there)) ∙ both.0
 bare_client log start (first ∷ sends) h (suc i) s there =
     let both = and_parts (took_all log start first) (list_all (λ (c : ℕ × ClientSends). took_all log c.0 c.1) (zip (range_with_len (start + 1) (length sends)) sends)) h in
     let more : start + suc i ≡ start + 1 + i = omega arith in
@@ -503,7 +448,7 @@ module _ (plays : FollowingPlaysOut) (runs : RunsAreOfTheJournal) (order : Chunk
 
     chunks_taken : AllByRecursion (λ (item : Sent Sheet). IsTaken (node_there.0).state.taken item.item) own_sends.chunks
     chunks_taken =
-        all_mapped (IsTaken (node_there.0).state.taken) (λ (item : Sent Sheet). item.item) own_sends.chunks
+        all_unmap (IsTaken (node_there.0).state.taken) (λ (item : Sent Sheet). item.item) own_sends.chunks
         (subst (AllByRecursion (IsTaken (node_there.0).state.taken)) all_there (filtered_taken (is_by client.number) (node_there.0).state.taken))
 
     -- a page that got a buffer
@@ -512,13 +457,13 @@ module _ (plays : FollowingPlaysOut) (runs : RunsAreOfTheJournal) (order : Chunk
     there at plain draw h d got =
         let pages = timed_pages W.settings.size (operations_at W place) in
         let same = timed W.settings.size (operations_at W place) (ends_at W.clients place ends.ends) in
-        let page = unmapped (λ (p : TimedPage). p.page) (slice_get pages at) plain (sym (slice_get-map (λ (p : TimedPage). p.page) pages at) ∙ ap (λ (ps : List PlainPage). slice_get ps at) same ∙ h) in
+        let page = option_map_parts (λ (p : TimedPage). p.page) (slice_get pages at) plain (sym (slice_get-map (λ (p : TimedPage). p.page) pages at) ∙ ap (λ (ps : List PlainPage). slice_get ps at) same ∙ h) in
         let drawn : DrawnPage = record { client = client; number = 0 + at; page = page.0.page; started = page.0.started; sent = page.0.sent; draw = draw } in
         let stands : slice_get own_sends.drawn at ≡ Some drawn =
         ap (λ (p : ℕ). slice_get (drawn_from client 0 (timed_pages W.settings.size (operations_at W p)) (draws_at J p)) at) back
         ∙ drawn_at client 0 pages (draws_at J place) at page.0 draw page.1 d
         in
-        let all = all_mapped (λ (item : Sent Sheet). IsTaken (node_there.0).state.taken item.item) (λ (d : DrawnPage). record { number = d.sent; item = sheet_of d })
+        let all = all_unmap (λ (item : Sent Sheet). IsTaken (node_there.0).state.taken item.item) (λ (d : DrawnPage). record { number = d.sent; item = sheet_of d })
         (filter (λ (d : DrawnPage). has_buffer d.draw) own_sends.drawn) chunks_taken in
         let zeroth : 0 + at ≡ at = omega arith in
         record {
@@ -567,7 +512,7 @@ module _ (plays : FollowingPlaysOut) (runs : RunsAreOfTheJournal) (order : Chunk
         let pages = pages_of W.settings.size (operations_at W place) in
         let all = pages_of_fated fates 0 pages (draws_at J place) in
         let fated = fated_by fates 0 (draws_at J place) (map note_of pages) in
-        all_flat (HasItsCause W J) (record_entry client fated) (range_with_len 0 (record_count (map (λ (page : FatedPage). page.note) fated)))
+        all_flat_map (HasItsCause W J) (record_entry client fated) (range_with_len 0 (record_count (map (λ (page : FatedPage). page.note) fated)))
         (λ n.
         all_each (FromPage client n (λ (f : FatedPage). IsPageOf fates 0 pages (draws_at J place) f × (has_piece_of n f ≡ true))) (HasItsCause W J) (record_entry client fated n) (entry_caused n)
         (from_page client n (λ (f : FatedPage). IsPageOf fates 0 pages (draws_at J place) f × (has_piece_of n f ≡ true)) (filter (has_piece_of n) fated)
@@ -577,7 +522,7 @@ module _ (plays : FollowingPlaysOut) (runs : RunsAreOfTheJournal) (order : Chunk
   all_caused =
       subst (AllByRecursion (HasItsCause W J))
       (sym (flat_map-map (λ (book : PlainClientBook). book_entries book.client (fated_pages (agent_books all_run) book)) (client_book W J) (range_with_len 0 (length W.clients))))
-      (all_range (HasItsCause W J) (λ place. book_entries (client_at W.settings.clients place) (fated_pages (agent_books all_run) (client_book W J place))) 0 (length W.clients)
+      (all_flat_range (HasItsCause W J) (λ place. book_entries (client_at W.settings.clients place) (fated_pages (agent_books all_run) (client_book W J place))) 0 (length W.clients)
       (λ place below. let low : place < length W.clients = omega (arith, below) in client_caused place low))
 
 pub each_fate_has_its_cause : FollowingPlaysOut → RunsAreOfTheJournal → ChunksAreTakenInOrder → TimedPagesAreThePages → EachFateHasItsCause

@@ -2,11 +2,13 @@
 use Rattle.std.proofs.Common.{◌≡◌, ℕ, zero, suc, ◌+◌, ◌<◌, ◌≤◌, Bool, true, false, List, [], ◌∷◌, ◌++◌, length, refl, ap, Some, None, arith, drop, reverse, slice_get, count_by, eqb, eqb-true, ltb, lt-ltb, ltb-true}
 use Rattle.std.specs.List.{AllByRecursion}
 use Rattle.std.proofs.lemmas.List.{length-reverse}
-use Rattle.hs_words.specs.PoolHistory.{Event, Got, Empty, Given, Missed, is_got, is_empty, is_given, is_missed, queue_after, MayFollow, IsHistoryBack, IsPoolHistory}
+use Rattle.std.proofs.lemmas.Option.{same_Some}
+use Rattle.hs_lists.proofs.Counts.{one_if, count_cons}
+use Rattle.hs_words.specs.PoolHistory.{Event, Got, Empty, Given, Missed, is_got, is_empty, is_given, is_missed, queue_after, IsHistoryBack, IsPoolHistory}
+use Rattle.hs_words.proofs.Waiting.{few_missed}
 use Rattle.hs_outcome.proofs.Buffers.{evens, count_back}
 use Rattle.hs_outcome.proofs.GotPages.{all_below}
-use Rattle.hs_outcome.proofs.Lists.{some_same}
-use Rattle.hs_outcome.proofs.Stamps.{one, count_cons, below_case}
+use Rattle.hs_outcome.proofs.Stamps.{below_case}
 
 -- ---- buffers
 
@@ -22,7 +24,7 @@ record IsWithin (n : ℕ) (events : List Event) : Type 0 where
   each : AllByRecursion (λ event. is_within n event ≡ true) events
 
 -- a buffer that was got is within
-got_case : (n buffer other : ℕ) (b : Bool) (events : List Event) → eqb other buffer ≡ b → ltb other n ≡ true → 0 < one b + count_by (is_got buffer) events → (0 < count_by (is_got buffer) events → buffer < n)
+got_case : (n buffer other : ℕ) (b : Bool) (events : List Event) → eqb other buffer ≡ b → ltb other n ≡ true → 0 < one_if b + count_by (is_got buffer) events → (0 < count_by (is_got buffer) events → buffer < n)
     → buffer < n
 got_case n buffer other true events same low some rest = let is = eqb-true other buffer same in let below = ltb-true other n low in omega (arith, is, below)
 got_case n buffer other false events same low some rest = rest (omega (arith, some))
@@ -38,7 +40,7 @@ got_within n buffer (Missed ∷ events) all some = let first = count_cons (is_go
 
 front_within : (n buffer : ℕ) (queue : List ℕ) → AllByRecursion (λ b. b < n) queue → slice_get queue 0 ≡ Some buffer → buffer < n
 front_within n buffer [] all h = let no : None ≡ Some buffer = h in absurd cc
-front_within n buffer (first ∷ queue) all h = let same = some_same first buffer h in let low = all.0 in omega (arith, same, low)
+front_within n buffer (first ∷ queue) all h = let same = same_Some first buffer h in let low = all.0 in omega (arith, same, low)
 
 rest_within : (n : ℕ) (queue : List ℕ) → AllByRecursion (λ b. b < n) queue → AllByRecursion (λ b. b < n) (drop 1 queue)
 rest_within n [] all = tt
@@ -87,7 +89,7 @@ kinds (event ∷ events) =
     let rest = kinds events in
     omega (arith, a, b, c, d, here, rest)
   where
-    one_kind : (event : Event) → 1 ≡ one (is_get event) + one (is_empty event) + (one (is_give event) + one (is_missed event))
+    one_kind : (event : Event) → 1 ≡ one_if (is_get event) + one_if (is_empty event) + (one_if (is_give event) + one_if (is_missed event))
     one_kind (Got buffer) = refl
     one_kind Empty = refl
     one_kind (Given buffer) = refl
@@ -106,7 +108,7 @@ gives_below n Empty = false
 gives_below n (Given buffer) = ltb buffer n
 gives_below n Missed = false
 
-below_more : (p q r : Event → Bool) → ((event : Event) → one (p event) ≡ one (q event) + one (r event)) → (events : List Event) → count_by p events ≡ count_by q events + count_by r events
+below_more : (p q r : Event → Bool) → ((event : Event) → one_if (p event) ≡ one_if (q event) + one_if (r event)) → (events : List Event) → count_by p events ≡ count_by q events + count_by r events
 below_more p q r each [] = refl
 below_more p q r each (event ∷ events) =
     let a = count_cons p event events in
@@ -116,13 +118,13 @@ below_more p q r each (event ∷ events) =
     let rest = below_more p q r each events in
     omega (arith, a, b, c, here, rest)
 
-get_more : (n : ℕ) (event : Event) → one (gets_below (n + 1) event) ≡ one (gets_below n event) + one (is_got n event)
+get_more : (n : ℕ) (event : Event) → one_if (gets_below (n + 1) event) ≡ one_if (gets_below n event) + one_if (is_got n event)
 get_more n (Got buffer) = below_case buffer n (ltb buffer (n + 1)) (ltb buffer n) (eqb buffer n) refl refl refl
 get_more n Empty = refl
 get_more n (Given buffer) = refl
 get_more n Missed = refl
 
-give_more : (n : ℕ) (event : Event) → one (gives_below (n + 1) event) ≡ one (gives_below n event) + one (is_given n event)
+give_more : (n : ℕ) (event : Event) → one_if (gives_below (n + 1) event) ≡ one_if (gives_below n event) + one_if (is_given n event)
 give_more n (Got buffer) = refl
 give_more n Empty = refl
 give_more n (Given buffer) = below_case buffer n (ltb buffer (n + 1)) (ltb buffer n) (eqb buffer n) refl refl refl
@@ -136,11 +138,11 @@ none_given (event ∷ events) =
     let here = none_case event in
     omega (arith, first, rest, here)
   where
-    zero_case : (buffer : ℕ) (b : Bool) → ltb buffer 0 ≡ b → one b ≡ 0
+    zero_case : (buffer : ℕ) (b : Bool) → ltb buffer 0 ≡ b → one_if b ≡ 0
     zero_case buffer true e = let low = ltb-true buffer 0 e in absurd (omega (arith, low))
     zero_case buffer false e = refl
 
-    none_case : (event : Event) → one (gives_below 0 event) ≡ 0
+    none_case : (event : Event) → one_if (gives_below 0 event) ≡ 0
     none_case (Got buffer) = refl
     none_case Empty = refl
     none_case (Given buffer) = zero_case buffer (ltb buffer 0) refl
@@ -159,7 +161,7 @@ few_below (suc n) events each =
     let d = ap (λ m. count_by (gets_below m) events) same in
     omega (arith, a, b, rest, here, c, d)
 
-count_less : (p q : Event → Bool) (events : List Event) → AllByRecursion (λ event. one (p event) ≤ one (q event)) events → count_by p events ≤ count_by q events
+count_less : (p q : Event → Bool) (events : List Event) → AllByRecursion (λ event. one_if (p event) ≤ one_if (q event)) events → count_by p events ≤ count_by q events
 count_less p q [] all = omega arith
 count_less p q (event ∷ events) all =
     let a = count_cons p event events in
@@ -168,18 +170,18 @@ count_less p q (event ∷ events) all =
     let rest = count_less p q events all.1 in
     omega (arith, a, b, here, rest)
 
-all_gives : (n : ℕ) (events : List Event) → AllByRecursion (λ event. is_within n event ≡ true) events → AllByRecursion (λ event. one (is_give event) ≤ one (gives_below n event)) events
+all_gives : (n : ℕ) (events : List Event) → AllByRecursion (λ event. is_within n event ≡ true) events → AllByRecursion (λ event. one_if (is_give event) ≤ one_if (gives_below n event)) events
 all_gives n [] all = tt
 all_gives n (Got buffer ∷ events) all = (omega arith, all_gives n events all.1)
 all_gives n (Empty ∷ events) all = (omega arith, all_gives n events all.1)
-all_gives n (Given buffer ∷ events) all = let here = ap one all.0 in (omega (arith, here), all_gives n events all.1)
+all_gives n (Given buffer ∷ events) all = let here = ap one_if all.0 in (omega (arith, here), all_gives n events all.1)
 all_gives n (Missed ∷ events) all = (omega arith, all_gives n events all.1)
 
-all_gets : (n : ℕ) (events : List Event) → AllByRecursion (λ event. one (gets_below n event) ≤ one (is_get event)) events
+all_gets : (n : ℕ) (events : List Event) → AllByRecursion (λ event. one_if (gets_below n event) ≤ one_if (is_get event)) events
 all_gets n [] = tt
 all_gets n (Got buffer ∷ events) = (one_most (ltb buffer n), all_gets n events)
   where
-    one_most : (b : Bool) → one b ≤ 1
+    one_most : (b : Bool) → one_if b ≤ 1
     one_most true = omega arith
     one_most false = omega arith
 all_gets n (Empty ∷ events) = (omega arith, all_gets n events)
@@ -193,21 +195,6 @@ gives_few n events h =
     let c = count_less (gets_below n) is_get events (all_gets n events) in
     omega (arith, a, b, c)
 
-misses_few : (n : ℕ) (events : List Event) → IsHistoryBack n events → count_by is_missed events ≤ count_by is_empty events
-misses_few n [] h = omega arith
-misses_few n (event ∷ events) h =
-    let a = count_cons is_missed event events in
-    let b = count_cons is_empty event events in
-    let rest = misses_few n events h.0 in
-    by_event event h.1 a b rest
-  where
-    by_event : (event : Event) → MayFollow n events event → count_by is_missed (event ∷ events) ≡ one (is_missed event) + count_by is_missed events → count_by is_empty (event ∷ events) ≡ one (is_empty event) + count_by is_empty events
-        → count_by is_missed events ≤ count_by is_empty events → count_by is_missed (event ∷ events) ≤ count_by is_empty (event ∷ events)
-    by_event (Got buffer) may a b rest = omega (arith, a, b, rest)
-    by_event Empty may a b rest = omega (arith, a, b, rest)
-    by_event (Given buffer) may a b rest = omega (arith, a, b, rest)
-    by_event Missed may a b rest = let less = may.1 in omega (arith, a, b, less)
-
 -- ---- a history in its order
 
 pub record IsBounded (n : ℕ) (events : List Event) : Type 0 where
@@ -219,7 +206,7 @@ all_counted : {X : Type 0} (p : X → Bool) (xs : List X) → AllByRecursion (λ
 all_counted p [] all = refl
 all_counted p (x ∷ xs) all =
     let first = count_cons p x xs in
-    let here = ap one all.0 in
+    let here = ap one_if all.0 in
     let rest = all_counted p xs all.1 in
     omega (arith, first, here, rest)
 
@@ -227,7 +214,7 @@ pub bounded : (n : ℕ) (events : List Event) → IsPoolHistory n events → IsB
 bounded n events h =
     let w = all_counted (is_within n) (reverse events) (withins n (reverse events) h).each in
     let g = gives_few n (reverse events) h in
-    let m = misses_few n (reverse events) h in
+    let m = few_missed n (reverse events) h in
     let a = count_back (is_within n) events in
     let b = count_back is_give events in
     let c = count_back is_get events in

@@ -2,10 +2,16 @@
 use Rattle.std.proofs.Common.{◌≡◌, ℕ, zero, suc, ◌+◌, ◌*◌, ◌/◌, ◌%◌, ◌^◌, ◌<◌, ◌≤◌, Bool, true, false, ◌&&◌, List, [], ◌∷◌, ◌++◌, length, refl, sym, ap, subst, ◌∙◌, Option, Some, None, arith, map, filter_map, option_map, slice_get, unwrap_or, count_by, eqb-true, nat_eq, ltb, ltb-true, length-append, div-lt_iff_lt-mul, div-add-mod', suc-mul}
 use Rattle.std.specs.List.{AllByRecursion, flat_map, range_with_len, cons_option}
 use Rattle.std.proofs.Math.Nat.{mod-lt}
+use Rattle.std.proofs.lemmas.Bool.{and_parts}
 use Rattle.std.proofs.lemmas.List.{length-map, map-append}
 use Rattle.std.proofs.lemmas.List.Folds.{flat_map-map}
 use Rattle.std.proofs.lemmas.List.FromFn.{length-range_with_len}
-use Rattle.std.proofs.lemmas.Option.{slice_get-map}
+use Rattle.std.proofs.lemmas.Option.{slice_get-map, same_Some, slice_get_within}
+use Rattle.hs_lists.proofs.Counts.{count_map, one_if as one, count_cons, count_append}
+use Rattle.hs_lists.proofs.Alls.{all_front, all_back, all_at, all_each, all_by_place}
+use Rattle.hs_lists.proofs.Ranges.{range_at}
+use Rattle.hs_lists.proofs.Parts.{map_flat}
+use Rattle.hs_lists.proofs.Places.{get_there}
 use Rattle.hs_base.specs.declared.limits.TheConstants.{MAX_NODES, MAX_CLIENTS, MAX_BUFFERS}
 use Rattle.hs_base.specs.declared.ids.NodeId.{NodeId}
 use Rattle.hs_base.specs.Ranges.{Within}
@@ -33,21 +39,18 @@ use Rattle.hs_lawful.specs.Shape.{same_counts, log_stamps, node_draws, draw_stam
 use Rattle.hs_outcome.specs.Origins.{HasItsClients}
 use Rattle.hs_outcome.specs.Readable.{HasRoom, HasShape, JournalsHaveTheShape, LawfulJournalsCanBeRead}
 use Rattle.hs_outcome.specs.Records.{EndsItsTraces}
-use Rattle.hs_outcome.proofs.ByStamp.{count_map, by_stamp_counts}
-use Rattle.hs_outcome.proofs.ClientPages.{all_front, all_back}
+use Rattle.hs_outcome.proofs.ByStamp.{by_stamp_counts}
 use Rattle.hs_outcome.proofs.Entries.{shape_counts, same_length}
-use Rattle.hs_outcome.proofs.GotPages.{range_at, in_range}
-use Rattle.hs_outcome.proofs.Lists.{and_parts, some_same, map_flat, all_at, all_each}
+use Rattle.hs_outcome.proofs.GotPages.{in_range}
 use Rattle.hs_outcome.proofs.Named.{NamesClient, LogIsNamed, IsNamed, followed_named}
-use Rattle.hs_outcome.proofs.Origins.{get_there, within}
 use Rattle.hs_outcome.proofs.PoolCounts.{is_get, is_give, is_within, kinds, IsBounded, bounded}
-use Rattle.hs_outcome.proofs.Stamps.{one, count_cons, count_both, count_full, count_true, numbered_low, all_places, same_long, numbered, all_low, pages_draws}
+use Rattle.hs_outcome.proofs.Stamps.{count_full, count_true, numbered_low, same_long, numbered, all_low, pages_draws}
 
 -- ---- lists
 
 all_in_flat : {X Y : Type 0} (P : Y → Type 0) (f : X → List Y) (xs : List X) (k : ℕ) (x : X) → AllByRecursion P (flat_map f xs) → slice_get xs k ≡ Some x → AllByRecursion P (f x)
 all_in_flat P f [] k x all h = let no : None ≡ Some x = h in absurd cc
-all_in_flat P f (y ∷ xs) zero x all h = subst (λ y. AllByRecursion P (f y)) (some_same y x h) (all_front P (f y) (flat_map f xs) all)
+all_in_flat P f (y ∷ xs) zero x all h = subst (λ y. AllByRecursion P (f y)) (same_Some y x h) (all_front P (f y) (flat_map f xs) all)
 all_in_flat P f (y ∷ xs) (suc k) x all h = all_in_flat P f xs k x (all_back P (f y) (flat_map f xs) all) h
 
 few_in_flat : {X Y : Type 0} (f : X → List Y) (most : ℕ) (xs : List X) → ((x : X) → length (f x) ≤ most) → length (flat_map f xs) ≤ length xs * most
@@ -187,8 +190,8 @@ module _ (plays : FollowingPlaysOut) (runs : RunsAreOfTheJournal) (given_noted :
         let given = map (λ (e : PoolEvent). e.event) (filter_map (given_event run) run.state.given) in
         let missed = map (λ (e : PoolEvent). e.event) (filter_map missed_event run.state.log) in
         let whole = ap (count_by p) parts in
-        let a = count_both p (drawn ++ given) missed in
-        let b = count_both p drawn given in
+        let a = count_append p (drawn ++ given) missed in
+        let b = count_append p drawn given in
         let c = no_gives p gives run run.state.given in
         let d = no_misses p misses run.state.log in
         omega (arith, whole, a, b, c, d)
@@ -282,9 +285,9 @@ module _ (plays : FollowingPlaysOut) (runs : RunsAreOfTheJournal) (given_noted :
 
   all_draws : AllByRecursion (AllByRecursion IsDraw) J.draws
   all_draws =
-      all_places (AllByRecursion IsDraw) J.draws
+      all_by_place (AllByRecursion IsDraw) J.draws
       (λ place list there.
-      let low = within J.draws place list there in
+      let low = slice_get_within J.draws place list there in
       let many = shape.draws in
       let all = laid in
       let some = room.clients.0 in
@@ -306,9 +309,9 @@ module _ (plays : FollowingPlaysOut) (runs : RunsAreOfTheJournal) (given_noted :
 
   all_logs : AllByRecursion (AllByRecursion (IsStep J.clients)) J.logs
   all_logs =
-      all_places (AllByRecursion (IsStep J.clients)) J.logs
+      all_by_place (AllByRecursion (IsStep J.clients)) J.logs
       (λ i log there.
-      let low = within J.logs i log there in
+      let low = slice_get_within J.logs i log there in
       let many = shape.logs in
       let n = node_at i (omega (arith, low, many)) in
       let is : log_at J i ≡ log = ap (λ o. unwrap_or o []) there in

@@ -2,21 +2,24 @@
 -- which each is that has a piece of the record, give the same as all pages.
 use Rattle.std.proofs.Common.{◌≡◌, ◌⊎◌, inl, inr, ℕ, zero, suc, ◌+◌, ◌<◌, ◌≤◌, ◌==◌, ◌&&◌, Bool, true, false, cond, List, [], ◌∷◌, ◌++◌, length, refl, sym, ap, subst, ◌∙◌, Some, None, arith, map, filter, slice_get, eq-eqb, nat_eq, append-nil}
 use Rattle.std.specs.List.{AllByRecursion, flat_map, concat}
-use Rattle.std.proofs.lemmas.Bool.Decides.{nat_tests}
 use Rattle.std.proofs.lemmas.List.{length-map, map-append}
 use Rattle.std.proofs.lemmas.List.Elements.{filter-append}
+use Rattle.std.proofs.lemmas.Option.{same_Some}
+use Rattle.hs_lists.proofs.Places.{IsIn}
+use Rattle.hs_lists.proofs.Alls.{all_at, all_each}
+use Rattle.hs_lists.proofs.Numbers.{nat_eq_below, nat_eq_above}
 use Rattle.hs_base.specs.declared.ids.ClientId.{ClientId}
 use Rattle.hs_base.specs.declared.ids.RecordId.{RecordId}
 use Rattle.hs_base.specs.declared.ids.TraceId.{TraceId}
 use Rattle.hs_client.specs.Calls.{written, sheet_for}
 use Rattle.hs_collect.specs.Collected.{Placed, is_of, is_same, is_piece_of, pieces_from, page_pieces, is_by}
+use Rattle.hs_collect.proofs.Reordered.{none_from}
 use Rattle.hs_records.specs.Laws.{Traces, RiseFrom, CarriesRecords, pieces_of_records, pieces_on}
 use Rattle.hs_records.specs.Pages.{PlainPage, first_record}
 use Rattle.hs_records.specs.Records.{Piece, Record, payload_pieces, record_pieces}
 use Rattle.hs_words.specs.Pages.{Sheet}
 use Rattle.hs_words.specs.Pages as words
-use Rattle.hs_outcome.proofs.Among.{IsIn, at_head}
-use Rattle.hs_outcome.proofs.Lists.{some_same, all_each, all_at}
+use Rattle.hs_outcome.proofs.Among.{at_head}
 
 abbrev pub id_of : ClientId → ℕ → RecordId
 id_of client number = record { client = client; number = number }
@@ -81,18 +84,12 @@ all_numbered n number moment (bytes ∷ payloads) e =
     ap (λ b. cond b (record { number = number; moment = moment; payload = bytes } ∷ filter (is_numbered n) (parts number moment payloads)) (filter (is_numbered n) (parts number moment payloads))) e
     ∙ ap (λ rest. record { number = number; moment = moment; payload = bytes } ∷ rest) (all_numbered n number moment payloads e)
 
-differs : (n m : ℕ) → n < m → nat_eq n m ≡ false
-differs n m less = grind (arith, nat_tests)
-
-exceeds : (n m : ℕ) → m < n → nat_eq n m ≡ false
-exceeds n m less = grind (arith, nat_tests)
-
 -- records with higher numbers have no piece of it
 none_later : (size n start : ℕ) (records : List Record) → n < start → filter (is_numbered n) (pieces_of_records size start records) ≡ []
 none_later size n start [] less = refl
 none_later size n start (r ∷ records) less =
     filter-append (is_numbered n) (record_pieces size start r.moment r.payload) (pieces_of_records size (start + 1) records)
-    ∙ ap (λ front. front ++ filter (is_numbered n) (pieces_of_records size (start + 1) records)) (none_numbered n start r.moment (payload_pieces size r.payload) (differs n start less))
+    ∙ ap (λ front. front ++ filter (is_numbered n) (pieces_of_records size (start + 1) records)) (none_numbered n start r.moment (payload_pieces size r.payload) (nat_eq_below n start less))
     ∙ none_later size n (start + 1) records (omega (arith, less))
 
 of_record : (size start i : ℕ) (records : List Record) (r : Record) → slice_get records i ≡ Some r
@@ -106,13 +103,13 @@ of_record size start zero (q ∷ records) r h =
     ∙ ap (λ front. front ++ filter (is_numbered n) (pieces_of_records size (start + 1) records)) (all_numbered n start q.moment (payload_pieces size q.payload) here)
     ∙ ap (λ rest. record_pieces size start q.moment q.payload ++ rest) (none_later size n (start + 1) records (omega arith))
     ∙ append-nil (record_pieces size start q.moment q.payload)
-    ∙ ap (λ (q : Record). record_pieces size start q.moment q.payload) (some_same q r h)
+    ∙ ap (λ (q : Record). record_pieces size start q.moment q.payload) (same_Some q r h)
     ∙ ap (λ k. record_pieces size k r.moment r.payload) zeroth
 of_record size start (suc i) (q ∷ records) r h =
     let n = start + suc i in
     let more : start + 1 + i ≡ n = omega arith in
     filter-append (is_numbered n) (record_pieces size start q.moment q.payload) (pieces_of_records size (start + 1) records)
-    ∙ ap (λ front. front ++ filter (is_numbered n) (pieces_of_records size (start + 1) records)) (none_numbered n start q.moment (payload_pieces size q.payload) (exceeds n start (omega arith)))
+    ∙ ap (λ front. front ++ filter (is_numbered n) (pieces_of_records size (start + 1) records)) (none_numbered n start q.moment (payload_pieces size q.payload) (nat_eq_above n start (omega arith)))
     ∙ subst (λ k. filter (is_numbered k) (pieces_of_records size (start + 1) records) ≡ record_pieces size k r.moment r.payload) more (of_record size (start + 1) i records r h)
 
 -- over all pages of a client, the pieces of a record
@@ -132,14 +129,6 @@ joined_payload client number moment (bytes ∷ payloads) = ap (λ rest. bytes ++
 
 -- ---- pages without a piece of it
 
-none_of_other : (id : RecordId) (client : ClientId) (number : ℕ) (pieces : List words.Piece) → (client.node == id.client.node && client.number == id.client.number) ≡ false → filter (is_piece_of id) (pieces_from client number pieces) ≡ []
-none_of_other id client number [] apart = refl
-none_of_other id client number (piece ∷ pieces) apart =
-    let other : is_same id (record { client = client; number = number }) ≡ false = grind (arith, nat_tests) in
-    let first : Placed = record { id = record { client = client; number = number }; moment = piece.moment; payload = piece.payload } in
-    ap (λ b. cond b (first ∷ filter (is_piece_of id) (pieces_from client (number + 1) pieces)) (filter (is_piece_of id) (pieces_from client (number + 1) pieces))) other
-    ∙ none_of_other id client (number + 1) pieces apart
-
 none_outside : (client : ClientId) (n first : ℕ) (pieces : List words.Piece) → (n < first) ⊎ (first + length pieces ≤ n) → filter (is_piece_of (id_of client n)) (pieces_from client first pieces) ≡ []
 none_outside client n first [] out = refl
 none_outside client n first (piece ∷ pieces) out =
@@ -149,8 +138,8 @@ none_outside client n first (piece ∷ pieces) out =
     ∙ none_outside client n (first + 1) pieces (rest out)
   where
     other : (n < first) ⊎ (first + suc (length pieces) ≤ n) → nat_eq n first ≡ false
-    other (inl less) = differs n first less
-    other (inr more) = exceeds n first (omega (arith, more))
+    other (inl less) = nat_eq_below n first less
+    other (inr more) = nat_eq_above n first (omega (arith, more))
 
     rest : (n < first) ⊎ (first + suc (length pieces) ≤ n) → (n < first + 1) ⊎ (first + 1 + length pieces ≤ n)
     rest (inl less) = inl (omega (arith, less))
@@ -184,7 +173,7 @@ by_run id trace (sheet ∷ sheets) = go (sheet.header.client.node == id.client.n
         ≡ flat_map (own_pieces id) (cond (own && its) (sheet ∷ filter (is_by id.client trace) sheets) (filter (is_by id.client trace) sheets))
     go true same true later = ap (λ rest. own_pieces id sheet ++ rest) later
     go true same false later = later
-    go false apart true later = ap (λ front. front ++ flat_map (own_pieces id) (filter (is_of trace) sheets)) (none_of_other id sheet.header.client sheet.header.first sheet.pieces apart) ∙ later
+    go false apart true later = ap (λ front. front ++ flat_map (own_pieces id) (filter (is_of trace) sheets)) (none_from id sheet.header.client sheet.header.first sheet.pieces apart) ∙ later
     go false apart false later = later
 
 -- ---- some of the pages, in rising order
@@ -265,7 +254,7 @@ module _ {X : Type 0} (give : Sheet → List X) (client : ClientId) where
       go zero there is rest whole =
           let zeroth : first + 0 ≡ first = omega arith in
           let number : sheet.header.page ≡ first = ap (λ (s : Sheet). s.header.page) is ∙ zeroth in
-          let same : sheet ≡ sheet_for client first p = is ∙ ap (λ n. sheet_for client n all.0.page) zeroth ∙ ap (sheet_for client first) (sym (some_same p all.0.page there)) in
+          let same : sheet ≡ sheet_for client first p = is ∙ ap (λ n. sheet_for client n all.0.page) zeroth ∙ ap (sheet_for client first) (sym (same_Some p all.0.page there)) in
           let low = behind first (omega arith) (omega (arith, number)) in
           ap (λ (s : Sheet). give s ++ flat_map give sheets) same
           ∙ ap (λ rest. give (sheet_for client first p) ++ rest) (rest rise.1 (pages_behind sheets all.1 low) (without_first number (later_all first p pages (sheet ∷ sheets) has)))

@@ -2,7 +2,9 @@
 use Rattle.std.proofs.Common.{◌≡◌, ℕ, zero, suc, ◌+◌, ◌<◌, ◌≤◌, Bool, true, false, cond, List, [], ◌∷◌, ◌++◌, refl, sym, ap, subst, ◌∙◌, Option, Some, None, arith, map, filter, option_map, slice_get, eq-eqb, nat_eq}
 use Rattle.std.specs.List.{AllByRecursion, cons_option, flat_map, range_with_len}
 use Rattle.std.specs.Option.{option_map_or}
-use Rattle.std.proofs.lemmas.Option.{slice_get-map}
+use Rattle.std.proofs.lemmas.Option.{slice_get-map, same_Some}
+use Rattle.hs_lists.proofs.Alls.{all_append, all_at, all_each}
+use Rattle.hs_lists.proofs.Options.{option_unmap}
 use Rattle.hs_base.specs.declared.ids.ClientId.{ClientId}
 use Rattle.hs_base.specs.declared.ids.TraceId.{TraceId}
 use Rattle.hs_base.specs.Ids.{same_trace}
@@ -28,10 +30,8 @@ use Rattle.hs_outcome.specs.CollectedReports.{IsClientsPage, TakenPagesAreOfClie
 use Rattle.hs_outcome.specs.Origins.{IsOfDrawnPage, TakenPagesWereDrawn}
 use Rattle.hs_outcome.specs.Outcomes.{reported_at, outcome_of}
 use Rattle.hs_outcome.specs.Records.{EndsItsTraces}
-use Rattle.hs_outcome.proofs.ClientPages.{all_both}
 use Rattle.hs_outcome.proofs.Entries.{ends_at}
-use Rattle.hs_outcome.proofs.GotPages.{then_parts, unmapped, in_range, all_below}
-use Rattle.hs_outcome.proofs.Lists.{some_same, all_at, all_each}
+use Rattle.hs_outcome.proofs.GotPages.{then_parts, in_range, all_below}
 
 -- ---- pages of clients
 
@@ -40,7 +40,7 @@ timed_at : (client : ClientId) (k : ℕ) (timed : List TimedPage) (draws : List 
 timed_at client k [] draws at page h = let no : None ≡ Some page = h in absurd cc
 timed_at client k (t ∷ timed) [] at page h = let no : None ≡ Some page = h in absurd cc
 timed_at client k (t ∷ timed) (draw ∷ draws) zero page h =
-    let same = some_same (record { client = client; number = k; page = t.page; started = t.started; sent = t.sent; draw = draw }) page h in
+    let same = same_Some (record { client = client; number = k; page = t.page; started = t.started; sent = t.sent; draw = draw }) page h in
     (ap (λ (d : DrawnPage). Some d.page) same, ap (λ (d : DrawnPage). d.client) (sym same))
 timed_at client k (t ∷ timed) (draw ∷ draws) (suc at) page h = timed_at client (k + 1) timed draws at page h
 
@@ -50,7 +50,7 @@ module _ (timed : TimedPagesAreThePages) (W : PlainWorkload) (J : PlainJournal) 
       let c = sheet.header.client.number in
       let at = sheet.header.page in
       let s = then_parts (λ (s : ClientSends). slice_get s.drawn at) (slice_get run.sends c) o.page o.there in
-      let found = unmapped (client_sends W J run.node) (slice_get (range_with_len 0 W.settings.clients) c) s.0
+      let found = option_unmap (client_sends W J run.node) (slice_get (range_with_len 0 W.settings.clients) c) s.0
       (sym (slice_get-map (client_sends W J run.node) (range_with_len 0 W.settings.clients) c) ∙ ap (λ (all : List ClientSends). slice_get all c) (sym sends) ∙ s.1)
       in
       let range = in_range 0 W.settings.clients c found.0 found.1 in
@@ -160,7 +160,7 @@ module _ (taken : List Taken) where
 
 rise_both : (xs ys : List Sheet) → RunsRise xs → RunsRise ys → AllByRecursion (λ (x : Sheet). AllByRecursion (Above x) ys) xs → RunsRise (xs ++ ys)
 rise_both [] ys a b across = b
-rise_both (x ∷ xs) ys a b across = (all_both (Above x) xs ys a.0 across.0, rise_both xs ys a.1 b across.1)
+rise_both (x ∷ xs) ys a b across = (all_append (Above x) xs ys a.0 across.0, rise_both xs ys a.1 b across.1)
 
 record NodeRises (run : NodeRun) : Type 0 where
   rise : RunsRise (reported_at run)
@@ -190,7 +190,7 @@ nodes_rise (run ∷ nodes) start (suc count) numbers all =
           all_each (λ (later : Sheet). start + 1 ≤ later.header.client.node) (Above sheet) (flat_map reported_at nodes) (λ later there. later_node sheet later start here there) rest.behind)
           own);
       behind =
-          all_both (λ (sheet : Sheet). start ≤ sheet.header.client.node) (reported_at run) (flat_map reported_at nodes)
+          all_append (λ (sheet : Sheet). start ≤ sheet.header.client.node) (reported_at run) (flat_map reported_at nodes)
           (all_each (λ (sheet : Sheet). sheet.header.client.node ≡ start) (λ (sheet : Sheet). start ≤ sheet.header.client.node) (reported_at run) (λ sheet here. omega (arith, here)) own)
           (all_each (λ (sheet : Sheet). start + 1 ≤ sheet.header.client.node) (λ (sheet : Sheet). start ≤ sheet.header.client.node) (flat_map reported_at nodes) (λ sheet there. omega (arith, there)) rest.behind);
     }
@@ -223,7 +223,7 @@ module _ (plays : FollowingPlaysOut) (runs : RunsAreOfTheJournal) (timed : Timed
   each_paged : (runs : List NodeRun) → AllByRecursion IsPaged runs → AllByRecursion (IsClientsPage W) (flat_map reported_at runs)
   each_paged [] all = tt
   each_paged (run ∷ runs) all =
-      all_both (IsClientsPage W) (reported_at run) (flat_map reported_at runs)
+      all_append (IsClientsPage W) (reported_at run) (flat_map reported_at runs)
       (all_placed run.state.taken (IsClientsPage W) run.state.reported (λ place chunk h. all_at (λ (chunk : Taken). IsClientsPage W chunk.sheet) run.state.taken place chunk all.0 h)) (each_paged runs all.1)
 
   -- each is a page of its client

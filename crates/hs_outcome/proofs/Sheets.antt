@@ -1,22 +1,17 @@
 -- A page that an agent took stands at a place among its chunks.
-use Rattle.std.proofs.Common.{◌≡◌, ℕ, zero, suc, Bool, true, false, cond, List, [], ◌∷◌, ◌++◌, refl, Some, None, filter, slice_get}
+use Rattle.std.proofs.Common.{◌≡◌, ℕ, suc, Bool, true, false, cond, List, [], ◌∷◌, refl, Some, filter, slice_get}
 use Rattle.std.specs.List.{AllByRecursion}
+use Rattle.hs_lists.proofs.Alls.{all_each}
 use Rattle.hs_words.specs.Pages.{Sheet}
 use Rattle.hs_model.specs.Laws.{sheets_of}
 use Rattle.hs_model.specs.Standings.{Taken}
 use Rattle.hs_lawful.specs.Following.{taken}
-use Rattle.hs_outcome.proofs.Lists.{all_each}
 
 -- ---- what was taken is there
 
 pub record IsTaken (taken : List Taken) (sheet : Sheet) : Type 0 where
   pub place : ℕ
   pub there : slice_get (sheets_of taken) place ≡ Some sheet
-
-pub get_front : {X : Type 0} (xs ys : List X) (i : ℕ) (x : X) → slice_get xs i ≡ Some x → slice_get (xs ++ ys) i ≡ Some x
-get_front [] ys i x h = let no : None ≡ Some x = h in absurd cc
-get_front (y ∷ xs) ys zero x h = h
-get_front (y ∷ xs) ys (suc i) x h = get_front xs ys i x h
 
 taken_case : (chunk : Taken) (taken : List Taken) (kept : List Sheet) (b : Bool) → AllByRecursion (IsTaken taken) kept → AllByRecursion (IsTaken (chunk ∷ taken)) (cond b (chunk.sheet ∷ kept) kept)
 taken_case chunk taken kept true all = (record { place = 0; there = refl }, all_each (IsTaken taken) (IsTaken (chunk ∷ taken)) kept (λ sheet t. record { place = suc t.place; there = t.there }) all)

@@ -6,6 +6,7 @@ use Rattle.std.proofs.Math.Nat.{mod-zero, div-zero, mod-lt}
 use Rattle.std.proofs.lemmas.Nat.{le-div, div-add-mod'}
 use Rattle.std.proofs.lemmas.List.{map-append}
 use Rattle.std.proofs.lemmas.List.Sorted.{IsPermutation-filter_both, IsPermutation-map}
+use Rattle.hs_lists.proofs.Alls.{all_each, all_filter, all_append, all_unmap, all_map}
 use Rattle.hs_base.specs.declared.ids.ClientId.{ClientId}
 use Rattle.hs_base.specs.declared.ids.RecordId.{RecordId}
 use Rattle.hs_base.specs.declared.ids.TraceId.{TraceId}
@@ -18,7 +19,7 @@ use Rattle.hs_sent.specs.Sending.{operations_at, place_of}
 use Rattle.hs_outcome.specs.Outcomes.{client_at, outcome_of}
 use Rattle.hs_outcome.specs.Records.{Named, named_from, client_records, all_records, trace_records, name_of, IsWholeRecord, placed_ids, entry_ids, ComeInOrder, ShowsItsTrace, ReportsShowTheirTraces, EachRecordHasOneEntry}
 use Rattle.hs_outcome.specs.Reports.{record_of, whole_of, is_of, report_of, reported_traces}
-use Rattle.hs_outcome.proofs.Lists.{all_each, all_filter, filter_passes}
+use Rattle.hs_outcome.proofs.Lists.{filter_passes}
 
 -- ---- each name is that of a record
 
@@ -29,21 +30,9 @@ pub record IsKnown (W : PlainWorkload) (name : Named) : Type 0 where
   pub traced : known.trace ≡ name.trace
 
 module _ {X : Type 0} where
-  all_append : (P : X → Type 0) (xs ys : List X) → AllByRecursion P xs → AllByRecursion P ys → AllByRecursion P (xs ++ ys)
-  all_append P [] ys a b = b
-  all_append P (x ∷ xs) ys a b = (a.0, all_append P xs ys a.1 b)
-
   all_flat : (P : X → Type 0) (f : ℕ → List X) (start count : ℕ) → ((n : ℕ) → AllByRecursion P (f n)) → AllByRecursion P (flat_map f (range_with_len start count))
   all_flat P f start zero each = tt
   all_flat P f start (suc count) each = all_append P (f start) (flat_map f (range_with_len (start + 1) count)) (each start) (all_flat P f (start + 1) count each)
-
-pub all_mapped : {X Y : Type 0} (P : Y → Type 0) (f : X → Y) (xs : List X) → AllByRecursion P (map f xs) → AllByRecursion (λ x. P (f x)) xs
-all_mapped P f [] all = tt
-all_mapped P f (x ∷ xs) all = (all.0, all_mapped P f xs all.1)
-
-mapped_all : {X Y : Type 0} (P : Y → Type 0) (f : X → Y) (xs : List X) → AllByRecursion (λ x. P (f x)) xs → AllByRecursion P (map f xs)
-mapped_all P f [] all = tt
-mapped_all P f (x ∷ xs) all = (all.0, mapped_all P f xs all.1)
 
 place_back : (each place : ℕ) → place_of each (place / each) (place % each) ≡ place
 place_back each place = div-add-mod' place each
@@ -193,8 +182,8 @@ order_filter : (test : Entry → Bool) (entries : List Entry) → ComeInOrder (e
 order_filter test [] order = tt
 order_filter test (entry ∷ entries) order =
     order_case entry (filter test entries) (test entry)
-    (mapped_all (Precedes entry.id) (λ (e : Entry). e.id) (filter test entries)
-    (all_filter (λ (e : Entry). Precedes entry.id e.id) test entries (all_mapped (Precedes entry.id) (λ (e : Entry). e.id) entries order.0)))
+    (all_map (Precedes entry.id) (λ (e : Entry). e.id) (filter test entries)
+    (all_filter (λ (e : Entry). Precedes entry.id e.id) test entries (all_unmap (Precedes entry.id) (λ (e : Entry). e.id) entries order.0)))
     (order_filter test entries order.1)
 
 -- a filter by two tests is one behind the other
@@ -259,7 +248,7 @@ module _ (W : PlainWorkload) (trace : TraceId) where
       let lost = λ (e : Entry). not (is_reported e.fate) in
       let kept = filter_both (is_of trace) reported entries in
       let gone = filter_both (is_of trace) lost entries in
-      let known : AllByRecursion (λ (e : Entry). IsKnown W (name_of e)) entries = all_mapped (IsKnown W) name_of entries (subst (AllByRecursion (IsKnown W)) (sym named) (all_known W)) in
+      let known : AllByRecursion (λ (e : Entry). IsKnown W (name_of e)) entries = all_unmap (IsKnown W) name_of entries (subst (AllByRecursion (IsKnown W)) (sym named) (all_known W)) in
       let shown_all : AllByRecursion (IsShown W trace) of_trace =
       both_all of_trace (all_filter (λ (e : Entry). IsKnown W (name_of e)) (is_of trace) entries known) (filter_passes (is_of trace) entries)
       in

@@ -3,10 +3,14 @@
 use Rattle.std.proofs.Common.{◌≡◌, ◌⊎◌, inl, inr, ℕ, zero, suc, ◌+◌, ◌-◌, ◌<◌, ◌≤◌, Bool, true, false, ◌&&◌, cond, List, [], ◌∷◌, ◌++◌, length, refl, sym, ap, subst, ◌∙◌, Option, Some, None, arith, map, filter, filter_map, option_map, slice_get, count_by, append_assoc, append-nil, eqb, eqb-true, eq-eqb, ltb, ltb-true, ltb-false, nat_eq, length-append, eq-or-lt_of_le}
 use Rattle.std.specs.List.{AllByRecursion, flat_map, range_with_len, list_all, cons_option}
 use Rattle.std.specs.Option.{option_and_then, option_map_or}
+use Rattle.std.proofs.lemmas.Bool.{and_parts}
 use Rattle.std.proofs.lemmas.List.{length-map, map-append, nil_from_length}
 use Rattle.std.proofs.lemmas.List.Folds.{flat_map-map}
-use Rattle.std.proofs.lemmas.List.Sums.{sum_by-cons, sum_by-append}
-use Rattle.std.proofs.lemmas.Option.{slice_get-map}
+use Rattle.std.proofs.lemmas.List.Sums.{count_by-le-length}
+use Rattle.std.proofs.lemmas.Option.{slice_get-map, same_Some}
+use Rattle.hs_lists.proofs.Parts.{map_flat, flat_alike}
+use Rattle.hs_lists.proofs.Alls.{all_at, all_by_place}
+use Rattle.hs_lists.proofs.Counts.{one_if as one, count_cons, count_append, none_below_zero}
 use Rattle.hs_base.specs.declared.ids.ClientId.{ClientId}
 use Rattle.hs_journal.specs.declared.journal.Draw.{Draw}
 use Rattle.hs_journal.specs.declared.journal.Draw.TheVariants as draws
@@ -32,28 +36,10 @@ use Rattle.hs_outcome.specs.Causes.{EmptyOnlyWhereEmpty}
 use Rattle.hs_outcome.specs.Nulls.{FoundNothing, NullsFoundNothing, EmptyDrawsFoundNothing}
 use Rattle.hs_outcome.specs.Records.{EndsItsTraces}
 use Rattle.hs_outcome.proofs.Entries.{shape_counts, same_length, ends_at}
-use Rattle.hs_outcome.proofs.Lists.{and_parts, some_same, all_at, map_flat}
-
-abbrev pub one : Bool → ℕ
-one b = cond b 1 0
 
 -- ---- counts
 
 module _ {X : Type 0} (p : X → Bool) where
-  pub count_cons : (x : X) (xs : List X) → count_by p (x ∷ xs) ≡ one (p x) + count_by p xs
-  count_cons x xs = sum_by-cons (λ (x : X). one (p x)) x xs
-
-  pub count_both : (xs ys : List X) → count_by p (xs ++ ys) ≡ count_by p xs + count_by p ys
-  count_both xs ys = sum_by-append (λ (x : X). one (p x)) xs ys
-
-  count_most : (xs : List X) → count_by p xs ≤ length xs
-  count_most [] = omega arith
-  count_most (x ∷ xs) = let first = count_cons x xs in let rest = count_most xs in let few = one_most (p x) in omega (arith, first, rest, few)
-    where
-      one_most : (b : Bool) → one b ≤ 1
-      one_most true = omega arith
-      one_most false = omega arith
-
   full_case : (x : X) (xs : List X) (b : Bool) → p x ≡ b → one b + count_by p xs ≡ suc (length xs) → count_by p xs ≤ length xs → (p x ≡ true) × (count_by p xs ≡ length xs)
   full_case x xs true e h few = (e, omega (arith, h))
   full_case x xs false e h few = absurd (omega (arith, h, few))
@@ -62,8 +48,8 @@ module _ {X : Type 0} (p : X → Bool) where
   pub count_full : (xs : List X) → count_by p xs ≡ length xs → AllByRecursion (λ x. p x ≡ true) xs
   count_full [] h = tt
   count_full (x ∷ xs) h =
-      let first = count_cons x xs in
-      let case = full_case x xs (p x) refl (sym first ∙ h) (count_most xs) in
+      let first = count_cons p x xs in
+      let case = full_case x xs (p x) refl (sym first ∙ h) (count_by-le-length p xs) in
       (case.0, count_full xs case.1)
 
 pub count_true : {X : Type 0} (xs : List X) → count_by (λ (_ : X). true) xs ≡ length xs
@@ -98,16 +84,8 @@ count_below n (x ∷ stamps) =
     let rest = count_below n stamps in
     omega (arith, a, b, c, here, rest)
 
-none_below : (stamps : List ℕ) → count_by (λ t. ltb t 0) stamps ≡ 0
-none_below [] = refl
-none_below (x ∷ stamps) = let first = count_cons (λ t. ltb t 0) x stamps in let rest = none_below stamps in let here = zero_case (ltb x 0) refl in omega (arith, first, rest, here)
-  where
-    zero_case : (b : Bool) → ltb x 0 ≡ b → one b ≡ 0
-    zero_case true e = let low = ltb-true x 0 e in absurd (omega (arith, low))
-    zero_case false e = refl
-
 all_below : (n : ℕ) (stamps : List ℕ) → ((s : ℕ) → s < n → count_by (at s) stamps ≡ 1) → count_by (λ t. ltb t n) stamps ≡ n
-all_below zero stamps each = none_below stamps
+all_below zero stamps each = none_below_zero stamps
 all_below (suc n) stamps each =
     let rest = all_below n stamps (λ s h. each s (omega (arith, h))) in
     let here = each n (omega arith) in
@@ -171,7 +149,7 @@ module _ {A : Type 0} (stamp : A → ℕ) where
   among : (items : List A) (i : ℕ) (x : A) → slice_get items i ≡ Some x → (n : ℕ) × (slice_get (with_stamp items (stamp x)) n ≡ Some x)
   among [] i x h = let no : None ≡ Some x = h in absurd cc
   among (y ∷ items) zero x h =
-      let same = some_same y x h in
+      let same = same_Some y x h in
       let own : eqb (stamp y) (stamp x) ≡ true = eq-eqb (stamp y) (stamp x) (ap stamp same) in
       let found = among_case y (with_stamp items (stamp x)) (eqb (stamp y) (stamp x)) own in
       (found.0, found.1 ∙ ap Some same)
@@ -179,7 +157,7 @@ module _ {A : Type 0} (stamp : A → ℕ) where
 
   only : (xs : List A) (n : ℕ) (x : A) → length xs ≡ 1 → slice_get xs n ≡ Some x → xs ≡ x ∷ []
   only [] n x one h = absurd (omega (arith, one))
-  only (y ∷ []) zero x one h = ap (λ z. z ∷ []) (some_same y x h)
+  only (y ∷ []) zero x one h = ap (λ z. z ∷ []) (same_Some y x h)
   only (y ∷ []) (suc n) x one h = let no : None ≡ Some x = h in absurd cc
   only (y ∷ z ∷ xs) n x one h = absurd (omega (arith, one))
 
@@ -298,17 +276,13 @@ given_stamps run (given ∷ givens) h =
     ∙ ap (λ (s : ℕ). s ∷ map (λ (e : PoolEvent). e.stamp) (filter_map (given_event run) givens)) event.2
     ∙ ap (λ (rest : List ℕ). given.stamp ∷ rest) (given_stamps run givens both.1)
 
-flat_each : {X Y : Type 0} (f g : X → List Y) (xs : List X) → ((x : X) → f x ≡ g x) → flat_map f xs ≡ flat_map g xs
-flat_each f g [] same = refl
-flat_each f g (x ∷ xs) same = ap (λ (front : List _). front ++ flat_map f xs) (same x) ∙ ap (λ (rest : List _). g x ++ rest) (flat_each f g xs same)
-
 passed : {X : Type 0} (p : X → Bool) (xs : List X) → list_all p xs ≡ true → AllByRecursion (λ x. p x ≡ true) xs
 passed p [] h = tt
 passed p (x ∷ xs) h = let both = and_parts (p x) (list_all p xs) h in (both.0, passed p xs both.1)
 
 in_range : (start count i n : ℕ) → slice_get (range_with_len start count) i ≡ Some n → n < start + count
 in_range start zero i n h = let no : None ≡ Some n = h in absurd cc
-in_range start (suc count) zero n h = let same = some_same start n h in omega (arith, same)
+in_range start (suc count) zero n h = let same = same_Some start n h in omega (arith, same)
 in_range start (suc count) (suc i) n h = let rest = in_range (start + 1) count i n h in omega (arith, rest)
 
 module _ (plays : FollowingPlaysOut) (runs : RunsAreOfTheJournal) (given_noted : GivesAreNoted) (timed : TimedPagesAreThePages) (W : PlainWorkload) (J : PlainJournal) (ends : EndsItsTraces W) (lawful : IsLawful W J) where
@@ -347,7 +321,7 @@ module _ (plays : FollowingPlaysOut) (runs : RunsAreOfTheJournal) (given_noted :
         ap (λ (sends : List ClientSends). map (λ (d : DrawnPage). d.draw) (flat_map (λ (s : ClientSends). s.drawn) sends)) own.sends
         ∙ ap (map (λ (d : DrawnPage). d.draw)) (flat_map-map (λ (s : ClientSends). s.drawn) (client_sends W J run.node) clients)
         ∙ map_flat (λ number. (client_sends W J run.node number).drawn) (λ (d : DrawnPage). d.draw) clients
-        ∙ flat_each (λ number. map (λ (d : DrawnPage). d.draw) (client_sends W J run.node number).drawn) (λ number. draws_at J (place_of W.settings.clients run.node number)) clients client_draws
+        ∙ flat_alike (λ number. map (λ (d : DrawnPage). d.draw) (client_sends W J run.node number).drawn) (λ number. draws_at J (place_of W.settings.clients run.node number)) clients client_draws
         ∙ sym (flat_map-map (λ (drawn : List Draw). drawn) (λ number. draws_at J (place_of W.settings.clients run.node number)) clients)
 
     pages_stamps : map (λ (e : PoolEvent). e.stamp) (map drawn_event (node_pages run)) ≡ flat_map draw_stamps (node_draws W J run.node)
@@ -367,14 +341,14 @@ module _ (plays : FollowingPlaysOut) (runs : RunsAreOfTheJournal) (given_noted :
         let parts = map-append (λ (e : PoolEvent). e.stamp) (map drawn_event (node_pages run) ++ filter_map (given_event run) run.state.given) (filter_map missed_event run.state.log) in
         let front = map-append (λ (e : PoolEvent). e.stamp) (map drawn_event (node_pages run)) (filter_map (given_event run) run.state.given) in
         let whole = ap (count_by p) parts in
-        let a = count_both p (map (λ (e : PoolEvent). e.stamp) (map drawn_event (node_pages run) ++ filter_map (given_event run) run.state.given)) (missed_stamps run.state.log) in
+        let a = count_append p (map (λ (e : PoolEvent). e.stamp) (map drawn_event (node_pages run) ++ filter_map (given_event run) run.state.given)) (missed_stamps run.state.log) in
         let b = ap (count_by p) front in
-        let c = count_both p (map (λ (e : PoolEvent). e.stamp) (map drawn_event (node_pages run))) (map (λ (e : PoolEvent). e.stamp) (filter_map (given_event run) run.state.given)) in
+        let c = count_append p (map (λ (e : PoolEvent). e.stamp) (map drawn_event (node_pages run))) (map (λ (e : PoolEvent). e.stamp) (filter_map (given_event run) run.state.given)) in
         let d = ap (count_by p) pages_stamps in
         let e = ap (count_by p) gives_stamps in
         let f = log_counts p run.state.log in
         let g = ap (λ (log : List Step). count_by p (log_stamps log)) log_whole in
-        let h = count_both p (flat_map draw_stamps (node_draws W J run.node)) (log_stamps (log_at J run.node)) in
+        let h = count_append p (flat_map draw_stamps (node_draws W J run.node)) (log_stamps (log_at J run.node)) in
         omega (arith, whole, a, b, c, d, e, f, g, h)
 
     pub same_long : length (pool_events run) ≡ length (node_stamps W J run.node)
@@ -430,13 +404,9 @@ module _ (plays : FollowingPlaysOut) (runs : RunsAreOfTheJournal) (given_noted :
         get_first (y ∷ xs) ys zero x h = h
         get_first (y ∷ xs) ys (suc place) x h = get_first xs ys place x h
 
-pub all_places : {X : Type 0} (P : X → Type 0) (xs : List X) → ((i : ℕ) (x : X) → slice_get xs i ≡ Some x → P x) → AllByRecursion P xs
-all_places P [] each = tt
-all_places P (x ∷ xs) each = (each 0 x refl, all_places P xs (λ i y h. each (suc i) y h))
-
 pub empty_draws_found_nothing : FollowingPlaysOut → RunsAreOfTheJournal → GivesAreNoted → TimedPagesAreThePages → EmptyOnlyWhereEmpty → EmptyDrawsFoundNothing
 empty_draws_found_nothing plays runs given_noted timed empties W J ends lawful =
-    all_places (NullsFoundNothing W) (followed W J).nodes
+    all_by_place (NullsFoundNothing W) (followed W J).nodes
     (λ i run stands.
-    all_places (λ (page : DrawnPage). (stamp : ℕ) → page.draw ≡ draws.Empty stamp → FoundNothing W.settings.buffers run stamp) (node_pages run)
+    all_by_place (λ (page : DrawnPage). (stamp : ℕ) → page.draw ≡ draws.Empty stamp → FoundNothing W.settings.buffers run stamp) (node_pages run)
     (λ k page there. nothing_found plays runs given_noted timed W J ends lawful i run stands empties k page there))

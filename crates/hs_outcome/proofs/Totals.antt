@@ -1,7 +1,8 @@
 -- Each fate is one of five, so the five counts sum to the length.
-use Rattle.std.proofs.Common.{◌≡◌, ℕ, ◌+◌, Bool, cond, List, [], ◌∷◌, length, refl, sym, ap, ◌∙◌, arith}
+use Rattle.std.proofs.Common.{◌≡◌, ◌+◌, Bool, List, [], ◌∷◌, length, refl, sym, ap, ◌∙◌, arith}
 use Rattle.std.proofs.lemmas.List.{length-map}
 use Rattle.std.proofs.lemmas.List.Sums.{sum_by-cons}
+use Rattle.hs_lists.proofs.Counts.{one_if}
 use Rattle.hs_base.specs.declared.told.Fate.{Fate}
 use Rattle.hs_base.specs.declared.told.Fate.TheVariants.{Null, Live, Reported, Evicted, Abandoned}
 use Rattle.hs_ledger.specs.declared.ledger.Entry.{Entry}
@@ -9,18 +10,15 @@ use Rattle.hs_ledger.specs.Totals.{is_live, is_reported, is_null, is_evicted, is
 use Rattle.hs_outcome.specs.Outcomes.{outcome_of}
 use Rattle.hs_outcome.specs.Records.{EachRecordHasOneEntry, TotalsCountTheRecords, name_of}
 
-abbrev one : Bool → ℕ
-one b = cond b 1 0
-
-one_of_five : (fate : Fate) → one (is_live fate) + one (is_reported fate) + one (is_null fate) + one (is_evicted fate) + one (is_abandoned fate) ≡ 1
+one_of_five : (fate : Fate) → one_if (is_live fate) + one_if (is_reported fate) + one_if (is_null fate) + one_if (is_evicted fate) + one_if (is_abandoned fate) ≡ 1
 one_of_five (Null stamp) = refl
 one_of_five Live = refl
 one_of_five (Reported trigger lead) = refl
 one_of_five (Evicted chunks traces) = refl
 one_of_five (Abandoned trigger lead rank) = refl
 
-count_more : (passes : Fate → Bool) (entry : Entry) (entries : List Entry) → count_fates passes (entry ∷ entries) ≡ one (passes entry.fate) + count_fates passes entries
-count_more passes entry entries = sum_by-cons (λ (e : Entry). one (passes e.fate)) entry entries
+count_more : (passes : Fate → Bool) (entry : Entry) (entries : List Entry) → count_fates passes (entry ∷ entries) ≡ one_if (passes entry.fate) + count_fates passes entries
+count_more passes entry entries = sum_by-cons (λ (e : Entry). one_if (passes e.fate)) entry entries
 
 parts_sum : (entries : List Entry) → count_fates is_live entries + count_fates is_reported entries + count_fates is_null entries + count_fates is_evicted entries + count_fates is_abandoned entries ≡ length entries
 parts_sum [] = refl

@@ -3,7 +3,11 @@
 use Rattle.std.proofs.Common.{◌≡◌, ◌⊎◌, inl, inr, ℕ, zero, suc, ◌+◌, ◌<◌, ◌≤◌, Bool, true, false, ◌&&◌, ◌||◌, cond, List, [], ◌∷◌, length, refl, sym, ap, subst, ◌∙◌, Option, Some, None, arith, map, filter, option_map, slice_get, unwrap_or, count_by, leb, ltb, leb-true, ltb-true, le-leb, lt-ltb, eqb-true, nat_eq, find, zip}
 use Rattle.std.specs.List.{AllByRecursion, cons_option, range_with_len, list_all}
 use Rattle.std.specs.Option.{option_map_or}
+use Rattle.std.proofs.lemmas.Bool.{and_parts}
 use Rattle.std.proofs.lemmas.List.Folds.{flat_map-map}
+use Rattle.std.proofs.lemmas.Option.{same_Some, slice_get_within}
+use Rattle.hs_lists.proofs.Places.{IsIn, get_there}
+use Rattle.hs_lists.proofs.Alls.{all_at, all_flat_map, all_flat_range, all_unmap}
 use Rattle.hs_base.specs.declared.ids.ClientId.{ClientId}
 use Rattle.hs_base.specs.declared.ids.TraceId.{TraceId}
 use Rattle.hs_base.specs.declared.told.Fate.{Fate}
@@ -43,11 +47,10 @@ use Rattle.hs_outcome.specs.CollectedReports.{HasAllItsPages, ReportedRecordsHav
 use Rattle.hs_outcome.specs.Origins.{HasItsClients, IsOfDrawnPage, TakenPagesWereDrawn, WasTaken, Gives}
 use Rattle.hs_outcome.specs.Outcomes.{client_at, client_book, agent_books, reported_at, outcome_of}
 use Rattle.hs_outcome.specs.Records.{EndsItsTraces}
-use Rattle.hs_outcome.proofs.Among.{IsIn, is_later, contained}
+use Rattle.hs_outcome.proofs.Among.{is_later, contained}
 use Rattle.hs_outcome.proofs.ClientPages.{trace_on}
 use Rattle.hs_outcome.proofs.Entries.{PagesCarryTheRecords, ends_at, same_length, shape_counts}
-use Rattle.hs_outcome.proofs.Lists.{and_parts, some_same, all_at}
-use Rattle.hs_outcome.proofs.Origins.{IsPageOf, pages_of_fated, both_filter, unfilter, all_flat, all_range, in_flat, get_there, within, number_is, node_below, back, there, gives}
+use Rattle.hs_outcome.proofs.Origins.{IsPageOf, pages_of_fated, both_filter, unfilter, in_flat, number_is, node_below, back, there, gives}
 use Rattle.hs_outcome.proofs.ReportedRuns.{of_drawn}
 
 -- ---- fates
@@ -88,18 +91,14 @@ all_kept first others h = either (kept_or_lost (first ∷ others))
         let reported : is_reported lost.lost ≡ true = ap (λ (o : Option Fate). is_reported (unwrap_or o first)) (sym lost.is) ∙ h in
         let no : true ≡ false = sym reported ∙ discarded_is_not_reported lost.lost lost.discarded in absurd cc
 
-unmap_all : {X Y : Type 0} (P : Y → Type 0) (f : X → Y) (xs : List X) → AllByRecursion P (map f xs) → AllByRecursion (λ x. P (f x)) xs
-unmap_all P f [] all = tt
-unmap_all P f (x ∷ xs) all = (all.0, unmap_all P f xs all.1)
-
 fated_at : (fates : ℕ → Draw → Fate) (k : ℕ) (pages : List PlainPage) (draws : List Draw) (at : ℕ) (plain : PlainPage) (draw : Draw) → slice_get pages at ≡ Some plain → slice_get draws at ≡ Some draw
     → slice_get (fated_by fates k draws (map note_of pages)) at ≡ Some (record { note = note_of plain; fate = fates (k + at) draw })
 fated_at fates k [] draws at plain draw h d = let no : None ≡ Some plain = h in absurd cc
 fated_at fates k (p ∷ pages) [] at plain draw h d = let no : None ≡ Some draw = d in absurd cc
 fated_at fates k (p ∷ pages) (e ∷ draws) zero plain draw h d =
     let here : k ≡ k + 0 = omega arith in
-    ap (λ (p : PlainPage). Some (record { note = note_of p; fate = fates k e })) (some_same p plain h)
-    ∙ ap (λ (e : Draw). Some (record { note = note_of plain; fate = fates k e })) (some_same e draw d)
+    ap (λ (p : PlainPage). Some (record { note = note_of p; fate = fates k e })) (same_Some p plain h)
+    ∙ ap (λ (e : Draw). Some (record { note = note_of plain; fate = fates k e })) (same_Some e draw d)
     ∙ ap (λ (n : ℕ). Some (record { note = note_of plain; fate = fates n draw })) here
 fated_at fates k (p ∷ pages) (e ∷ draws) (suc at) plain draw h d =
     let more : k + 1 + at ≡ k + suc at = omega arith in
@@ -115,7 +114,7 @@ no_claim (claim ∷ claims) trace h = either (same_trace trace claim.trace) h (n
     either true h on = let no : true ≡ false = h in absurd cc
     either false h on = on h
 
-reported_group : (claims : List ClaimedTrace) (trace : TraceId) (standing : ChunkStanding) → is_reported (fate_of standing) ≡ true → StandsByClaim claims trace standing → (group : Group) × (claiming_group claims trace ≡ Some group)
+pub reported_group : (claims : List ClaimedTrace) (trace : TraceId) (standing : ChunkStanding) → is_reported (fate_of standing) ≡ true → StandsByClaim claims trace standing → (group : Group) × (claiming_group claims trace ≡ Some group)
 reported_group claims trace Indexed h by = let no : false ≡ true = h in absurd cc
 reported_group claims trace (Pinned group) h by = let no : false ≡ true = h in absurd cc
 reported_group claims trace (Reported group) h by = (group, by)
@@ -158,7 +157,7 @@ shown_at taken places place chunk among h = go places among.place among.there
 
     go : (places : List ℕ) (k : ℕ) → slice_get places k ≡ Some place → IsIn (sheets_at taken places) chunk.sheet
     go [] k e = let no : None ≡ Some place = e in absurd cc
-    go (p ∷ places) zero e = here (at p) (sheets_at taken places) (ap at (some_same p place e) ∙ ap (λ (o : Option Taken). option_map (λ (chunk : Taken). chunk.sheet) o) h)
+    go (p ∷ places) zero e = here (at p) (sheets_at taken places) (ap at (same_Some p place e) ∙ ap (λ (o : Option Taken). option_map (λ (chunk : Taken). chunk.sheet) o) h)
     go (p ∷ places) (suc k) e = skip (at p) (sheets_at taken places) (go places k e)
 
 none_pinned : (state : AgentState) (place : ℕ) (chunk : Taken) → PlacesMatch state → length state.pinned ≡ 0 → slice_get state.taken place ≡ Some chunk → is_pinned chunk.standing ≡ false
@@ -249,7 +248,7 @@ module _ (plays : FollowingPlaysOut) (runs : RunsAreOfTheJournal) (order : Chunk
           ap (λ (c : ClientId). place_of W.settings.clients c.node c.number) t.client_is ∙ back plays runs order timed W J ends laid lawful place below
           in
           let same : p.page ≡ plain =
-          some_same p.page plain
+          same_Some p.page plain
           (sym p.there ∙ ap (λ (q : ℕ). slice_get (pages_of W.settings.size (operations_at W q)) sheet.header.page) its_place ∙ ap (slice_get pages) t.page_is ∙ h)
           in
           p.is ∙ ap (λ (c : ClientId). sheet_for c sheet.header.page p.page) t.client_is ∙ ap (λ (n : ℕ). sheet_for client n p.page) t.page_is ∙ ap (sheet_for client at) same
@@ -267,7 +266,7 @@ module _ (plays : FollowingPlaysOut) (runs : RunsAreOfTheJournal) (order : Chunk
           lead = taken_of first_at first_draw (fates first_at first_draw) (caused first_at first first_draw first_is.0 first_is.1) first_kept
 
           same_node : lead.node ≡ one.node
-          same_node = some_same lead.node one.node (sym lead.here ∙ one.here)
+          same_node = same_Some lead.node one.node (sym lead.here ∙ one.here)
 
           model_of : KeepsItsModel W.settings one.node
           model_of = all_at (KeepsItsModel W.settings) run.nodes client.node one.node (keeps W J) one.here
@@ -282,7 +281,7 @@ module _ (plays : FollowingPlaysOut) (runs : RunsAreOfTheJournal) (order : Chunk
               let a = trace_on carried size ops ends.size (ends_at W.clients place ends.ends) first_at n first first_is.0 first_low first_high in
               let b = trace_on carried size ops ends.size (ends_at W.clients place ends.ends) at n plain there_is.0 low high in
               ap (λ (s : Sheet). s.header.trace) (sheet_is first_at first (fates first_at first_draw) lead first_is.0)
-              ∙ some_same first.trace plain.trace (sym a ∙ b)
+              ∙ same_Some first.trace plain.trace (sym a ∙ b)
               ∙ ap (λ (s : Sheet). s.header.trace) (sym (sheet_is at plain (fates at draw) one there_is.0))
 
           claim : (group : Group) × (claiming_group one.node.state.claims (trace_of one.chunk) ≡ Some group)
@@ -329,11 +328,11 @@ module _ (plays : FollowingPlaysOut) (runs : RunsAreOfTheJournal) (order : Chunk
               → HasAllItsPages W (outcome_of W J).reported (record { id = record { client = client; number = n }; trace = f.note.trace; fate = record_fate f.fate (map (λ (other : FatedPage). other.fate) list) })
           right reported at plain h low high =
               let kept = all_kept f.fate (map (λ (other : FatedPage). other.fate) list) reported in
-              let every = subst (AllByRecursion (λ (f : FatedPage). is_discarded f.fate ≡ false)) is (unmap_all (λ f. is_discarded f ≡ false) (λ (other : FatedPage). other.fate) (f ∷ list) kept.0) in
+              let every = subst (AllByRecursion (λ (f : FatedPage). is_discarded f.fate ≡ false)) is (all_unmap (λ f. is_discarded f ≡ false) (λ (other : FatedPage). other.fate) (f ∷ list) kept.0) in
               let of = back plays runs order timed W J ends laid lawful place below in
               let there_at : slice_get pages at ≡ Some plain = ap (λ (q : ℕ). slice_get (pages_of W.settings.size (operations_at W q)) at) (sym of) ∙ h in
               let long = same_length J.draws W.clients W.settings.size place (shape_counts W J lawful.L1) in
-              let most = within pages at plain there_at in
+              let most = slice_get_within pages at plain there_at in
               let d = get_there draws at (omega (arith, long, most)) in
               let zeroth : 0 + at ≡ at = omega arith in
               let one : is_discarded (fates (0 + at) d.0) ≡ false =
@@ -352,14 +351,14 @@ module _ (plays : FollowingPlaysOut) (runs : RunsAreOfTheJournal) (order : Chunk
 
       client_right : AllByRecursion IsRight (book_entries client (fated_pages (agent_books run) (client_book W J place)))
       client_right =
-          all_flat IsRight (record_entry client fated) (range_with_len 0 (record_count (map (λ (page : FatedPage). page.note) fated)))
+          all_flat_map IsRight (record_entry client fated) (range_with_len 0 (record_count (map (λ (page : FatedPage). page.note) fated)))
           (λ n. entries_right n (filter (has_piece_of n) fated) refl (both_filter (IsPageOf fates 0 pages draws) (has_piece_of n) fated (pages_of_fated fates 0 pages draws)))
 
     all_right : AllByRecursion (λ (entry : Entry). is_reported entry.fate ≡ true → HasAllItsPages W (outcome_of W J).reported entry) (outcome_of W J).entries
     all_right =
         let P : Entry → Type 0 = λ (entry : Entry). is_reported entry.fate ≡ true → HasAllItsPages W (outcome_of W J).reported entry in
         subst (AllByRecursion P) (sym (flat_map-map (λ (book : PlainClientBook). book_entries book.client (fated_pages (agent_books run) book)) (client_book W J) (range_with_len 0 (length W.clients))))
-        (all_range P (λ place. book_entries (client_at W.settings.clients place) (fated_pages (agent_books run) (client_book W J place))) 0 (length W.clients)
+        (all_flat_range P (λ place. book_entries (client_at W.settings.clients place) (fated_pages (agent_books run) (client_book W J place))) 0 (length W.clients)
         (λ place below. let low : place < length W.clients = omega (arith, below) in client_right place low))
 
 pub reported_records_have_all_pages : FollowingPlaysOut → RunsAreOfTheJournal → ChunksAreTakenInOrder → TimedPagesAreThePages → AgentsKeepTheirModel → TakenPagesWereDrawn → PagesCarryTheRecords → ReportedRecordsHaveAllPages

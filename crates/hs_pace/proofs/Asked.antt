@@ -4,6 +4,7 @@ use Rattle.std.specs.Prelude.{count_by, ◌&&◌}
 use Rattle.std.specs.List.{range_with_len, list_all}
 use Rattle.std.proofs.lemmas.List.FromFn.{length-map-range_with_len}
 use Rattle.std.proofs.Math.Nat.{min_comm}
+use Rattle.hs_lists.proofs.Counts.{count_cons}
 use Rattle.hs_base.specs.declared.ids.NodeId.{NodeId}
 use Rattle.hs_base.specs.declared.limits.TheConstants.{MAX_TAKEN}
 use Rattle.hs_base.specs.declared.node_set.NodeSet.{NodeSet}
@@ -27,7 +28,7 @@ use Rattle.hs_pace.specs.Asking.{heard_for, most_passes, asks_behind_each, ask_e
 use Rattle.hs_pace.specs.Counting.{one_more, behind_each, is_of}
 use Rattle.hs_pace.specs.declared.kinds.Kind.TheVariants as kinds
 use Rattle.hs_pace.proofs.Firsts.{first_of, first_le}
-use Rattle.hs_pace.proofs.Heard.{counted, heard_is, all_heard, most_is}
+use Rattle.hs_pace.proofs.Heard.{heard_is, all_heard, most_is}
 use Rattle.hs_pace.proofs.Passing.{more_is, all_congr, counts_at, counts_many}
 
 -- ---- asks by messages
@@ -38,7 +39,7 @@ asks_at i count (suc n) [] few = absurd (omega arith)
 asks_at i count (suc n) (to ∷ asked) few =
     let next = one_more (has_node to i) count in
     let more = more_is (has_node to i) count in
-    let one = counted (λ (to : NodeSet). has_node to i) to (take n asked) in
+    let one = count_cons (λ (to : NodeSet). has_node to i) to (take n asked) in
     let rest = asks_at i next n asked (omega arith) in
     omega (arith, more, one, rest)
 

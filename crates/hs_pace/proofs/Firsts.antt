@@ -3,6 +3,7 @@ use Rattle.std.proofs.Common.{◌≡◌, ℕ, zero, suc, ◌+◌, ◌≤◌, Boo
 use Rattle.std.specs.Prelude.{unwrap_or, ◌&&◌}
 use Rattle.std.specs.List.{find, range_with_len}
 use Rattle.std.proofs.Math.Nat.{suc-max-suc, max-zero}
+use Rattle.std.proofs.Math.Bool.{and-true}
 
 -- the first number below n that passes, or n
 abbrev pub first_of : (ℕ → Bool) → ℕ → ℕ
@@ -67,10 +68,6 @@ stays : (p : ℕ → Bool) → Rises p → p 0 ≡ true → (k : ℕ) → p k �
 stays p rises start zero = start
 stays p rises start (suc k) = rises k (stays p rises start k)
 
-pub and_true : (b : Bool) → (b && true) ≡ b
-and_true true = refl
-and_true false = refl
-
 pub first_both : (p q : ℕ → Bool) (n : ℕ) → Rises p → Rises q → first_of (λ k. p k && q k) n ≡ max (first_of p n) (first_of q n)
 first_both p q zero up also = refl
 first_both p q (suc n) up also =
@@ -85,6 +82,6 @@ first_both p q (suc n) up also =
         let most : later ≡ max 0 later = omega arith in
         ap suc (first_congr (λ k. p (suc k) && q (suc k)) (λ k. q (suc k)) n (λ k. ap (λ b. b && q (suc k)) (stays p up e (suc k)))) ∙ most
     at false true e f both =
-        ap suc (first_congr (λ k. p (suc k) && q (suc k)) (λ k. p (suc k)) n (λ k. ap (λ b. p (suc k) && b) (stays q also f (suc k)) ∙ and_true (p (suc k))))
+        ap suc (first_congr (λ k. p (suc k) && q (suc k)) (λ k. p (suc k)) n (λ k. ap (λ b. p (suc k) && b) (stays q also f (suc k)) ∙ and-true (p (suc k))))
         ∙ sym (max-zero (suc (first_of (λ k. p (suc k)) n)))
     at false false e f both = ap suc both ∙ sym (suc-max-suc (first_of (λ k. p (suc k)) n) (first_of (λ k. q (suc k)) n))

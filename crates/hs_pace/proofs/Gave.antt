@@ -8,6 +8,8 @@ use Rattle.std.proofs.lemmas.Bool.{cases_lt, and_parts}
 use Rattle.std.proofs.lemmas.Grind.{flat_map-append}
 use Rattle.std.proofs.lemmas.List.{drop_all, length-append, take-append-drop, take_min}
 use Rattle.std.proofs.lemmas.List.Elements.{filter_map-append}
+use Rattle.std.proofs.lemmas.List.Folds.{list_all-append}
+use Rattle.hs_lists.proofs.Counts.{count_cons}
 use Rattle.hs_journal.specs.declared.journal.Draw.{Draw}
 use Rattle.hs_journal.specs.declared.journal.Step.{Step}
 use Rattle.hs_journal.specs.declared.journal.Step.TheVariants as steps
@@ -27,9 +29,8 @@ use Rattle.hs_clauses.proofs.Ranges.{each_holds}
 use Rattle.hs_pace.specs.Besides.{stamps_behind, stands_beside, all_beside, clients_beside, draws_by}
 use Rattle.hs_pace.specs.Counting.{behind_each, is_of}
 use Rattle.hs_pace.specs.declared.kinds.Kind.TheVariants as kinds
-use Rattle.hs_pace.proofs.Heard.{counted}
 use Rattle.hs_pace.proofs.Passing.{counts_at, counts_many}
-use Rattle.hs_pace.proofs.Sides.{all_alike, all_swapped, all-append, beside, stamps_of, sides, first_tells, last_tells}
+use Rattle.hs_pace.proofs.Sides.{all_alike, all_swapped, beside, stamps_of, sides, first_tells, last_tells}
 
 -- ---- the stamps of passes
 
@@ -52,14 +53,14 @@ stamps_join (pass ∷ passes) = filter_map-append step_stamp pass (flat_map (λ 
 
 stamped_count : (log : List Step) → count_by (is_of kinds.Stamped) log ≡ length (log_stamps log)
 stamped_count [] = refl
-stamped_count (steps.Given s ∷ log) = let a = counted (is_of kinds.Stamped) (steps.Given s) log in omega (arith, a, stamped_count log)
-stamped_count (steps.Missed s ∷ log) = let a = counted (is_of kinds.Stamped) (steps.Missed s) log in omega (arith, a, stamped_count log)
-stamped_count (steps.Chunk n ∷ log) = let a = counted (is_of kinds.Stamped) (steps.Chunk n) log in omega (arith, a, stamped_count log)
-stamped_count (steps.Crumb n ∷ log) = let a = counted (is_of kinds.Stamped) (steps.Crumb n) log in omega (arith, a, stamped_count log)
-stamped_count (steps.Trigger n ∷ log) = let a = counted (is_of kinds.Stamped) (steps.Trigger n) log in omega (arith, a, stamped_count log)
-stamped_count (steps.Ask ∷ log) = let a = counted (is_of kinds.Stamped) steps.Ask log in omega (arith, a, stamped_count log)
-stamped_count (steps.Turn ∷ log) = let a = counted (is_of kinds.Stamped) steps.Turn log in omega (arith, a, stamped_count log)
-stamped_count (steps.Unread ∷ log) = let a = counted (is_of kinds.Stamped) steps.Unread log in omega (arith, a, stamped_count log)
+stamped_count (steps.Given s ∷ log) = let a = count_cons (is_of kinds.Stamped) (steps.Given s) log in omega (arith, a, stamped_count log)
+stamped_count (steps.Missed s ∷ log) = let a = count_cons (is_of kinds.Stamped) (steps.Missed s) log in omega (arith, a, stamped_count log)
+stamped_count (steps.Chunk n ∷ log) = let a = count_cons (is_of kinds.Stamped) (steps.Chunk n) log in omega (arith, a, stamped_count log)
+stamped_count (steps.Crumb n ∷ log) = let a = count_cons (is_of kinds.Stamped) (steps.Crumb n) log in omega (arith, a, stamped_count log)
+stamped_count (steps.Trigger n ∷ log) = let a = count_cons (is_of kinds.Stamped) (steps.Trigger n) log in omega (arith, a, stamped_count log)
+stamped_count (steps.Ask ∷ log) = let a = count_cons (is_of kinds.Stamped) steps.Ask log in omega (arith, a, stamped_count log)
+stamped_count (steps.Turn ∷ log) = let a = count_cons (is_of kinds.Stamped) steps.Turn log in omega (arith, a, stamped_count log)
+stamped_count (steps.Unread ∷ log) = let a = count_cons (is_of kinds.Stamped) steps.Unread log in omega (arith, a, stamped_count log)
 
 -- ---- one page
 
@@ -139,7 +140,7 @@ module _ (log : List Step) where
         ap (λ (l : List ℕ). all_beside stride (log_stamps log) counts l (map (λ (page : DrawnPage). page.draw) s.drawn) && clients_beside stride (log_stamps log) counts (draws_by sends) founds) all.0.started
         ∙ ap (λ b. b && clients_beside stride (log_stamps log) counts (draws_by sends) founds) (pages_are s.drawn)
         ∙ ap (λ b. list_all page_passed s.drawn && b) (clients_are sends founds all.1)
-        ∙ sym (all-append page_passed s.drawn (flat_map (λ (s : ClientSends). s.drawn) sends))
+        ∙ sym (list_all-append page_passed s.drawn (flat_map (λ (s : ClientSends). s.drawn) sends))
 
     pages_swapped : (pages : List DrawnPage)
         → list_all page_passed pages

@@ -6,7 +6,7 @@ use Rattle.std.proofs.Math.Nat.{min-le_right, le-max_left, le-max_right}
 use Rattle.std.proofs.lemmas.Bool.{leb-true, le-leb, lt-leb, ne_eqb, cases_lt, and_parts, and_from}
 use Rattle.std.proofs.lemmas.List.{length-map, take-map, take_min, drop_more}
 use Rattle.std.proofs.lemmas.List.FromFn.{get_or-map-range_with_len, length-map-range_with_len}
-use Rattle.std.proofs.lemmas.List.Sums.{sum_by-cons}
+use Rattle.hs_lists.proofs.Counts.{count_map, one_if, count_cons}
 use Rattle.hs_base.specs.declared.ids.NodeId.{NodeId}
 use Rattle.hs_base.specs.declared.limits.TheConstants.{MAX_TAKEN}
 use Rattle.hs_coord.specs.Following.{Message, Messages}
@@ -18,21 +18,16 @@ use Rattle.hs_journal.specs.declared.journal.Step.{Step}
 use Rattle.hs_records.specs.Plain.{PlainSettings}
 use Rattle.hs_clauses.specs.declared.found.FoundNode.{FoundNode}
 use Rattle.hs_clauses.specs.Finding.{AreFound, IsFoundNode, behind_passes}
-use Rattle.hs_clauses.proofs.Knowing.{count-map}
-use Rattle.hs_clauses.proofs.Numbered.{one_if}
 use Rattle.hs_pace.specs.Asking.{said_behind, places_behind, heard_with, heard_until, heard_for, most_passes}
 use Rattle.hs_pace.proofs.Firsts.{first_of, first_next, first_congr, first_always, first_both, Rises}
 
 -- ---- counts of a beginning
 
-pub counted : {A : Type 0} (p : A → Bool) (x : A) (xs : List A) → count_by p (x ∷ xs) ≡ one_if (p x) + count_by p xs
-counted p x xs = sum_by-cons (λ y. cond (p y) 1 0) x xs
-
 grows : {A : Type 0} (p : A → Bool) (xs : List A) (k : ℕ) → count_by p (take k xs) ≤ count_by p (take (suc k) xs)
 grows p [] zero = omega arith
 grows p [] (suc k) = omega arith
 grows p (x ∷ xs) zero = omega arith
-grows p (x ∷ xs) (suc k) = let a = counted p x (take k xs) in let b = counted p x (take (suc k) xs) in omega (arith, a, b, grows p xs k)
+grows p (x ∷ xs) (suc k) = let a = count_cons p x (take k xs) in let b = count_cons p x (take (suc k) xs) in omega (arith, a, b, grows p xs k)
 
 enough_rises : {A : Type 0} (p : A → Bool) (due : ℕ) (xs : List A) → Rises (λ n. leb due (count_by p (take n xs)))
 enough_rises p due xs = λ k e. let few = leb-true due (count_by p (take k xs)) e in le-leb due (count_by p (take (suc k) xs)) (omega (arith, few, grows p xs k))
@@ -50,7 +45,7 @@ one_less due n =
     ]
 
 due_behind : (i due : ℕ) (o : NodeId) (told : List NodeId) → leb (suc due) (count_by (λ (o : NodeId). eqb o.0 i) (o ∷ told)) ≡ leb (cond (eqb o.0 i) due (suc due)) (count_by (λ (o : NodeId). eqb o.0 i) told)
-due_behind i due o told = ap (leb (suc due)) (counted (λ (o : NodeId). eqb o.0 i) o told) ∙ at (eqb o.0 i)
+due_behind i due o told = ap (leb (suc due)) (count_cons (λ (o : NodeId). eqb o.0 i) o told) ∙ at (eqb o.0 i)
   where
     at : (b : Bool) → leb (suc due) (one_if b + count_by (λ (o : NodeId). eqb o.0 i) told) ≡ leb (cond b due (suc due)) (count_by (λ (o : NodeId). eqb o.0 i) told)
     at true = one_less due (count_by (λ (o : NodeId). eqb o.0 i) told)
@@ -137,7 +132,7 @@ one_heard settings heard k i node found number is =
     (λ n.
     ap (λ d. leb d (count_by (is_from (record { 0 = node.node })) (take n heard))) dues
     ∙ ap (leb due) (ap (λ j. count_by (λ (m : Message). eqb m.node.0 j) (take n heard)) number
-    ∙ sym (count-map (λ (o : NodeId). eqb o.0 i) (λ (m : Message). m.node) (take n heard)) ∙ sym (ap (count_by (λ (o : NodeId). eqb o.0 i)) (take-map (λ (m : Message). m.node) n heard))))
+    ∙ sym (count_map (λ (o : NodeId). eqb o.0 i) (λ (m : Message). m.node) (take n heard)) ∙ sym (ap (count_by (λ (o : NodeId). eqb o.0 i)) (take-map (λ (m : Message). m.node) n heard))))
     ∙ ap (first_of (enough i due told)) (sym (length-map heard (λ (m : Message). m.node))) ∙ until_is i due told
 
 pub heard_is : (settings : PlainSettings) (heard : Messages) (k i : ℕ) (nodes : List NodeRun) (founds : List FoundNode) → AreFound (IsFoundNode settings) nodes founds

@@ -4,6 +4,7 @@ use Rattle.std.specs.Prelude.{count_by, ◌&&◌}
 use Rattle.std.specs.List.{flat_map, range_with_len, list_all}
 use Rattle.std.proofs.lemmas.List.FromFn.{get_or-map-range_with_len, length-map-range_with_len}
 use Rattle.std.proofs.lemmas.List.Sums.{length-filter}
+use Rattle.hs_lists.proofs.Counts.{count_map, one_if, count_cons}
 use Rattle.hs_base.specs.declared.limits.TheConstants.{MAX_TAKEN}
 use Rattle.hs_journal.specs.declared.journal.Step.{Step}
 use Rattle.hs_records.specs.Plain.{PlainSettings}
@@ -15,11 +16,8 @@ use Rattle.hs_pace.specs.Counting.{count_in, one_more, behind_each}
 use Rattle.hs_clauses.specs.declared.found.FoundClient.{FoundClient}
 use Rattle.hs_clauses.specs.Finding.{IsFoundClient, numbers_of}
 use Rattle.hs_pace.specs.Pacing.{sent_in, enough_at, all_enough, numbers_in_pace}
-use Rattle.hs_clauses.proofs.Knowing.{count-map}
 use Rattle.hs_pace.proofs.Tallied.{sent_by}
-use Rattle.hs_clauses.proofs.Numbered.{one_if}
 use Rattle.hs_clauses.proofs.PassFronts.{begins}
-use Rattle.hs_clauses.proofs.Whole.{count-cons}
 
 pub more_is : (b : Bool) (count : ℕ) → one_more b count ≡ count + one_if b
 more_is true count = refl
@@ -35,16 +33,16 @@ module _ (test : Step → Bool) where
       ap (λ x. x ∷ map f (range_with_len (a + 1) m)) first ∙ ap (λ (l : List ℕ). g b ∷ l) rest
 
   one_pass : (step : Step) (passes : List (List Step)) (k : ℕ) → count_in test ((step ∷ []) ∷ passes) (suc k) ≡ one_if (test step) + count_in test passes k
-  one_pass step passes k = count-cons test step (flat_map (λ pass. pass) (take k passes))
+  one_pass step passes k = count_cons test step (flat_map (λ pass. pass) (take k passes))
 
   longer_pass : (step : Step) (pass : List Step) (passes : List (List Step)) (k : ℕ) → count_in test ((step ∷ pass) ∷ passes) (suc k) ≡ one_if (test step) + count_in test (pass ∷ passes) (suc k)
-  longer_pass step pass passes k = count-cons test step (pass ++ flat_map (λ p. p) (take k passes))
+  longer_pass step pass passes k = count_cons test step (pass ++ flat_map (λ p. p) (take k passes))
 
   pub counts_are : (count : ℕ) (log : List Step) → behind_each test count log ≡ map (λ k. count + count_in test (passes_of log) k) (range_with_len 1 (length (passes_of log)))
   counts_are count [] = refl
   counts_are count (step ∷ []) =
       let e : one_more (test step) count ≡ count + count_in test ((step ∷ []) ∷ []) 1 =
-      (let a = more_is (test step) count in let b = count-cons test step [] in omega (arith, a, b)) in
+      (let a = more_is (test step) count in let b = count_cons test step [] in omega (arith, a, b)) in
       ap (λ n. n ∷ []) e
   counts_are count (step ∷ next ∷ log) =
       let h = begins next log in
@@ -113,7 +111,7 @@ counted_pace test stride log numbers sent some many each =
     ∙ ap (λ n. leb (min (count_by (λ v. ltb v (k * stride)) numbers) (count_in test passes (k - 1) + MAX_TAKEN)) n) (counts_at test log (k + 1) (omega arith)))
 
 sent_counted : {A : Type 0} (n : ℕ) (items : List (Sent A)) → length (sent_within n items) ≡ count_by (λ v. ltb v n) (numbers_of items)
-sent_counted n items = length-filter (λ item. ltb item.number n) items ∙ sym (count-map (λ v. ltb v n) (λ item. item.number) items)
+sent_counted n items = length-filter (λ item. ltb item.number n) items ∙ sym (count_map (λ v. ltb v n) (λ item. item.number) items)
 
 -- the pace of a queue is that of the operations that send its items
 pub queue_pace : {A : Type 0} (settings : PlainSettings) (stride : ℕ) (passes : List (List Step)) (queue : Queue) (items : List (Sent A)) (numbers : List ℕ) → settings.stride ≡ stride → numbers ≡ numbers_of items

@@ -1,19 +1,18 @@
 -- All gives stand beside all draws exactly where each draw stands beside the last stamp before its round and the first behind it.
-use Rattle.std.proofs.Common.{◌≡◌, ℕ, zero, suc, ◌+◌, ◌-◌, ◌<◌, ◌≤◌, Bool, true, false, cond, eqb, ltb, List, [], ◌∷◌, ◌++◌, length, take, drop, get_or, refl, sym, ap, ◌∙◌, inl, inr, arith}
+use Rattle.std.proofs.Common.{◌≡◌, ℕ, zero, suc, ◌+◌, ◌-◌, ◌<◌, ◌≤◌, Bool, true, false, cond, eqb, ltb, List, [], ◌∷◌, length, take, drop, get_or, refl, sym, ap, ◌∙◌, inl, inr, arith}
 use Rattle.std.specs.Prelude.{zip, ◌&&◌, ◌||◌}
 use Rattle.std.specs.List.{AllByRecursion, flat_map, range_with_len, list_all}
-use Rattle.std.proofs.lemmas.Bool.{cases_order, cases_lt, lt-ltb, le-ltb, ltb-true, ne_eqb, and_parts, and_from, and_right}
+use Rattle.std.proofs.Math.Bool.{and-true}
+use Rattle.std.proofs.lemmas.Bool.{cases_order, cases_lt, lt-ltb, le-ltb, ne_eqb, and_parts, and_from, and_right}
 use Rattle.std.proofs.lemmas.Bool.Decides.{nat_tests}
+use Rattle.std.proofs.lemmas.List.Folds.{list_all-append}
+use Rattle.hs_lists.proofs.Alls.{all_each}
+use Rattle.hs_lists.proofs.Bools.{and_assoc}
 use Rattle.hs_journal.specs.declared.journal.Step.{Step}
 use Rattle.hs_lawful.specs.Shape.{log_stamps, rise, rise_above}
-use Rattle.hs_clauses.proofs.Sorting.{All-weaker}
-use Rattle.hs_pace.proofs.Firsts.{and_true}
+use Rattle.hs_lawful.proofs.Logs.{above_all}
 
 -- ---- all of all
-
-and_assoc : (a b c : Bool) → ((a && b) && c) ≡ (a && (b && c))
-and_assoc true b c = refl
-and_assoc false b c = refl
 
 module _ {A B : Type 0} (f : A → B → Bool) where
   none_fails : (xs : List A) → true ≡ list_all (λ x. true) xs
@@ -39,10 +38,6 @@ module _ {A : Type 0} where
   pub all_alike : (p q : A → Bool) → ((x : A) → p x ≡ q x) → (xs : List A) → list_all p xs ≡ list_all q xs
   all_alike p q same [] = refl
   all_alike p q same (x ∷ xs) = ap (λ b. b && list_all p xs) (same x) ∙ ap (λ b. q x && b) (all_alike p q same xs)
-
-  pub all-append : (p : A → Bool) (xs ys : List A) → list_all p (xs ++ ys) ≡ (list_all p xs && list_all p ys)
-  all-append p [] ys = refl
-  all-append p (x ∷ xs) ys = ap (λ b. p x && b) (all-append p xs ys) ∙ sym (and_assoc (p x) (list_all p xs) (list_all p ys))
 
 -- ---- one draw beside the passes
 
@@ -107,7 +102,7 @@ module _ (round draw : ℕ) where
                   let past : round + 1 - a ≡ suc (round + 1 - (a + 1)) = omega arith in
                   ap (λ b. b && rest_of a passes) (pass_before a (log_stamps pass) low) ∙ ap (λ b. list_all (λ s. ltb s draw) (log_stamps pass) && b) (sides (a + 1) passes)
                   ∙ sym (and_assoc (list_all (λ s. ltb s draw) (log_stamps pass)) (before (take (round - (a + 1)) passes)) (behind (drop (round + 1 - (a + 1)) passes)))
-                  ∙ sym (ap (λ b. b && behind (drop (round + 1 - (a + 1)) passes)) (all-append (λ s. ltb s draw) (log_stamps pass) (stamps_of (take (round - (a + 1)) passes))))
+                  ∙ sym (ap (λ b. b && behind (drop (round + 1 - (a + 1)) passes)) (list_all-append (λ s. ltb s draw) (log_stamps pass) (stamps_of (take (round - (a + 1)) passes))))
                   ∙ sym (ap (λ n. before (take n (pass ∷ passes)) && behind (drop (round + 1 - a) (pass ∷ passes))) more ∙ ap (λ n. before (take (suc (round - (a + 1))) (pass ∷ passes)) && behind (drop n (pass ∷ passes))) past))
               | inr high ↦
                   (let none : round - a ≡ 0 = omega arith in
@@ -117,7 +112,7 @@ module _ (round draw : ℕ) where
                   ap (λ b. b && rest_of a passes) (pass_behind a (log_stamps pass) high) ∙ ap (λ b. list_all (λ s. ltb draw s) (log_stamps pass) && b) (sides (a + 1) passes)
                   ∙ ap (λ n. list_all (λ s. ltb draw s) (log_stamps pass) && (before (take n passes) && behind (drop (round + 1 - (a + 1)) passes))) less
                   ∙ ap (λ n. list_all (λ s. ltb draw s) (log_stamps pass) && behind (drop n passes)) gone
-                  ∙ sym (all-append (λ s. ltb draw s) (log_stamps pass) (stamps_of passes))
+                  ∙ sym (list_all-append (λ s. ltb draw s) (log_stamps pass) (stamps_of passes))
                   ∙ sym (ap (λ n. before (take n (pass ∷ passes)) && behind (drop (round + 1 - a) (pass ∷ passes))) none ∙ ap (λ n. behind (drop n (pass ∷ passes))) start))
             ]
       ]
@@ -126,13 +121,6 @@ module _ (round draw : ℕ) where
 
 not_none : (n : ℕ) → eqb (suc n) 0 ≡ false
 not_none n = ne_eqb (suc n) 0 (λ e. absurd (omega (arith, e)))
-
-above_all : (before : ℕ) (stamps : List ℕ) → rise_above before stamps ≡ true → AllByRecursion (λ s. before < s) stamps
-above_all before [] e = tt
-above_all before (s ∷ stamps) e =
-    let both = and_parts (ltb before s) (rise_above s stamps) e in
-    let less = ltb-true before s both.0 in
-    (less, All-weaker (λ t. s < t) (λ t. before < t) stamps (λ t h. omega (arith, h, less)) (above_all s stamps both.1))
 
 rise_rest : (s : ℕ) (stamps : List ℕ) → rise (s ∷ stamps) ≡ true → rise stamps ≡ true
 rise_rest s [] e = refl
@@ -156,7 +144,7 @@ first_tells d (s ∷ stamps) zero e few = tells ∙ sym (ap (λ b. b || ltb d s)
     tells =
         elim (cases_lt d s) [
           | inl less ↦
-              all_high d (s ∷ stamps) (less, All-weaker (λ t. s < t) (λ t. d < t) stamps (λ t h. omega (arith, h, less)) (above_all s stamps e))
+              all_high d (s ∷ stamps) (less, all_each (λ t. s < t) (λ t. d < t) stamps (λ t h. omega (arith, h, less)) (above_all s stamps e))
               ∙ sym (lt-ltb d s less)
           | inr past ↦ ap (λ b. b && list_all (λ t. ltb d t) stamps) (le-ltb d s past) ∙ sym (le-ltb d s past)
         ]
@@ -169,7 +157,7 @@ first_tells d (s ∷ stamps) (suc n) e few = first_tells d stamps n (rise_rest s
 pub last_tells : (d : ℕ) (stamps : List ℕ) (n : ℕ) → rise stamps ≡ true → n ≤ length stamps → list_all (λ s. ltb s d) (take n stamps) ≡ (eqb n 0 || ltb (get_or stamps (n - 1) 0) d)
 last_tells d stamps zero e few = refl
 last_tells d [] (suc n) e few = absurd (omega arith)
-last_tells d (s ∷ stamps) (suc zero) e few = and_true (ltb s d)
+last_tells d (s ∷ stamps) (suc zero) e few = and-true (ltb s d)
 last_tells d (s ∷ stamps) (suc (suc n)) e few =
     let m : suc n - 1 ≡ n = omega arith in
     let k : suc (suc n) - 1 ≡ suc n = omega arith in

@@ -6,10 +6,10 @@ use Rattle.std.proofs.Math.Nat.{div-lt_iff_lt-mul}
 use Rattle.std.proofs.lemmas.Bool.{eq-eqb, ne_eqb, cases_eq, cases_lt, lt-ltb, le-ltb}
 use Rattle.std.proofs.lemmas.List.{get_or-set_same, get_or-set_other, get_or_past, length-take-le, take_all}
 use Rattle.std.proofs.lemmas.List.Sums.{count_by_more_yes, count_by_more_no, count_by-le-length, sum_by_more, sum_by-cons}
+use Rattle.hs_lists.proofs.Counts.{count_map, one_if}
 use Rattle.hs_base.specs.declared.limits.TheConstants.{MAX_TAKEN}
 use Rattle.hs_pace.specs.Pacing.{sent_in, enough_at}
-use Rattle.hs_clauses.proofs.Knowing.{count-map}
-use Rattle.hs_clauses.proofs.Numbered.{one_if, total, total_is}
+use Rattle.hs_clauses.proofs.Numbered.{total, total_is}
 
 -- ---- one more
 
@@ -69,8 +69,8 @@ module _ (stride : ℕ) (numbers tally : List ℕ) (some : 0 < stride) (each : (
   -- how many operations come before a round ends
   pub sent_by : (k : ℕ) → k ≤ length tally → sum (take k tally) ≡ count_by (λ n. ltb n (k * stride)) numbers
   sent_by k few =
-      sum_total (λ s. count_by (λ t. eqb t s) (map (λ n. n / stride) numbers)) tally k few (λ s low. each s (omega arith) ∙ sym (count-map (λ t. eqb t s) (λ n. n / stride) numbers))
-      ∙ total_is k (map (λ n. n / stride) numbers) ∙ count-map (λ t. ltb t k) (λ n. n / stride) numbers
+      sum_total (λ s. count_by (λ t. eqb t s) (map (λ n. n / stride) numbers)) tally k few (λ s low. each s (omega arith) ∙ sym (count_map (λ t. eqb t s) (λ n. n / stride) numbers))
+      ∙ total_is k (map (λ n. n / stride) numbers) ∙ count_map (λ t. ltb t k) (λ n. n / stride) numbers
       ∙ count_congr (λ n. ltb (n / stride) k) (λ n. ltb n (k * stride)) numbers (λ n. round_below stride n k some)
 
   pub sent_few : sum tally ≤ length numbers

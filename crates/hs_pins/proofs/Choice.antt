@@ -12,6 +12,7 @@ use Rattle.std.proofs.lemmas.Cmp.{nat_cmp_total, on_total, then_total, back_tota
 use Rattle.std.proofs.lemmas.Map.Keys.{sorted_head}
 use Rattle.std.proofs.lemmas.Map.Lookups.{exact_unsigned}
 use Rattle.std.proofs.lemmas.Bool.{lt-ltb, eqb-true, eq-eqb}
+use Rattle.hs_lists.proofs.Alls.{all_mapped, all_always, all_each}
 use Rattle.hs_base.specs.declared.ids.TriggerId.{TriggerId}
 use Rattle.hs_base.specs.declared.settings.TriggerRule.{TriggerRule}
 use Rattle.hs_base.specs.declared.told.Group.{Group}
@@ -27,7 +28,7 @@ use Rattle.hs_pins.specs.Remembered.{Pin, pin_for, pins_for, pins_under}
 use Rattle.hs_pins.specs.PinsLayout.{chunks_at, HasLanes, HasQueues}
 use Rattle.hs_pins.proofs.Order.{group_total, priority_laws, priority_exact, same_exact, group_exact}
 use Rattle.hs_pins.proofs.Lanes.{Under, chunks_at-cons, chunks_of-head}
-use Rattle.hs_pins.proofs.Waits.{all_map, all_there, lane_there, own_priority, pins_for-lane, less_found, same_le}
+use Rattle.hs_pins.proofs.Waits.{all_there, lane_there, own_priority, pins_for-lane, less_found, same_le}
 use Rattle.hs_pins.proofs.Queued.{under_all, under-for}
 
 -- ---- least elements
@@ -82,14 +83,6 @@ module _ {X : Type 0} (cmp : X → X → Ordering) (order : IsTotalOrder cmp) wh
       at true e = ap Some (sym (exact.0 (both_equal x y below.0 e)))
       at false e = refl
 
-all_mapped : {X Y : Type 0} (f : X → Y) (P : Y → Type 0) (xs : List X) → AllByRecursion (λ x. P (f x)) xs → AllByRecursion P (map f xs)
-all_mapped f P [] all = tt
-all_mapped f P (x ∷ xs) all = (all.0, all_mapped f P xs all.1)
-
-all_true : {X : Type 0} (P : X → Type 0) (xs : List X) → ((x : X) → P x) → AllByRecursion P xs
-all_true P [] f = tt
-all_true P (x ∷ xs) f = (f x, all_true P xs f)
-
 -- ---- ids
 
 nat_less : (a b : ℕ) → a < b → nat_cmp a b ≡ Less
@@ -121,7 +114,7 @@ nat_up a b h = at (nat_cmp a b) refl
         go Equal f g = cc
         go Greater f g = cc
 
-id_order : (groups : List Group) → IsTotalOrder (id_cmp groups)
+pub id_order : (groups : List Group) → IsTotalOrder (id_cmp groups)
 id_order groups = then_total (on_total (count_of_id groups) (back_total nat_cmp_total)) nat_cmp_total
 
 module _ {L : Type 0} where
@@ -159,8 +152,8 @@ module _ {L : Type 0} where
   fullest_is_it id queues rules pins h full =
       least_is (id_cmp groups) (id_order groups) id.0 (map (λ (group : Group). group.trigger.0) groups)
       (id_among pins id (let s = full.some in let c = (h.lanes id).count in omega arith))
-      (all_true (λ other. is_le (id_cmp groups id.0 other) ≡ true) (map (λ (group : Group). group.trigger.0) groups) (λ other. goes_first (record { 0 = other }) (full.most (record { 0 = other }))))
-      (all_true (λ other. id_cmp groups id.0 other ≡ Equal → id.0 ≡ other) (map (λ (group : Group). group.trigger.0) groups) (λ other e. exact_unsigned id.0 other (then_equal (nat_cmp (count_of_id groups other) (count_of_id groups id.0)) (nat_cmp id.0 other) e)))
+      (all_always (λ other. is_le (id_cmp groups id.0 other) ≡ true) (map (λ (group : Group). group.trigger.0) groups) (λ other. goes_first (record { 0 = other }) (full.most (record { 0 = other }))))
+      (all_always (λ other. id_cmp groups id.0 other ≡ Equal → id.0 ≡ other) (map (λ (group : Group). group.trigger.0) groups) (λ other e. exact_unsigned id.0 other (then_equal (nat_cmp (count_of_id groups other) (count_of_id groups id.0)) (nat_cmp id.0 other) e)))
     where
       groups : List Group
       groups = abandoning.groups_of pins
@@ -196,7 +189,7 @@ module _ {L : Type 0} where
   below_first : (g : Group) (chunks : List (Buffer L)) (rest : Groups L) (pins : List (Pin L)) → AllByRecursion (λ r. priority_cmp (priority_of g) r ≡ Less) (keys_of rest)
       → AllByRecursion (λ (pin : Pin L). IsSome (lookup (same_priority (priority_of pin.group)) ((priority_of g, chunks) ∷ rest))) pins → AllByRecursion (λ (pin : Pin L). is_le (group_cmp g pin.group) ≡ true) pins
   below_first g chunks rest pins above there =
-      all_map (λ (pin : Pin L). IsSome (lookup (same_priority (priority_of pin.group)) ((priority_of g, chunks) ∷ rest))) (λ (pin : Pin L). is_le (group_cmp g pin.group) ≡ true) pins
+      all_each (λ (pin : Pin L). IsSome (lookup (same_priority (priority_of pin.group)) ((priority_of g, chunks) ∷ rest))) (λ (pin : Pin L). is_le (group_cmp g pin.group) ≡ true) pins
       (λ pin found. first_le (priority_of g) (priority_of pin.group) chunks rest above found) there
 
   -- The first group of the id for which most is pinned goes, with its chunks.
@@ -218,7 +211,7 @@ module _ {L : Type 0} where
       let above : AllByRecursion (λ r. priority_cmp (priority_of g) r ≡ Less) (keys_of rest) = subst (λ q. AllByRecursion (λ r. priority_cmp q r ≡ Less) (keys_of rest)) (sym own) (sorted_head priority_cmp p (keys_of rest) lanes.rising) in
       let there = all_there ((p, chunks) ∷ rest) (pins_under id pins) (lane_there ((p, chunks) ∷ rest) (pins_under id pins) lanes) in
       let there_g = subst (λ (q : Priority). AllByRecursion (λ (pin : Pin L). IsSome (lookup (same_priority (priority_of pin.group)) ((q, chunks) ∷ rest))) (pins_under id pins)) (sym own) there in
-      let exact = all_map (λ (pin : Pin L). g.trigger.0 ≡ pin.group.trigger.0) (λ (pin : Pin L). group_cmp g pin.group ≡ Equal → g ≡ pin.group) (pins_under id pins)
+      let exact = all_each (λ (pin : Pin L). g.trigger.0 ≡ pin.group.trigger.0) (λ (pin : Pin L). group_cmp g pin.group ≡ Equal → g ≡ pin.group) (pins_under id pins)
       (λ pin under e. group_exact g pin.group under (priority_exact (priority_of g) (priority_of pin.group) e)) all in
       record {
         own = own;

@@ -22,13 +22,13 @@ use Rattle.hs_pins.specs.Abandoning.{leaving, going, staying}
 use Rattle.hs_pins.specs.Waiting.{goes_behind, order_of, next_of}
 use Rattle.hs_pins.specs.Calls.{Call, Tries, Claims, Arrives, Crumbs, Abandons, Takes, after_call, after, tries_of, admits, admitted_of, owner_of, pinned_by, let_go_by, ever_pinned, ever_let_go, LooksBack, ClaimsStay}
 use Rattle.hs_pins.proofs.Order.{group_total, same_group-refl, same_group-true}
-use Rattle.hs_pins.proofs.Waits.{all_ordered}
+use Rattle.hs_pins.proofs.Waits.{all_ordered, first_is_for}
 use Rattle.hs_pins.proofs.Queued.{under_all, under-for}
 
 module _ {L : Type 0} where
   -- ---- a chunk that arrives leaves the rest as it was
 
-  arrived_same : {X : Type 0} (f : Remembered L → X) (memory : Remembered L) (chunk : Buffer L) → ((group : Group) → f (with_pin memory group chunk) ≡ f memory) → f (arrived memory chunk) ≡ f memory
+  pub arrived_same : {X : Type 0} (f : Remembered L → X) (memory : Remembered L) (chunk : Buffer L) → ((group : Group) → f (with_pin memory group chunk) ≡ f memory) → f (arrived memory chunk) ≡ f memory
   arrived_same f memory chunk e = at (claim_for memory.claims chunk)
     where
       at : (o : Option Claim) → f (option_map_or (λ (claim : Claim). cond (is_abandoned memory.abandoned claim.group) memory (with_pin memory claim.group chunk)) o memory) ≡ f memory
@@ -132,14 +132,6 @@ module _ {L : Type 0} where
       at : (b : Bool) → cond b (x ∷ pins_for g rest) (pins_for g rest) ≡ cond b (x ∷ []) [] ++ pins_for g rest
       at true = refl
       at false = refl
-
-  first_is_for : (g : Group) (pins : List (Pin L)) (h : Pin L) → slice_get (pins_for g pins) 0 ≡ Some h → is_for g h ≡ true
-  first_is_for g [] h e = absurd cc
-  first_is_for g (pin ∷ pins) h e = at (is_for g pin) refl e (first_is_for g pins h)
-    where
-      at : (b : Bool) → is_for g pin ≡ b → slice_get (cond b (pin ∷ pins_for g pins) (pins_for g pins)) 0 ≡ Some h → (slice_get (pins_for g pins) 0 ≡ Some h → is_for g h ≡ true) → is_for g h ≡ true
-      at true own e rest = let same : pin ≡ h = cc in subst (λ (p : Pin L). is_for g p ≡ true) same own
-      at false own e rest = rest e
 
   first_leaves : (g other : Group) (pins : List (Pin L)) (pin : Pin L) → slice_get (pins_for other pins) 0 ≡ Some pin → pins_for g pins ≡ pins_for g (pin ∷ []) ++ pins_for g (without_first other pins)
   first_leaves g other [] pin e = absurd cc

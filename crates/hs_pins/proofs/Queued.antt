@@ -9,6 +9,7 @@ use Rattle.std.proofs.lemmas.Map.Steps.{set_value_same}
 use Rattle.std.proofs.lemmas.Bool.{eqb-true, eq-eqb}
 use Rattle.std.proofs.lemmas.List.{append-nil}
 use Rattle.std.proofs.lemmas.List.Elements.{filter-append}
+use Rattle.hs_lists.proofs.Bools.{bool_same}
 use Rattle.hs_base.specs.declared.ids.TriggerId.{TriggerId}
 use Rattle.hs_base.specs.declared.settings.TriggerRule.{TriggerRule}
 use Rattle.hs_base.specs.declared.told.Group.{Group}
@@ -21,7 +22,7 @@ use Rattle.hs_pins.specs.Queues.{Queues, same_id, groups_of, with_groups, pinned
 use Rattle.hs_pins.specs.Remembered.{Pin, pin_for, is_for, is_under, pins_for, pins_under, without_group, without_first}
 use Rattle.hs_pins.specs.Waiting.{order_of, without_next}
 use Rattle.hs_pins.specs.PinsLayout.{HasLanes, HasQueues, in_order}
-use Rattle.hs_pins.proofs.Order.{bool_same, same_group-true}
+use Rattle.hs_pins.proofs.Order.{same_group-true}
 use Rattle.hs_pins.proofs.Lanes.{lanes-more, lanes-rest, length-without_first, length-without_group, any_found}
 use Rattle.hs_pins.proofs.Waits.{HasLast, has_last, lanes-next, lanes-wait}
 use Rattle.hs_pins.proofs.QueueLemmas.{total-set, set_value-none}
@@ -34,7 +35,7 @@ same_id-test a b =
     (λ e. eq-eqb a.0 b.0 (ap (λ (t : TriggerId). t.0) (same_id-true a b e)))
     (λ e. let same : a.0 ≡ b.0 = eqb-true a.0 b.0 e in subst (λ (t : TriggerId). same_id a t ≡ true) (λ i. record { 0 = same i }) (id_laws.refl a))
 
-one_id : (p x y : TriggerId) → same_id p x ≡ true → same_id p y ≡ same_id x y
+pub one_id : (p x y : TriggerId) → same_id p x ≡ true → same_id p y ≡ same_id x y
 one_id p x y e = id_laws.congr p x y e
 
 module _ {L : Type 0} where

@@ -29,7 +29,7 @@ use Rattle.hs_pins.specs.Waiting.{taken}
 use Rattle.hs_pins.specs.PinsLayout.{Buckets, Pinning, Remembers, HasPinned, HasLanes, HasQueues, MatchBucket, Attempts, bucket_in, fresh_buckets_of, waiting, in_order}
 use Rattle.hs_pins.proofs.Lanes.{lanes-empty}
 use Rattle.hs_pins.proofs.Fullest.{id_laws, same_id-true}
-use Rattle.hs_pins.proofs.Queued.{same_id-test, queues-more, queues-first, queues-wait}
+use Rattle.hs_pins.proofs.Queued.{same_id-test, queues-more, queues-first, queues-wait, one_id}
 use Rattle.hs_pins.proofs.RuleLemmas.{fresh-total}
 use Rattle.hs_pins.proofs.Sound.{sound-fresh, sound-tried, sound-claimed, sound-pin, sound-crumb, sound-relieved, sound-taken, found_claim}
 
@@ -84,9 +84,6 @@ moments_apart id other moment tried e =
 moments_more : (id : TriggerId) (moment : ℕ) (tried : List Tried) → moments_of id (record { trigger = id; moment = moment } ∷ tried) ≡ moment ∷ moments_of id tried
 moments_more id moment tried =
     ap (λ b. map (λ (t : Tried). t.moment) (cond b (record { trigger = id; moment = moment } ∷ filter (λ (t : Tried). t.trigger.0 == id.0) tried) (filter (λ (t : Tried). t.trigger.0 == id.0) tried))) (sym (same_id-test id id) ∙ id_laws.refl id)
-
-one_id : (p x y : TriggerId) → same_id p x ≡ true → same_id p y ≡ same_id x y
-one_id p x y e = id_laws.congr p x y e
 
 bucket_after : (rules : List TriggerRule) (buckets new : Buckets) (tried : List Tried) (id : TriggerId) (moment : ℕ) (answer : Attempt) → ((other : TriggerId) → MatchBucket (rule_of rules other) (bucket_in buckets other) (moments_of other tried))
     → Attempts buckets new id moment answer → (other : TriggerId) → MatchBucket (rule_of rules other) (bucket_in new other) (moments_of other (record { trigger = id; moment = moment } ∷ tried))

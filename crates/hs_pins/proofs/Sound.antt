@@ -1,10 +1,11 @@
 -- What always holds of what a node remembers, after each call.
 use Rattle.std.proofs.Common.{◌≡◌, ℕ, ◌+◌, ◌<◌, ◌≤◌, ◌^◌, Bool, true, false, not, cond, List, [], ◌∷◌, ◌++◌, length, map, Option, Some, None, refl, subst, ◌∙◌, arith, length-append}
-use Rattle.std.specs.Prelude.{filter}
 use Rattle.std.specs.Option.{option_map_or}
 use Rattle.std.specs.List.{AllByRecursion}
 use Rattle.std.proofs.lemmas.List.{length-map}
 use Rattle.std.proofs.lemmas.Cmp.{nat_eq_equiv}
+use Rattle.hs_lists.proofs.Alls.{all_push, all_append, all_filter}
+use Rattle.hs_lists.proofs.Filters.{filter_few}
 use Rattle.hs_base.specs.declared.ids.NodeId.{NodeId}
 use Rattle.hs_base.specs.declared.ids.TraceId.{TraceId}
 use Rattle.hs_base.specs.declared.ids.TriggerId.{TriggerId}
@@ -32,30 +33,6 @@ apart_push (c ∷ claims) claim apart none = at (is_claim_of claim.trace c) refl
     at : (b : Bool) → is_claim_of claim.trace c ≡ b → cond b (Some c) (claim_of claims claim.trace) ≡ None → (claim_of claims claim.trace ≡ None → AreApart (claims ++ claim ∷ [])) → AreApart ((c ∷ claims) ++ claim ∷ [])
     at true e none rest = absurd cc
     at false e none rest = (push claims apart.0 (nat_eq_equiv.symm c.trace.0 claim.trace.0 ∙ e), rest none)
-
-all_push : {X : Type 0} (P : X → Type 0) (xs : List X) (x : X) → AllByRecursion P xs → P x → AllByRecursion P (xs ++ x ∷ [])
-all_push P [] x all p = (p, tt)
-all_push P (y ∷ xs) x all p = (all.0, all_push P xs x all.1 p)
-
-all_more : {X : Type 0} (P : X → Type 0) (xs ys : List X) → AllByRecursion P xs → AllByRecursion P ys → AllByRecursion P (xs ++ ys)
-all_more P [] ys all more = more
-all_more P (x ∷ xs) ys all more = (all.0, all_more P xs ys all.1 more)
-
-all_filter : {X : Type 0} (P : X → Type 0) (test : X → Bool) (xs : List X) → AllByRecursion P xs → AllByRecursion P (filter test xs)
-all_filter P test [] all = tt
-all_filter P test (x ∷ xs) all = at (test x) (all_filter P test xs all.1)
-  where
-    at : (b : Bool) → AllByRecursion P (filter test xs) → AllByRecursion P (cond b (x ∷ filter test xs) (filter test xs))
-    at true rest = (all.0, rest)
-    at false rest = rest
-
-length_filter : {X : Type 0} (test : X → Bool) (xs : List X) → length (filter test xs) ≤ length xs
-length_filter test [] = omega arith
-length_filter test (x ∷ xs) = at (test x) (length_filter test xs)
-  where
-    at : (b : Bool) → length (filter test xs) ≤ length xs → length (cond b (x ∷ filter test xs) (filter test xs)) ≤ length (x ∷ xs)
-    at true le = omega (arith, le)
-    at false le = omega (arith, le)
 
 -- a claim that is found holds what all do
 pub found_claim : (P : Claim → Type 0) (claims : List Claim) (trace : TraceId) (claim : Claim) → AllByRecursion P claims → claim_of claims trace ≡ Some claim → P claim
@@ -111,7 +88,7 @@ module _ {L : Type 0} where
   sound-claimed memory group laterals trace chunks crumbs s none declared few = record {
     apart = apart_push memory.claims (record { trace = trace; group = group; laterals = laterals; crumbs = crumbs }) s.apart none;
     claims = all_push (λ (claim : Claim). is_declared memory.rules claim.group.trigger ≡ true) memory.claims (record { trace = trace; group = group; laterals = laterals; crumbs = crumbs }) s.claims declared;
-    pins = all_more (λ (pin : Pin L). is_declared memory.rules pin.group.trigger ≡ true) memory.pinned (map (pin_for group) chunks) s.pins (new_declared memory.rules group chunks declared);
+    pins = all_append (λ (pin : Pin L). is_declared memory.rules pin.group.trigger ≡ true) memory.pinned (map (pin_for group) chunks) s.pins (new_declared memory.rules group chunks declared);
     few = let a = length-append memory.pinned (map (pin_for group) chunks) in let b = length-map chunks (pin_for group) in omega arith;
   }
 
@@ -133,9 +110,9 @@ module _ {L : Type 0} where
   staying_declared rules (g ∷ groups) pins all =
       staying_declared rules groups (without_group g pins) (all_filter (λ (pin : Pin L). is_declared rules pin.group.trigger ≡ true) (λ (pin : Pin L). not (is_for g pin)) pins all)
 
-  staying_few : (groups : List Group) (pins : List (Pin L)) → length (staying groups pins) ≤ length pins
+  pub staying_few : (groups : List Group) (pins : List (Pin L)) → length (staying groups pins) ≤ length pins
   staying_few [] pins = omega arith
-  staying_few (g ∷ groups) pins = let a = staying_few groups (without_group g pins) in let b = length_filter (λ (pin : Pin L). not (is_for g pin)) pins in omega arith
+  staying_few (g ∷ groups) pins = let a = staying_few groups (without_group g pins) in let b = filter_few (λ (pin : Pin L). not (is_for g pin)) pins in omega arith
 
   pub sound-relieved : (memory : Remembered L) → IsSound memory → IsSound (relieved memory)
   sound-relieved memory s = record {

@@ -10,6 +10,8 @@ use Rattle.std.specs.declared.cmp.Ordering.TheVariants.{Less, Equal, Greater}
 use Rattle.std.specs.Ordering.{is_eq, is_le, ordering_reverse}
 use Rattle.std.proofs.lemmas.Map.Keys.{sorted_head, sorted_tail}
 use Rattle.std.proofs.lemmas.List.{nil_from_length}
+use Rattle.hs_lists.proofs.Bools.{bool_same}
+use Rattle.hs_lists.proofs.Alls.{all_each}
 use Rattle.hs_base.specs.declared.ids.TriggerId.{TriggerId}
 use Rattle.hs_base.specs.declared.told.Group.{Group}
 use Rattle.hs_words.specs.Buffers.{Buffer}
@@ -22,14 +24,10 @@ use Rattle.hs_pins.specs.Remembered.{Pin, pin_for, is_for, pins_for, without_fir
 use Rattle.hs_pins.specs.Waiting.{goes_behind, used_bytes}
 use Rattle.hs_pins.proofs.GroupLemmas.{some-found}
 use Rattle.hs_pins.specs.PinsLayout.{chunks_at, HasLanes, in_order}
-use Rattle.hs_pins.proofs.Order.{bool_same, priority_total, priority_laws, same_exact, same_group-true}
+use Rattle.hs_pins.proofs.Order.{priority_total, priority_laws, same_exact, same_group-true}
 use Rattle.hs_pins.proofs.Lanes.{Under, lanes-first, chunks_at-cons, for_priority}
 
 -- ---- lists in order
-
-pub all_map : {X : Type 0} (P Q : X → Type 0) (xs : List X) → ((x : X) → P x → Q x) → AllByRecursion P xs → AllByRecursion Q xs
-all_map P Q [] f all = tt
-all_map P Q (x ∷ xs) f all = (f x all.0, all_map P Q xs f all.1)
 
 all_put : {X : Type 0} (P : X → Type 0) (behind : X → X → Bool) (x : X) (ys : List X) → P x → AllByRecursion P ys → AllByRecursion P (put_by behind x ys)
 all_put P behind x [] p all = (p, tt)
@@ -71,7 +69,7 @@ pub record Below {L : Type 0} (g : Group) (pin : Pin L) : Type 0 where
   pub own : is_no_greater g pin.group ≡ is_for g pin
 
 module _ {L : Type 0} where
-  first_is_for : (g : Group) (pins : List (Pin L)) (h : Pin L) → slice_get (pins_for g pins) 0 ≡ Some h → is_for g h ≡ true
+  pub first_is_for : (g : Group) (pins : List (Pin L)) (h : Pin L) → slice_get (pins_for g pins) 0 ≡ Some h → is_for g h ≡ true
   first_is_for g [] h e = absurd cc
   first_is_for g (pin ∷ pins) h e = at (is_for g pin) refl e (first_is_for g pins h)
     where
@@ -93,7 +91,7 @@ module _ {L : Type 0} where
           let group : g ≡ pin.group = same_group-true g pin.group own in
           put_first goes_behind pin (ordered_by goes_behind pins)
           (all_ordered (λ (y : Pin L). goes_behind y pin ≡ true) goes_behind pins
-          (all_map (Below g) (λ (y : Pin L). goes_behind y pin ≡ true) pins (λ y below. subst (λ (k : Group). is_no_greater y.group k ≡ true) group below.behind) all.1))
+          (all_each (Below g) (λ (y : Pin L). goes_behind y pin ≡ true) pins (λ y below. subst (λ (k : Group). is_no_greater y.group k ≡ true) group below.behind) all.1))
           ∙ ap (λ p. p ∷ ordered_by goes_behind pins) same
       at false own e rest =
           let group : g ≡ h.group = same_group-true g h.group (first_is_for g pins h e) in

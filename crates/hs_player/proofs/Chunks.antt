@@ -1,23 +1,25 @@
 -- The chunk at a place of those that were sent: its page, its draw, and where these stand.
-use Rattle.std.proofs.Common.{◌≡◌, ℕ, zero, suc, ◌+◌, Bool, true, false, List, [], ◌∷◌, ◌++◌, length, filter, Some, refl, sym, ap, ◌∙◌, subst, arith}
+use Rattle.std.proofs.Common.{◌≡◌, ℕ, zero, suc, Bool, true, false, List, [], ◌∷◌, ◌++◌, length, filter, Some, refl, sym, ap, ◌∙◌, subst, arith}
 use Rattle.std.proofs.lemmas.Option.{slice_get-map, same_Some}
 use Rattle.std.specs.Prelude.{slice_get, nat_lt, if◌then◌else◌}
 use Rattle.std.specs.Option.{option_map}
 use Rattle.std.specs.List.{flat_map}
+use Rattle.hs_lists.proofs.Places.{get_front}
 use Rattle.hs_base.specs.declared.ids.ClientId.{ClientId}
 use Rattle.hs_journal.specs.declared.journal.Draw.{Draw}
 use Rattle.hs_journal.specs.declared.journal.Draw.TheVariants as noted
 use Rattle.hs_records.specs.Plain.{Operation, PlainSettings}
-use Rattle.hs_sent.specs.Drawn.{DrawnPage, drawn_from, has_buffer}
+use Rattle.hs_sent.specs.Drawn.{DrawnPage, has_buffer}
 use Rattle.hs_sent.specs.Order.{ChunksAreInOrder}
 use Rattle.hs_sent.specs.Sending.{Sent, sends_of, sent_chunks, sent_within, sheet_of}
-use Rattle.hs_sent.specs.Timing.{TimedPage, timed_pages}
+use Rattle.hs_sent.specs.Timing.{timed_pages}
+use Rattle.hs_sent.proofs.Order.{page_at}
 use Rattle.hs_words.specs.Chunks.{Contents, with_page, clear_chunk}
 use Rattle.hs_words.specs.Pages.{Sheet}
 use Rattle.hs_player.specs.Playing.{Unleased}
 use Rattle.hs_player.specs.Places.{IsPlayable, IsChunkAt, chunk_by, chunk_of, chunks_within}
 use Rattle.hs_player.proofs.Fronts.{drawn_within}
-use Rattle.hs_player.proofs.Lists.{front_get, sent_first}
+use Rattle.hs_player.proofs.Lists.{sent_first}
 
 -- ---- items that a test keeps
 
@@ -37,20 +39,6 @@ module _ {A : Type 0} (p : A → Bool) where
 
 abbrev got : DrawnPage → Bool
 got d = has_buffer d.draw
-
--- each page has its client, and stands at its number
-page_at : (client : ClientId) (number : ℕ) (pages : List TimedPage) (draws : List Draw) (i : ℕ) (d : DrawnPage) → slice_get (drawn_from client number pages draws) i ≡ Some d → (d.client ≡ client) × (d.number ≡ number + i)
-page_at client number [] draws i d h = absurd cc
-page_at client number (p ∷ pages) [] i d h = absurd cc
-page_at client number (p ∷ pages) (draw ∷ draws) zero d h =
-    let first : DrawnPage = record { client = client; number = number; page = p.page; started = p.started; sent = p.sent; draw = draw } in
-    let same : first ≡ d = same_Some first d h in
-    let place : number ≡ number + 0 = omega arith in
-    (ap (λ (d : DrawnPage). d.client) (sym same), ap (λ (d : DrawnPage). d.number) (sym same) ∙ place)
-page_at client number (p ∷ pages) (draw ∷ draws) (suc i) d h =
-    let later = page_at client (number + 1) pages draws i d h in
-    let place : (number + 1) + i ≡ number + suc i = omega arith in
-    (later.0, later.1 ∙ place)
 
 -- ---- chunks and their pages
 
@@ -145,7 +133,7 @@ chunk_at settings client ops drawn done k b order playable found =
     let number : is.page.number ≡ outer.0 = omega (arith, at.1) in
     record {
       item = item;
-      next = ap (λ l. slice_get l k) whole.1 ∙ front_get (sent_within done sends.chunks) whole.0 k item sent;
+      next = ap (λ l. slice_get l k) whole.1 ∙ get_front (sent_within done sends.chunks) whole.0 k item sent;
       within = sent;
       sheet = is.sheet;
       size = is.size_is;

@@ -2,18 +2,12 @@
 use Rattle.std.proofs.Common.{◌≡◌, ℕ, ◌+◌, ◌<◌, ◌≤◌, List, [], ◌∷◌, ◌++◌, length, map, take, drop, refl, sym, ap, ap₂, ◌∙◌, arith, subst}
 use Rattle.hs_base.specs.declared.limits.TheConstants.{MIN_SIZE}
 use Rattle.hs_records.specs.Records.{Piece, Segment, piece_limit, payload_pieces, piece_count, record_pieces}
+use Rattle.hs_records.proofs.Payloads.{AreCut}
 use Rattle.hs_player.specs.Playing.{Unleased}
 use Rattle.hs_player.specs.Wells.{Way, IsReadyFor}
 use Rattle.hs_player.specs.Writing.{Made, Writing, IsSound, Spends, IsWriting, Records}
 use Rattle.hs_player.proofs.Spending.{ready_less, spends_none, spends_more}
 use Rattle.hs_player.proofs.Steps.{piece_of}
-
--- what is known of the pieces of a payload
-pub record AreCut : Type 0 where
-  pub fits : (size : ℕ) (payload : List ℕ) → length payload ≤ piece_limit size → payload_pieces size payload ≡ payload ∷ []
-  pub cut : (size : ℕ) (payload : List ℕ) → MIN_SIZE ≤ size → piece_limit size < length payload
-      → payload_pieces size payload ≡ take (piece_limit size) payload ∷ payload_pieces size (drop (piece_limit size) payload)
-  pub counted : (size : ℕ) (payload : List ℕ) → length (payload_pieces size payload) ≡ piece_count size (length payload)
 
 module _ {P : Type 0} (way : Way P) where
   -- a payload of which this rest is still to be recorded

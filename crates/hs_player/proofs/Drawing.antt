@@ -9,17 +9,13 @@ use Rattle.hs_words.specs.PoolHistory.{Event, Got, Empty, queue_after}
 use Rattle.hs_words.specs.PoolAnswers as answers
 use Rattle.hs_pool.specs.Pool.{Pool, IsAfter, Extends, Draws, number_of}
 use Rattle.hs_sent.specs.Draws.{next_draws, draws_behind, event_drawn}
+use Rattle.hs_sent.proofs.Order.{length_next}
 use Rattle.hs_player.specs.Wells.{note_drawn}
 use Rattle.hs_player.specs.Pooled.{OnlyDraws}
 
 drop_none : (m : ℕ) → drop {A = ℕ} m [] ≡ []
 drop_none zero = refl
 drop_none (suc m) = refl
-
-pub length-next : (count stamp : ℕ) (queue : List ℕ) → length (next_draws count stamp queue) ≡ count
-length-next zero stamp queue = refl
-length-next (suc count) stamp [] = ap suc (length-next count (stamp + 1) [])
-length-next (suc count) stamp (buffer ∷ queue) = ap suc (length-next count (stamp + 1) queue)
 
 next_more : (m n stamp : ℕ) (queue : List ℕ) → next_draws (m + n) stamp queue ≡ next_draws m stamp queue ++ next_draws n (stamp + m) (drop m queue)
 next_more zero n stamp queue =
@@ -67,7 +63,7 @@ draws_more a b c pool middle pool' same first second = λ history is.
     let n = g.0 in
     let queue = queue_after pool.buffers (reverse history) in
     let count : length history' ≡ length history + m =
-    length-append history (map event_drawn here) ∙ ap (λ k. length history + k) (length-map here event_drawn ∙ length-next m (length history) queue) in
+    length-append history (map event_drawn here) ∙ ap (λ k. length history + k) (length-map here event_drawn ∙ length_next m (length history) queue) in
     let left : queue_after middle.buffers (reverse history') ≡ drop m queue = ap (λ k. queue_after k (reverse history')) same ∙ queue_behind pool.buffers m (length history) history queue refl in
     let there : draws_behind middle.buffers history' n ≡ next_draws n (length history + m) (drop m queue) = ap₂ (next_draws n) count left in
     let joined : here ++ draws_behind middle.buffers history' n ≡ draws_behind pool.buffers history (m + n) = ap (λ (l : List Draw). here ++ l) there ∙ sym (next_more m n (length history) queue) in

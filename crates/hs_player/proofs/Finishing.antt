@@ -1,8 +1,9 @@
 -- The book of a player that has done all its operations.
-use Rattle.std.proofs.Common.{◌≡◌, ℕ, false, List, [], ◌∷◌, length, map, take, Option, Some, None, IsNone, refl, sym, ap, ◌∙◌, subst, arith}
+use Rattle.std.proofs.Common.{◌≡◌, ℕ, List, [], ◌∷◌, length, map, take, Option, None, IsNone, refl, sym, ap, ◌∙◌, subst, arith}
 use Rattle.std.proofs.lemmas.List.{append-nil, take_all}
 use Rattle.std.specs.Prelude.{is_some}
 use Rattle.std.specs.List.{flat_map}
+use Rattle.hs_lists.proofs.Options.{is_some_false}
 use Rattle.hs_base.specs.declared.ids.ClientId.{ClientId}
 use Rattle.hs_base.specs.declared.ids.TraceId.{TraceId}
 use Rattle.hs_client.specs.Core.{Core, Step, Began, Wrote, Needed, Supplied, Ended_, Refused, all_pages, new_core}
@@ -11,13 +12,11 @@ use Rattle.hs_journal.specs.declared.journal.Draw.{Draw}
 use Rattle.hs_journal.specs.Books.{PlainClientBook}
 use Rattle.hs_records.specs.Pages.{pages_of, segment_pages}
 use Rattle.hs_records.specs.Plain.{Operation, PlainSettings}
-use Rattle.hs_records.specs.Records.{AreBracketed}
-use Rattle.hs_sent.specs.OneMore.{open_after}
+use Rattle.hs_sent.proofs.OneMore.{none_open}
 use Rattle.hs_player.specs.Playing.{Playing}
 use Rattle.hs_player.specs.Writing.{new_of}
 use Rattle.hs_player.specs.Doing.{Gone, HasDone}
 use Rattle.hs_player.specs.Places.{IsAt, IsDone, gone_of, made_for}
-use Rattle.hs_player.proofs.Going.{bracketed_behind}
 use Rattle.hs_player.proofs.Standing.{recorded}
 
 after-client : (new : Core (Unit {0})) (steps : List (Step (Unit {0}))) → (after new steps).client ≡ new.client
@@ -36,17 +35,10 @@ all_done settings client ops drawn k l m player a =
     let gone = gone_of settings.size (Rattle.hs_sent.specs.Sending.sends_of settings client ops drawn) (length ops) k l m in
     (gone, subst (λ (l' : List Operation). HasDone (made_for settings client ops) l' gone player.works) whole a.inside)
 
-none_open : (ops : List Operation) → AreBracketed false ops → is_some (open_after None ops) ≡ false
-none_open ops h = bracketed_behind false None ops [] refl (subst (λ (l : List Operation). AreBracketed false l) (sym (append-nil ops)) h)
-
 pub is_closed : (player : Playing) → IsDone player → IsNone player.works.core.trace
 is_closed player is =
     let has = all_done is.settings is.client is.ops is.drawn is.k is.l is.m player is.at in
     ap (λ (t : Option TraceId). is_some t) has.1.trace ∙ none_open is.ops is.at.playable.client.bracketed
-
-no_trace : (trace : Option TraceId) → is_some trace ≡ false → trace ≡ None
-no_trace None e = refl
-no_trace (Some t) e = absurd cc
 
 -- the notes of all pages, where there is no current one
 closed_pages : (core : Core (Unit {0})) → core.current ≡ None → core.pages ≡ all_pages core
@@ -66,7 +58,7 @@ noted books settings client ops drawn k l m player a book owner draws pages =
     let steps = (has.1.writes []).steps in
     let b = books client settings.size made.calls steps s.may in
     let open_none : player.works.core.trace ≡ None =
-    no_trace player.works.core.trace (ap (λ (t : Option TraceId). is_some t) has.1.trace ∙ none_open ops a.playable.client.bracketed) in
+    is_some_false player.works.core.trace (ap (λ (t : Option TraceId). is_some t) has.1.trace ∙ none_open ops a.playable.client.bracketed) in
     let none : player.works.core.current ≡ None = has.1.sound.closed open_none in
     let owner_is : book.client ≡ client = owner ∙ ap (λ (c : Core (Unit {0})). c.client) s.core ∙ after-client (new_of made) steps in
     let draws_is : book.draws ≡ drawn = draws ∙ a.draws_are in

@@ -1,26 +1,27 @@
 -- A player goes through its operations.
-use Rattle.std.proofs.Common.{◌≡◌, ℕ, ◌+◌, ◌<◌, ◌≤◌, Bool, true, false, List, [], ◌∷◌, ◌++◌, length, map, Option, Some, None, IsSome, inl, inr, refl, sym, ap, ◌∙◌, subst, arith, append_assoc}
+use Rattle.std.proofs.Common.{◌≡◌, ℕ, ◌+◌, ◌<◌, ◌≤◌, true, false, List, [], ◌∷◌, ◌++◌, length, map, Option, Some, None, IsSome, inl, inr, refl, sym, ap, ◌∙◌, subst, arith, append_assoc}
 use Rattle.std.proofs.lemmas.List.{append-nil, length-map}
 use Rattle.std.proofs.lemmas.Option.{slice_get-map, slice_get_cases}
 use Rattle.std.specs.Prelude.{is_some, slice_get}
-use Rattle.std.specs.List.{AllByRecursion}
 use Rattle.std.specs.Option.{option_map}
+use Rattle.hs_lists.proofs.Alls.{all_mid}
+use Rattle.hs_lists.proofs.Options.{is_some_false}
 use Rattle.hs_base.specs.declared.ids.TraceId.{TraceId}
 use Rattle.hs_base.specs.declared.settings.AutoRule.{AutoRule}
 use Rattle.hs_auto.specs.Watching.{Watch}
 use Rattle.hs_records.specs.Plain.{Operation, Begin, Point, End, Fire, Sample, PlainSettings}
 use Rattle.hs_records.specs.Plain as plain
 use Rattle.hs_records.specs.Records.{AreBracketed}
-use Rattle.hs_sent.specs.OneMore.{open_after}
+use Rattle.hs_sent.proofs.OneMore.{bracketed_behind}
 use Rattle.hs_workload.specs.LookBack.{operation_pieces}
 use Rattle.hs_workload.specs.Validity.{IsOperation, client_pieces}
+use Rattle.hs_workload.proofs.Keeps.{client_more}
 use Rattle.hs_base.specs.declared.ids.ClientId.{ClientId}
 use Rattle.hs_player.specs.Playing.{Working}
 use Rattle.hs_player.specs.Wells.{Way}
 use Rattle.hs_player.specs.Writing.{Made, Spends}
 use Rattle.hs_player.specs.Doing.{Gone, HasDone, Does, MayDo}
 use Rattle.hs_player.specs.Places.{IsPlayable, made_for}
-use Rattle.hs_player.proofs.Operations.{pieces_more}
 use Rattle.hs_player.proofs.Spending.{spends_none, spends_more}
 
 -- ---- operations in parts
@@ -29,28 +30,10 @@ pub pieces_append : (size : ℕ) (front rest : List Operation) → client_pieces
 pieces_append size [] rest = omega arith
 pieces_append size (op ∷ front) rest = let more = pieces_append size front rest in omega (arith, more)
 
--- at the end of some operations the others are bracketed, from the trace that is open then
-pub bracketed_behind : (b : Bool) (trace : Option TraceId) (front rest : List Operation) → b ≡ is_some trace → AreBracketed b (front ++ rest) → AreBracketed (is_some (open_after trace front)) rest
-bracketed_behind b trace [] rest same h = subst (λ (b : Bool). AreBracketed b rest) same h
-bracketed_behind b trace (Begin next ∷ front) rest same h = bracketed_behind true (Some next) front rest refl h.1
-bracketed_behind b trace (Point moment payload ∷ front) rest same h = bracketed_behind b trace front rest same h.1
-bracketed_behind b trace (plain.Crumb node ∷ front) rest same h = bracketed_behind b trace front rest same h.1
-bracketed_behind b trace (End ∷ front) rest same h = bracketed_behind false None front rest refl h.1
-bracketed_behind b trace (Fire trigger ∷ front) rest same h = bracketed_behind b trace front rest same h
-bracketed_behind b trace (Sample moment auto value ∷ front) rest same h = bracketed_behind b trace front rest same h.1
-
-all_behind : {A : Type 0} (P : A → Type 0) (front rest : List A) (x : A) → AllByRecursion P (front ++ x ∷ rest) → P x
-all_behind P [] rest x h = h.0
-all_behind P (y ∷ front) rest x h = all_behind P front rest x h.1
-
 -- ---- what the next operation needs
 
 open_some : (trace : Option TraceId) → is_some trace ≡ true → IsSome trace
 open_some trace e = e
-
-none_open : (trace : Option TraceId) → is_some trace ≡ false → trace ≡ None
-none_open None e = refl
-none_open (Some t) e = absurd cc
 
 -- the autotrigger that a sample names, with its rule
 watch_of : (autos : List Watch) (rules : List AutoRule) (auto : ℕ) → map (λ (w : Watch). w.rule) autos ≡ rules → auto < length rules → (watch : Watch) × (slice_get autos auto ≡ Some watch) × (slice_get rules auto ≡ Some watch.rule)
@@ -63,7 +46,7 @@ watch_of autos rules auto same within =
 
 may_do_so : (settings : PlainSettings) (version : ℕ) (rest : List Operation) (op : Operation) (works : Working) (rules : List AutoRule) → rules ≡ settings.autos → map (λ (w : Watch). w.rule) works.autos ≡ settings.autos
     → AreBracketed (is_some works.core.trace) (op ∷ rest) → IsOperation version settings op → works.core.counted + operation_pieces works.core.size op ≤ works.core.calls → MayDo rules op works
-may_do_so settings version rest (Begin trace) works rules rules_are same bracketed word left = (omega (arith, left), none_open works.core.trace bracketed.0)
+may_do_so settings version rest (Begin trace) works rules rules_are same bracketed word left = (omega (arith, left), is_some_false works.core.trace bracketed.0)
 may_do_so settings version rest (Point moment payload) works rules rules_are same bracketed word left = (open_some works.core.trace bracketed.0, left)
 may_do_so settings version rest (plain.Crumb node) works rules rules_are same bracketed word left = open_some works.core.trace bracketed.0
 may_do_so settings version rest End works rules rules_are same bracketed word left = (omega (arith, left), open_some works.core.trace bracketed.0)
@@ -84,7 +67,7 @@ pub may_do : (settings : PlainSettings) (client : ClientId) (front rest : List O
     → HasDone (made_for settings client (front ++ op ∷ rest)) front gone works → MayDo rules op works
 may_do settings client front rest op gone works rules playable rules_are h =
     let bracketed = bracketed_behind false None front (op ∷ rest) refl playable.client.bracketed in
-    let word = all_behind (IsOperation playable.version settings) front rest op playable.client.words in
+    let word = all_mid (IsOperation playable.version settings) front rest op playable.client.words in
     may_do_so settings playable.version rest op works rules rules_are h.autos.rules_are (subst (λ (t : Option TraceId). AreBracketed (is_some t) (op ∷ rest)) (sym h.trace) bracketed) word
     (calls_left settings client front rest op gone works h)
 
@@ -108,7 +91,7 @@ module _ {P : Type 0} (way : Way P) where
   gone_more ops op old now new well middle well' is does spends =
       let size = old.core.size in
       let here : Spends way (operation_pieces size op) now.core new.core middle well' = subst (λ n. Spends way (operation_pieces n op) now.core new.core middle well') is.spends.size_is spends in
-      let sum : client_pieces size ops + operation_pieces size op ≡ client_pieces size (ops ++ op ∷ []) = sym (pieces_more size ops op) in
+      let sum : client_pieces size ops + operation_pieces size op ≡ client_pieces size (ops ++ op ∷ []) = sym (client_more size ops op) in
       record {
         does = λ made front gone h. subst (λ (l : List Operation). HasDone made l gone new) (append_assoc front ops (op ∷ [])) (does made (front ++ ops) gone (is.does made front gone h));
         spends = spends_more way (client_pieces size ops) (operation_pieces size op) (client_pieces size (ops ++ op ∷ [])) old.core now.core new.core well middle well' sum is.spends here;

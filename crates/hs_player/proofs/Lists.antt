@@ -1,9 +1,9 @@
 -- Fronts and ends of lists.
-use Rattle.std.proofs.Common.{◌≡◌, ℕ, zero, suc, ◌+◌, ◌<◌, ◌≤◌, Bool, true, false, List, [], ◌∷◌, ◌++◌, length, map, take, drop, get_or, Option, Some, None, refl, sym, ap, ◌∙◌, arith, append_assoc, length-append}
+use Rattle.std.proofs.Common.{◌≡◌, ℕ, zero, suc, ◌+◌, ◌<◌, ◌≤◌, Bool, true, false, List, [], ◌∷◌, ◌++◌, length, map, take, drop, get_or, Some, refl, sym, ap, ◌∙◌, arith, append_assoc, length-append}
 use Rattle.std.proofs.lemmas.List.{append-nil, map-append, take-append-drop, length-take-le, take_at, drop_at, drop_more, take-map}
 use Rattle.std.proofs.lemmas.Bool.{ltb-false, le-ltb}
 use Rattle.std.specs.Prelude.{slice_get, nat_lt}
-use Rattle.std.specs.Option.{option_map, option_to_list}
+use Rattle.hs_lists.proofs.Places.{get_mid}
 use Rattle.hs_sent.specs.Order.{AreInOrder}
 use Rattle.hs_sent.specs.Sending.{Sent, sent_within}
 
@@ -16,10 +16,6 @@ module _ {A : Type 0} where
   take_add zero k xs = let same : k ≡ zero + k = omega arith in ap (λ i. take i xs) same
   take_add (suc n) k [] = take_none k ∙ sym (take_none (suc n + k))
   take_add (suc n) k (x ∷ xs) = let same : suc (n + k) ≡ suc n + k = omega arith in ap (λ (l : List A). x ∷ l) (take_add n k xs) ∙ ap (λ i. take i (x ∷ xs)) same
-
-  get_behind : (front : List A) (x : A) (rest : List A) → slice_get (front ++ x ∷ rest) (length front) ≡ Some x
-  get_behind [] x rest = refl
-  get_behind (y ∷ front) x rest = get_behind front x rest
 
   -- the next of the items that wait
   pub record IsNext (taken : ℕ) (sent more : List A) (x : A) : Type 0 where
@@ -39,7 +35,7 @@ module _ {A : Type 0} where
         within = omega (arith, ap length whole, length-append front (x ∷ more), long);
         left = sym (drop_at (front ++ x ∷ []) more (taken + 1) longer) ∙ ap (drop (taken + 1)) split;
         gone = ap (take (taken + 1)) (sym split) ∙ take_at (front ++ x ∷ []) more (taken + 1) longer;
-        is = ap (λ (l : List A). slice_get l taken) (sym whole) ∙ ap (slice_get (front ++ x ∷ more)) (sym long) ∙ get_behind front x more;
+        is = ap (λ (l : List A). slice_get l taken) (sym whole) ∙ ap (slice_get (front ++ x ∷ more)) (sym long) ∙ get_mid front x more;
       }
 
   -- all were taken
@@ -48,14 +44,9 @@ module _ {A : Type 0} where
       let whole : take taken sent ++ [] ≡ sent = ap (λ (l : List A). take taken sent ++ l) none ∙ take-append-drop taken sent in
       omega (arith, length-take-le taken sent within, ap length (sym (append-nil (take taken sent)) ∙ whole))
 
-  pub front_get : (front rest : List A) (place : ℕ) (x : A) → slice_get front place ≡ Some x → slice_get (front ++ rest) place ≡ Some x
-  front_get [] rest place x found = absurd cc
-  front_get (y ∷ front) rest zero x found = found
-  front_get (y ∷ front) rest (suc place) x found = front_get front rest place x found
-
   -- ---- items in their order
 
-  later_none : (n from : ℕ) (items : List (Sent A)) → AreInOrder from items → n ≤ from → sent_within n items ≡ []
+  pub later_none : (n from : ℕ) (items : List (Sent A)) → AreInOrder from items → n ≤ from → sent_within n items ≡ []
   later_none n from [] is low = refl
   later_none n from (item ∷ items) is low = let late : n ≤ item.number = omega (arith, is.0, low) in rw (le-ltb item.number n late) (later_none n item.number items is.1 late)
 
@@ -92,11 +83,3 @@ module _ {A B : Type 0} (f : A → B) where
   pub part_behind : (xs : List A) (n k : ℕ) → take n (map f xs) ++ map f (take k (drop n xs)) ≡ take (n + k) (map f xs)
   part_behind xs n k =
       ap (λ (l : List B). l ++ map f (take k (drop n xs))) (take-map f n xs) ∙ sym (map-append f (take n xs) (take k (drop n xs))) ∙ ap (map f) (take_add n k xs) ∙ sym (take-map f (n + k) xs)
-
-  pub mapped : (xs ys : List A) (o : Option A) → xs ≡ option_to_list o ++ ys → map f xs ≡ option_to_list (option_map f o) ++ map f ys
-  mapped xs ys None is = ap (map f) is
-  mapped xs ys (Some x) is = ap (map f) is
-
-  pub mapped_rest : (xs ys : List A) → ys ≡ drop 1 xs → map f ys ≡ drop 1 (map f xs)
-  mapped_rest [] ys is = ap (map f) is
-  mapped_rest (x ∷ xs) ys is = ap (map f) is

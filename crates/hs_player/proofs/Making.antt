@@ -1,8 +1,7 @@
 -- A player that was made has done nothing.
-use Rattle.std.proofs.Common.{◌≡◌, ℕ, zero, suc, ◌≤◌, List, [], ◌∷◌, ◌++◌, map, reverse, Some, refl, sym, ap, subst, arith}
-use Rattle.std.proofs.lemmas.Option.{same_Some}
-use Rattle.std.specs.Prelude.{slice_get}
+use Rattle.std.proofs.Common.{◌≡◌, ◌≤◌, List, [], ◌++◌, map, reverse, refl, sym, ap, subst, arith}
 use Rattle.std.specs.List.{AllByRecursion}
+use Rattle.hs_lists.proofs.Alls.{all_everywhere}
 use Rattle.hs_base.specs.declared.ids.ClientId.{ClientId}
 use Rattle.hs_base.specs.declared.limits.TheConstants.{MIN_SIZE}
 use Rattle.hs_auto.specs.Watching.{Watch, HasSampled}
@@ -16,15 +15,6 @@ use Rattle.hs_player.specs.Writing.{Made, IsSound, new_of}
 use Rattle.hs_player.specs.Doing.{Gone, HasDone}
 use Rattle.hs_player.specs.Places.{IsPlayable, IsAt, made_for}
 use Rattle.hs_player.proofs.Standing.{Laws, is_at}
-
-pub all_behind : {A : Type 0} (P : A → Type 0) (xs : List A) (x : A) → AllByRecursion P xs → P x → AllByRecursion P (xs ++ x ∷ [])
-all_behind P [] x all one = (one, tt)
-all_behind P (y ∷ xs) x all one = (all.0, all_behind P xs x all.1 one)
-
-all_at : {A : Type 0} (P : A → Type 0) (xs : List A) → AllByRecursion P xs → (place : ℕ) (x : A) → slice_get xs place ≡ Some x → P x
-all_at P [] all place x found = absurd cc
-all_at P (y ∷ xs) all zero x found = subst P (same_Some y x found) all.0
-all_at P (y ∷ xs) all (suc place) x found = all_at P xs all.1 place x found
 
 -- what is known of a client that was made
 pub record IsNew (made : Made) (works : Working) : Type 0 where
@@ -60,7 +50,7 @@ new_done made works is =
       sound = subst IsSound (sym is.core) (new_sound made is.least);
       crumbs = is.crumbs;
       triggers = is.triggers;
-      autos = record { rules_are = is.rules; each = λ auto watch found. all_at (λ (w : Watch). HasSampled w []) works.autos is.fresh auto watch found };
+      autos = record { rules_are = is.rules; each = λ auto watch found. all_everywhere (λ (w : Watch). HasSampled w []) works.autos is.fresh auto watch found };
     }
 
 pub new_at : Laws → (settings : PlainSettings) (client : ClientId) (ops : List Operation) (works : Working) → IsPlayable settings ops → IsNew (made_for settings client ops) works

@@ -2,6 +2,7 @@
 use Rattle.std.proofs.Common.{◌≡◌, ℕ, ◌+◌, ◌≤◌, Bool, false, List, [], ◌∷◌, ◌++◌, length, reverse, Option, Some, None, IsSome, refl, sym, ap, ap₂, ◌∙◌, subst, arith, append_assoc}
 use Rattle.std.proofs.lemmas.List.{append-nil, reverse-append}
 use Rattle.std.specs.Prelude.{is_some}
+use Rattle.hs_lists.proofs.Options.{is_some_true, some_item}
 use Rattle.hs_base.specs.declared.ids.TraceId.{TraceId}
 use Rattle.hs_base.specs.declared.ids.NodeId.{NodeId}
 use Rattle.hs_base.specs.declared.told.Crumb.{Crumb}
@@ -15,18 +16,15 @@ use Rattle.hs_player.specs.Wells.{Way}
 use Rattle.hs_sent.specs.OneMore.{next_behind, AreWatching}
 use Rattle.hs_sent.specs.SoFar.{has_open_page}
 use Rattle.hs_sent.specs.Sending.{crumb_in, trigger_in}
-use Rattle.hs_sent.proofs.Adding.{OneMore, open_more, page_more, at, unseen, begin_unseen, point_unseen, end_unseen, crumb_unseen, fire_unseen, begin_no_crumb, begin_no_trigger, some_trace, point_no_crumb, point_no_trigger, end_no_crumb, end_no_trigger, coming_crumb, crumb_no_trigger, coming_fire, fire_no_crumb, trigger_of_fire}
+use Rattle.hs_sent.proofs.Adding.{OneMore, page_more, at, unseen, begin_unseen, point_unseen, end_unseen, crumb_unseen, fire_unseen, begin_no_crumb, begin_no_trigger, point_no_crumb, point_no_trigger, end_no_crumb, end_no_trigger, coming_crumb, crumb_no_trigger, coming_fire, fire_no_crumb, trigger_of_fire}
+use Rattle.hs_sent.proofs.OneMore.{open_push}
 use Rattle.hs_workload.specs.LookBack.{operation_pieces}
-use Rattle.hs_workload.specs.Validity.{client_pieces}
+use Rattle.hs_workload.proofs.Keeps.{client_more}
 use Rattle.hs_player.specs.Playing.{Unleased, Working}
 use Rattle.hs_player.specs.Writing.{Made, Writing, IsSound, IsWriting, Records, EndsTrace}
 use Rattle.hs_player.specs.Doing.{Gone, HasDone, Does, writing_of}
-use Rattle.hs_player.proofs.Sound.{sound_began, is_some_true}
+use Rattle.hs_player.proofs.Sound.{sound_began}
 use Rattle.hs_player.proofs.Steps.{began_trace}
-
-pub pieces_more : (size : ℕ) (ops : List Operation) (op : Operation) → client_pieces size (ops ++ op ∷ []) ≡ client_pieces size ops + operation_pieces size op
-pieces_more size [] op = omega arith
-pieces_more size (first ∷ ops) op = let rest = pieces_more size ops op in omega (arith, rest)
 
 -- ---- one more
 
@@ -53,8 +51,8 @@ done_now laws made ops gone op old new h d =
       writes = λ rest. subst (λ (all : List Operation). Writes made gone.chunks all rest new) (sym (append_assoc ops (op ∷ []) rest)) (d.writes rest);
       size = d.size ∙ h.size;
       calls = d.calls ∙ h.calls;
-      counted = omega (arith, d.counted, h.counted, pieces_more made.size ops op);
-      trace = d.trace ∙ ap (λ (trace : Option TraceId). open_behind trace op) h.trace ∙ sym (open_more None ops op);
+      counted = omega (arith, d.counted, h.counted, client_more made.size ops op);
+      trace = d.trace ∙ ap (λ (trace : Option TraceId). open_behind trace op) h.trace ∙ sym (open_push None ops op);
       page = d.page ∙ ap (λ (page : Bool). has_open_page page (op ∷ [])) h.page ∙ sym (page_more false ops op);
       sound = d.sound;
       crumbs =
@@ -111,7 +109,7 @@ pub point_done : OneMore → (moment : ℕ) (payload : List ℕ) (old : Working)
 point_done laws moment payload old new way well well' some r = λ made ops gone h.
     let size = made.size in
     let op : Operation = Point moment payload in
-    let t = some_trace old.core.trace some in
+    let t = some_item old.core.trace some in
     let same : old.core.size ≡ size = h.size in
     let now : Working = with_writing old new in
     done_now laws made ops gone op old now h
@@ -143,7 +141,7 @@ point_done laws moment payload old new way well well' some r = λ made ops gone 
 pub end_done : OneMore → (old : Working) (new : Writing) → IsSome old.core.trace → EndsTrace (writing_of old) new → Does End old (with_writing old new)
 end_done laws old new some e = λ made ops gone h.
     let size = made.size in
-    let t = some_trace old.core.trace some in
+    let t = some_item old.core.trace some in
     let now : Working = with_writing old new in
     done_now laws made ops gone End old now h
     (record {

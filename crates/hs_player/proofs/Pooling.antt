@@ -6,12 +6,13 @@ use Rattle.hs_journal.specs.declared.journal.Draw.{Draw}
 use Rattle.hs_pool.specs.Pool.{Pool, IsAfter, HasSize}
 use Rattle.hs_records.specs.Plain.{Operation, PlainSettings}
 use Rattle.hs_sent.specs.Draws.{draws_behind, count_started, event_drawn}
+use Rattle.hs_sent.proofs.Order.{length_next}
 use Rattle.hs_words.specs.PoolHistory.{Event, queue_after}
 use Rattle.hs_player.specs.Playing.{Playing}
 use Rattle.hs_player.specs.Wells.{DrawsAll}
 use Rattle.hs_player.specs.Pooled.{OnlyDraws, pool_way}
 use Rattle.hs_player.specs.Places.{IsAt, Went, WentOn, draws_going}
-use Rattle.hs_player.proofs.Drawing.{length-next, draws_none, draws_more}
+use Rattle.hs_player.proofs.Drawing.{draws_none, draws_more}
 
 -- the same draws behind other ones
 behind_others : (before drawn : List Draw) (pool pool' : Pool) → OnlyDraws [] pool drawn pool' → OnlyDraws before pool (before ++ drawn) pool'
@@ -55,7 +56,7 @@ went_pooled settings client ops drawn done end k l m history old new pool pool' 
     let count = d.0 in
     let made = draws_behind pool.buffers history count in
     let long : length (drawn ++ went.more) ≡ length drawn + count =
-    ap length d.1.draws ∙ length-append drawn made ∙ ap (λ n. length drawn + n) (length-next count (length history) (queue_after pool.buffers (reverse history))) in
+    ap length d.1.draws ∙ length-append drawn made ∙ ap (λ n. length drawn + n) (length_next count (length history) (queue_after pool.buffers (reverse history))) in
     let number : count ≡ count_started size ops end - count_started size ops done = omega (arith, long, went.at.each, a.each) in
     let all : drawn ++ went.more ≡ drawn ++ draws_going settings ops done end pool.buffers history = d.1.draws ∙ ap (λ n. drawn ++ draws_behind pool.buffers history n) number in
     record {

@@ -1,9 +1,9 @@
 -- A sample that an autotrigger of a player is given.
-use Rattle.std.proofs.Common.{◌≡◌, ℕ, ◌<◌, List, [], ◌∷◌, ◌++◌, length, set, get_or, take, drop, reverse, Option, Some, refl, sym, ap, ◌∙◌, subst, arith, length-set}
-use Rattle.std.proofs.Math.Seq.{take-append_seam}
-use Rattle.std.proofs.lemmas.Option.{same_Some, slice_get-map, slice_get_within, slice_get-get_or}
+use Rattle.std.proofs.Common.{◌≡◌, ℕ, ◌<◌, List, [], ◌∷◌, ◌++◌, length, set, get_or, reverse, Option, Some, refl, sym, ap, ◌∙◌, subst, arith}
+use Rattle.std.proofs.lemmas.Option.{same_Some, slice_get-map, slice_get_within}
 use Rattle.std.specs.Prelude.{slice_get}
 use Rattle.std.specs.Option.{option_map_or, option_map}
+use Rattle.hs_lists.proofs.Lent.{lent_from}
 use Rattle.hs_base.specs.declared.ids.TraceId.{TraceId}
 use Rattle.hs_base.specs.declared.ids.TriggerId.{TriggerId}
 use Rattle.hs_base.specs.declared.told.Trigger.{Trigger}
@@ -22,23 +22,6 @@ use Rattle.hs_sent.proofs.Adding.{OneMore, at}
 use Rattle.hs_player.specs.Playing.{Working}
 use Rattle.hs_player.specs.Doing.{Does}
 use Rattle.hs_player.proofs.Operations.{IsApart, apart_writes, done_now, none_more}
-
--- ---- a list of which an item was lent and written
-
-module _ {A : Type 0} where
-  -- the list behind the loan, as the loan says it
-  abbrev pub lent : List A → List A → ℕ → A → List A
-  lent items now place item = take (length items) (set now place item ++ drop (length (set now place item)) items)
-
-  pub lent_is : (items now : List A) (place : ℕ) (item : A) → now ≡ items → lent items now place item ≡ set items place item
-  lent_is items now place item same =
-      let zs = set now place item in
-      let count : length items ≡ length zs = sym (length-set now place item ∙ ap length same) in
-      ap (λ n. take n (zs ++ drop (length zs) items)) count ∙ take-append_seam zs (drop (length zs) items) ∙ ap (λ (l : List A). set l place item) same
-
-  -- the item that was lent
-  pub lent_from : (items now : List A) (place : ℕ) (default : A) → now ≡ items → place < length items → slice_get items place ≡ Some (get_or now place default)
-  lent_from items now place default same within = slice_get-get_or items place default within ∙ ap (λ (l : List A). Some (get_or l place default)) (sym same)
 
 -- ---- the autotriggers
 

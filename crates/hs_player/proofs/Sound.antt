@@ -1,6 +1,5 @@
 -- What holds of a core between calls holds after each call.
-use Rattle.std.proofs.Common.{◌≡◌, ℕ, ◌≤◌, Bool, true, List, Option, Some, None, IsSome, refl}
-use Rattle.std.specs.Prelude.{is_some}
+use Rattle.std.proofs.Common.{◌≡◌, ℕ, ◌≤◌, Bool, List, Option, Some, None, IsSome, refl}
 use Rattle.std.specs.Option.{option_map}
 use Rattle.hs_base.specs.declared.ids.TraceId.{TraceId}
 use Rattle.hs_base.specs.declared.limits.TheConstants.{MIN_SIZE}
@@ -16,10 +15,6 @@ some_map f (Some x) some = some
 pub some_not : {A : Type 0} (o : Option A) → IsSome o → o ≡ None → ⊥
 some_not None some none = cc
 some_not (Some x) some none = cc
-
-pub is_some_true : {A : Type 0} (o : Option A) → IsSome o → is_some o ≡ true
-is_some_true None some = absurd cc
-is_some_true (Some x) some = refl
 
 pub sound_began : (core : Core (Unit {0})) (trace : TraceId) → IsSound core → IsSound (after_step core (Began trace))
 sound_began core trace s = record { least = s.least; ready = λ some none. refl; closed = λ none. absurd cc }

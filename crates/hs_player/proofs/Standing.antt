@@ -1,16 +1,16 @@
 -- What a player has done says where it is.
-use Rattle.std.proofs.Common.{◌≡◌, ℕ, ◌≤◌, false, List, [], ◌++◌, length, map, take, drop, reverse, Option, Some, None, refl, sym, ap, ◌∙◌, subst, arith, length-append}
+use Rattle.std.proofs.Common.{◌≡◌, ℕ, ◌≤◌, false, List, [], ◌++◌, length, map, take, drop, reverse, refl, sym, ap, ◌∙◌, subst, arith, length-append}
 use Rattle.std.proofs.lemmas.List.{append-nil, take-append-drop, length-take-le, take_at, drop_at}
 use Rattle.std.specs.Prelude.{is_some}
 use Rattle.std.specs.List.{flat_map}
 use Rattle.hs_base.specs.declared.ids.ClientId.{ClientId}
-use Rattle.hs_base.specs.declared.ids.TraceId.{TraceId}
 use Rattle.hs_base.specs.declared.told.Crumb.{Crumb}
 use Rattle.hs_base.specs.declared.told.Trigger.{Trigger}
 use Rattle.hs_client.specs.Core.{Core, Step, new_core}
 use Rattle.hs_client.specs.Calls.{AreSteps, IsBook, after, draws_supplied, filled_chunks, segments_of_steps, with_all}
 use Rattle.hs_records.specs.Plain.{Operation, PlainSettings}
-use Rattle.hs_records.specs.Records.{segments_of, coming}
+use Rattle.hs_records.specs.Records.{segments_of}
+use Rattle.hs_records.proofs.Payloads.{nothing_comes}
 use Rattle.hs_sent.specs.Draws.{count_started}
 use Rattle.hs_sent.specs.Drawn.{drawn_pages}
 use Rattle.hs_sent.specs.Laws.{TimedPagesAreTimely}
@@ -32,10 +32,6 @@ pub record Laws : Type 0 where
   pub handed : CoresHandOutSoFar (Unit {0})
   pub crumbs : FirstCrumbsAreSent
   pub triggers : FirstTriggersAreSent
-
-nothing_comes : (size number : ℕ) (trace : Option TraceId) → coming size number trace [] ≡ []
-nothing_comes size number None = refl
-nothing_comes size number (Some trace) = refl
 
 -- the segments that the steps gave are those of the operations
 pub recorded : (made : Made) (ops : List Operation) (gone : Gone) (works : Working) (h : HasDone made ops gone works) → reverse (segments_of_steps (h.writes []).steps) ≡ segments_of made.size ops

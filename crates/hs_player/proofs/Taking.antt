@@ -4,6 +4,7 @@ use Rattle.std.proofs.lemmas.List.{length-map, drop_all}
 use Rattle.std.proofs.lemmas.Option.{slice_get-map, same_Some}
 use Rattle.std.specs.Prelude.{slice_get}
 use Rattle.std.specs.Option.{option_map, option_to_list}
+use Rattle.hs_lists.proofs.Places.{get_front}
 use Rattle.hs_base.specs.declared.ids.ClientId.{ClientId}
 use Rattle.hs_base.specs.declared.told.Crumb.{Crumb}
 use Rattle.hs_base.specs.declared.told.Trigger.{Trigger}
@@ -18,7 +19,7 @@ use Rattle.hs_player.specs.Writing.{Made, IsWriting}
 use Rattle.hs_player.specs.Doing.{Gone, HasDone, HasNothing}
 use Rattle.hs_player.specs.Places.{IsAt, IsItemAt, Waits, chunks_within, gone_of, made_for, TakesChunk, TakesCrumb, TakesTrigger, TellsBare}
 use Rattle.hs_player.proofs.Chunks.{chunk_at, chunks_counted}
-use Rattle.hs_player.proofs.Lists.{is_next, none_waits, front_get, sent_first}
+use Rattle.hs_player.proofs.Lists.{is_next, none_waits, sent_first}
 use Rattle.hs_player.proofs.Steps.{chunk_taken}
 
 -- ---- the next item of a list of items
@@ -36,7 +37,7 @@ item_at done place items x order found =
     let first = sent_first done 0 items order in
     record {
       item = f.0;
-      next = ap (λ l. slice_get l place) first.1 ∙ front_get (sent_within done items) first.0 place f.0 f.1;
+      next = ap (λ l. slice_get l place) first.1 ∙ get_front (sent_within done items) first.0 place f.0 f.1;
       within = f.1;
       is = f.2;
     }

@@ -1,48 +1,26 @@
 -- What a pool's history says of the buffers that wait.
-use Rattle.std.proofs.Common.{◌≡◌, ℕ, zero, suc, ◌+◌, ◌<◌, ◌≤◌, Bool, true, false, cond, ◌==◌, ◌||◌, List, [], ◌∷◌, ◌++◌, drop, reverse, Some, refl, sym, ap, ◌∙◌, subst, arith, length-append, ⊎_elim}
+use Rattle.std.proofs.Common.{◌≡◌, ℕ, ◌+◌, ◌<◌, Bool, true, false, cond, ◌==◌, ◌||◌, List, [], ◌∷◌, ◌++◌, drop, reverse, Some, refl, sym, ap, ◌∙◌, subst, arith, length-append, ⊎_elim}
 use Rattle.std.specs.Prelude.{slice_get, count_by}
 use Rattle.std.specs.List.{list_any, range_with_len}
 use Rattle.std.proofs.lemmas.List.{reverse-append}
 use Rattle.std.proofs.lemmas.List.Sums.{sum_by-cons, sum_by-append}
-use borrow.Author.Tests.{eqb-true, eq-eqb, ne_eqb}
 use Rattle.std.proofs.lemmas.Bool.{cases_lt}
+use Rattle.hs_lists.proofs.Counts.{count_cons}
 use Rattle.hs_words.specs.PoolHistory.{Event, Got, Empty, Given, Missed, is_got, is_given, queue_after, MayFollow, IsHistoryBack}
 pub use Rattle.hs_words.proofs.Waiting.{is}
-use Rattle.hs_words.proofs.Waiting.{counted, balance}
+use Rattle.hs_words.proofs.Waiting.{balance, none_above, once_within, at_most_one}
 use Rattle.hs_pool.specs.Pool.{Pool, IsAfter, IsOut, waiting}
 
 -- how often a number is among these
 apart : (a number : ℕ) (b : Bool) → b ≡ false → ◌≡◌ {A = ℕ} (cond b 1 0) 0
 apart a number b e = ap (λ (c : Bool). let n : ℕ = cond c 1 0 in n) e
 
-none_below : (a n number : ℕ) → number < a → count_by (is number) (range_with_len a n) ≡ 0
-none_below a zero number less = refl
-none_below a (suc n) number less =
-    omega (arith, counted (is number) a (range_with_len (a + 1) n), apart a number (a == number) (ne_eqb a number (λ e. omega arith)), none_below (a + 1) n number (omega arith))
-
-none_above : (a n number : ℕ) → a + n ≤ number → count_by (is number) (range_with_len a n) ≡ 0
-none_above a zero number less = refl
-none_above a (suc n) number less =
-    omega (arith, counted (is number) a (range_with_len (a + 1) n), apart a number (a == number) (ne_eqb a number (λ e. omega arith)), none_above (a + 1) n number (omega arith))
-
-once_at : (a number rest whole : ℕ) (b : Bool) → (a == number) ≡ b → whole ≡ cond b 1 0 + rest → (number < a + 1 → rest ≡ 0) → (a + 1 ≤ number → rest ≡ 1) → a ≤ number → whole ≡ 1
-once_at a number rest whole true e is below above low = let same = eqb-true a number e in omega (arith, below (omega arith))
-once_at a number rest whole false e is below above low =
-    let differ : a ≡ number → ⊥ = λ same. let both : true ≡ false = sym (eq-eqb a number same) ∙ e in absurd cc in
-    omega (arith, above (omega (arith, differ)))
-
-pub once_within : (a n number : ℕ) → a ≤ number → number < a + n → count_by (is number) (range_with_len a n) ≡ 1
-once_within a zero number low high = absurd (omega arith)
-once_within a (suc n) number low high =
-    once_at a number (count_by (is number) (range_with_len (a + 1) n)) (count_by (is number) (range_with_len a (suc n))) (a == number) refl (counted (is number) a (range_with_len (a + 1) n))
-    (none_below (a + 1) n number) (λ above. once_within (a + 1) n number above (omega arith)) low
-
 -- whether one with this number waits, and how many
 pub none_counted : (number : ℕ) (xs : List ℕ) → list_any (is number) xs ≡ false → count_by (is number) xs ≡ 0
 none_counted number [] none = refl
 none_counted number (x ∷ xs) none =
     let both = or_none (x == number) (list_any (is number) xs) none in
-    omega (arith, counted (is number) x xs, apart x number (x == number) both.0, none_counted number xs both.1)
+    omega (arith, count_cons (is number) x xs, apart x number (x == number) both.0, none_counted number xs both.1)
   where
     or_none : (a b : Bool) → (a || b) ≡ false → (a ≡ false) × (b ≡ false)
     or_none true b e = absurd cc
@@ -50,7 +28,7 @@ none_counted number (x ∷ xs) none =
 
 pub counted_none : (number : ℕ) (xs : List ℕ) → count_by (is number) xs ≡ 0 → list_any (is number) xs ≡ false
 counted_none number [] none = refl
-counted_none number (x ∷ xs) none = step (x == number) (counted (is number) x xs) (counted_none number xs)
+counted_none number (x ∷ xs) none = step (x == number) (count_cons (is number) x xs) (counted_none number xs)
   where
     step : (b : Bool) → count_by (is number) (x ∷ xs) ≡ cond b 1 0 + count_by (is number) xs → (count_by (is number) xs ≡ 0 → list_any (is number) xs ≡ false) → (b || list_any (is number) xs) ≡ false
     step true e rest = absurd (omega arith)
@@ -66,10 +44,6 @@ out_is_given pool history number after out =
     let earlier = reverse history in
     let none : count_by (is number) (queue_after pool.buffers earlier) ≡ 0 = subst (λ (xs : List ℕ). count_by (is number) xs ≡ 0) after.queue (none_counted number (waiting pool) out.1) in
     omega (arith, none, balance pool.buffers number earlier after.lawful, once_within 0 pool.buffers number (omega arith) (omega (arith, out.0)))
-
-at_most_one : (n number : ℕ) → count_by (is number) (range_with_len 0 n) ≤ 1
-at_most_one n number =
-    ⊎_elim (λ less. omega (arith, once_within 0 n number (omega arith) (omega arith))) (λ above. omega (arith, none_above 0 n number (omega arith))) (cases_lt number n)
 
 pub given_is_out : (pool : Pool) (history : List Event) (number : ℕ) → IsAfter history pool → MayFollow pool.buffers (reverse history) (Given number) → IsOut pool number
 given_is_out pool history number after may =

@@ -9,6 +9,7 @@ use borrow.Author.Tests.{eqb-true, ne_eqb}
 use Rattle.std.specs.List.{list_any, range_with_len, IsDistinct, AllByRecursion}
 use Rattle.std.proofs.lemmas.Map.Keys.{IsDistinct-push, IsDistinct-tail}
 use Rattle.std.proofs.lemmas.Map.Steps.{length-le_from_distinct_below}
+use Rattle.hs_lists.proofs.Alls.{all_push}
 use Rattle.hs_words.specs.Chunks.{Contents, clear_chunk, with_page}
 use Rattle.hs_words.specs.PoolHistory.{Got, Empty, Given, queue_after}
 use Rattle.hs_pool.specs.declared.plain.PlainPool.TheInside.{Inside}
@@ -47,10 +48,6 @@ pub rest_all : (P : Contents → Type 0) (xs : List Contents) → AllByRecursion
 rest_all P [] all = all
 rest_all P (x ∷ xs) all = all.1
 
-pub all_and : (P : Contents → Type 0) (xs : List Contents) (y : Contents) → AllByRecursion P xs → P y → AllByRecursion P (xs ++ y ∷ [])
-all_and P [] y all last = (last, tt)
-all_and P (x ∷ xs) y all last = (all.0, all_and P xs y all.1 last)
-
 -- no number is this one, whichever way they are compared
 turned : (number : ℕ) (xs : List ℕ) → list_any (is number) xs ≡ false → list_any (nat_eq number) xs ≡ false
 turned number [] none = refl
@@ -82,7 +79,7 @@ few n xs once below = subst (λ (k : ℕ). k ≤ n) (length-map xs number_of) (l
 pub has_room : (n : ℕ) (xs : List Contents) (chunk : Contents) → IsDistinct nat_eq (map number_of xs) → AllByRecursion (λ (c : Contents). c.number < n) xs
     → chunk.number < n → list_any (is chunk.number) (map number_of xs) ≡ false → length xs < n
 has_room n xs chunk once below less none =
-    omega (arith, few n (xs ++ chunk ∷ []) (differ_and xs chunk once none) (all_and (λ (c : Contents). c.number < n) xs chunk below less), length-append xs (chunk ∷ []))
+    omega (arith, few n (xs ++ chunk ∷ []) (differ_and xs chunk once none) (all_push (λ (c : Contents). c.number < n) xs chunk below less), length-append xs (chunk ∷ []))
 
 -- ---- a new queue
 abbrev new_from : ℕ → ℕ → ℕ → List Contents
@@ -138,8 +135,8 @@ pub given_to : (a b : Inside) (chunk : Contents) → IsPool a → IsOut (pool_of
     → deque_capacity b.queue ≡ deque_capacity a.queue → IsPool b
 given_to a b chunk is out items room =
     in_order_by b (a.queue.items ++ with_page chunk None ∷ []) (deque_capacity a.queue) items room (differ_and a.queue.items (with_page chunk None) is.once out.1)
-    (all_and (λ (chunk : Contents). chunk.number < deque_capacity a.queue) a.queue.items (with_page chunk None) is.below out.0)
-    (all_and (λ (chunk : Contents). chunk.page ≡ None) a.queue.items (with_page chunk None) is.clear refl)
+    (all_push (λ (chunk : Contents). chunk.number < deque_capacity a.queue) a.queue.items (with_page chunk None) is.below out.0)
+    (all_push (λ (chunk : Contents). chunk.page ≡ None) a.queue.items (with_page chunk None) is.clear refl)
 
 -- a new pool is after no event
 pub new_after : (a : Inside) (size n : ℕ) → a.queue.items ≡ new_from size 0 n → deque_capacity a.queue ≡ n → a.events ≡ 0 → IsAfter [] (pool_of a)

@@ -6,12 +6,10 @@ use Rattle.std.proofs.lemmas.List.{append-nil}
 use Rattle.std.proofs.lemmas.Bool.{le-leb, leb-true}
 use Rattle.std.proofs.lemmas.Bool.Decides.{nat_tests}
 use Rattle.std.specs.List.{concat}
+use Rattle.hs_lists.proofs.Numbers.{nat_le_false}
 use Rattle.hs_base.specs.declared.limits.TheConstants.{MIN_SIZE}
 use Rattle.hs_records.specs.Records.{piece_limit, cut_within, payload_pieces, count_cuts, piece_count}
 use Rattle.hs_records.specs.Laws.{AreFullButLast}
-
-not_le : (a b : ℕ) → b < a → nat_le a b ≡ false
-not_le a b less = grind (arith, nat_tests)
 
 -- as many cuts as bytes are enough
 enough : (most more limit : ℕ) (payload : List ℕ) → 1 ≤ limit → length payload ≤ most → length payload ≤ more → cut_within most limit payload ≡ cut_within more limit payload
@@ -48,7 +46,7 @@ pieces-long size payload wide long = step (length payload) refl
     step zero e = absurd (omega arith)
     step (suc n) e =
         let less = length-drop (piece_limit size) payload in
-        rw (not_le (length payload) (piece_limit size) long, cut_within)
+        rw (nat_le_false (length payload) (piece_limit size) long, cut_within)
         (ap (λ pieces. take (piece_limit size) payload ∷ pieces) (enough n (length (drop (piece_limit size) payload)) (piece_limit size) (drop (piece_limit size) payload) (omega arith) (omega arith) (omega arith)))
 
 -- ---- joined

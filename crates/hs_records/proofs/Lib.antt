@@ -3,3 +3,4 @@ pub mod PageNumbers
 pub mod PieceNumbers
 pub mod Runs
 pub mod PagePieces
+pub mod Payloads

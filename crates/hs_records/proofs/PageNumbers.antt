@@ -3,6 +3,7 @@
 use Rattle.std.proofs.Common.{◌≡◌, ◌⊎◌, ℕ, zero, suc, ◌+◌, ◌≤◌, Bool, true, false, cond, nat_le, List, [], ◌∷◌, ◌++◌, map, flat_map, length, take, drop, Some, None, refl, sym, ap, ◌∙◌, subst, arith, length-drop, one-add, true≢false, inl, inr}
 use Rattle.std.proofs.lemmas.Bool.{le-leb, leb-true}
 use Rattle.std.specs.List.{AllByRecursion}
+use Rattle.hs_lists.proofs.Alls.{all_append}
 use Rattle.hs_base.specs.declared.limits.TheConstants.{MIN_SIZE}
 use Rattle.hs_base.specs.declared.ids.TraceId.{TraceId}
 use Rattle.hs_records.specs.Plain.{Operation, Begin, Point, Crumb, End, Fire, Sample}
@@ -18,10 +19,6 @@ pub all-parted : {X : Type 0} (P : X → Type 0) (n : ℕ) (xs : List X) → All
 all-parted P zero xs each = (tt, each)
 all-parted P (suc n) [] each = (tt, tt)
 all-parted P (suc n) (x ∷ xs) each = let rest = all-parted P n xs each.1 in ((each.0, rest.0), rest.1)
-
-all-append : {X : Type 0} (P : X → Type 0) (xs ys : List X) → AllByRecursion P xs → AllByRecursion P ys → AllByRecursion P (xs ++ ys)
-all-append P [] ys here there = there
-all-append P (x ∷ xs) ys here there = (here.0, all-append P xs ys here.1 there)
 
 all-traced : (size : ℕ) (traces : Traces) (trace : TraceId) (pieces : List Piece) → AllByRecursion (IsPiece size traces trace) pieces
     → AllByRecursion (λ (piece : Piece). traces piece.number ≡ Some trace) pieces
@@ -152,7 +149,7 @@ pages-append traces number middle last pages more here there =
     record {
       numbered = numbered-append number pages more here.numbered (subst (λ n. AreNumberedFrom n more) (sym here.ends) there.numbered);
       ends = end_from-append number pages more ∙ ap (λ n. end_from n more) here.ends ∙ there.ends;
-      each = all-append (CarriesRecords traces) pages more here.each there.each;
+      each = all_append (CarriesRecords traces) pages more here.each there.each;
     }
 
 -- the pages of the segments that begin in these operations

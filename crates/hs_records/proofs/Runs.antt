@@ -2,6 +2,7 @@
 use Rattle.std.proofs.Common.{◌≡◌, ℕ, zero, suc, ◌+◌, ◌<◌, ◌≤◌, true, false, cond, nat_le, List, [], ◌∷◌, ◌++◌, length, take, drop, map, refl, sym, ap, ap₂, ◌∙◌, subst, arith, one-add, length-append}
 use Rattle.std.proofs.lemmas.Bool.{le-leb}
 use Rattle.std.proofs.lemmas.Bool.Decides.{nat_tests}
+use Rattle.hs_lists.proofs.Parts.{drop_front}
 use Rattle.hs_records.specs.Records.{Piece}
 use Rattle.hs_records.specs.Fronts.{count_beside}
 use Rattle.hs_records.specs.Pages.{cost_of, page_room, fits, runs_within, runs_of}
@@ -29,10 +30,6 @@ longest_is room spent (p ∷ run) rest le stops =
 take_front : (run rest : List Piece) → take (length run) (run ++ rest) ≡ run
 take_front [] rest = refl
 take_front (p ∷ run) rest = ap (λ (l : List Piece). p ∷ l) (take_front run rest)
-
-drop_front : (run rest : List Piece) → drop (length run) (run ++ rest) ≡ rest
-drop_front [] rest = refl
-drop_front (p ∷ run) rest = drop_front run rest
 
 stops_at : (size : ℕ) (run : List Piece) (runs : List (List Piece)) → IsFull size run runs → AreRuns size runs → Stops (page_room size) 0 run (joined runs)
 stops_at size run [] full are = tt

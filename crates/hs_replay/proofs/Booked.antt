@@ -1,11 +1,17 @@
 -- The books of the nodes, one node after another.
-use Rattle.std.proofs.Common.{◌≡◌, ℕ, zero, suc, ◌+◌, ◌*◌, ◌/◌, ◌<◌, ◌≤◌, Bool, true, false, ◌&&◌, List, [], ◌∷◌, ◌++◌, length, map, take, Some, None, refl, sym, ap, subst, ◌∙◌, arith, slice_get, get_or, mul-le-mul_right}
+use Rattle.std.proofs.Common.{◌≡◌, ℕ, zero, suc, ◌+◌, ◌*◌, ◌/◌, ◌<◌, ◌≤◌, List, [], ◌∷◌, ◌++◌, length, map, take, Some, refl, sym, ap, subst, ◌∙◌, arith, slice_get, mul-le-mul_right}
 use Rattle.std.proofs.lemmas.Nat.{div-mul-add}
 use Rattle.std.proofs.Math.Nat.{mul-add-mod_self_right, mod-eq_of_lt}
 use Rattle.std.proofs.lemmas.Bool.{eqb-true}
-use Rattle.std.proofs.lemmas.List.{map-append}
-use Rattle.std.proofs.lemmas.Option.{same_Some, slice_get-get_or}
-use Rattle.std.specs.List.{range_with_len, list_all}
+use Rattle.std.proofs.lemmas.List.{map-append, nil_from_length}
+use Rattle.std.proofs.lemmas.Option.{slice_get_within}
+use Rattle.std.specs.List.{range_with_len}
+use Rattle.hs_lists.proofs.Ranges.{range_append}
+use Rattle.hs_lists.proofs.Tests.{list_all_at}
+use Rattle.hs_lists.proofs.Bools.{second_true}
+use Rattle.hs_lists.proofs.Places.{take_more}
+use Rattle.hs_lists.proofs.Parts.{take_whole}
+use Rattle.hs_lists.proofs.Numbers.{suc_le}
 use Rattle.hs_base.specs.declared.ids.NodeId.{NodeId}
 use Rattle.hs_coord.specs.Following.{Message, Messages}
 use Rattle.hs_coord.specs.Kept.{Kept, HasTaken}
@@ -31,21 +37,6 @@ use Rattle.hs_nodes.specs.Parts.{Parts}
 
 -- ---- lists
 
-found_within : {A : Type 0} (xs : List A) (place : ℕ) (x : A) → slice_get xs place ≡ Some x → place < length xs
-found_within [] place x e = let none : None ≡ Some x = e in absurd cc
-found_within (y ∷ xs) zero x e = omega arith
-found_within (y ∷ xs) (suc place) x e = let rest = found_within xs place x e in omega (arith, rest)
-
-pub item_there : {A : Type 0} (items : List A) (place : ℕ) (x : A) → (place < length items) × (x ≡ get_or items place x) → slice_get items place ≡ Some x
-item_there items place x h = slice_get-get_or items place x h.0 ∙ ap (λ y. Some y) (sym h.1)
-
-range_parts : (start a b : ℕ) → range_with_len start (a + b) ≡ range_with_len start a ++ range_with_len (start + a) b
-range_parts start zero b = let none : zero + b ≡ b = omega arith in let same : start ≡ start + 0 = omega arith in ap (range_with_len start) none ∙ ap (λ s. range_with_len s b) same
-range_parts start (suc a) b =
-    let more : suc a + b ≡ suc (a + b) = omega arith in
-    let same : start + 1 + a ≡ start + suc a = omega arith in
-    ap (range_with_len start) more ∙ ap (λ (l : List ℕ). start ∷ l) (range_parts (start + 1) a b) ∙ ap (λ s. start ∷ (range_with_len (start + 1) a ++ range_with_len s b)) same
-
 -- two functions that agree place by place
 agree : {A : Type 0} (f g : ℕ → A) (s t count : ℕ) → ((i : ℕ) → i < count → f (s + i) ≡ g (t + i)) → map f (range_with_len s count) ≡ map g (range_with_len t count)
 agree f g s t zero each = refl
@@ -57,41 +48,6 @@ agree f g s t (suc count) each =
     agree f g (s + 1) (t + 1) count
     (λ i low. let si : s + 1 + i ≡ s + suc i = omega arith in let ti : t + suc i ≡ t + 1 + i = omega arith in ap f si ∙ each (suc i) (omega (arith, low)) ∙ ap g ti) in
     ap (λ (l : List _). f s ∷ l) rest ∙ ap (λ x. x ∷ map g (range_with_len (t + 1) count)) first
-
-passing : {A : Type 0} (p : A → Bool) (xs : List A) (place : ℕ) (x : A) → list_all p xs ≡ true → slice_get xs place ≡ Some x → p x ≡ true
-passing p [] place x all at = let none : None ≡ Some x = at in absurd cc
-passing p (y ∷ xs) zero x all at = sym (ap p (same_Some y x at)) ∙ (split (p y) (list_all p xs) all).0
-  where
-    split : (a b : Bool) → (a && b) ≡ true → (a ≡ true) × (b ≡ true)
-    split true b e = (refl, e)
-    split false b e = let never : false ≡ true = e in absurd cc
-passing p (y ∷ xs) (suc place) x all at = passing p xs place x (split (p y) (list_all p xs) all).1 at
-  where
-    split : (a b : Bool) → (a && b) ≡ true → (a ≡ true) × (b ≡ true)
-    split true b e = (refl, e)
-    split false b e = let never : false ≡ true = e in absurd cc
-
-last_of : (a b : Bool) → (a && b) ≡ true → b ≡ true
-last_of true b e = e
-last_of false b e = let never : false ≡ true = e in absurd cc
-
-nil_of : {A : Type 0} (xs : List A) → length xs ≡ 0 → xs ≡ []
-nil_of [] e = refl
-nil_of (x ∷ xs) e = absurd (omega (arith, e))
-
-take_more : {A : Type 0} (xs : List A) (k : ℕ) (x : A) → slice_get xs k ≡ Some x → take (suc k) xs ≡ take k xs ++ x ∷ []
-take_more [] k x at = let none : None ≡ Some x = at in absurd cc
-take_more (y ∷ xs) zero x at = ap (λ z. z ∷ []) (same_Some y x at)
-take_more (y ∷ xs) (suc k) x at = ap (λ (l : List _). y ∷ l) (take_more xs k x at)
-
-take_whole : {A : Type 0} (xs : List A) (k : ℕ) → length xs ≤ k → take k xs ≡ xs
-take_whole [] zero low = refl
-take_whole [] (suc k) low = refl
-take_whole (x ∷ xs) zero low = absurd (omega (arith, low))
-take_whole (x ∷ xs) (suc k) low = ap (λ (l : List _). x ∷ l) (take_whole xs k (omega (arith, low)))
-
-suc_le : (a b : ℕ) → a < b → suc a ≤ b
-suc_le a b low = omega (arith, low)
 
 place_there : (each node nodes client : ℕ) → node < nodes → client < each → place_of each node client < nodes * each
 place_there each node nodes client low below =
@@ -124,13 +80,13 @@ module _ (whole : MachinesAreWhole) (W : PlainWorkload) (nodes : List Parts) (co
   pub has_ended : (n : ℕ) (node : Parts) → slice_get nodes n ≡ Some node → HasEnded W closed.last n node
   has_ended n node stood =
       let at = closed.at.nodes_are.each n node stood in
-      let within = found_within nodes n node stood in
+      let within = slice_get_within nodes n node stood in
       let count = closed.at.nodes_are.count in
       let low : n < W.settings.nodes = omega (arith, within, count) in
       record {
         at = at;
         done = λ client below. closed.done (place_of W.settings.clients n client) (subst (λ k. place_of W.settings.clients n client < k) (sym closed.at.valid.count) (place_there W.settings.clients n W.settings.nodes client low below));
-        none = nil_of at.run.state.pinned (eqb-true (length at.run.state.pinned) 0 (last_of _ _ (passing (is_left_bare run) run.nodes n at.run closed.bare at.at)));
+        none = nil_from_length at.run.state.pinned (eqb-true (length at.run.state.pinned) 0 (second_true _ _ (list_all_at (is_left_bare run) run.nodes n at.run closed.bare at.at)));
       }
 
   -- the books of the clients of the first so many nodes
@@ -144,7 +100,7 @@ module _ (whole : MachinesAreWhole) (W : PlainWorkload) (nodes : List Parts) (co
       e ∙ ap (λ (l : List PlainClientBook). l ++ map (client_noted W closed.last k) (range_with_len 0 each)) so
       ∙ ap (λ (l : List PlainClientBook). map f (range_with_len 0 (k * each)) ++ l) (node_books W closed.last k)
       ∙ ap (λ s. map f (range_with_len 0 (k * each)) ++ map f (range_with_len s each)) (sym zero_on)
-      ∙ sym (map-append f (range_with_len 0 (k * each)) (range_with_len (0 + k * each) each)) ∙ ap (map f) (sym (range_parts 0 (k * each) each)) ∙ ap (λ c. map f (range_with_len 0 c)) (sym row)
+      ∙ sym (map-append f (range_with_len 0 (k * each)) (range_with_len (0 + k * each) each)) ∙ ap (map f) (sym (range_append 0 (k * each) each)) ∙ ap (λ c. map f (range_with_len 0 c)) (sym row)
 
   abbrev pub book_at : NodeRun → PlainAgentBook
   book_at node = book_of node.node node.state

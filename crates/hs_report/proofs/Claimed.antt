@@ -2,11 +2,14 @@
 use Rattle.std.proofs.Common.{◌≡◌, ℕ, suc, ◌+◌, ◌<◌, ◌≤◌, Bool, true, false, cond, ◌||◌, eqb, ltb, List, [], ◌∷◌, ◌++◌, map, sym, ap, ◌∙◌, refl, subst, append-nil, arith}
 use Rattle.std.specs.List.{AllByRecursion, list_any, sum_by, dedup, dedup_from}
 use Rattle.std.specs.List.Sorted.{IsPermutation, IsNonDecreasingBy}
+use Rattle.std.proofs.Math.Bool.{or_self_left}
+use Rattle.std.proofs.lemmas.Bool.{or_from, or_left}
 use Rattle.std.proofs.lemmas.Bool.Decides.{nat_tests}
 use Rattle.std.proofs.lemmas.List.Concat.{flat_map-append}
 use Rattle.std.proofs.lemmas.List.Elements.{recursion_from_All}
 use Rattle.std.proofs.lemmas.List.Sorted.{sum_by-IsPermutation}
 use Rattle.std.proofs.lemmas.List.Sums.{sum_by-cons}
+use Rattle.hs_lists.proofs.Bools.{or_swap}
 use Rattle.hs_base.specs.declared.ids.TraceId.{TraceId}
 use Rattle.hs_journal.specs.declared.books.AgentBook.{AgentBook}
 use Rattle.hs_journal.specs.declared.books.Claim.{Claim}
@@ -69,23 +72,14 @@ rises_all (trace ∷ traces) = rises_put trace (rising_traces traces) (rises_all
 pub has : ℕ → List TraceId → Bool
 has n traces = list_any (λ (t : TraceId). eqb t.0 n) traces
 
-swap_or : (a b c : Bool) → (a || (b || c)) ≡ (b || (a || c))
-swap_or true true c = refl
-swap_or true false c = refl
-swap_or false b c = refl
-
-twice_or : (a c : Bool) → (a || (a || c)) ≡ (a || c)
-twice_or true c = refl
-twice_or false c = refl
-
 has_cases : (n : ℕ) (trace other : TraceId) (traces put : List TraceId) (a b : Bool) → eqb trace.0 other.0 ≡ b → list_any (λ (t : TraceId). eqb t.0 n) put ≡ (eqb trace.0 n || list_any (λ (t : TraceId). eqb t.0 n) traces)
     → list_any (λ (t : TraceId). eqb t.0 n) (cond a (trace ∷ other ∷ traces) (cond b (other ∷ traces) (other ∷ put))) ≡ (eqb trace.0 n || (eqb other.0 n || list_any (λ (t : TraceId). eqb t.0 n) traces))
 has_cases n trace other traces put true b tb more = refl
 has_cases n trace other traces put false true tb more =
     let same_number : trace.0 ≡ other.0 = grind (arith, nat_tests) in
-    sym (ap (λ m. eqb m n || (eqb other.0 n || list_any (λ (t : TraceId). eqb t.0 n) traces)) same_number ∙ twice_or (eqb other.0 n) (list_any (λ (t : TraceId). eqb t.0 n) traces))
+    sym (ap (λ m. eqb m n || (eqb other.0 n || list_any (λ (t : TraceId). eqb t.0 n) traces)) same_number ∙ or_self_left (eqb other.0 n) (list_any (λ (t : TraceId). eqb t.0 n) traces))
 has_cases n trace other traces put false false tb more =
-    ap (λ t. eqb other.0 n || t) more ∙ swap_or (eqb other.0 n) (eqb trace.0 n) (list_any (λ (t : TraceId). eqb t.0 n) traces)
+    ap (λ t. eqb other.0 n || t) more ∙ or_swap (eqb other.0 n) (eqb trace.0 n) (list_any (λ (t : TraceId). eqb t.0 n) traces)
 
 has_put : (n : ℕ) (trace : TraceId) (traces : List TraceId) → has n (put_trace trace traces) ≡ (eqb trace.0 n || has n traces)
 unfolding has
@@ -117,17 +111,9 @@ has_permuted n xs ys perm = counted n xs ∙ ap (ltb 0) (sym (sum_by-IsPermutati
 apart : {b : Bool} → b ≡ true → b ≡ false → ⊥
 apart t f = cc
 
-absent_more : (a b : Bool) → a ≡ false → b ≡ false → (a || b) ≡ false
-absent_more true b p q = p
-absent_more false b p q = q
-
 none_true : (a b : Bool) → false ≡ (a || b) → a ≡ true → ⊥
 none_true true b e p = cc
 none_true false b e p = cc
-
-first_or : (a b : Bool) → a ≡ true → (a || b) ≡ true
-first_or true b p = refl
-first_or false b p = absurd cc
 
 second_or : (a b : Bool) → (a || b) ≡ true → a ≡ false → b ≡ true
 second_or true b h f = absurd cc
@@ -136,7 +122,7 @@ second_or false b h f = h
 absent : (n : ℕ) (traces : List TraceId) → AllByRecursion (λ (y : TraceId). n < y.0) traces → has n traces ≡ false
 unfolding has
 absent n [] all = refl
-absent n (y ∷ traces) all = absent_more (eqb y.0 n) (list_any (λ (t : TraceId). eqb t.0 n) traces) (grind (arith, nat_tests, all.0)) (absent n traces all.1)
+absent n (y ∷ traces) all = or_from (eqb y.0 n) (list_any (λ (t : TraceId). eqb t.0 n) traces) (grind (arith, nat_tests, all.0)) (absent n traces all.1)
 
 -- the heads of rising lists with the same traces
 heads : (x y : TraceId) (xs ys : List TraceId) → AllByRecursion (λ (z : TraceId). x.0 < z.0) xs → AllByRecursion (λ (z : TraceId). y.0 < z.0) ys → (eqb y.0 x.0 || has x.0 ys) ≡ true
@@ -175,8 +161,8 @@ one_list [] [] p q e = refl
 one_list [] (y ∷ ys) p q e = absurd (none_true (eqb y.0 y.0) _ (e y.0) (grind (arith, nat_tests)))
 one_list (x ∷ xs) [] p q e = absurd (none_true (eqb x.0 x.0) _ (sym (e x.0)) (grind (arith, nat_tests)))
 one_list (x ∷ xs) (y ∷ ys) p q e =
-    let there : eqb y.0 x.0 || has x.0 ys ≡ true = sym (e x.0) ∙ first_or (eqb x.0 x.0) _ (grind (arith, nat_tests)) in
-    let back : eqb x.0 y.0 || has y.0 xs ≡ true = e y.0 ∙ first_or (eqb y.0 y.0) _ (grind (arith, nat_tests)) in
+    let there : eqb y.0 x.0 || has x.0 ys ≡ true = sym (e x.0) ∙ or_left (eqb x.0 x.0) _ (grind (arith, nat_tests)) in
+    let back : eqb x.0 y.0 || has y.0 xs ≡ true = e y.0 ∙ or_left (eqb y.0 y.0) _ (grind (arith, nat_tests)) in
     let number = heads x y xs ys p.0 q.0 there back in
     ap (λ t. t ∷ xs) (number_eq x y number) ∙ ap (λ t. y ∷ t) (one_list xs ys p.1 q.1 (tails x y xs ys p.0 q.0 number e))
 
@@ -214,7 +200,7 @@ has_from_cases : (n : ℕ) (k x : TraceId) (xs kept more : List TraceId) (a : Bo
     → list_any (λ (t : TraceId). eqb t.0 n) (cond a kept (k ∷ more)) ≡ (eqb k.0 n || (eqb x.0 n || list_any (λ (t : TraceId). eqb t.0 n) xs))
 has_from_cases n k x xs kept more true ta all rest =
     let number : x.0 ≡ k.0 = grind (arith, nat_tests) in
-    all ∙ sym (ap (λ m. eqb k.0 n || (eqb m n || list_any (λ (t : TraceId). eqb t.0 n) xs)) number ∙ twice_or (eqb k.0 n) (list_any (λ (t : TraceId). eqb t.0 n) xs))
+    all ∙ sym (ap (λ m. eqb k.0 n || (eqb m n || list_any (λ (t : TraceId). eqb t.0 n) xs)) number ∙ or_self_left (eqb k.0 n) (list_any (λ (t : TraceId). eqb t.0 n) xs))
 has_from_cases n k x xs kept more false ta all rest = ap (λ t. eqb k.0 n || t) rest
 
 has_from : (n : ℕ) (k : TraceId) (xs : List TraceId) → list_any (λ (t : TraceId). eqb t.0 n) (dedup_from (λ (a b : TraceId). eqb a.0 b.0) k xs) ≡ (eqb k.0 n || list_any (λ (t : TraceId). eqb t.0 n) xs)

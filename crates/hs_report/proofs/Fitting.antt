@@ -5,6 +5,8 @@ use Rattle.std.specs.List.{AllByRecursion, flat_map, concat, range_with_len}
 use Rattle.std.proofs.lemmas.List.{length-map}
 use Rattle.std.proofs.lemmas.List.Concat.{concat_is}
 use Rattle.std.proofs.lemmas.List.Elements.{recursion_from_All}
+use Rattle.std.proofs.lemmas.Option.{slice_get_within}
+use Rattle.hs_lists.proofs.Alls.{all_append, all_front, all_back, all_at}
 use Rattle.hs_base.specs.declared.ids.ClientId.{ClientId}
 use Rattle.hs_base.specs.declared.ids.TraceId.{TraceId}
 use Rattle.hs_base.specs.declared.limits.TheConstants.{MIN_SIZE, MAX_SIZE, MAX_OPERATIONS, MAX_PAYLOAD}
@@ -20,7 +22,8 @@ use Rattle.hs_words.specs.Pages.{Sheet, IsPage, FitsPiece}
 use Rattle.hs_workload.specs.declared.word.Setting.TheVariants as settings
 use Rattle.hs_report.specs.Fitting.{ReportedPagesArePages, JournalsCanBeRead}
 use Rattle.hs_report.proofs.Shapes.{ends_its_traces}
-use Rattle.hs_outcome.specs.Records.{all_records, client_records, named_from}
+use Rattle.hs_outcome.specs.Records.{all_records, client_records}
+use Rattle.hs_outcome.proofs.ClientBooks.{length_named}
 use Rattle.hs_records.specs.Pages.{PlainPage, first_record, pages_of}
 use Rattle.hs_records.specs.Plain.{Operation, Begin, Point, Crumb, End, Fire, Sample, PlainSettings, PlainWorkload}
 use Rattle.hs_records.specs.Records.{Record, Piece, open_behind, numbered_from, record_in, record_at, records_of, record_pieces, payload_pieces, piece_count}
@@ -67,10 +70,6 @@ few_from size number trace (op ∷ ops) =
 pub few_records : (size : ℕ) (ops : List Operation) → length (records_of ops) ≤ client_pieces size ops
 few_records size ops = few_from size 0 None ops
 
-length_named : (client : ClientId) (number : ℕ) (records : List Record) → length (named_from client number records) ≡ length records
-length_named client number [] = refl
-length_named client number (r ∷ records) = ap suc (length_named client (number + 1) records)
-
 few_behind : (W : PlainWorkload) (pre rest : List (List Operation)) (k : ℕ) → W.clients ≡ pre ++ rest → k ≡ length pre → length (flat_map (client_records W) (range_with_len k (length rest))) ≤ workload_pieces W.settings.size rest
 few_behind W pre [] k is at = lit≤ tt
 few_behind W pre (ops ∷ rest) k is at =
@@ -89,31 +88,9 @@ few_in_all W valid = omega (arith, few_behind W [] W.clients 0 refl refl, valid.
 
 -- ---- lists
 
-all_join : {X : Type 0} (P : X → Type 0) (xs ys : List X) → AllByRecursion P xs → AllByRecursion P ys → AllByRecursion P (xs ++ ys)
-all_join P [] ys p q = q
-all_join P (x ∷ xs) ys p q = (p.0, all_join P xs ys p.1 q)
-
-all_front : {X : Type 0} (P : X → Type 0) (xs ys : List X) → AllByRecursion P (xs ++ ys) → AllByRecursion P xs
-all_front P [] ys p = tt
-all_front P (x ∷ xs) ys p = (p.0, all_front P xs ys p.1)
-
-all_back : {X : Type 0} (P : X → Type 0) (xs ys : List X) → AllByRecursion P (xs ++ ys) → AllByRecursion P ys
-all_back P [] ys p = p
-all_back P (x ∷ xs) ys p = all_back P xs ys p.1
-
 all_along : {X Y : Type 0} (P : Y → Type 0) (Q : X → Type 0) (f : X → Y) → ((x : X) → Q x → P (f x)) → (xs : List X) → AllByRecursion Q xs → AllByRecursion P (map f xs)
 all_along P Q f each [] all = tt
 all_along P Q f each (x ∷ xs) all = (each x all.0, all_along P Q f each xs all.1)
-
-all_at : {X : Type 0} (P : X → Type 0) (xs : List X) (k : ℕ) (x : X) → AllByRecursion P xs → slice_get xs k ≡ Some x → P x
-all_at P [] k x all is = absurd cc
-all_at P (y ∷ xs) zero x all is = let same : y ≡ x = cc in subst P same all.0
-all_at P (y ∷ xs) (suc k) x all is = all_at P xs k x all.1 is
-
-below_length : {X : Type 0} (xs : List X) (k : ℕ) (x : X) → slice_get xs k ≡ Some x → k < length xs
-below_length [] k x is = absurd cc
-below_length (y ∷ xs) zero x is = omega arith
-below_length (y ∷ xs) (suc k) x is = omega (arith, below_length xs k x is)
 
 -- ---- records
 
@@ -157,7 +134,7 @@ fit_from : (version : ℕ) (set : PlainSettings) (number : ℕ) (trace : Option 
     → AllByRecursion (FitsRecord version) (flat_map record_at (numbered_from number trace ops))
 fit_from version set number trace [] held all = tt
 fit_from version set number trace (op ∷ ops) held all =
-    all_join (FitsRecord version) (record_in trace op) (flat_map record_at (numbered_from (number + 1) (open_behind trace op) ops)) (record_fits version set trace op held all.0)
+    all_append (FitsRecord version) (record_in trace op) (flat_map record_at (numbered_from (number + 1) (open_behind trace op) ops)) (record_fits version set trace op held all.0)
     (fit_from version set (number + 1) (open_behind trace op) ops (open_fits version set trace op held all.0) all.1)
 
 records_fit : (version : ℕ) (set : PlainSettings) (ops : List Operation) → AllByRecursion (IsOperation version set) ops → AllByRecursion (FitsRecord version) (records_of ops)
@@ -187,7 +164,7 @@ pieces_fit : PiecesJoin → (version size number : ℕ) (records : List Record) 
 pieces_fit join version size number [] all = tt
 pieces_fit join version size number (r ∷ records) all =
     let whole : flat_map (λ (b : List ℕ). b) (payload_pieces size r.payload) ≡ r.payload = sym (concat_is (payload_pieces size r.payload)) ∙ join size r.payload in
-    all_join FitsPart (record_pieces size number r.moment r.payload) (pieces_of_records size (number + 1) records)
+    all_append FitsPart (record_pieces size number r.moment r.payload) (pieces_of_records size (number + 1) records)
     (parts_fit number r.moment (payload_pieces size r.payload) all.0.moment (omega (arith, ap length whole, all.0.long)) (subst AreBytes (sym whole) all.0.bytes)) (pieces_fit join version size (number + 1) records all.1)
 
 -- how many pieces there are
@@ -327,7 +304,7 @@ clients_page_fits made W valid sheet of =
         trace = wide W.version of.page.trace.0 named.digits;
         node = omega (arith, of.node, (valid.head settings.Nodes).1);
         client = omega (arith, of.number, (valid.head settings.Clients).1);
-        page = omega (arith, below_length pages k of.page of.there, few, fits.few);
+        page = omega (arith, slice_get_within pages k of.page of.there, few, fits.few);
         first = omega (arith, named.below, few_records size ops, fits.few);
       };
       pieces = all_along FitsPiece FitsPart written fits_piece of.page.pieces parts;

@@ -1,6 +1,7 @@
 -- The ids of reported records, one entry after another.
 use Rattle.std.proofs.Common.{◌≡◌, ℕ, ◌+◌, ◌<◌, Bool, ◌&&◌, ◌||◌, true, false, List, [], ◌∷◌, ◌++◌, length, get_or, take, cond, sym, ap, ◌∙◌, refl}
 use Rattle.std.specs.List.{list_any}
+use Rattle.std.proofs.Math.Bool.{or-false}
 use Rattle.std.proofs.lemmas.List.{take_more}
 use Rattle.hs_base.specs.declared.ids.RecordId.{RecordId}
 use Rattle.hs_collect.specs.Collected.{is_same}
@@ -16,15 +17,11 @@ any_append : (test : Entry → Bool) (xs ys : List Entry) → list_any test (xs 
 any_append test [] ys = refl
 any_append test (x ∷ xs) ys = ap (λ t. test x || t) (any_append test xs ys) ∙ or_assoc (test x) (list_any test xs) (list_any test ys)
 
-or_false : (a : Bool) → (a || false) ≡ a
-or_false true = refl
-or_false false = refl
-
 pub was_more : (entries : List Entry) (i : ℕ) (d : Entry) (id : RecordId) → i < length entries
     → was_reported (take (i + 1) entries) id ≡ (was_reported (take i entries) id || (is_same (get_or entries i d).id id && is_reported (get_or entries i d).fate))
 was_more entries i d id lt =
     let test : Entry → Bool = λ entry. is_same entry.id id && is_reported entry.fate in
-    ap (list_any test) (take_more entries i d lt) ∙ any_append test (take i entries) (get_or entries i d ∷ []) ∙ ap (λ t. list_any test (take i entries) || t) (or_false (test (get_or entries i d)))
+    ap (list_any test) (take_more entries i d lt) ∙ any_append test (take i entries) (get_or entries i d ∷ []) ∙ ap (λ t. list_any test (take i entries) || t) (or-false (test (get_or entries i d)))
 
 -- an id that is put, and one that is not
 pub put_one : (same old was reported : Bool) → old ≡ was → reported ≡ true → cond same true old ≡ (was || (same && reported))

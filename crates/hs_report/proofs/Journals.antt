@@ -4,6 +4,7 @@ use Rattle.std.specs.List.{AllByRecursion, flat_map, filter_map, cons_option, ra
 use Rattle.std.specs.Prelude.{option_map, slice_get}
 use Rattle.std.proofs.lemmas.Bool.Decides.{nat_tests}
 use Rattle.std.proofs.lemmas.List.{map-append}
+use Rattle.hs_lists.proofs.Bools.{first_true, second_true}
 use Rattle.hs_base.specs.declared.ids.NodeId.{NodeId}
 use Rattle.hs_journal.specs.Books.{PlainClientBook, PlainAgentBook, client_book_of, agent_book_of}
 use Rattle.hs_journal.specs.declared.books.AgentBook.{AgentBook}
@@ -28,7 +29,7 @@ use Rattle.hs_report.specs.Claims.{claimed_by, all_claimed}
 use Rattle.hs_report.specs.Journals.{journal_by}
 use Rattle.hs_report.specs.Outcomes.{AreBooksOf}
 use Rattle.hs_report.specs.Pages.{sent_by, all_sent}
-use Rattle.hs_report.proofs.Basics.{first_true, second_true, place_at}
+use Rattle.hs_report.proofs.Basics.{place_at}
 
 -- ---- lists by their places
 

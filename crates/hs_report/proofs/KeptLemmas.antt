@@ -1,10 +1,15 @@
 -- What stays of a ledger's entries makes the same reports of the claimed traces as all of them.
 use Rattle.std.proofs.Common.{◌≡◌, ℕ, ◌+◌, ◌<◌, Bool, true, false, ◌&&◌, ◌||◌, cond, not, eqb, List, [], ◌∷◌, length, get_or, take, map, sym, ap, ◌∙◌, refl, eq-eqb, arith}
 use Rattle.std.specs.List.{filter, list_any}
+use Rattle.std.proofs.Math.Bool.{or-true}
+use Rattle.std.proofs.lemmas.Bool.{or_left}
 use Rattle.std.proofs.lemmas.List.{take_more}
 use Rattle.std.proofs.lemmas.List.Folds.{list_any-append}
 use Rattle.std.proofs.lemmas.Bool.Decides.{nat_tests}
+use Rattle.std.proofs.lemmas.List.Elements.{filter_agree}
 use Rattle.std.proofs.lemmas.Map.Views.{any-filter_same}
+use Rattle.hs_lists.proofs.Bools.{first_true, second_true}
+use Rattle.hs_lists.proofs.Filters.{filter_weaker}
 use Rattle.hs_base.specs.declared.ids.TraceId.{TraceId}
 use Rattle.hs_base.specs.declared.ids.RecordId.{RecordId}
 use Rattle.hs_base.specs.Ids.{same_trace, is_among}
@@ -25,29 +30,15 @@ use Rattle.hs_report.specs.Kept.{is_kept, kept_of}
 use Rattle.hs_report.specs.Outcomes.{IsOutcome}
 use Rattle.hs_report.specs.Sorted.{AreSorted, records_by}
 use Rattle.hs_report.specs.Sources.{report_by, gaps_of}
-use Rattle.hs_report.proofs.Basics.{first_true, second_true}
-use Rattle.hs_report.proofs.Stable.{within}
 use Rattle.hs_report.proofs.Written.{shown, reports_are}
 
 -- ---- two functions that agree where it counts
-
-or_true : (a : Bool) → (a || true) ≡ true
-or_true true = refl
-or_true false = refl
-
-or_left : (a b : Bool) → a ≡ true → (a || b) ≡ true
-or_left true b is = refl
-or_left false b is = absurd cc
-
-pub filter_ext : {X : Type 0} (p q : X → Bool) → ((x : X) → p x ≡ q x) → (xs : List X) → filter p xs ≡ filter q xs
-filter_ext p q same [] = refl
-filter_ext p q same (x ∷ xs) = ap (λ t. cond t (x ∷ filter p xs) (filter p xs)) (same x) ∙ ap (λ rest. cond (q x) (x ∷ rest) rest) (filter_ext p q same xs)
 
 at_itself : (trace : TraceId) (traces : List TraceId) → is_among (trace ∷ traces) trace ≡ true
 at_itself trace traces = ap (λ (t : Bool). t || is_among traces trace) (eq-eqb trace.0 trace.0 refl)
 
 further : (x : TraceId) (traces : List TraceId) (trace : TraceId) → is_among traces trace ≡ true → is_among (x ∷ traces) trace ≡ true
-further x traces trace is = ap (λ t. same_trace x trace || t) is ∙ or_true (same_trace x trace)
+further x traces trace is = ap (λ t. same_trace x trace || t) is ∙ or-true (same_trace x trace)
 
 filter_among : (p q : TraceId → Bool) (traces : List TraceId) → ((trace : TraceId) → is_among traces trace ≡ true → p trace ≡ q trace) → filter p traces ≡ filter q traces
 filter_among p q [] same = refl
@@ -76,7 +67,7 @@ stays claimed trace entry among is =
 -- those that say reported stay too
 stays_reported : (claimed : List TraceId) (id : RecordId) (entry : Entry) → (is_same entry.id id && is_reported entry.fate) ≡ true → is_kept claimed entry ≡ true
 stays_reported claimed id entry is =
-    ap (λ t. is_among claimed entry.trace || t) (second_true (is_same entry.id id) (is_reported entry.fate) is) ∙ or_true (is_among claimed entry.trace)
+    ap (λ t. is_among claimed entry.trace || t) (second_true (is_same entry.id id) (is_reported entry.fate) is) ∙ or-true (is_among claimed entry.trace)
 
 reported_kept : (claimed : List TraceId) (entries : List Entry) (id : RecordId) → was_reported (filter (is_kept claimed) entries) id ≡ was_reported entries id
 reported_kept claimed entries id = any-filter_same (λ (entry : Entry). is_same entry.id id && is_reported entry.fate) (is_kept claimed) true (stays_reported claimed id) entries
@@ -86,7 +77,7 @@ entry_kept claimed entries trace among = any-filter_same (is_of trace) (is_kept 
 
 gaps_kept : (claimed : List TraceId) (entries : List Entry) (trace : TraceId) → is_among claimed trace ≡ true → gaps_of (filter (is_kept claimed) entries) trace ≡ gaps_of entries trace
 gaps_kept claimed entries trace among =
-    within (λ (entry : Entry). is_of trace entry && not (is_reported entry.fate)) (is_kept claimed)
+    filter_weaker (λ (entry : Entry). is_of trace entry && not (is_reported entry.fate)) (is_kept claimed)
     (λ entry is. stays claimed trace entry among (first_true (is_of trace entry) (not (is_reported entry.fate)) is)) entries
 
 -- ---- the reports
@@ -107,7 +98,7 @@ sorted_kept whole W J outcome sorted valid lawful is are found =
         sheets = (outcome_of W J).reported;
         collected = is.collected;
         show = λ trace wholes all.
-            filter_ext (λ (whole : Placed). was_reported kept whole.id) (λ (whole : Placed). was_reported entries whole.id) (λ whole. reported_kept claimed entries whole.id) wholes
+            filter_agree (λ (whole : Placed). was_reported kept whole.id) (λ (whole : Placed). was_reported entries whole.id) (λ whole. reported_kept claimed entries whole.id) wholes
             ∙ shown whole W J outcome valid lawful is trace wholes all;
       };
       reports = ap (map (report_by kept records)) traces ∙ same ∙ ap (map (report_by entries records)) (sym traces) ∙ reports_are W J outcome sorted.traces.items is traces;
@@ -118,10 +109,6 @@ sorted_kept whole W J outcome sorted valid lawful is are found =
 pub claimed_or_reported : (claimed : List TraceId) (entry : Entry) (is : Bool) → is ≡ is_among claimed entry.trace
     → filter (λ (entry : Entry). is || is_reported entry.fate) (entry ∷ []) ≡ filter (is_kept claimed) (entry ∷ [])
 claimed_or_reported claimed entry is same = ap (λ (t : Bool). cond (t || is_reported entry.fate) (entry ∷ []) []) same
-
-or_false : (a : Bool) → (a || false) ≡ a
-or_false true = refl
-or_false false = refl
 
 either : (a b : Bool) → cond a true b ≡ (b || (a || false))
 either true true = refl

@@ -8,11 +8,13 @@ use Rattle.std.proofs.lemmas.Bool.Decides.{nat_tests}
 use Rattle.std.proofs.lemmas.List.Elements.{All-from_recursion, recursion_from_All, All-filter}
 use Rattle.std.proofs.lemmas.List.{map-set, get_or-map, length-map}
 use Rattle.std.proofs.lemmas.List.Sorted.{All-permutation, IsPermutation-swap, IsPermutation-keeps, IsPermutation-map}
+use Rattle.hs_lists.proofs.Filters.{filter_mapped}
 use Rattle.hs_base.specs.declared.ids.ClientId.{ClientId}
 use Rattle.hs_base.specs.declared.ids.TraceId.{TraceId}
 use Rattle.hs_collect.specs.Collected.{first_seen, is_by}
 use Rattle.hs_collect.specs.Views.{Sheets}
 use Rattle.hs_words.specs.Pages.{Sheet, IsPage, page_bytes}
+use Rattle.hs_outcome.proofs.Origins.{same_client}
 use Rattle.hs_report.specs.declared.pages.Reported.{Reported}
 use Rattle.hs_report.specs.Pages.{Traces, Note, AreReported, Reordered, bytes_of, note_of, noted}
 use Rattle.hs_report.proofs.Rising.{PutsEarlierFirst, same_place, seen_as_before}
@@ -54,10 +56,6 @@ along_more : {X Y : Type 0} (f : X → Y) (x : X) (front rest : List Y) (more : 
 along_more f x front rest more true is = ap (λ z. f x ∷ z) is
 along_more f x front rest more false is = is
 
-filter_along : {X Y : Type 0} (f : X → Y) (test : Y → Bool) (xs : List X) → filter test (map f xs) ≡ map f (filter (λ x. test (f x)) xs)
-filter_along f test [] = refl
-filter_along f test (x ∷ xs) = along_more f x (filter test (map f xs)) [] (filter (λ y. test (f y)) xs) (test (f x)) (filter_along f test xs)
-
 -- ---- the pages of sorted notes
 
 swap_along : {X Y : Type 0} (f : X → Y) (xs : List X) (i j : ℕ) → i < length xs → j < length xs → map f (swap xs i j) ≡ swap (map f xs) i j
@@ -95,9 +93,6 @@ named trace (Some other) is =
     let number : other.0 ≡ trace.0 = grind (arith, nat_tests) in
     ap (λ n. Some (record { 0 = n })) number
 
-same_client : (a b : ClientId) → a.node ≡ b.node → a.number ≡ b.number → a ≡ b
-same_client a b node number = ap (λ n. record { node = n; number = a.number }) node ∙ ap (λ n. record { node = b.node; number = n }) number
-
 both_not : (a b : Bool) → a ≡ false → b ≡ false → (not a && not b) ≡ true
 both_not a b p q = ap (λ x. not x && not b) p ∙ ap not q
 
@@ -128,9 +123,9 @@ sorted_reordered lt sheets pages sorted reported perm stable up own tells puts =
                 by_notes own (filter (is_by client trace) made.sheets) (filter (is_by client trace) sheets)
                 (recursion_from_All IsPage _ (All-filter (is_by client trace) IsPage made.sheets made.valid))
                 (recursion_from_All IsPage _ (All-filter (is_by client trace) IsPage sheets (All-from_recursion IsPage sheets reported.valid)))
-                (sym (filter_along note_of test made.sheets) ∙ ap (filter test) (sym made.are) ∙ filter_along note test sorted
+                (sym (filter_mapped note_of test made.sheets) ∙ ap (filter test) (sym made.are) ∙ filter_mapped note test sorted
                 ∙ ap (map note) (stable_keeps lt (λ (x : Reported). test (note x)) pages sorted (same_run traces (seen_once sheets) lt client trace tells) stable)
-                ∙ sym (filter_along note test pages) ∙ ap (filter test) reported.notes ∙ filter_along note_of test sheets);
+                ∙ sym (filter_mapped note test pages) ∙ ap (filter test) reported.notes ∙ filter_mapped note_of test sheets);
             seen = seen_as_before lt sheets made.sheets pages sorted puts reported.notes made.are perm up;
           };
       spelled = record { valid = recursion_from_All IsPage made.sheets made.valid; are = sym (bytes_noted traces sorted) ∙ ap (map (λ (n : Note). n.bytes)) made.are ∙ bytes_of_notes made.sheets };

@@ -3,13 +3,13 @@ use Rattle.std.proofs.Common.{◌≡◌, ◌==◌, Bool, true, false, not, ◌||
 use Rattle.std.specs.List.{AllByRecursion, filter, list_any, IsDistinct}
 use Rattle.std.proofs.lemmas.Bool.Decides.{nat_tests}
 use Rattle.std.proofs.lemmas.List.Elements.{filter-append, filter_passes, recursion_from_All, All-from_recursion, All-filter}
+use Rattle.hs_lists.proofs.Filters.{filter_weaker}
 use Rattle.hs_base.specs.declared.ids.TraceId.{TraceId}
 use Rattle.hs_collect.specs.Collected.{first_seen, is_of}
 use Rattle.hs_collect.specs.Views.{Sheets}
 use Rattle.hs_words.specs.Pages.{Sheet}
 use Rattle.hs_report.specs.Pages.{Traces, with_trace}
 use Rattle.hs_report.proofs.ByTrace.{any_filtered}
-use Rattle.hs_report.proofs.Stable.{within}
 
 abbrev pub is_trace : TraceId → TraceId → Bool
 is_trace trace other = trace.0 == other.0
@@ -24,7 +24,7 @@ is_other left trace = not (trace.0 == left.0)
 any_left : (trace left : TraceId) (traces : Traces) → (trace.0 == left.0) ≡ false → list_any (is_trace trace) (filter (is_other left) traces) ≡ list_any (is_trace trace) traces
 any_left trace left traces apart =
     sym (any_filtered (is_trace trace) (filter (is_other left) traces))
-    ∙ ap (λ (found : Traces). not (length found == 0)) (within (is_trace trace) (is_other left) (λ other same. grind (arith, nat_tests)) traces)
+    ∙ ap (λ (found : Traces). not (length found == 0)) (filter_weaker (is_trace trace) (is_other left) (λ other same. grind (arith, nat_tests)) traces)
     ∙ any_filtered (is_trace trace) traces
 
 any_first : (left trace : TraceId) (traces : Traces) (same : Bool) → (trace.0 == left.0) ≡ same → list_any (is_trace trace) (left ∷ filter (is_other left) traces) ≡ (same || list_any (is_trace trace) traces)

@@ -1,9 +1,10 @@
 -- Small outcomes: one client, whose trigger comes before the one record of its trace, so that the record is reported; and two nodes that
 -- report a trace each, the greater one first.
-use Rattle.std.specs.Prelude.{◌≡◌, ℕ, zero, suc, List, [], ◌∷◌, ◌++◌, All, None, codes, length, map, refl}
+use Rattle.std.specs.Prelude.{◌≡◌, ℕ, List, [], ◌∷◌, ◌++◌, None, codes, length, map, refl}
 use Rattle.std.proofs.Common.{ap, arith}
 use Rattle.std.specs.Fmt.{digits}
 use Rattle.std.specs.List.{Any}
+use Rattle.hs_lists.proofs.Alls.{all_one}
 use Rattle.hs_base.specs.Listing.{listing}
 use Rattle.hs_base.specs.declared.ids.RecordId.{RecordId}
 use Rattle.hs_base.specs.declared.ids.TraceId.{TraceId}
@@ -61,17 +62,12 @@ of_one_report =
       collector = (the_trace, the_whole ∷ []) ∷ [];
     }
 
--- what holds of the first of one holds of all
-of_one : {A : Type 0} (P : A → Type 0) (x : A) → P x → All P (x ∷ [])
-of_one P x p zero d h = p
-of_one P x p (suc k) d h = absurd (omega arith)
-
 the_records : AreWholes (pieces_of the_trace (the_sheet ∷ [])) (the_whole ∷ [])
 the_records =
     record {
       ordered = λ i j d before within. absurd (omega arith);
-      each = of_one (IsWhole (pieces_of the_trace (the_sheet ∷ []))) the_whole (record { moment = refl; payload = refl });
-      all = of_one (λ (piece : Placed). Any (λ (whole : Placed). whole.id ≡ piece.id) (the_whole ∷ [])) the_whole (0, the_whole, omega arith, refl, refl);
+      each = all_one (IsWhole (pieces_of the_trace (the_sheet ∷ []))) the_whole (record { moment = refl; payload = refl });
+      all = all_one (λ (piece : Placed). Any (λ (whole : Placed). whole.id ≡ piece.id) (the_whole ∷ [])) the_whole (0, the_whole, omega arith, refl, refl);
     }
 
 one_report : IsOutcome trigger_first of_trigger_first of_one_report
@@ -82,7 +78,7 @@ one_report =
       entries = refl;
       totals = refl;
       claimed = refl;
-      collected = record { seen = refl; each = of_one (λ (entry : TraceId × List Placed). AreWholes (pieces_of entry.0 (the_sheet ∷ [])) entry.1) (the_trace, the_whole ∷ []) the_records };
+      collected = record { seen = refl; each = all_one (λ (entry : TraceId × List Placed). AreWholes (pieces_of entry.0 (the_sheet ∷ [])) entry.1) (the_trace, the_whole ∷ []) the_records };
     }
 
 -- the text that stands before its report

@@ -1,7 +1,7 @@
 -- The chunks that an agent took, by its events and by the buffers in which they came.
-use Rattle.std.proofs.Common.{◌≡◌, ℕ, Bool, true, false, ◌==◌, cond, List, [], ◌∷◌, ◌++◌, refl, sym, ap, ◌∙◌, Option, Some, map, filter, append-nil, append_assoc}
+use Rattle.std.proofs.Common.{◌≡◌, ℕ, Bool, true, false, ◌==◌, cond, List, [], ◌∷◌, ◌++◌, refl, sym, ap, ◌∙◌, Some, map, filter, append-nil, append_assoc}
 use Rattle.std.specs.List.{AllByRecursion, flat_map}
-use Rattle.std.specs.Option.{option_map_or}
+use Rattle.hs_lists.proofs.Filters.{filter_mapped}
 use Rattle.hs_agent.specs.Points.{sheet_in}
 use Rattle.hs_model.specs.Laws.{EventsAddThis, sheets_of, brought_by}
 use Rattle.hs_model.specs.State.{AgentState, start}
@@ -12,9 +12,9 @@ use Rattle.hs_words.specs.Buffers.{Buffer}
 use Rattle.hs_words.specs.Pages.{Sheet}
 use Rattle.hs_desk.specs.Agents.{IsWithin}
 use Rattle.hs_desk.specs.Work.{is_of}
+use Rattle.hs_desk.proofs.Taking.{sheet_is}
 use Rattle.hs_actors.specs.Doings.{chunks_in}
 use Rattle.hs_actors.specs.Facts.{IsOwn}
-use Rattle.hs_retell.proofs.Lists.{filter_mapped}
 
 pub own_events : (W : PlainWorkload) (node : ℕ) (events : List Event) → AllByRecursion (IsWithin W node) events → AllByRecursion (IsOwn W) events
 own_events W node [] all = tt
@@ -62,10 +62,6 @@ sheets_taken adds settings node events = from (start settings) events
     from state (event ∷ events) =
         from (after_event settings node state event) events ∙ ap (λ front. front ++ flat_map brought_by events) ((adds settings node state).chunks event)
         ∙ append_assoc (sheets_of state.taken) (brought_by event) (flat_map brought_by events)
-
--- the page in a buffer that has one
-pub sheet_is : (buffer : Buffer Leased) (sheet : Sheet) → buffer.chunk.page ≡ Some sheet → sheet_in buffer ≡ sheet
-sheet_is buffer sheet h = ap (λ (o : Option Sheet). option_map_or (λ s. s) o (record { header = record { trace = record { 0 = 0 }; client = record { node = 0; number = 0 }; page = 0; first = 0 }; pieces = [] })) h
 
 pub sheets_are : (buffers : List (Buffer Leased)) (sheets : List Sheet) → map (λ (buffer : Buffer Leased). buffer.chunk.page) buffers ≡ map (λ (sheet : Sheet). Some sheet) sheets → map sheet_in buffers ≡ sheets
 sheets_are [] [] h = refl

@@ -2,11 +2,11 @@
 use Rattle.std.proofs.Common.{◌≡◌, ℕ, List, [], ◌∷◌, ◌++◌, length, reverse, refl, sym, ap, ◌∙◌, arith, map, append-nil, append_assoc}
 use Rattle.std.specs.List.{AllByRecursion}
 use Rattle.std.proofs.lemmas.List.{length-append, map-append}
+use Rattle.hs_lists.proofs.Parts.{reverse_cons}
 use Rattle.hs_words.specs.Ends.{Answer}
 use Rattle.hs_words.specs.PoolHistory.{Event, Got, Empty, Given, Missed}
 use Rattle.hs_live.specs.Writing.{IsDraw, IsDrawn, noted, draws_by}
 use Rattle.hs_actors.specs.Pools.{draw_answer}
-use Rattle.hs_gathered.proofs.Lists.{reverse_on}
 
 noted_answer : (stamp draw : ℕ) (event : Event) → IsDraw event → draw ≡ 0 → draw_answer (noted stamp event) ≡ record { stamp = stamp; event = event; draw = draw }
 noted_answer stamp draw (Got buffer) is zeroth = ap (λ d. record { stamp = stamp; event = Got buffer; draw = d }) (sym zeroth)
@@ -18,7 +18,7 @@ pub draws_answers : (answers : List Answer) → AllByRecursion IsDrawn answers �
 draws_answers [] all = refl
 draws_answers (a ∷ earlier) all =
     map-append draw_answer (draws_by earlier) (noted a.stamp a.event ∷ []) ∙ ap (λ front. front ++ draw_answer (noted a.stamp a.event) ∷ []) (draws_answers earlier all.1)
-    ∙ ap (λ last. reverse earlier ++ last ∷ []) (noted_answer a.stamp a.draw a.event all.0.0 all.0.1) ∙ sym (reverse_on a earlier)
+    ∙ ap (λ last. reverse earlier ++ last ∷ []) (noted_answer a.stamp a.draw a.event all.0.0 all.0.1) ∙ sym (reverse_cons a earlier)
 
 pub draws_more : (later earlier : List Answer) → draws_by (later ++ earlier) ≡ draws_by earlier ++ draws_by later
 draws_more [] earlier = sym (append-nil (draws_by earlier))

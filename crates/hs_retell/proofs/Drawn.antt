@@ -13,7 +13,7 @@ use Rattle.hs_journal.specs.Views.{PlainJournal}
 use Rattle.hs_lawful.specs.Passes.{passes_of}
 use Rattle.hs_sent.specs.Sending.{draws_at, place_of, ops_of}
 use Rattle.std.specs.List.{flat_map}
-use Rattle.hs_gathered.proofs.Lists.{get_within}
+use Rattle.std.proofs.lemmas.Option.{slice_get_within}
 use Rattle.hs_retell.proofs.Moments.{site_of, site_there, stands_at}
 use Rattle.hs_retell.proofs.Meetings.{HaveSent, caller_at, here_at, done_at, sent_at}
 use Rattle.hs_retell.proofs.Sending.{drawn_first}
@@ -54,10 +54,10 @@ notes_rounds sends noted W rounds m passes nodes heard valid came closing J r =
       clients = λ node client k site caller low there mine.
           let stands = stands_at W valid rounds m came k low in
           let count = stands.count in
-          let within = get_within (came.at k).standing.nodes node site there in
+          let within = slice_get_within (came.at k).standing.nodes node site there in
           let few : node < W.settings.nodes = omega (arith, within, count) in
           let clients = (stands.each node site there).count in
-          let inside = get_within site.callers client caller mine in
+          let inside = slice_get_within site.callers client caller mine in
           let own : client < W.settings.clients = omega (arith, inside, clients) in
           let here = is_caller sends W rounds m valid came node few client own k low site caller there mine in
           let last = site_of W valid rounds m came (came.at rounds) node in

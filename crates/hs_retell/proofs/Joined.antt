@@ -1,5 +1,6 @@
 -- The rounds and the passes behind them as one.
 use Rattle.std.proofs.Common.{◌≡◌, ℕ, zero, suc, ◌<◌, ◌≤◌, min, Bool, true, false, cond, nat_lt, ltb-true, ltb-false, ◌++◌, length, refl, sym, ap, subst, ◌∙◌, Some, arith, slice_get, drop}
+use Rattle.hs_lists.proofs.Parts.{drop_front}
 use Rattle.hs_coord.specs.Messages.{Messages}
 use Rattle.hs_records.specs.Plain.{PlainWorkload}
 use Rattle.hs_workload.specs.Validity.{IsValid}
@@ -9,7 +10,6 @@ use Rattle.hs_gathered.specs.Ends.{Ends, HasMet}
 use Rattle.hs_gathered.specs.Stories.{added}
 use Rattle.hs_retell.specs.Spans.{Post, IsPost, IsStep}
 use Rattle.hs_retell.specs.Closing.{left_at, Closing}
-use Rattle.hs_retell.proofs.Lists.{drop_front}
 use Rattle.hs_retell.proofs.Moments.{site_of, site_there, stands_at, post_at, post_stands, round_steps, heard_same}
 use Rattle.hs_retell.proofs.Meetings.{caller_at, ends_at, has_met}
 

@@ -1,12 +1,12 @@
 -- The pools of the nodes keep their sizes and their drawers.
 use Rattle.std.proofs.Common.{◌≡◌, ℕ, zero, suc, ◌<◌, ◌≤◌, sym, ap, subst, ◌∙◌, Some, arith, slice_get}
+use Rattle.std.proofs.lemmas.Option.{slice_get_within}
 use Rattle.hs_records.specs.Plain.{PlainWorkload}
 use Rattle.hs_workload.specs.Validity.{IsValid}
 use Rattle.hs_caller.specs.Calling.{Calling}
 use Rattle.hs_rounds.specs.Standing.{Site, Moment, Stands}
 use Rattle.hs_rounds.specs.Coming.{Came}
 use Rattle.hs_retell.specs.Laws.{AllBegin, PoolsAreKept}
-use Rattle.hs_gathered.proofs.Lists.{get_within}
 use Rattle.hs_retell.proofs.Moments.{site_of, site_there, stands_at, site_stands, site_acts, site_meets, giver_same}
 use Rattle.hs_retell.proofs.Meetings.{caller_at, here_at, goes_at, caller_met, caller_moved}
 
@@ -37,7 +37,7 @@ module _ (W : PlainWorkload) (valid : IsValid W) (rounds : ℕ) (m : Moment) (ca
 pub pools_kept : PoolsAreKept
 pools_kept W rounds m valid came begins node site there =
     let stands : Stands W m = subst (Stands W) came.last (stands_at W valid rounds m came rounds (omega arith)) in
-    let within = get_within m.standing.nodes node site there in
+    let within = slice_get_within m.standing.nodes node site there in
     let count = stands.count in
     let few : node < W.settings.nodes = omega (arith, within, count) in
     let kept = kept_at W valid rounds m came begins node few rounds (omega arith) in
@@ -50,7 +50,7 @@ pools_kept W rounds m valid came begins node site there =
       drawers = ap (λ (s : Site). s.agent.port.giver.drawers) (sym is) ∙ kept.drawers;
       numbers = λ client caller mine.
           let here = ap (λ (s : Site). slice_get s.callers client) is ∙ mine in
-          let inside = get_within (site_of W valid rounds m came (came.at rounds) node).callers client caller here in
+          let inside = slice_get_within (site_of W valid rounds m came (came.at rounds) node).callers client caller here in
           let own : client < W.settings.clients = omega (arith, inside, long) in
           let one : Some (caller_at W valid rounds m came node rounds client) ≡ Some caller = sym (here_at W valid rounds m came node few rounds client (omega arith) own) ∙ here in
           let caller_is : caller_at W valid rounds m came node rounds client ≡ caller = cc in

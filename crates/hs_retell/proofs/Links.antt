@@ -3,6 +3,7 @@
 use Rattle.std.proofs.Common.{◌≡◌, ℕ, zero, suc, ◌+◌, ◌<◌, ◌≤◌, min, Bool, true, false, nat_lt, ltb-true, ltb-false, List, length, refl, sym, ap, ◌∙◌, arith, slice_get}
 use Rattle.std.specs.Option.{option_map_or}
 use Rattle.std.proofs.lemmas.List.{length-append}
+use Rattle.hs_lists.proofs.Places.{HasItem, get_some}
 use Rattle.hs_base.specs.declared.limits.TheConstants.{MAX_TAKEN}
 use Rattle.hs_link.specs.Contents.{Outgoing, Incoming, sent}
 use Rattle.hs_live.specs.Keys.{Key}
@@ -17,7 +18,6 @@ use Rattle.hs_rounds.specs.Standing.{Site, Moment, SiteStands}
 use Rattle.hs_rounds.specs.Meeting.{EndsMet, CallerMet}
 use Rattle.hs_rounds.specs.Moving.{IsSameDoing}
 use Rattle.hs_rounds.specs.Coming.{Came}
-use Rattle.hs_gathered.proofs.Lists.{HasItem, get_some}
 use Rattle.hs_sent.specs.Sending.{ops_of}
 use Rattle.hs_retell.proofs.Moments.{site_of, site_stands, site_acts, site_moves, doing_same}
 use Rattle.hs_retell.proofs.Meetings.{caller_at, acted_at, met_at, goes_at, caller_met, caller_moved}

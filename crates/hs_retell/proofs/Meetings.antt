@@ -1,13 +1,15 @@
 -- The clients of a node in the rounds: what their drawers were answered, and what meetings tell of it.
 use Rattle.std.proofs.Common.{◌≡◌, ℕ, zero, suc, ◌+◌, ◌*◌, ◌<◌, ◌≤◌, ◌==◌, ◌||◌, Bool, true, false, List, [], ◌∷◌, ◌++◌, length, reverse, refl, sym, ap, subst, ◌∙◌, Some, None, arith, map, filter, cond, nat_lt, ltb-true, slice_get, eq-eqb, append_assoc}
 use Rattle.std.specs.List.{AllByRecursion, list_any}
+use Rattle.hs_lists.proofs.Parts.{reverse_cons}
+use Rattle.hs_lists.proofs.Alls.{all_each}
 use Rattle.hs_base.specs.declared.ids.ClientId.{ClientId}
 use Rattle.hs_records.specs.Plain.{Operation, PlainSettings, PlainWorkload}
 use Rattle.hs_ring.specs.Parts.{AllBelow}
 use Rattle.hs_sent.specs.Draws.{count_started}
 use Rattle.hs_sent.specs.Timing.{TimedPage, timed_pages}
 use Rattle.hs_sent.specs.Sending.{ops_of}
-use Rattle.hs_words.specs.Ends.{Answer, Turn, answered, unread, met, answers_in, told_in, stamps_in}
+use Rattle.hs_words.specs.Ends.{Answer, Turn, met, answers_in, told_in, stamps_in}
 use Rattle.hs_workload.specs.Validity.{IsValid}
 use Rattle.hs_caller.specs.Calling.{Calling}
 use Rattle.hs_caller.specs.Standing.{IsAt, Goes, HasSentSoFar}
@@ -15,16 +17,16 @@ use Rattle.hs_rounds.specs.Standing.{Moment}
 use Rattle.hs_rounds.specs.Meeting.{told_of, CallerMet}
 use Rattle.hs_rounds.specs.Coming.{Came}
 use Rattle.hs_gathered.specs.Ends.{done_by, Ends, HasMet}
+use Rattle.hs_gathered.proofs.Unread.{told_more}
 use Rattle.hs_retell.proofs.Drawing.{draws_long}
-use Rattle.hs_gathered.proofs.Lists.{reverse_on, all_each}
 use Rattle.hs_retell.proofs.Moments.{site_of, caller_of, site_there, caller_there, site_stands, site_acts, site_meets, site_moves, giver_same}
 
 -- ---- meetings among turns
 
-answers_behind : (callers : List Calling) (turns : List Turn) → answers_in (reverse (map told_of callers) ++ turns) ≡ answers_in turns
+pub answers_behind : (callers : List Calling) (turns : List Turn) → answers_in (reverse (map told_of callers) ++ turns) ≡ answers_in turns
 answers_behind [] turns = refl
 answers_behind (caller ∷ callers) turns =
-    ap (λ front. answers_in (front ++ turns)) (reverse_on (told_of caller) (map told_of callers)) ∙ ap answers_in (append_assoc (reverse (map told_of callers)) (told_of caller ∷ []) turns)
+    ap (λ front. answers_in (front ++ turns)) (reverse_cons (told_of caller) (map told_of callers)) ∙ ap answers_in (append_assoc (reverse (map told_of callers)) (told_of caller ∷ []) turns)
     ∙ answers_behind callers (told_of caller ∷ turns)
 
 any_front : (q : ℕ → Bool) (xs ys : List ℕ) → list_any q xs ≡ true → list_any q (xs ++ ys) ≡ true
@@ -43,12 +45,6 @@ any_behind q (x ∷ xs) ys h = or_right (q x) (list_any q (xs ++ ys)) (any_behin
     or_right true b h = refl
     or_right false b h = h
 
-told_behind : (q : ℕ → Bool) (more turns : List Turn) → list_any q (told_in turns) ≡ true → list_any q (told_in (more ++ turns)) ≡ true
-told_behind q [] turns h = h
-told_behind q (answered a ∷ more) turns h = told_behind q more turns h
-told_behind q (unread ∷ more) turns h = told_behind q more turns h
-told_behind q (met stamps ∷ more) turns h = any_behind q stamps (told_in (more ++ turns)) (told_behind q more turns h)
-
 -- who was met told of all draws
 told_by_met : (q : ℕ → Bool) (callers : List Calling) (turns : List Turn) (number : ℕ) (caller : Calling) → slice_get callers number ≡ Some caller → list_any q (stamps_in caller.client.drawer.answers) ≡ true
     → list_any q (told_in (reverse (map told_of callers) ++ turns)) ≡ true
@@ -57,12 +53,12 @@ told_by_met q (c ∷ callers) turns zero caller h any =
     let same : Some c ≡ Some caller = h in
     let is : caller ≡ c = cc in
     subst (λ list. list_any q (told_in list) ≡ true)
-    (sym (append_assoc (reverse (map told_of callers)) (told_of c ∷ []) turns) ∙ ap (λ front. front ++ turns) (sym (reverse_on (told_of c) (map told_of callers))))
-    (told_behind q (reverse (map told_of callers)) (told_of c ∷ turns)
+    (sym (append_assoc (reverse (map told_of callers)) (told_of c ∷ []) turns) ∙ ap (λ front. front ++ turns) (sym (reverse_cons (told_of c) (map told_of callers))))
+    (told_more q (reverse (map told_of callers)) (told_of c ∷ turns)
     (any_front q (stamps_in c.client.drawer.answers) (told_in turns) (subst (λ (x : Calling). list_any q (stamps_in x.client.drawer.answers) ≡ true) is any)))
 told_by_met q (c ∷ callers) turns (suc number) caller h any =
     subst (λ list. list_any q (told_in list) ≡ true)
-    (sym (append_assoc (reverse (map told_of callers)) (told_of c ∷ []) turns) ∙ ap (λ front. front ++ turns) (sym (reverse_on (told_of c) (map told_of callers))))
+    (sym (append_assoc (reverse (map told_of callers)) (told_of c ∷ []) turns) ∙ ap (λ front. front ++ turns) (sym (reverse_cons (told_of c) (map told_of callers))))
     (told_by_met q callers (told_of c ∷ turns) number caller h any)
 
 own_stamps : (answers : List Answer) → AllByRecursion (λ (a : Answer). list_any (λ told. told == a.stamp) (stamps_in answers) ≡ true) answers

@@ -2,6 +2,7 @@
 use Rattle.std.proofs.Common.{◌≡◌, ℕ, zero, suc, ◌<◌, ◌≤◌, List, ◌++◌, length, reverse, sym, ap, subst, ◌∙◌, Some, unwrap_or, arith, map, slice_get, append-nil, append_assoc}
 use Rattle.std.specs.List.{AllByRecursion}
 use Rattle.std.proofs.lemmas.List.{length-append}
+use Rattle.hs_lists.proofs.Places.{HasItem, get_some}
 use Rattle.hs_model.specs.State.{start}
 use Rattle.hs_model.specs.Stepping.{Event, after}
 use Rattle.hs_records.specs.Plain.{PlainWorkload}
@@ -23,7 +24,6 @@ use Rattle.hs_rounds.specs.Meeting.{told_of, SiteMeets}
 use Rattle.hs_rounds.specs.Moving.{IsSameDoing, SiteMoves}
 use Rattle.hs_rounds.specs.Coming.{Came}
 use Rattle.hs_retell.specs.Spans.{Post, IsPost, IsStep}
-use Rattle.hs_gathered.proofs.Lists.{HasItem, get_some}
 
 pub found : {X : Type 0} (xs : List X) (i : ℕ) (other : X) → i < length xs → slice_get xs i ≡ Some (unwrap_or (slice_get xs i) other)
 found xs i other low = let s = get_some xs i low in s.there ∙ ap (λ x. Some x) (ap (λ o. unwrap_or o other) (sym s.there))

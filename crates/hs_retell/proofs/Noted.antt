@@ -1,26 +1,20 @@
 -- What a node's log has noted behind a round.
-use Rattle.std.proofs.Common.{◌≡◌, ℕ, zero, suc, ◌+◌, ◌<◌, ◌≤◌, List, [], ◌∷◌, ◌++◌, map, take, refl, sym, ap, ◌∙◌, arith}
-use Rattle.std.proofs.lemmas.List.{map-append}
+use Rattle.std.proofs.Common.{◌≡◌, ℕ, zero, suc, ◌+◌, ◌<◌, ◌≤◌, List, [], map, take, sym, ap, ◌∙◌, arith}
 use Rattle.std.specs.List.{AllByRecursion, flat_map, range_with_len}
 use Rattle.hs_actors.proofs.Passes.{passes_are}
 use Rattle.hs_actors.specs.Doings.{joined, steps_of}
 use Rattle.hs_actors.specs.Facts.{IsPass}
+use Rattle.hs_actors.proofs.Joined.{steps_joined}
 use Rattle.hs_gathered.proofs.Grown.{grown, grown_all}
 use Rattle.hs_gathered.specs.Stories.{added}
 use Rattle.hs_journal.specs.declared.journal.Step.{Step}
 use Rattle.hs_lawful.specs.Passes.{passes_of}
-use Rattle.hs_model.specs.Laws.{noted_as}
 use Rattle.hs_model.specs.Stepping.{Event}
 use Rattle.hs_desk.specs.Work.{Work}
 use Rattle.hs_retell.specs.Laws.{RoundsAreNoted}
 use Rattle.hs_retell.specs.Spans.{Post}
 use Rattle.hs_retell.proofs.Joined.{post, heard_by, post_low, post_last, all_posts, all_steps}
 use Rattle.hs_retell.proofs.Spanning.{grows, ends_pass}
-
-mapped : (k : ℕ) (passes : List (List Event)) → flat_map (λ pass. pass) (take k (map steps_of passes)) ≡ steps_of (joined (take k passes))
-mapped zero passes = refl
-mapped (suc k) [] = refl
-mapped (suc k) (pass ∷ passes) = ap (λ (rest : List Step). steps_of pass ++ rest) (mapped k passes) ∙ sym (map-append noted_as pass (joined (take k passes)))
 
 -- what holds of each of so many numbers
 ranged : {X : Type 0} (P : X → Type 0) (f : ℕ → X) (from count : ℕ) → ((k : ℕ) → from ≤ k → k < from + count → P (f k)) → AllByRecursion P (map f (range_with_len from count))
@@ -44,4 +38,4 @@ noted W rounds m passes nodes heard valid came closing node few k low =
     let front : joined (take k lists) ≡ ((came.at k).works node).events =
     grown events passes begins grow k (omega (arith, low, enough)) ∙ ap (λ (p : Post). p.work.events) (post_low W valid rounds m came passes nodes heard closing node k low) in
     ap (λ (l : List Event). flat_map (λ pass. pass) (take k (passes_of (steps_of l)))) (sym end)
-    ∙ ap (λ (l : List (List Step)). flat_map (λ pass. pass) (take k l)) (passes_are W lists all) ∙ mapped k lists ∙ ap steps_of front
+    ∙ ap (λ (l : List (List Step)). flat_map (λ pass. pass) (take k l)) (passes_are W lists all) ∙ steps_joined k lists ∙ ap steps_of front

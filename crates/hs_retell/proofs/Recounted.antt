@@ -22,16 +22,16 @@ use Rattle.hs_rounds.specs.Standing.{Site, Moment}
 use Rattle.hs_rounds.specs.Coming.{Came}
 use Rattle.hs_gathered.specs.Laws.{AgentAt, agent_of, agent_behind, IsTold, StoriesAreLawful}
 use Rattle.hs_gathered.specs.Stories.{Story, doings_of, node_doings}
-use Rattle.hs_gathered.proofs.Grown.{grown_all, mapped_at}
+use Rattle.hs_gathered.proofs.Grown.{grown_all}
 use Rattle.hs_journal.specs.declared.journal.Step.{Step}
-use Rattle.std.proofs.lemmas.Option.{slice_get-map}
+use Rattle.std.proofs.lemmas.Option.{slice_get-map, slice_get_within}
+use Rattle.hs_lists.proofs.Ranges.{map_range_at}
 use Rattle.hs_retell.specs.Spans.{Post}
 use Rattle.hs_retell.specs.Closing.{Closing, IsOver}
 use Rattle.hs_retell.specs.Laws.{LinkBegins, AllLinksBegin, IsRecounted}
 use Rattle.hs_retell.proofs.Joined.{heard_last, post_last}
 use Rattle.hs_retell.proofs.LinkKinds.{chunk_links, crumb_links, trigger_links}
 use Rattle.hs_retell.proofs.Links.{Kind, LinkBegan}
-use Rattle.hs_gathered.proofs.Lists.{get_within}
 use Rattle.hs_retell.proofs.Moments.{site_of, site_there, stands_at}
 use Rattle.hs_retell.proofs.Meetings.{HaveSent, caller_at, here_at}
 use Rattle.hs_retell.proofs.Whole.{HaveSentAll, LinksBegan, story, is_story, callers_drew, callers_few, agents_last}
@@ -78,7 +78,7 @@ module _ (adds : EventsAddThis) (sends : HaveSent) (sends_all : HaveSentAll) (la
     drew : (node client : ℕ) (site : Site) (caller : Calling) → slice_get m.standing.nodes node ≡ Some site → slice_get site.callers client ≡ Some caller
         → draws_at (journal_of W (doings_of W told_by)) (place_of W.settings.clients node client) ≡ caller.client.core.draws
     drew node client site caller there mine =
-        let within = get_within m.standing.nodes node site there in
+        let within = slice_get_within m.standing.nodes node site there in
         let all = count in
         let few : node < W.settings.nodes = omega (arith, within, all) in
         let own = callers_few adds sends sends_all W valid rounds m came passes nodes heard closing over (links_began W valid rounds m came begins) node client site caller few there mine in
@@ -100,7 +100,7 @@ module _ (adds : EventsAddThis) (sends : HaveSent) (sends_all : HaveSentAll) (la
         let last = ap (λ (p : Post). p.work.events) (post_last W valid rounds m came passes nodes heard closing node few) in
         let log : NodeDoings → List Step = λ n. steps_of (all_events n) in
         ap (λ (o : Option (List Step)). unwrap_or o [])
-        (slice_get-map log (map (node_doings told_by) (range_with_len 0 W.settings.nodes)) node ∙ ap (option_map log) (mapped_at (node_doings told_by) W.settings.nodes node few))
+        (slice_get-map log (map (node_doings told_by) (range_with_len 0 W.settings.nodes)) node ∙ ap (option_map log) (map_range_at (node_doings told_by) W.settings.nodes node few))
         ∙ ap steps_of (grown_all (told_by.nodes node).events passes story_at.begins story_at.grows ∙ last)
 
     pub recounted : (J : PlainJournal) × IsRecounted W m nodes heard J

@@ -3,6 +3,7 @@ use Rattle.std.proofs.Common.{◌≡◌, ℕ, zero, suc, ◌+◌, ◌-◌, ◌<�
 use Rattle.std.proofs.lemmas.List.{length-map, map-append}
 use Rattle.std.proofs.lemmas.List.Sums.{length-filter}
 use Rattle.std.proofs.lemmas.Simd.{map-map}
+use Rattle.hs_lists.proofs.Parts.{drop_front}
 use Rattle.hs_base.specs.declared.limits.TheConstants.{MAX_TAKEN}
 use Rattle.hs_coord.specs.Messages.{Message, Messages, message}
 use Rattle.hs_model.specs.Laws.{EventsAddThis, sheets_of}
@@ -21,12 +22,8 @@ use Rattle.hs_actors.specs.Turns.{Lent, AreTurns}
 use Rattle.hs_actors.proofs.Lents.{turns_more}
 use Rattle.hs_retell.specs.Spans.{Post, IsPost, IsStep}
 use Rattle.hs_retell.proofs.Chunks.{sheets_taken}
-use Rattle.hs_retell.proofs.Lists.{drop_front}
 
 -- ---- messages
-
-one : Bool → ℕ
-one b = cond b 1 0
 
 pub heard_count : (node : ℕ) (heard : Messages) → length (heard_of node heard) ≡ count_by (is_from (record { 0 = node })) heard
 heard_count node heard = length-map (filter (is_from (record { 0 = node })) heard) (λ (m : Message). m.told) ∙ counted heard

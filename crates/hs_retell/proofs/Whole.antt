@@ -3,7 +3,10 @@ use Rattle.std.proofs.Common.{◌≡◌, ℕ, zero, suc, ◌+◌, ◌*◌, ◌/�
 use Rattle.std.specs.List.{AllByRecursion, range_with_len}
 use Rattle.std.proofs.lemmas.List.{length-map}
 use Rattle.std.proofs.lemmas.Nat.{div-mul-add}
+use Rattle.std.proofs.lemmas.Option.{slice_get_within}
 use Rattle.std.proofs.Math.Nat.{mod-eq-sub-div-mul}
+use Rattle.hs_lists.proofs.Alls.{all_at}
+use Rattle.hs_lists.proofs.Filters.{filter_few}
 use Rattle.hs_agent.specs.Points.{sheet_in}
 use Rattle.hs_base.specs.declared.ids.ClientId.{ClientId}
 use Rattle.hs_base.specs.declared.limits.TheConstants.{MAX_TAKEN}
@@ -29,18 +32,18 @@ use Rattle.hs_caller.specs.Standing.{IsAt, IsLeasedTo, HasSentAll}
 use Rattle.hs_desk.specs.Agents.{IsPageThere}
 use Rattle.hs_desk.specs.Work.{Work, is_of, came_of}
 use Rattle.hs_desk.specs.Turns.{lent_of}
+use Rattle.hs_desk.proofs.Taking.{sheet_is}
 use Rattle.hs_rounds.specs.Standing.{Site, Moment}
 use Rattle.hs_rounds.specs.Coming.{Came}
 use Rattle.hs_gathered.specs.Ends.{done_by, Ends}
 use Rattle.hs_gathered.specs.Stories.{NodeStory, Story, draws_of, sends_at, state_by, IsQueueStory, sent_by, TakesFrom, TalksWith, IsDrawnFor, PoolsWith, IsNodeStory, IsStory}
 use Rattle.hs_retell.specs.Spans.{Post, IsPost, IsStep}
 use Rattle.hs_retell.specs.Closing.{Closing, TakesLeft, IsBare, drawn_at, IsOver}
-use Rattle.hs_retell.proofs.Chunks.{own_events, chunks_came, sheet_is, sheets_are}
+use Rattle.hs_retell.proofs.Chunks.{own_events, chunks_came, sheets_are}
 use Rattle.hs_retell.proofs.Drawing.{draws_answers}
 use Rattle.hs_retell.proofs.Joined.{post, heard_by, post_low, post_high, last_site, heard_low, heard_last, post_last, heard_grows, all_posts, all_steps, ends_by, all_met, ends_low}
 use Rattle.hs_retell.proofs.LinkKinds.{chunk_links, crumb_links, trigger_links}
 use Rattle.hs_retell.proofs.Links.{Kind, LinkBegan, told_at, takes_told, hears_sent, told_few}
-use Rattle.hs_gathered.proofs.Lists.{all_get, few_kept, get_within}
 use Rattle.hs_retell.proofs.Lists.{all_passing}
 use Rattle.hs_retell.proofs.Moments.{site_of, site_stands}
 use Rattle.hs_retell.proofs.Meetings.{HaveSent, caller_at, acted_at, here_at, is_at, done_at, sent_at, started_at, none_drawn}
@@ -156,7 +159,7 @@ module _ (adds : EventsAddThis) (sends : HaveSent) (sends_all : HaveSentAll) (W 
           at : (i : ℕ) (buffer : Buffer Leased) → slice_get (post W valid rounds m came passes nodes heard closing node passes).work.came i ≡ Some buffer → IsDrawnFor W story node (lent_of buffer)
           at i buffer h =
               let all = (post_stands_at passes (omega arith)).pages in
-              let there = all_get (IsPageThere W node (post W valid rounds m came passes nodes heard closing node passes).work.pool) (post W valid rounds m came passes nodes heard closing node passes).work.came i buffer all h in
+              let there = all_at (IsPageThere W node (post W valid rounds m came passes nodes heard closing node passes).work.pool) (post W valid rounds m came passes nodes heard closing node passes).work.came i buffer all h in
               let sheet = sheet_is buffer there.is.sheet there.is.page in
               let owner : (sheet_in buffer).header.client.number ≡ there.client = ap (λ (s : Sheet). s.header.client.number) sheet ∙ ap (λ (c : ClientId). c.number) there.is.owner in
               let draws = last_draws W valid rounds m came sends node few there.client there.is.low in
@@ -165,7 +168,7 @@ module _ (adds : EventsAddThis) (sends : HaveSent) (sends_all : HaveSentAll) (W 
               subst (AllByRecursion (IsLeasedTo (record { node = node; number = there.client }) draws)) (sym (bare.chunks there.client (caller_at W valid rounds m came node rounds there.client) (last_caller there.client there.is.low))) sent_leases
               in
               lease buffer there
-              (all_get (λ (b : Buffer Leased). is_of there.client b ≡ true → IsLeasedTo (record { node = node; number = there.client }) draws b) (post W valid rounds m came passes nodes heard closing node passes).work.came i buffer
+              (all_at (λ (b : Buffer Leased). is_of there.client b ≡ true → IsLeasedTo (record { node = node; number = there.client }) draws b) (post W valid rounds m came passes nodes heard closing node passes).work.came i buffer
               (all_passing (IsLeasedTo (record { node = node; number = there.client }) draws) (is_of there.client) (post W valid rounds m came passes nodes heard closing node passes).work.came came_leases) h
               (eq-eqb (sheet_in buffer).header.client.number there.client owner))
 
@@ -182,7 +185,7 @@ module _ (adds : EventsAddThis) (sends : HaveSent) (sends_all : HaveSentAll) (W 
       drawers_are =
           by_numbers (site_of W valid rounds m came m node).callers 0 W.settings.clients count
           (λ i caller h.
-          let low : i < W.settings.clients = let within = get_within (site_of W valid rounds m came m node).callers i caller h in omega (arith, within, count) in
+          let low : i < W.settings.clients = let within = slice_get_within (site_of W valid rounds m came m node).callers i caller h in omega (arith, within, count) in
           let same : Some caller ≡ Some (caller_at W valid rounds m came node rounds i) = sym h ∙ last_caller i low in
           let is : caller ≡ caller_at W valid rounds m came node rounds i = cc in
           let zeroth : i ≡ 0 + i = omega arith in
@@ -294,7 +297,7 @@ module _ (adds : EventsAddThis) (sends : HaveSent) (sends_all : HaveSentAll) (W 
           }
 
       sent_most : {A : Type 0} (client k : ℕ) (items : List (Sent A)) → sent_by W node client items k ≤ length items
-      sent_most {A} client k items = few_kept (λ (item : Sent A). nat_lt item.number (done_by W node client k)) items
+      sent_most {A} client k items = filter_few (λ (item : Sent A). nat_lt item.number (done_by W node client k)) items
 
       -- what is taken of all that a client sends
       record TakesAll (client : ℕ) (s : ClientSends) : Type 0 where
@@ -407,7 +410,7 @@ module _ (adds : EventsAddThis) (sends : HaveSent) (sends_all : HaveSentAll) (W 
     callers_few node client site caller few there mine =
         let same : Some site ≡ Some (site_of W valid rounds m came m node) = sym there ∙ last_site W valid rounds m came passes nodes heard closing node few in
         let is : site_of W valid rounds m came m node ≡ site = cc in
-        let within = get_within site.callers client caller mine in
+        let within = slice_get_within site.callers client caller mine in
         let count = subst (λ moment. length (site_of W valid rounds m came moment node).callers ≡ W.settings.clients) came.last (site_stands W valid rounds m came rounds node (omega arith) few).count in
         let long = ap (λ (s : Site). length s.callers) is in
         omega (arith, within, count, long)

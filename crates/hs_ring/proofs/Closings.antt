@@ -37,7 +37,7 @@ pub answers_length : (drawers : List Drawing) → length (answers_of_all drawers
 answers_length [] = refl
 answers_length (x ∷ xs) = ap suc (answers_length xs)
 
-in_order_at : (pool : PoolName) (number : ℕ) (xs : List Drawing) (d : Drawing) (done : List Drawing) → AreInOrder pool number ((xs ++ d ∷ []) ++ done) → (d.pool ≡ pool) × (d.number ≡ number + length xs)
+pub in_order_at : (pool : PoolName) (number : ℕ) (xs : List Drawing) (d : Drawing) (done : List Drawing) → AreInOrder pool number ((xs ++ d ∷ []) ++ done) → (d.pool ≡ pool) × (d.number ≡ number + length xs)
 in_order_at pool number [] d done order = (order.0, (let e = order.1 in omega arith))
 in_order_at pool number (x ∷ xs) d done order = let r = in_order_at pool (suc number) xs d done order.2 in (r.0, (let e = r.1 in omega arith))
 

@@ -1,10 +1,11 @@
 -- What the rule says of the counts, and of the words and slots that a step changes.
-use Rattle.std.proofs.Common.{◌≡◌, ◌≢◌, ◌⊎◌, ℕ, zero, suc, ◌+◌, ◌-◌, ◌*◌, ◌/◌, ◌%◌, ◌<◌, ◌≤◌, List, [], ◌∷◌, ◌++◌, length, drop, set, get_or, Some, refl, sym, ap, ◌∙◌, subst, inl, inr, ⊎_elim, mod-eq_of_lt, mod-lt, arith}
+use Rattle.std.proofs.Common.{◌≡◌, ◌≢◌, ℕ, zero, suc, ◌+◌, ◌-◌, ◌*◌, ◌/◌, ◌%◌, ◌<◌, ◌≤◌, List, [], ◌∷◌, ◌++◌, length, drop, set, get_or, Some, refl, sym, ap, ◌∙◌, subst, ⊎_elim, mod-eq_of_lt, mod-lt, arith}
 use mathlib.Core.Option.{some, some-injective, some-ne-none}
 use lib.ListN.{get_elem?}
 use Rattle.std.specs.Prelude.{Option, slice_get, count_by}
 use Rattle.atomic_table.specs.Table.{State, Me, Act, Valid, carried_after, stepped}
 use Rattle.atomic_table.proofs.Lists.{at_set}
+use Rattle.hs_lists.proofs.Places.{elem_push_cases}
 use Rattle.hs_ring.specs.declared.board.TheConstants.{PUBLISHED}
 use Rattle.hs_base.specs.declared.limits.TheConstants.{MAX_BUFFERS, MAX_OPERATIONS}
 use Rattle.hs_words.specs.Chunks.{Contents}
@@ -29,20 +30,9 @@ module _ {A : Type 0} where
   first_there [] less = absurd (omega arith)
   first_there (x ∷ xs) less = (x, refl)
 
-  pub none_there : (xs : List A) → length xs ≡ 0 → xs ≡ []
-  none_there [] e = refl
-  none_there (x ∷ xs) e = absurd (omega arith)
-
   pub at_rest : (xs : List A) (i : ℕ) (x : A) → get_elem? (drop 1 xs) i ≡ some x → get_elem? xs (suc i) ≡ some x
   at_rest [] i x at = absurd (some-ne-none x (sym at))
   at_rest (y ∷ ys) i x at = at
-
-  -- an element of a list with one more, and its place
-  pub at_end : (xs : List A) (y x : A) (i : ℕ) → get_elem? (xs ++ y ∷ []) i ≡ some x → (get_elem? xs i ≡ some x) ⊎ ((i ≡ length xs) × (y ≡ x))
-  at_end [] y x zero at = inr (refl, some-injective y x at)
-  at_end [] y x (suc i) at = absurd (some-ne-none x (sym at))
-  at_end (z ∷ zs) y x zero at = inl at
-  at_end (z ∷ zs) y x (suc i) at = ⊎_elim (λ old. inl old) (λ new. inr (ap suc new.0, new.1)) (at_end zs y x i at)
 
 pub front_got : (xs : List ℕ) (x : ℕ) → get_elem? xs 0 ≡ some x → slice_get xs 0 ≡ Some x
 front_got [] x at = absurd (some-ne-none x (sym at))
@@ -122,7 +112,7 @@ reseated plan f views id w mine others j v at =
 pub seated_too : (plan : Plan) (f : Facts) (views : List View) (w : View) → Knows plan f (length views) w → ((j : ℕ) (v : View) → get_elem? views j ≡ some v → Knows plan f j v)
     → (j : ℕ) (v : View) → get_elem? (views ++ w ∷ []) j ≡ some v → Knows plan f j v
 seated_too plan f views w new others j v at =
-    ⊎_elim (λ old. others j v old) (λ (last : (j ≡ length views) × (w ≡ v)). subst (λ (x : View). Knows plan f j x) last.1 (subst (λ (i : ℕ). Knows plan f i w) (sym last.0) new)) (at_end views w v j at)
+    ⊎_elim (λ old. others j v old) (λ (last : (j ≡ length views) × (w ≡ v)). subst (λ (x : View). Knows plan f j x) last.1 (subst (λ (i : ℕ). Knows plan f i w) (sym last.0) new)) (elem_push_cases views w v j at)
 
 -- ---- what a step owes
 

@@ -6,15 +6,17 @@ use mathlib.Core.Logic.{dite}
 use native.Mathlib.Decide.{ℕ_discrete, dec_le}
 use lib.ListN.{get_elem?}
 use Rattle.std.specs.Prelude.{Option}
+use Rattle.std.proofs.lemmas.List.{nil_from_length}
 use Rattle.atomic_table.specs.Table.{State, Me, step, Act, keeps, takes, stepped, Allows}
 use Rattle.atomic_table.proofs.Lists.{set_here, set_else}
+use Rattle.hs_lists.proofs.Counts.{count_cons}
 use Rattle.hs_ring.specs.declared.board.TheConstants.{PUBLISHED}
 use Rattle.hs_base.proofs.Updates.{put, put_cases, put_here, put_else}
 use Rattle.hs_words.specs.Chunks.{Contents, clear_chunk}
 use Rattle.hs_words.specs.PoolHistory.{Got, Empty, is_missed, is_empty}
 use Rattle.hs_words.specs.Ends.{Deed, Answer, got_by, empty_by, events_of, drawn_in, given_in, answer_to, queue_of}
 use Rattle.hs_words.proofs.Deeds.{none_yet, answers_and}
-use Rattle.hs_words.proofs.Waiting.{counted, waiting_below}
+use Rattle.hs_words.proofs.Waiting.{waiting_below}
 use Rattle.hs_words.specs.Plans.{Plan}
 use Rattle.hs_words.specs.Seats.{AtSeat}
 use Rattle.hs_words.specs.Spots.{Spot, in_queue, with_drawer}
@@ -24,7 +26,7 @@ use Rattle.hs_ring.specs.Steps.{drawn_of, did_draw}
 use Rattle.hs_ring.proofs.Updates.{ap₃, left_set}
 use Rattle.hs_ring.proofs.Spots.{now_with, still_with, spot_stays}
 use Rattle.hs_ring.proofs.Stays.{Moves, answers_stay, hand_stays, palm_stays, cell_stays, facts_after, post_stays, knows_stays}
-use Rattle.hs_ring.proofs.Counting.{at_length, first_there, none_there, at_rest, front_got, line, lap, found_drawn, found_published, found_stamp, one_more_drawn, entry_below, reseated}
+use Rattle.hs_ring.proofs.Counting.{at_length, first_there, at_rest, front_got, line, lap, found_drawn, found_published, found_stamp, one_more_drawn, entry_below, reseated}
 
 abbrev pub St : Type 0
 St = State (Option Contents) View
@@ -70,7 +72,7 @@ module _ (plan : Plan) (s : St) (f : Facts) (k : Kept plan s f) (id : ℕ) (desk
         }
 
     nothing_waits : queue_of n f.log ≡ []
-    nothing_waits = none_there (queue_of n f.log) (let l = line plan s f k in omega arith)
+    nothing_waits = nil_from_length (queue_of n f.log) (let l = line plan s f k in omega arith)
 
     abbrev w : View
     w = drawing (desk_after desk (length f.log) Empty) nothing
@@ -96,7 +98,7 @@ module _ (plan : Plan) (s : St) (f : Facts) (k : Kept plan s f) (id : ℕ) (desk
     empty_seats = reseated plan after_empty s.views id w empty_desk
         (λ j v other seen. knows_stays plan f (deed ∷ []) f.cells f.spots f.hands f.palm (suc d) (in_queue 0) free empty_moves j (another j other) (λ e. cc)
         (λ _ post palm ok. post_stays plan f (deed ∷ []) f.cells f.spots f.hands f.palm (suc d) (in_queue 0) free empty_moves j post palm refl (omega arith) (let a = mine.active in omega arith)
-        (let c = counted is_missed Empty (events_of f.log) in omega arith) ok) v (k.each_seat j v seen))
+        (let c = count_cons is_missed Empty (events_of f.log) in omega arith) ok) v (k.each_seat j v seen))
 
     pub empty_kept : Kept plan (stepped s 0 x id held w keeps) after_empty
     empty_kept =
@@ -107,7 +109,7 @@ module _ (plan : Plan) (s : St) (f : Facts) (k : Kept plan s f) (id : ℕ) (desk
           counts = get_or-set_same s.words 0 x 0 (let e = k.words in omega arith) ∙ x_is ∙ (let e : published n f.log * PUBLISHED + suc (drawn_in f.log) ≡ (n + (0 + given_in f.log)) * PUBLISHED + (1 + drawn_in f.log) = omega arith in e);
           lawful = (k.lawful, nothing_waits);
           spent = (tt, k.spent);
-          voids = (let a = counted is_missed Empty (events_of f.log) in let b = counted is_empty Empty (events_of f.log) in let v = k.voids in omega arith);
+          voids = (let a = count_cons is_missed Empty (events_of f.log) in let b = count_cons is_empty Empty (events_of f.log) in let v = k.voids in omega arith);
           each_cell =
               λ e low.
               cell_stays n plan.size f.log (deed ∷ f.log) f.spots f.spots f.hands f.hands f.palm f.palm e (get_or s.words (suc e) 0) (get_or (set s.words 0 x) (suc e) 0) (get_elem? s.homes e) (get_elem? s.homes e)
@@ -219,7 +221,7 @@ module _ (plan : Plan) (s : St) (f : Facts) (k : Kept plan s f) (id : ℕ) (desk
     got_seats = reseated plan after_got s.views id got_view got_desk
         (λ j v other seen. knows_stays plan f (got ∷ []) cells' spots' hands' f.palm (suc d) (in_queue number) (waits number b) got_moves j (another j other) (λ e. cc)
         (λ _ post palm ok. post_stays plan f (got ∷ []) cells' spots' hands' f.palm (suc d) (in_queue number) (waits number b) got_moves j post palm refl (omega arith) (let a = mine.active in omega arith)
-        (let c = counted is_missed (Got b) (events_of f.log) in omega arith) ok) v (k.each_seat j v seen))
+        (let c = count_cons is_missed (Got b) (events_of f.log) in omega arith) ok) v (k.each_seat j v seen))
 
     got_cells : (e : ℕ) → e < 2 * n → CellOk n plan.size (got ∷ f.log) spots' hands' f.palm e (get_or (set s.words 0 x) (suc e) 0) (get_elem? (set s.homes e₀ maybe.none) e) (cells' e)
     got_cells e low =
@@ -273,7 +275,7 @@ module _ (plan : Plan) (s : St) (f : Facts) (k : Kept plan s f) (id : ℕ) (desk
           counts = get_or-set_same s.words 0 x 0 (let e = k.words in omega arith) ∙ x_is ∙ (let e : published n f.log * PUBLISHED + suc (drawn_in f.log) ≡ (n + (0 + given_in f.log)) * PUBLISHED + (1 + drawn_in f.log) = omega arith in e);
           lawful = (k.lawful, front_got (queue_of n f.log) b front);
           spent = (tt, k.spent);
-          voids = (let a = counted is_missed (Got b) (events_of f.log) in let c = counted is_empty (Got b) (events_of f.log) in let v = k.voids in omega arith);
+          voids = (let a = count_cons is_missed (Got b) (events_of f.log) in let c = count_cons is_empty (Got b) (events_of f.log) in let v = k.voids in omega arith);
           each_cell = got_cells;
           each_queued = got_queued;
           each_hand = got_hands;

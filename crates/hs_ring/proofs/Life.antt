@@ -14,8 +14,9 @@ use Rattle.hs_base.proofs.Updates.{put, put_here, put_else}
 use Rattle.hs_words.specs.Chunks.{Contents, clear_chunk}
 use Rattle.hs_words.specs.Ends.{Deed, Answer, AreAnswers}
 use Rattle.hs_words.proofs.Deeds.{all_of, no_answers}
-use Rattle.hs_words.specs.Plans.{first_of, rest_of, total, Plan, Within}
+use Rattle.hs_words.specs.Plans.{total, Plan, Within}
 use Rattle.hs_words.specs.Spots.{in_queue}
+use Rattle.hs_words.proofs.Plans.{total_parts}
 use Rattle.hs_ring.specs.Views.{Desk, nothing, Post, Palm, bare, View, nobody, drawing, leasing, giving, drawer_note, giver_note, with_drawer, new_drawer, having_closed, Has}
 use Rattle.hs_ring.specs.Rule.{Cell, free, waits, Facts, CellOk, DeskOk, PostOk, Knows, Kept, Ring, first_post, first_view}
 use Rattle.hs_ring.specs.Steps.{did_look, Over}
@@ -26,10 +27,6 @@ use Rattle.hs_ring.proofs.Draws.{St, Held}
 use Rattle.hs_ring.proofs.Places.{spot_reseated}
 
 -- ---- a drawer is made
-
-total_parts : (l : List ℕ) → total (rest_of l) + first_of l ≡ total l
-total_parts [] = refl
-total_parts (x ∷ xs) = omega arith
 
 module _ (plan : Plan) (s : St) (f : Facts) (k : Kept plan s f) (id : ℕ) (post : Post) (palm : Palm) (at : get_elem? s.views id ≡ some (giving post palm)) (none_closed : post.closed ≡ []) where
   abbrev own : PostOk plan f id post palm

@@ -4,14 +4,14 @@ use mathlib.Core.Option.{some}
 use lib.ListN.{get_elem?, length-map, length-replicate}
 use Rattle.std.specs.Prelude.{Option, sum, slice_get}
 use Rattle.std.specs.List.{range_with_len}
-use Rattle.std.proofs.lemmas.List.Recursion.{is_sum_by}
 use Rattle.std.proofs.lemmas.List.FromFn.{length-range_with_len}
 use Rattle.atomic_table.specs.Table.{opening, Splits}
 use Rattle.atomic_table.specs.Seated.{TableId}
 use Rattle.hs_base.specs.declared.limits.TheConstants.{MAX_BUFFERS, MAX_OPERATIONS}
 use Rattle.hs_words.specs.Chunks.{Contents, clear_chunk, clear_chunks}
 use Rattle.hs_words.specs.Pools.{PoolName}
-use Rattle.hs_words.specs.Plans.{total, Plan, Within}
+use Rattle.hs_words.specs.Plans.{Plan, Within}
+use Rattle.hs_words.proofs.Plans.{total_is_sum}
 use Rattle.hs_ring.specs.Parts.{Drawing, new_drawers}
 use Rattle.hs_ring.specs.Views.{Post, bare, giving, desk_of, post_of, with_drawer, new_drawer}
 use Rattle.hs_ring.specs.Rule.{Ring, first_view}
@@ -20,9 +20,6 @@ use Rattle.hs_ring.specs.Making.{first_words, first_slots, IsMaking}
 use Rattle.hs_ring.proofs.Owed.{Mine, makes_at}
 use Rattle.hs_ring.proofs.Givers.{post_there, free_there}
 use Rattle.hs_ring.proofs.Life.{IsLaidOut, starts}
-
-pub total_is_sum : (l : List ℕ) → total l ≡ sum l
-total_is_sum l = is_sum_by total (λ x. x) refl (λ x xs. refl) l
 
 pub range_and : (a n : ℕ) → range_with_len a (n + 1) ≡ range_with_len a n ++ (a + n) ∷ []
 range_and a n = ap (range_with_len a) (add-one n) ∙ go a n

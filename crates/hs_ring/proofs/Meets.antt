@@ -6,8 +6,10 @@ use borrow.Author.Tests.{eqb-true}
 use Rattle.std.specs.List.{AllByRecursion}
 use Rattle.atomic_table.specs.Table.{Splits, Joins}
 use Rattle.atomic_table.proofs.Lists.{set_else}
+use Rattle.hs_lists.proofs.Numbers.{max_le}
+use Rattle.hs_lists.proofs.Alls.{all_append}
 use Rattle.hs_words.specs.Ends.{Deed, Answer, met, got_by, answers_by, told_in, stamps_in, IsAt, put_if, answer_to}
-use Rattle.hs_words.proofs.Deeds.{all_both, at_below, draw_is_at, at_once}
+use Rattle.hs_words.proofs.Deeds.{at_below, draw_is_at, at_once}
 use Rattle.hs_words.specs.Plans.{Plan}
 use Rattle.hs_words.specs.Seats.{AtSeat}
 use Rattle.hs_ring.specs.Views.{Desk, Hand, nothing, drew, Post, Palm, View, nobody, drawing, giving, drawer_note, giver_note, post_after, all_left, Has}
@@ -118,9 +120,6 @@ both_seats : (plan : Plan) (s : St) (f : Facts) (k : Kept plan s f) (id other : 
 both_seats plan s f k id other w x one two =
     reseated plan f (set s.views id w) other x two (λ j v far seen. reseated plan f s.views id w one (λ j' v' _ seen'. k.each_seat j' v' seen') j v seen)
 
-max_le : (a b c : ℕ) → a ≤ c → b ≤ c → max a b ≤ c
-max_le a b c p q = omega arith
-
 pub giver_hears : (plan : Plan) (id : ℕ) (post : Post) (palm : Palm) (other floor : ℕ) (stamps : List ℕ)
     → Joins (Ring plan) id (giving post palm) other (drawer_note floor stamps) (giving (post_after post (met stamps) (max post.floor floor) post.misses) palm) nobody
 giver_hears plan id post palm other floor stamps s (f, k) at differ note_at =
@@ -139,7 +138,7 @@ giver_hears plan id post palm other floor stamps s (f, k) at differ note_at =
       misses = own.misses;
       floor = max_le post.floor floor (length f.log) own.floor note.0;
       unread = own.unread;
-      told = all_both (IsSettled f.log f.hands) stamps (told_in post.turns) note.1 own.told;
+      told = all_append (IsSettled f.log f.hands) stamps (told_in post.turns) note.1 own.told;
     } in (
       f,
       known_kept plan s f (set (set s.views id w) other nobody) k

@@ -8,15 +8,18 @@ use mathlib.Core.Option as maybe
 use lib.ListN.{get_elem?}
 use Rattle.std.specs.Prelude.{Option}
 use Rattle.std.specs.List.{AllByRecursion}
+use Rattle.std.proofs.lemmas.List.{nil_from_length}
 use Rattle.atomic_table.specs.Table.{step, keeps, gives, stepped, Allows}
 use Rattle.atomic_table.proofs.Lists.{set_here, set_else}
+use Rattle.hs_lists.proofs.Places.{elem_push_cases}
+use Rattle.hs_lists.proofs.Counts.{count_cons}
 use Rattle.hs_ring.specs.declared.board.TheConstants.{PUBLISHED}
 use Rattle.hs_base.proofs.Updates.{put, put_cases, put_here, put_else}
 use Rattle.hs_words.specs.Chunks.{Contents, clear_chunk}
 use Rattle.hs_words.specs.PoolHistory.{Given, Missed, is_missed, is_empty}
 use Rattle.hs_words.specs.Ends.{Deed, Answer, answered, given_of, missed, events_of, drawn_in, given_in, answer_to, answers_in, told_in, queue_of}
 use Rattle.hs_words.proofs.Deeds.{answers_and, answers_below, are_answers_more, unread_more, got_below}
-use Rattle.hs_words.proofs.Waiting.{counted as one_counted, may_give, given_kinds}
+use Rattle.hs_words.proofs.Waiting.{may_give, given_kinds}
 use Rattle.hs_words.specs.Plans.{Plan}
 use Rattle.hs_words.specs.Spots.{Spot, in_queue, with_giver}
 use Rattle.hs_ring.specs.Views.{Post, bare, lays, retakes, View, giving, post_after, Has}
@@ -25,7 +28,7 @@ use Rattle.hs_ring.specs.Steps.{published_of, did_publish}
 use Rattle.hs_ring.proofs.Updates.{left_set}
 use Rattle.hs_ring.proofs.Spots.{still_with, spot_stays}
 use Rattle.hs_ring.proofs.Stays.{Moves, lease_stays, hand_stays, queued_stays, all_settled, cell_stays, facts_after, knows_stays}
-use Rattle.hs_ring.proofs.Counting.{at_length, at_end, none_there, line, found_drawn, found_published, found_stamp, one_more_published, entry_below, reseated}
+use Rattle.hs_ring.proofs.Counting.{at_length, line, found_drawn, found_published, found_stamp, one_more_published, entry_below, reseated}
 use Rattle.hs_ring.proofs.Draws.{St, Held}
 use Rattle.hs_ring.proofs.Takes.{ours, no_giver}
 use Rattle.hs_ring.proofs.Lays.{next_is}
@@ -115,7 +118,7 @@ module _ (plan : Plan) (s : St) (f : Facts) (k : Kept plan s f) (id : ℕ) (post
           closed = own.closed;
           closed_answers = are_answers_more (deed ∷ []) f.log (suc f.opened) post.closed ((let less : 0 < suc f.opened = omega arith in less), tt) own.closed_answers;
           answers = ap (λ (l : List Answer). answer_to deed (length f.log) ∷ l) own.answers ∙ sym (answers_and deed f.log 0 refl);
-          misses = own.misses ∙ (let c = one_counted is_missed (Given b) (events_of f.log) in omega arith);
+          misses = own.misses ∙ (let c = count_cons is_missed (Given b) (events_of f.log) in omega arith);
           floor = le_refl (suc (length f.log));
           unread = unread_more n (deed ∷ []) f.log post.turns (subst (AllByRecursion (λ (a : Answer). a.stamp < length f.log)) (sym own.answers) (answers_below f.log 0)) own.unread;
           told = all_settled n f.log (deed ∷ []) f.cells cells' f.spots spots' f.hands f.hands 0 with_giver (laid P) give_moves (told_in post.turns) own.told;
@@ -175,7 +178,7 @@ module _ (plan : Plan) (s : St) (f : Facts) (k : Kept plan s f) (id : ℕ) (post
         (λ (new : (a ≡ length (queue_of n f.log)) × (b ≡ buffer)).
         let all : drawn_in f.log + a ≡ P = (let l = line plan s f k in let e = new.0 in omega arith) in
         subst (λ (m : ℕ). cells' (m % (2 * n)) ≡ waits m buffer) (sym all) (ap cells' (sym i_is) ∙ put_here f.cells i (waits P b) ∙ ap (waits P) new.1))
-        (at_end (queue_of n f.log) b buffer a seen))
+        (elem_push_cases (queue_of n f.log) b buffer a seen))
 
     pub give_kept : Kept plan (stepped s 0 x id ((i, Some (clear_chunk plan.size b)) ∷ held) w gives) after_give
     give_kept =
@@ -186,7 +189,7 @@ module _ (plan : Plan) (s : St) (f : Facts) (k : Kept plan s f) (id : ℕ) (post
           counts = get_or-set_same s.words 0 x 0 (let e = k.words in omega arith) ∙ x_is ∙ (let e : suc P * PUBLISHED + drawn_in f.log ≡ (n + (1 + given_in f.log)) * PUBLISHED + (0 + drawn_in f.log) = omega arith in e);
           lawful = (k.lawful, may_give n b (events_of f.log) k.lawful in_hand.0.3 waits_not);
           spent = ((in_hand.0.1, in_hand.0.2), k.spent);
-          voids = (let a = one_counted is_missed (Given b) (events_of f.log) in let c = one_counted is_empty (Given b) (events_of f.log) in let v = k.voids in omega arith);
+          voids = (let a = count_cons is_missed (Given b) (events_of f.log) in let c = count_cons is_empty (Given b) (events_of f.log) in let v = k.voids in omega arith);
           each_cell = give_cells;
           each_queued = give_queued;
           each_hand = λ d. hand_stays n f.log (deed ∷ []) f.cells cells' f.spots spots' f.hands f.hands 0 with_giver (laid P) give_moves d (λ e. omega arith) (λ e. cc) (λ number buffer e. cc) (f.hands d) (k.each_hand d);
@@ -217,7 +220,7 @@ module _ (plan : Plan) (s : St) (f : Facts) (k : Kept plan s f) (id : ℕ) (post
         }
 
     nothing_waits : queue_of n f.log ≡ []
-    nothing_waits = none_there (queue_of n f.log) (let l = line plan s f k in omega arith)
+    nothing_waits = nil_from_length (queue_of n f.log) (let l = line plan s f k in omega arith)
 
     abbrev miss : Answer
     miss = record { stamp = length f.log; event = Missed; draw = 0 }
@@ -235,7 +238,7 @@ module _ (plan : Plan) (s : St) (f : Facts) (k : Kept plan s f) (id : ℕ) (post
           closed = own.closed;
           closed_answers = are_answers_more (missed ∷ []) f.log (suc f.opened) post.closed ((let less : 0 < suc f.opened = omega arith in less), tt) own.closed_answers;
           answers = ap (λ (l : List Answer). answer_to missed (length f.log) ∷ l) own.answers ∙ sym (answers_and missed f.log 0 refl);
-          misses = (let c = one_counted is_missed Missed (events_of f.log) in let m = own.misses in omega arith);
+          misses = (let c = count_cons is_missed Missed (events_of f.log) in let m = own.misses in omega arith);
           floor = le_refl (suc (length f.log));
           unread = unread_more n (missed ∷ []) f.log post.turns (subst (AllByRecursion (λ (a : Answer). a.stamp < length f.log)) (sym own.answers) (answers_below f.log 0)) own.unread;
           told = all_settled n f.log (missed ∷ []) f.cells f.cells f.spots f.spots f.hands f.hands 0 (in_queue 0) free miss_moves (told_in post.turns) own.told;
@@ -279,7 +282,7 @@ module _ (plan : Plan) (s : St) (f : Facts) (k : Kept plan s f) (id : ℕ) (post
           counts = get_or-set_same s.words 0 x 0 (let e = k.words in omega arith) ∙ x_is ∙ (let e : suc P * PUBLISHED + drawn_in f.log ≡ (n + (1 + given_in f.log)) * PUBLISHED + (0 + drawn_in f.log) = omega arith in e);
           lawful = (k.lawful, (nothing_waits, (let v = k.voids in omega arith)));
           spent = (tt, k.spent);
-          voids = (let a = one_counted is_missed Missed (events_of f.log) in let c = one_counted is_empty Missed (events_of f.log) in let v = k.voids in omega arith);
+          voids = (let a = count_cons is_missed Missed (events_of f.log) in let c = count_cons is_empty Missed (events_of f.log) in let v = k.voids in omega arith);
           each_cell = miss_cells;
           each_queued = λ a buffer seen. absurd (let less = at_length (queue_of n f.log) a buffer seen in let l = line plan s f k in omega arith);
           each_hand = λ d. hand_stays n f.log (missed ∷ []) f.cells f.cells f.spots f.spots f.hands f.hands 0 (in_queue 0) free miss_moves d (λ e. omega arith) (λ e. cc) (λ number buffer e. cc) (f.hands d) (k.each_hand d);

@@ -1,5 +1,6 @@
 -- The trace of a round more.
-use Rattle.std.proofs.Common.{◌≡◌, ◌⊎◌, inl, inr, ℕ, zero, suc, ◌<◌, refl, sym, ap, subst, ◌∙◌, arith}
+use Rattle.std.proofs.Common.{◌≡◌, inl, inr, ℕ, suc, ◌<◌, refl, sym, subst, ◌∙◌, arith}
+use Rattle.hs_lists.proofs.Numbers.{same_or_less}
 use Rattle.hs_base.proofs.Updates.{put, put_here, put_else}
 use Rattle.hs_records.specs.Plain.{PlainWorkload}
 use Rattle.hs_rounds.specs.Standing.{Moment, IsBegun}
@@ -7,12 +8,6 @@ use Rattle.hs_rounds.specs.Acting.{Acts}
 use Rattle.hs_rounds.specs.Meeting.{AllMeet}
 use Rattle.hs_rounds.specs.Moving.{Moves}
 use Rattle.hs_rounds.specs.Coming.{Came, NoRoundsCome, RoundsGoOn, RoundsKeepWhatCame}
-
-same_or_less : (k n : ℕ) → k < suc n → (k < n) ⊎ (k ≡ n)
-same_or_less zero zero low = inr refl
-same_or_less zero (suc n) low = inl (omega arith)
-same_or_less (suc k) zero low = absurd (omega arith)
-same_or_less (suc k) (suc n) low = elim (same_or_less k n (omega arith)) [ inl h ↦ inl (omega (arith, h)) | inr h ↦ inr (ap suc h) ]
 
 pub no_rounds_come : NoRoundsCome
 no_rounds_come W m begun =

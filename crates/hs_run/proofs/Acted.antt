@@ -1,6 +1,8 @@
 -- What it says of a node that its agent made a pass and its clients went on.
 use Rattle.std.proofs.Common.{◌≡◌, ℕ, List, Some, refl, sym, subst, ◌∙◌, arith}
 use Rattle.std.specs.Prelude.{slice_get}
+use Rattle.std.proofs.lemmas.Option.{slice_get_within}
+use Rattle.hs_lists.proofs.Places.{get_there}
 use Rattle.hs_base.specs.Listing.{Listing}
 use Rattle.hs_base.specs.declared.settings.Settings.{Settings}
 use Rattle.hs_base.specs.Ids.{client_of}
@@ -19,7 +21,6 @@ use Rattle.hs_rounds.specs.Standing.{Site, SiteStands}
 use Rattle.hs_rounds.specs.Acting.{SiteActs}
 use Rattle.hs_run.specs.Going.{AllMayGo, AllHaveGone}
 use Rattle.hs_run.specs.Sites.{AreClients, HasPassed, HasActed}
-use Rattle.hs_desk.proofs.Lists.{got, within}
 
 pub may_go : (W : PlainWorkload) (node : ℕ) (work : Work) (settings : Settings) (lists : List (Listing Op)) (site : Site) → SiteStands W node work site → AreClients W node settings lists
     → AllMayGo (settings_of settings) lists site.callers
@@ -36,8 +37,8 @@ may_go W node work settings lists site stands are =
 -- the ends stay those of one link
 mate_stays : {T : Type 0} (number : ℕ) (rs rs' : List (Incoming T Key)) (s s' : Outgoing T Key) → EachReceives rs rs' → IsFlushed s s' → IsMate number rs s → IsMate number rs' s'
 mate_stays number rs rs' s s' receives flushed (r, at, ends) =
-    let (q, there, got) = receives.each number r at in
-    (q, there, got.same.0 ∙ ends ∙ sym flushed.goes.same.0)
+    let (q, there, get_there) = receives.each number r at in
+    (q, there, get_there.same.0 ∙ ends ∙ sym flushed.goes.same.0)
 
 module _ (settings : Settings) (lists : List (Listing Op)) (old new : Site) (passed : HasPassed old.agent new.agent) (gone : AllHaveGone (settings_of settings) lists old.callers new.callers) where
   module _ (W : PlainWorkload) (node : ℕ) (work : Work) (stands : SiteStands W node work old) (few : IsFew W work) (are : AreClients W node settings lists) where
@@ -45,16 +46,16 @@ module _ (settings : Settings) (lists : List (Listing Op)) (old new : Site) (pas
     went : (number : ℕ) (caller caller' : Calling) → slice_get old.callers number ≡ Some caller → slice_get new.callers number ≡ Some caller'
         → Goes W.settings (operations_at W (place_of W.settings.clients node number)) caller caller'
     went number caller caller' at at' =
-        let low = within old.callers number caller at in
+        let low = slice_get_within old.callers number caller at in
         let count = stands.count in
         let lists_count = are.count in
-        let (ops, found) = got lists number (omega (arith, low, count, lists_count)) in
+        let (ops, found) = get_there lists number (omega (arith, low, count, lists_count)) in
         subst (λ (s : PlainSettings). Goes s (operations_at W (place_of W.settings.clients node number)) caller caller') are.settings_are
         (subst (λ (l : List Operation). Goes (settings_of settings) l caller caller') (are.each number ops found) (gone.each number caller caller' at at' ops found))
 
     -- the client of before
     before : (number : ℕ) (caller' : Calling) → slice_get new.callers number ≡ Some caller' → (caller : Calling) × (slice_get old.callers number ≡ Some caller)
-    before number caller' at' = let low = within new.callers number caller' at' in let count = gone.count in got old.callers number (omega (arith, low, count))
+    before number caller' at' = let low = slice_get_within new.callers number caller' at' in let count = gone.count in get_there old.callers number (omega (arith, low, count))
 
     acts : (work' : Work) × SiteActs W node work work' old new
     acts =

@@ -1,7 +1,8 @@
 -- From a node's clients and port, where nothing was done, to where the node and the whole run begin.
-use Rattle.std.proofs.Common.{◌≡◌, ◌⊎◌, inl, inr, ℕ, zero, suc, ◌+◌, ◌<◌, List, [], ◌∷◌, ◌++◌, length, map, Some, None, refl, sym, ap, ◌∙◌, subst, arith, length-append, slice_get}
+use Rattle.std.proofs.Common.{◌≡◌, inl, inr, ℕ, zero, suc, ◌+◌, List, [], ◌∷◌, ◌++◌, length, map, Some, None, refl, sym, ap, ◌∙◌, subst, arith, length-append, slice_get}
 use Rattle.std.proofs.lemmas.List.{length-map}
-use Rattle.std.proofs.lemmas.Option.{same_Some}
+use Rattle.std.proofs.lemmas.Option.{same_Some, slice_get_within}
+use Rattle.hs_lists.proofs.Places.{get_there, get_push_cases}
 use Rattle.hs_base.specs.Ids.{client_of}
 use Rattle.hs_link.specs.Contents.{Outgoing, Incoming}
 use Rattle.hs_live.specs.Calls.{AreMates}
@@ -30,26 +31,10 @@ use Rattle.hs_run.proofs.Moments.{node_there}
 
 -- ---- lists
 
-low_at : {A : Type 0} (xs : List A) (place : ℕ) (x : A) → slice_get xs place ≡ Some x → place < length xs
-low_at [] place x e = let none : None ≡ Some x = e in absurd cc
-low_at (y ∷ xs) zero x e = omega arith
-low_at (y ∷ xs) (suc place) x e = let rest = low_at xs place x e in omega (arith, rest)
-
-some_at : {A : Type 0} (xs : List A) (place : ℕ) → place < length xs → (x : A) × (slice_get xs place ≡ Some x)
-some_at [] place low = absurd (omega (arith, low))
-some_at (x ∷ xs) zero low = (x, refl)
-some_at (x ∷ xs) (suc place) low = some_at xs place (omega (arith, low))
-
 linked_at : {T : Type 0} (rs : List (Incoming T Key)) (place : ℕ) (l : Line T) → slice_get (map (λ r. linked r) rs) place ≡ Some l → (r : Incoming T Key) × (slice_get rs place ≡ Some r) × (linked r ≡ l)
 linked_at [] place l e = let none : None ≡ Some l = e in absurd cc
 linked_at (r ∷ rs) zero l e = (r, refl, same_Some (linked r) l e)
 linked_at (r ∷ rs) (suc place) l e = linked_at rs place l e
-
-pushed_at : {A : Type 0} (xs : List A) (x y : A) (place : ℕ) → slice_get (xs ++ x ∷ []) place ≡ Some y → (slice_get xs place ≡ Some y) ⊎ ((length xs ≡ place) × (x ≡ y))
-pushed_at [] x y zero at = inr (refl, same_Some x y at)
-pushed_at [] x y (suc place) at = let none : None ≡ Some y = at in absurd cc
-pushed_at (z ∷ xs) x y zero at = inl at
-pushed_at (z ∷ xs) x y (suc place) at = elim (pushed_at xs x y place at) [ inl h ↦ inl h | inr h ↦ inr (ap suc h.0, h.1) ]
 
 -- ---- one link
 
@@ -87,7 +72,7 @@ module _ (W : PlainWorkload) (node : ℕ) (callers : List Calling) (port : Port)
   one_key number = λ i. record { client = client_of node number; pool = port.giver.pool; size = size_is i; nodes = W.settings.nodes; rules = W.settings.triggers }
 
   caller_at : {T : Type 0} (ends : List (Incoming T Key)) (number : ℕ) (r : Incoming T Key) → length ends ≡ W.settings.clients → IsEnd number ends r → (caller : Calling) × (slice_get callers number ≡ Some caller)
-  caller_at ends number r count end = let low = low_at ends number r end in some_at callers number (omega (arith, low, count, b.begun.callers_are))
+  caller_at ends number r count end = let low = slice_get_within ends number r end in get_there callers number (omega (arith, low, count, b.begun.callers_are))
 
   chunk_lines : AreLinesFor W node port.giver.pool (map (λ r. linked r) port.chunks)
   chunk_lines =
@@ -189,7 +174,7 @@ one_more_made W count nodes node made at =
     record {
       many = let all = length-append nodes (node ∷ []) in let many = made.many in omega (arith, all, many);
       each = λ other n found.
-          elim (pushed_at nodes node n other found) [
+          elim (get_push_cases nodes node n other found) [
             | inl h ↦ made.each other n h
             | inr h ↦
                 let same : count ≡ other = sym made.many ∙ h.0 in

@@ -1,8 +1,9 @@
 -- Lists whose items change one after another.
 use Rattle.std.proofs.Common.{◌≡◌, ℕ, ◌+◌, ◌≤◌, List, set, length, length-set, Some, refl, sym, ap, subst, ◌∙◌, inl, inr, arith, slice_get}
-use Rattle.std.proofs.lemmas.Option.{same_Some}
+use Rattle.std.proofs.lemmas.Option.{same_Some, slice_get_within}
+use Rattle.hs_lists.proofs.Numbers.{same_or_less}
+use Rattle.hs_lists.proofs.Places.{get_set_cases, get_other}
 use Rattle.hs_run.specs.Changing.{EachChanged, FirstChanged}
-use Rattle.hs_desk.proofs.Lists.{same_or_less, found_in, get_other, within}
 
 module _ {A : Type 0} (Changes : ℕ → A → A → Type 0) where
   pub first_none : (xs : List A) → FirstChanged Changes 0 xs xs
@@ -13,7 +14,7 @@ module _ {A : Type 0} (Changes : ℕ → A → A → Type 0) where
       record {
         many = length-set mid n y ∙ h.many;
         first = λ k a b low was now.
-            elim (found_in mid n k x y b at now) [
+            elim (get_set_cases mid n k x y b at now) [
               | inl e ↦
                   let stood : slice_get old k ≡ Some x = ap (slice_get old) (sym e.0) ∙ sym (h.others n (omega arith)) ∙ at in
                   subst (λ (z : A). Changes k a z) e.1 (subst (λ (z : A). Changes k z y) (same_Some x a (sym stood ∙ was)) (subst (λ (i : ℕ). Changes i x y) e.0 changes))
@@ -27,4 +28,4 @@ module _ {A : Type 0} (Changes : ℕ → A → A → Type 0) where
       }
 
   pub first_all : (n : ℕ) (old new : List A) → length old ≤ n → FirstChanged Changes n old new → EachChanged Changes old new
-  first_all n old new high h = record { many = h.many; each = λ k x y at at'. let low = within old k x at in h.first k x y (omega (arith, low, high)) at at' }
+  first_all n old new high h = record { many = h.many; each = λ k x y at at'. let low = slice_get_within old k x at in h.first k x y (omega (arith, low, high)) at at' }

@@ -1,5 +1,6 @@
 -- No agent takes more triggers than its clients sent, so no more than the workload has, behind a meeting too.
 use Rattle.std.proofs.Common.{ℕ, ◌+◌, ◌<◌, ◌≤◌, List, ◌++◌, length, ap, arith, length-append}
+use Rattle.hs_lists.proofs.Places.{get_there}
 use Rattle.hs_actors.specs.Doings.{triggers_in}
 use Rattle.hs_base.specs.declared.ids.ClientId.{ClientId}
 use Rattle.hs_base.specs.Ids.{client_of}
@@ -10,7 +11,6 @@ use Rattle.hs_sent.specs.Sending.{operations_at, place_of}
 use Rattle.hs_workload.specs.Validity.{IsValid, client_pieces}
 use Rattle.hs_desk.specs.Work.{Work, IsFew}
 use Rattle.hs_desk.proofs.Few.{few_of_sent}
-use Rattle.hs_desk.proofs.Lists.{got}
 use Rattle.hs_rounds.specs.Standing.{Site, SiteStands}
 use Rattle.hs_rounds.specs.Meeting.{SiteMeets}
 
@@ -20,8 +20,8 @@ module _ (W : PlainWorkload) (valid : IsValid W) (n : ℕ) (low : n < W.settings
   received number below =
       let old_count = stands.count in
       let new_count = meets.stands.count in
-      let (caller, at) = got old.callers number (omega (arith, below, old_count)) in
-      let (caller', at') = got new.callers number (omega (arith, below, new_count)) in
+      let (caller, at) = get_there old.callers number (omega (arith, below, old_count)) in
+      let (caller', at') = get_there new.callers number (omega (arith, below, new_count)) in
       let met = meets.callers number caller caller' at at' in
       let (r, end, ends) = (stands.mates number caller at).triggers in
       let (r', end', ends') = (meets.stands.mates number caller' at').triggers in

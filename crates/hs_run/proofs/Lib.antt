@@ -1,5 +1,4 @@
 pub mod Choosing
-pub mod Small
 pub mod Clients
 pub mod Acted
 pub mod Meetings

@@ -1,9 +1,12 @@
 -- The clients of a node meet its agent one after another: what one meeting more says of all.
-use Rattle.std.proofs.Common.{◌≡◌, ℕ, zero, suc, ◌<◌, ◌≤◌, max, List, [], ◌∷◌, ◌++◌, length, map, take, reverse, Some, ◌⊎◌, inl, inr, refl, sym, ap, subst, ◌∙◌, arith, append_assoc, length-set}
+use Rattle.std.proofs.Common.{◌≡◌, ℕ, suc, ◌<◌, ◌≤◌, max, List, [], ◌∷◌, ◌++◌, length, map, take, reverse, Some, ◌⊎◌, inl, inr, refl, sym, ap, subst, ◌∙◌, arith, length-set}
 use Rattle.std.proofs.Math.Nat.{le-max_left, le-max_right}
 use Rattle.std.proofs.lemmas.List.{reverse-append, map-append}
-use Rattle.std.proofs.lemmas.Option.{same_Some}
+use Rattle.std.proofs.lemmas.Option.{same_Some, slice_get_within}
 use Rattle.std.specs.Prelude.{slice_get}
+use Rattle.hs_lists.proofs.Numbers.{same_or_less}
+use Rattle.hs_lists.proofs.Places.{get_set_cases, get_set, get_other, take_more, take_get, get_take}
+use Rattle.hs_lists.proofs.Parts.{take_whole}
 use Rattle.hs_base.specs.Ids.{client_of}
 use Rattle.hs_link.specs.Contents.{Incoming, Outgoing, Contains}
 use Rattle.hs_live.specs.Calls.{AreMates}
@@ -19,8 +22,8 @@ use Rattle.hs_desk.specs.Manned.{Manned}
 use Rattle.hs_desk.specs.Work.{Work}
 use Rattle.hs_rounds.specs.Standing.{Site, SiteStands}
 use Rattle.hs_rounds.specs.Meeting.{EndsMet, CallerMet, GiverMet, SiteMeets, told_of}
+use Rattle.hs_retell.proofs.Meetings.{answers_behind}
 use Rattle.hs_run.specs.Sites.{MeetsOne, HaveMet}
-use Rattle.hs_desk.proofs.Lists.{same_or_less, found_in, get_set, get_other, within, take_more, take_get, get_take}
 
 -- ---- one link
 
@@ -55,14 +58,6 @@ module _ {T : Type 0} (number : ℕ) (rs : List (Incoming T Key)) (s : Outgoing 
 
 -- ---- the giver
 
--- meetings are no answers
-no_answers : (callers : List Calling) (turns : List Turn) → answers_in (reverse (map told_of callers) ++ turns) ≡ answers_in turns
-no_answers [] turns = refl
-no_answers (caller ∷ callers) turns =
-    ap (λ (l : List Turn). answers_in (l ++ turns)) (reverse-append (told_of caller ∷ []) (map told_of callers))
-    ∙ ap answers_in (append_assoc (reverse (map told_of callers)) (told_of caller ∷ []) turns)
-    ∙ no_answers callers (told_of caller ∷ turns)
-
 turns_more : (callers : List Calling) (n : ℕ) (caller : Calling) (turns : List Turn) → slice_get callers n ≡ Some caller
     → reverse (map told_of (take (suc n) callers)) ++ turns ≡ told_of caller ∷ (reverse (map told_of (take n callers)) ++ turns)
 turns_more callers n caller turns at =
@@ -85,7 +80,7 @@ module _ (W : PlainWorkload) (node : ℕ) (work : Work) (number : ℕ) (old mid 
 
   -- a client of the new list is that one, or one of before
   found : (k : ℕ) (x : Calling) → slice_get new.callers k ≡ Some x → ((number ≡ k) × (one.after ≡ x)) ⊎ ((number ≡ k → ⊥) × (slice_get mid.callers k ≡ Some x))
-  found k x at = found_in mid.callers number k one.before one.after x one.stood (sym (ap (λ (l : List Calling). slice_get l k) one.callers) ∙ at)
+  found k x at = get_set_cases mid.callers number k one.before one.after x one.stood (sym (ap (λ (l : List Calling). slice_get l k) one.callers) ∙ at)
 
   giver_pool : new.agent.port.giver.pool ≡ mid.agent.port.giver.pool
   giver_pool = ap (λ (g : Giving). g.pool) one.met.pool.giver_hears
@@ -143,7 +138,7 @@ module _ (W : PlainWorkload) (node : ℕ) (work : Work) (number : ℕ) (old mid 
         rises = le-max_right mid.agent.port.giver.floor one.before.client.drawer.floor;
         above_given =
             subst (AllBelow (max mid.agent.port.giver.floor one.before.client.drawer.floor))
-            (ap answers_in h.giver.turns ∙ no_answers (take number old.callers) old.agent.port.giver.turns) one.met.pool.above_given;
+            (ap answers_in h.giver.turns ∙ answers_behind (take number old.callers) old.agent.port.giver.turns) one.met.pool.above_given;
         above_drawn = one.met.pool.above_drawn;
       }
 
@@ -244,17 +239,11 @@ none_met W node work site stands =
       desk = refl;
     }
 
-take_all : {A : Type 0} (xs : List A) (n : ℕ) → length xs ≤ n → take n xs ≡ xs
-take_all [] zero low = refl
-take_all [] (suc n) low = refl
-take_all (x ∷ xs) zero low = absurd (omega arith)
-take_all (x ∷ xs) (suc n) low = ap (λ (l : List _). x ∷ l) (take_all xs n (omega (arith, low)))
-
 pub all_met : (W : PlainWorkload) (node : ℕ) (work : Work) (count : ℕ) (old new : Site) → length old.callers ≤ count → HaveMet W node work count old new → SiteMeets W node work old new
 all_met W node work count old new high h =
     record {
       stands = h.stands;
-      callers = λ k x x' at at'. let low = within old.callers k x at in h.met k x x' (omega (arith, low, high)) at at';
-      giver = subst (λ (l : List Calling). GiverMet l old.agent.port.giver new.agent.port.giver) (take_all old.callers count high) h.giver;
+      callers = λ k x x' at at'. let low = slice_get_within old.callers k x at in h.met k x x' (omega (arith, low, high)) at at';
+      giver = subst (λ (l : List Calling). GiverMet l old.agent.port.giver new.agent.port.giver) (take_whole old.callers count high) h.giver;
       desk = h.desk;
     }

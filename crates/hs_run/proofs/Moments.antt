@@ -1,29 +1,28 @@
 -- From what each node did to what all did between two moments.
 use Rattle.std.proofs.Common.{◌≡◌, inl, inr, ℕ, zero, suc, ◌<◌, List, [], ◌∷◌, ◌++◌, length, Some, None, refl, sym, ap, subst, ◌∙◌, arith, slice_get}
-use Rattle.std.specs.List.{AllByRecursion}
 use Rattle.std.proofs.lemmas.Bool.{cases_lt}
 use Rattle.std.proofs.lemmas.List.{length-map}
-use Rattle.std.proofs.lemmas.Option.{same_Some}
+use Rattle.std.proofs.lemmas.Option.{same_Some, slice_get_within}
 use Rattle.std.specs.Prelude.{Result, Ok, Err, OnOk}
+use Rattle.hs_lists.proofs.Places.{get_there}
 use Rattle.hs_base.specs.declared.told.Ask.{Ask}
 use Rattle.hs_base.specs.declared.told.Told.{Told}
 use Rattle.hs_coord.specs.Messages.{Messages}
 use Rattle.hs_records.specs.Plain.{PlainWorkload}
 use Rattle.hs_workload.specs.Views.{workload_of}
 use Rattle.hs_workload.specs.declared.operation.Workload.{Workload}
-use Rattle.hs_desk.specs.Agents.{IsTellable}
-use Rattle.hs_desk.specs.Coordinators.{Coordinating, IsCoordinating, Hears, asks_for}
+use Rattle.hs_desk.specs.Coordinators.{Coordinating, IsCoordinating, Hears}
 use Rattle.hs_desk.specs.Work.{Work}
 use Rattle.hs_rounds.specs.Standing.{Site, Moment, SiteStands, Stands, moved_by, asked_by}
 use Rattle.hs_rounds.specs.Acting.{SiteActs}
 use Rattle.hs_rounds.specs.Meeting.{SiteMeets}
+use Rattle.hs_closing.proofs.Telling.{coordinates_same}
 use Rattle.hs_run.specs.declared.node.Node.{Node}
 use Rattle.hs_run.specs.Changing.{EachChanged}
 use Rattle.hs_run.specs.Moments.{IsHere, AreFew, ActedTo, MetTo}
 use Rattle.hs_run.specs.Movings.{HasMet}
 use Rattle.hs_run.specs.Nodes.{AllHaveActed, HasHeard, NoneFailed, sites_of}
 use Rattle.hs_run.proofs.Choosing.{Chosen, choose}
-use Rattle.hs_desk.proofs.Lists.{got, within}
 
 abbrev site_in : Node → Site
 site_in node = node.site
@@ -45,22 +44,6 @@ pub hear_all : {T E : Type 0} (r : Result T E) (old new : Coordinating)
 hear_all (Ok x) old new h = record { by = λ W heard works is. h W heard (moved_by works) (asked_by works) is }
 hear_all (Err e) old new h = tt
 
--- where the messages and the asks of each node are the same
-pub coordinates_same : (W : PlainWorkload) (heard : Messages) (moved moved' : ℕ → List Told) (asked asked' : ℕ → List Ask) (c : Coordinating)
-    → ((n : ℕ) → moved' n ≡ moved n) → ((n : ℕ) → asked' n ≡ asked n) → IsCoordinating W heard moved asked c → IsCoordinating W heard moved' asked' c
-coordinates_same W heard moved moved' asked asked' c mv ak h =
-    record {
-      few = h.few;
-      taken = h.taken;
-      nodes = h.nodes;
-      count = h.count;
-      waits = λ n t at. h.waits n t at ∙ sym (mv n);
-      hearable = h.hearable;
-      tellable = λ n low. subst (AllByRecursion (IsTellable W)) (sym (mv n)) (h.tellable n low);
-      askable = h.askable;
-      asks_are = λ n low. h.asks_are n low ∙ ap (λ (l : List Ask). l ++ asks_for n c.asks) (sym (ak n));
-    }
-
 module _ (W : PlainWorkload) (m : Moment) (nodes : List Node) (c : Coordinating) (here : IsHere W m nodes c) where
   pub node_count : length nodes ≡ W.settings.nodes
   node_count = sym (length-map nodes site_in) ∙ sym (ap length here.nodes_are) ∙ here.stands.count
@@ -69,7 +52,7 @@ module _ (W : PlainWorkload) (m : Moment) (nodes : List Node) (c : Coordinating)
   node_stands n node at = here.stands.each n node.site (ap (λ (l : List Site). slice_get l n) here.nodes_are ∙ site_there nodes n node at)
 
   pub node_low : (n : ℕ) (node : Node) → slice_get nodes n ≡ Some node → n < W.settings.nodes
-  node_low n node at = let low = within nodes n node at in let count = node_count in omega (arith, low, count)
+  node_low n node at = let low = slice_get_within nodes n node at in let count = node_count in omega (arith, low, count)
 
   pub coordinates : IsCoordinating W m.heard (moved_by m.works) (asked_by m.works) c
   coordinates = subst (IsCoordinating W m.heard (moved_by m.works) (asked_by m.works)) here.coordinator_is here.stands.coordinator
@@ -81,9 +64,9 @@ module _ (w : Workload) (m : Moment) (old new : List Node) (c c' : Coordinating)
   one : (n : ℕ) (node : Node) → slice_get old n ≡ Some node → (work' : Work) × ActsTo n node work'
   unfolding ActsTo
   one n node at =
-      let low = within old n node at in
+      let low = slice_get_within old n node at in
       let many = acted.count in
-      let (node', at') = got new n (omega (arith, low, many)) in
+      let (node', at') = get_there new n (omega (arith, low, many)) in
       let (work', acts) = acted.each n node node' at at' (none n node' at') (m.works n) (node_stands (workload_of w) m old c here n node at) (few n (node_low (workload_of w) m old c here n node at)) in
       (work', λ x found. subst (λ (y : Node). SiteActs (workload_of w) n (m.works n) work' node.site y.site) (same_Some node' x (sym at' ∙ found)) acts)
 
@@ -106,9 +89,9 @@ module _ (w : Workload) (m : Moment) (old new : List Node) (c c' : Coordinating)
   same_work n =
       elim (cases_lt n (length old)) [
         | inl low ↦
-            let (node, at) = got old n low in
+            let (node, at) = get_there old n low in
             let many = acted.count in
-            let (node', at') = got new n (omega (arith, low, many)) in
+            let (node', at') = get_there new n (omega (arith, low, many)) in
             let e = (acts n node node' at at').work_is in
             (ap (λ (x : Work). x.moved) e, ap (λ (x : Work). x.asked) e)
         | inr high ↦ (ap (λ (x : Work). x.moved) (chosen.past n high), ap (λ (x : Work). x.asked) (chosen.past n high))
@@ -118,7 +101,7 @@ module _ (w : Workload) (m : Moment) (old new : List Node) (c c' : Coordinating)
   next = record { standing = record { nodes = sites_of new; coordinator = c' }; works = works; heard = m.heard ++ more.0 }
 
   before : (n : ℕ) (node' : Node) → slice_get new n ≡ Some node' → (node : Node) × (slice_get old n ≡ Some node)
-  before n node' at' = let low = within new n node' at' in let many = acted.count in got old n (omega (arith, low, many))
+  before n node' at' = let low = slice_get_within new n node' at' in let many = acted.count in get_there old n (omega (arith, low, many))
 
   stands : Stands (workload_of w) next
   unfolding next
@@ -164,7 +147,7 @@ module _ (W : PlainWorkload) (m : Moment) (old new : List Node) (c : Coordinatin
   one_met n node node' at at' = met.each n node node' at at' W n (m.works n) (node_stands W m old c here n node at)
 
   was_there : (n : ℕ) (node' : Node) → slice_get new n ≡ Some node' → (node : Node) × (slice_get old n ≡ Some node)
-  was_there n node' at' = let low = within new n node' at' in let many = met.many in got old n (omega (arith, low, many))
+  was_there n node' at' = let low = slice_get_within new n node' at' in let many = met.many in get_there old n (omega (arith, low, many))
 
   stand : Stands W after
   unfolding after

@@ -2,6 +2,9 @@
 use Rattle.std.proofs.Common.{◌≡◌, inl, inr, ℕ, ◌+◌, ◌<◌, ◌≤◌, List, [], set, length, Some, refl, sym, ap, subst, ◌∙◌, arith, slice_get}
 use Rattle.std.proofs.lemmas.Bool.{cases_eq}
 use Rattle.std.proofs.lemmas.List.{length-map}
+use Rattle.std.proofs.lemmas.Option.{slice_get_within}
+use Rattle.hs_lists.proofs.Numbers.{same_or_less}
+use Rattle.hs_lists.proofs.Places.{get_set_cases, get_there}
 use Rattle.hs_base.proofs.Updates.{put, put_here, put_else}
 use Rattle.hs_coord.specs.declared.asks.Asks.{Asks}
 use Rattle.hs_records.specs.Plain.{PlainWorkload}
@@ -16,7 +19,6 @@ use Rattle.hs_run.specs.Moments.{IsHere, MovedTo}
 use Rattle.hs_run.specs.Movings.{Tells, HasTold, SiteAsked, NodeAsked, NodeMoves, SitesStand, AskedFirst, Telling, Moving}
 use Rattle.hs_run.specs.Nodes.{sites_of}
 use Rattle.hs_run.proofs.Changed.{first_none, first_more, first_all}
-use Rattle.hs_desk.proofs.Lists.{same_or_less, found_in, got, within}
 use Rattle.hs_run.proofs.Moments.{node_count, node_stands, coordinates, node_there}
 use Rattle.hs_run.proofs.Telling.{told_coordinates, site_with}
 
@@ -67,7 +69,7 @@ module _ (W : PlainWorkload) (m : Moment) (n : ℕ) (before nodes : List Node) (
   stands : (k : ℕ) (z : Node) → slice_get (set nodes n y) k ≡ Some z → SiteStands W k (works k) z.site
   unfolding works
   stands k z found =
-      elim (found_in nodes n k x y z at found) [
+      elim (get_set_cases nodes n k x y z at found) [
         | inl e ↦
             subst (λ (i : ℕ). SiteStands W i (put h.works n told.next i) z.site) e.0 (subst (λ (v : Node). SiteStands W n (put h.works n told.next n) v.site) e.1 stands_here)
         | inr e ↦ subst (λ (w : Work). SiteStands W k w z.site) (sym (put_else h.works n told.next k (λ f. e.0 (sym f)))) (h.stands.each k z e.1)
@@ -110,18 +112,18 @@ module _ (W : PlainWorkload) (asks : Asks) (works : ℕ → Work) where
       record {
         changed = first_more NodeAsked n old nodes x y h.changed at asked;
         asked = λ k z low found.
-            elim (found_in nodes n k x y z at found) [
+            elim (get_set_cases nodes n k x y z at found) [
               | inl e ↦
                   subst (λ (i : ℕ). SiteStands W i (asked_all asks works i) z.site) e.0 (subst (λ (v : Node). SiteStands W n (asked_all asks works n) v.site) e.1 stands)
               | inr e ↦ elim (same_or_less k n (omega (arith, low))) [ inl less ↦ h.asked k z less e.1 | inr same ↦ absurd (e.0 (sym same)) ]
             ];
         others = λ k z high found.
-            elim (found_in nodes n k x y z at found) [ inl e ↦ absurd (let f = e.0 in omega (arith, f, high)) | inr e ↦ h.others k z (omega (arith, high)) e.1 ];
+            elim (get_set_cases nodes n k x y z at found) [ inl e ↦ absurd (let f = e.0 in omega (arith, f, high)) | inr e ↦ h.others k z (omega (arith, high)) e.1 ];
       }
 
   pub asked_to_all : (n : ℕ) (old nodes : List Node) → length old ≤ n → AskedFirst W asks works n old nodes → SitesStand W (asked_all asks works) nodes × EachChanged NodeAsked old nodes
   asked_to_all n old nodes high h =
-      (record { each = λ k z at. let low = within nodes k z at in let many = h.changed.many in h.asked k z (omega (arith, low, many, high)) at }, first_all NodeAsked n old nodes high h.changed)
+      (record { each = λ k z at. let low = slice_get_within nodes k z at in let many = h.changed.many in h.asked k z (omega (arith, low, many, high)) at }, first_all NodeAsked n old nodes high h.changed)
 
 pub moving_more : (W : PlainWorkload) (m : Moment) (before mid nodes : List Node) (c c' : Coordinating) (asks : Asks) (h : Moving W m before mid c) → SitesStand W (asked_all asks h.works) nodes
     → EachChanged NodeAsked mid nodes → c'.kept ≡ c.kept → IsCoordinating W m.heard (moved_by h.works) (asked_by (asked_all asks h.works)) c' → Moving W m before nodes c'
@@ -135,9 +137,9 @@ moving_more W m before mid nodes c c' asks h stands asked kept coordinates =
           record {
             many = asked.many ∙ h.moved.many;
             each = λ k x z at at'.
-                let low = within nodes k z at' in
+                let low = slice_get_within nodes k z at' in
                 let many = asked.many in
-                let (y, there) = got mid k (omega (arith, low, many)) in
+                let (y, there) = get_there mid k (omega (arith, low, many)) in
                 let a = h.moved.each k x y at there in
                 let b = asked.each k y z there at' in
                 record { callers = b.callers ∙ a.callers; port = b.port ∙ a.port; agent = b.agent ∙ a.agent; said = b.said ∙ a.said };

@@ -1,13 +1,15 @@
 -- What a round more says of all rounds.
-use Rattle.std.proofs.Common.{◌≡◌, ℕ, zero, suc, ◌+◌, ◌*◌, ◌<◌, ◌≤◌, List, [], ◌∷◌, length, Some, true, false, sym, ap, subst, ◌∙◌, arith, slice_get, unwrap_or}
+use Rattle.std.proofs.Common.{◌≡◌, ℕ, suc, ◌+◌, ◌*◌, ◌<◌, ◌≤◌, List, [], length, Some, true, false, sym, ap, subst, ◌∙◌, arith, slice_get}
 use Rattle.std.proofs.Math.Nat.{suc-mul, mul-le-mul_left}
+use Rattle.std.proofs.lemmas.Option.{slice_get_within}
+use Rattle.hs_lists.proofs.Places.{get_there}
 use Rattle.hs_base.specs.declared.ids.ClientId.{ClientId}
 use Rattle.hs_base.specs.declared.limits.TheConstants.{MAX_OPERATIONS}
-use Rattle.hs_records.specs.Plain.{Operation, Begin, Point, End, Fire, Sample, PlainSettings, PlainWorkload}
-use Rattle.hs_records.specs.Plain as plain
+use Rattle.hs_records.specs.Plain.{Operation, PlainSettings, PlainWorkload}
 use Rattle.hs_sent.specs.Sending.{operations_at, place_of}
-use Rattle.hs_workload.specs.Validity.{IsValid, client_pieces, workload_pieces}
+use Rattle.hs_workload.specs.Validity.{IsValid}
 use Rattle.hs_workload.specs.declared.word.Setting.TheVariants as settings
+use Rattle.hs_workload.proofs.Sizes.{operations_few}
 use Rattle.hs_caller.specs.Calling.{Calling}
 use Rattle.hs_caller.specs.Standing.{IsAt, HasSentSoFar}
 use Rattle.hs_closing.specs.Over.{AllDone}
@@ -24,9 +26,9 @@ use Rattle.hs_run.specs.Moments.{IsHere, AreFew, ActedTo, MetTo, MovedTo, CanBeg
 use Rattle.hs_run.specs.Movings.{AllStand}
 use Rattle.hs_run.specs.Nodes.{AreWhole, TellsLeft}
 use Rattle.hs_run.proofs.Few.{few_met}
-use Rattle.hs_desk.proofs.Lists.{got, within}
 use Rattle.hs_run.proofs.Moments.{node_stands, node_low, node_there, site_there}
 use Rattle.hs_desk.proofs.Few.{few_clients}
+use Rattle.hs_report.proofs.Fitting.{pieces_at_place}
 
 -- what callers have sent
 abbrev pub SendSo : Type 0
@@ -45,25 +47,10 @@ CameFrom W m rounds = (came : Came W rounds m) × AllBegin W (came.at 0)
 
 -- ---- limits
 
-operations_few : (size : ℕ) (ops : List Operation) → length ops ≤ client_pieces size ops
-operations_few size [] = omega arith
-operations_few size (Begin trace ∷ ops) = let rest = operations_few size ops in omega (arith, rest)
-operations_few size (Point moment payload ∷ ops) = let rest = operations_few size ops in omega (arith, rest)
-operations_few size (End ∷ ops) = let rest = operations_few size ops in omega (arith, rest)
-operations_few size (Fire trigger ∷ ops) = let rest = operations_few size ops in omega (arith, rest)
-operations_few size (plain.Crumb node ∷ ops) = let rest = operations_few size ops in omega (arith, rest)
-operations_few size (Sample moment auto value ∷ ops) = let rest = operations_few size ops in omega (arith, rest)
-
-client_few : (size : ℕ) (lists : List (List Operation)) (place : ℕ) → client_pieces size (unwrap_or (slice_get lists place) []) ≤ workload_pieces size lists
-client_few size [] zero = omega arith
-client_few size [] (suc place) = omega arith
-client_few size (x ∷ lists) zero = omega arith
-client_few size (x ∷ lists) (suc place) = let rest = client_few size lists place in omega (arith, rest)
-
 pub few_operations : (W : PlainWorkload) → IsValid W → (place : ℕ) → length (operations_at W place) ≤ MAX_OPERATIONS
 few_operations W valid place =
     let a = operations_few W.settings.size (operations_at W place) in
-    let b = client_few W.settings.size W.clients place in
+    let b = pieces_at_place W.settings.size W.clients place in
     let d = valid.few in
     omega (arith, a, b, d)
 
@@ -102,10 +89,10 @@ begin_made none W nodes c b =
 -- ---- a round more
 
 site_at : (W : PlainWorkload) (m : Moment) → Stands W m → (n : ℕ) → n < W.settings.nodes → (site : Site) × (slice_get m.standing.nodes n ≡ Some site)
-site_at W m stands n low = let count = stands.count in got m.standing.nodes n (omega (arith, low, count))
+site_at W m stands n low = let count = stands.count in get_there m.standing.nodes n (omega (arith, low, count))
 
 low_at : (W : PlainWorkload) (m : Moment) → Stands W m → (n : ℕ) (site : Site) → slice_get m.standing.nodes n ≡ Some site → n < W.settings.nodes
-low_at W m stands n site at = let count = stands.count in let low = within m.standing.nodes n site at in omega (arith, low, count)
+low_at W m stands n site at = let count = stands.count in let low = slice_get_within m.standing.nodes n site at in omega (arith, low, count)
 
 module _ (sent_so : SendSo) (W : PlainWorkload) (m acted met m' : Moment) (stands : Stands W m) (acts : Acts W m acted) (meets : AllMeet W acted met) (moves : Moves W met m') where
   few_here : (n : ℕ) → n < W.settings.nodes → IsFew W (met.works n)
@@ -131,12 +118,12 @@ module _ (sent_so : SendSo) (W : PlainWorkload) (m acted met m' : Moment) (stand
       let (site0, at0) = site_at W m stands n low in
       let moved = moves.each n site2 site at2 at in
       let found2 : slice_get site2.callers number ≡ Some caller = sym (ap (λ (l : List Calling). slice_get l number) moved.callers) ∙ found in
-      let below = within site2.callers number caller found2 in
+      let below = slice_get_within site2.callers number caller found2 in
       let count2 = (meets.stands.each n site2 at2).count in
       let count1 = (acts.stands.each n site1 at1).count in
       let count0 = (stands.each n site0 at0).count in
-      let (caller1, found1) = got site1.callers number (omega (arith, below, count2, count1)) in
-      let (caller0, found0) = got site0.callers number (omega (arith, below, count2, count0)) in
+      let (caller1, found1) = get_there site1.callers number (omega (arith, below, count2, count1)) in
+      let (caller0, found0) = get_there site0.callers number (omega (arith, below, count2, count0)) in
       let same = ((meets.each n site1 site2 at1 at2).callers number caller1 caller found1 found2).done in
       let goes = ((acts.each n site0 site1 at0 at1).goes number caller0 caller1 found0 found1).done in
       let was = done n number site0 caller0 at0 found0 in

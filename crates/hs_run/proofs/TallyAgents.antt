@@ -1,10 +1,11 @@
 -- What an agent noted: a step for each of its events, and no more gives than chunks.
-use Rattle.std.proofs.Common.{◌≡◌, ℕ, ◌+◌, ◌<◌, ◌≤◌, Bool, true, false, cond, eq-eqb, List, [], ◌∷◌, ◌++◌, length, refl, sym, ap, ◌∙◌, inl, inr, arith, slice_get, count_by, length-append, append-nil, append_assoc}
+use Rattle.std.proofs.Common.{◌≡◌, ℕ, ◌+◌, ◌<◌, ◌≤◌, Bool, true, false, cond, eq-eqb, List, [], ◌∷◌, ◌++◌, length, refl, ap, ◌∙◌, inl, inr, arith, slice_get, count_by, length-append}
 use Rattle.std.proofs.lemmas.Bool.{cases_lt}
 use Rattle.std.proofs.lemmas.List.{length-map}
 use Rattle.std.proofs.lemmas.List.Sums.{sum_by-cons}
 use Rattle.std.specs.List.{AllByRecursion, flat_map}
 use Rattle.std.specs.Prelude.{IsSome}
+use Rattle.hs_lists.proofs.Counts.{one_if, one_few}
 use Rattle.hs_actors.specs.Doings.{steps_of}
 use Rattle.hs_actors.specs.Facts.{HandsReady}
 use Rattle.hs_journal.specs.declared.journal.Step.{Step}
@@ -20,21 +21,8 @@ use Rattle.hs_run.proofs.TallyLists.{few_for_each}
 
 -- ---- steps
 
--- the log has the step of each event
-pub steps_noted : EventsAddThis → (settings : PlainSettings) (node : ℕ) (events : List Event) → (after settings node events).log ≡ steps_of events
-steps_noted adds settings node events = from (start settings) events
-  where
-    from : (state : AgentState) (events : List Event) → (after_from settings node state events).log ≡ state.log ++ steps_of events
-    from state [] = sym (append-nil state.log)
-    from state (event ∷ events) =
-        from (after_event settings node state event) events ∙ ap (λ (front : List Step). front ++ steps_of events) ((adds settings node state).log event)
-        ∙ append_assoc state.log (noted_as event ∷ []) (steps_of events)
-
-one_of : Bool → ℕ
-one_of b = cond b 1 0
-
-one_chunk : (event : Event) → one_of (is_chunk (noted_as event)) ≡ length (brought_by event)
-unfolding one_of
+one_chunk : (event : Event) → one_if (is_chunk (noted_as event)) ≡ length (brought_by event)
+unfolding one_if
 one_chunk (Took (Chunk client sheet)) = refl
 one_chunk (Took (Crumbed client crumb)) = refl
 one_chunk (Took (Triggered client trigger)) = refl
@@ -46,7 +34,7 @@ one_chunk (Gave Unread) = refl
 
 -- as many chunks are noted as came
 pub chunks_noted : (events : List Event) → count_by is_chunk (steps_of events) ≡ length (flat_map brought_by events)
-unfolding one_of
+unfolding one_if
 chunks_noted [] = refl
 chunks_noted (event ∷ events) =
     let both = sum_by-cons (λ (step : Step). cond (is_chunk step) 1 0) (noted_as event) (steps_of events) in
@@ -61,8 +49,8 @@ gives_one : (stamp : ℕ) (hand : List ℕ) (state : AgentState) → IsSome (sli
 gives_one stamp [] state some = let no : false ≡ true = some in absurd cc
 gives_one stamp (place ∷ hand) state some = length-append state.given (record { place = place; stamp = stamp } ∷ [])
 
-no_give : (input : Input) → one_of (is_given (step_of input)) ≡ 0
-unfolding one_of
+no_give : (input : Input) → one_if (is_given (step_of input)) ≡ 0
+unfolding one_if
 no_give (Chunk client sheet) = refl
 no_give (Crumbed client crumb) = refl
 no_give (Triggered client trigger) = refl
@@ -72,7 +60,7 @@ no_give Turn = refl
 -- each give that is noted gave a buffer of the hand
 gives_noted : EventsAddThis → (settings : PlainSettings) (node : ℕ) (state : AgentState) (events : List Event) → HandsReady settings node state events
     → length state.given + count_by is_given (steps_of events) ≤ length (after_from settings node state events).given
-unfolding one_of
+unfolding one_if
 gives_noted adds settings node state [] ready = omega arith
 gives_noted adds settings node state (Took input ∷ events) ready =
     let both = sum_by-cons (λ (step : Step). cond (is_given step) 1 0) (noted_as (Took input)) (steps_of events) in
@@ -95,10 +83,6 @@ gives_noted adds settings node state (Gave Unread ∷ events) ready =
     omega (arith, both, rest)
 
 -- ---- places
-
-at_most_one : (b : Bool) → cond b 1 0 ≤ 1
-at_most_one true = omega arith
-at_most_one false = omega arith
 
 -- no place is let go that has no chunk
 places_low : (count : ℕ) (gone : List ℕ) → ((place : ℕ) → count ≤ place → count_of gone place ≡ 0) → AllByRecursion (λ (place : ℕ). (k : ℕ) × (k < count) × (place ≡ k)) gone
@@ -129,7 +113,7 @@ few_gone taken gone each =
     few_for_each (λ (k place : ℕ). place ≡ k) count_of here more (length taken) 1 gone low
     (λ place _.
     let e = each place in
-    let one = at_most_one (stands is_let_go taken place) in
+    let one = one_few (stands is_let_go taken place) in
     omega (arith, e, one)) in
     omega (arith, most)
   where

@@ -1,7 +1,8 @@
 -- What a client has done, drawn and sent is no more than its operations have pieces.
-use Rattle.std.proofs.Common.{◌≡◌, ℕ, ◌+◌, ◌≤◌, Bool, List, [], ◌∷◌, ◌++◌, length, map, take, drop, filter, ap, ◌∙◌, arith, Some, refl, count_by, length-append, length-take, nat_lt}
+use Rattle.std.proofs.Common.{◌≡◌, ℕ, ◌+◌, ◌≤◌, List, [], ◌∷◌, ◌++◌, length, map, take, drop, filter, ap, ◌∙◌, arith, Some, refl, count_by, length-append, length-take, nat_lt}
 use Rattle.std.proofs.lemmas.List.{length-map}
-use Rattle.std.proofs.lemmas.List.Sums.{length-filter, count_by-le-length}
+use Rattle.std.proofs.lemmas.List.Sums.{count_by-le-length}
+use Rattle.hs_lists.proofs.Filters.{filter_few}
 use Rattle.hs_base.specs.declared.ids.ClientId.{ClientId}
 use Rattle.hs_base.specs.declared.limits.TheConstants.{MAX_OPERATIONS}
 use Rattle.hs_caller.specs.Calling.{Calling}
@@ -119,12 +120,6 @@ fewer_drawn client number (page ∷ pages) (draw ∷ draws) = let rest = fewer_d
 as_many_sheets : (items : List (Sent Sheet)) → length (sheets_in items) ≡ length items
 as_many_sheets items = length-map (map (λ (item : Sent Sheet). item.item) items) (λ (sheet : Sheet). Some sheet) ∙ length-map items (λ (item : Sent Sheet). item.item)
 
-fewer_filtered : {X : Type 0} (test : X → Bool) (xs : List X) → length (filter test xs) ≤ length xs
-fewer_filtered test xs =
-    let same = length-filter test xs in
-    let few = count_by-le-length test xs in
-    omega (arith, same, few)
-
 -- a client sends no more chunks than it drew
 pub few_chunks : SendSo → (settings : PlainSettings) (client : ClientId) (ops : List Operation) (caller : Calling) → IsAt settings client ops caller → length (sent caller.client.chunks) ≤ MAX_OPERATIONS
 few_chunks so settings client ops caller a =
@@ -134,9 +129,9 @@ few_chunks so settings client ops caller a =
     let is = ap length ((so settings client ops caller a).chunks []) in
     let pages = length-map (sent caller.client.chunks) (λ (chunk : Buffer Leased). chunk.chunk.page) in
     let sheets = as_many_sheets (sent_within caller.done chunks) in
-    let within = fewer_filtered (λ (item : Sent Sheet). nat_lt item.number caller.done) chunks in
+    let within = filter_few (λ (item : Sent Sheet). nat_lt item.number caller.done) chunks in
     let mapped = length-map {B = Sent Sheet} (filter (λ (d : DrawnPage). has_buffer d.draw) drawn) (λ (d : DrawnPage). record { number = d.sent; item = sheet_of d }) in
-    let buffers = fewer_filtered (λ (d : DrawnPage). has_buffer d.draw) drawn in
+    let buffers = filter_few (λ (d : DrawnPage). has_buffer d.draw) drawn in
     let fewer = fewer_drawn client 0 (timed_pages settings.size ops) draws in
     let none : List Draw = [] in
     let long = length-append caller.client.core.draws none in

@@ -1,13 +1,14 @@
 -- How counts go on, client by client and node by node.
 use Rattle.std.proofs.Common.{◌≡◌, ℕ, suc, ◌+◌, ◌*◌, ◌≤◌, List, [], length, set, length-set, map, Some, Option, inl, inr, refl, sym, ap, subst, ◌∙◌, arith, slice_get, unwrap_or}
 use Rattle.std.proofs.Math.Nat.{suc-mul, mul-le-mul_right}
-use Rattle.std.proofs.lemmas.Option.{same_Some, slice_get-map}
+use Rattle.std.proofs.lemmas.Option.{same_Some, slice_get-map, slice_get_within}
 use Rattle.std.specs.Option.{option_map}
+use Rattle.hs_lists.proofs.Numbers.{same_or_less}
+use Rattle.hs_lists.proofs.Places.{get_set, get_other}
 use Rattle.hs_base.specs.Listing.{Listing}
 use Rattle.hs_caller.specs.Calling.{Calling}
 use Rattle.hs_counts.specs.declared.client.ClientCount.{ClientCount}
 use Rattle.hs_counts.specs.Counts.{client_count}
-use Rattle.hs_desk.proofs.Lists.{get_other, get_set, same_or_less, within}
 use Rattle.hs_records.specs.Plain.{Operation, PlainWorkload}
 use Rattle.hs_sent.specs.Sending.{operations_at, place_of}
 use Rattle.hs_workload.specs.declared.operation.Op.{Op}
@@ -75,7 +76,7 @@ module _ (W : PlainWorkload) (nodes : List Node) (old : List ClientCount) where
         many = one.many ∙ h.many;
         first = λ other number x caller low there' found.
             let own = (may.each other x there').many in
-            let below = within x.site.callers number caller found in
+            let below = slice_get_within x.site.callers number caller found in
             elim (same_or_less other node (omega (arith, low))) [
               | inl less ↦
                   let up : other + 1 ≤ node = omega (arith, less) in

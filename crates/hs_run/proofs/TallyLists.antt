@@ -4,7 +4,7 @@ use Rattle.std.proofs.Math.Nat.{suc-mul, mul-le-mul_right}
 use Rattle.std.proofs.lemmas.List.Sums.{sum_by-le}
 use Rattle.std.proofs.lemmas.Option.{slice_get-get_or}
 use Rattle.std.specs.List.{AllByRecursion}
-use Rattle.hs_desk.proofs.Lists.{same_or_less}
+use Rattle.hs_lists.proofs.Numbers.{same_or_less}
 
 -- ---- items with numbers
 

@@ -3,9 +3,12 @@ use Rattle.std.proofs.Common.{◌≡◌, ℕ, suc, ◌*◌, ◌/◌, ◌%◌, �
 use Rattle.std.proofs.Math.Nat.{mod-lt, suc-mul, mul-le-mul_right}
 use Rattle.std.proofs.Math.Seq.{take-append_seam}
 use Rattle.std.proofs.lemmas.List.{length-map, length-replicate, map-append}
-use Rattle.std.proofs.lemmas.Option.{same_Some}
+use Rattle.std.proofs.lemmas.Option.{same_Some, slice_get_within as within}
 use Rattle.std.specs.List.{flat_map}
+use Rattle.hs_lists.proofs.Alls.{all_each}
+use Rattle.hs_lists.proofs.Places.{get_there}
 use Rattle.hs_actors.specs.Doings.{steps_of}
+use Rattle.hs_actors.proofs.Nodes.{own_log}
 use Rattle.hs_base.specs.declared.ids.ClientId.{ClientId}
 use Rattle.hs_base.specs.declared.limits.TheConstants.{MAX_OPERATIONS, MAX_NODES, MAX_CLIENTS}
 use Rattle.hs_base.specs.Ids.{client_of}
@@ -13,17 +16,16 @@ use Rattle.hs_caller.specs.Calling.{Calling}
 use Rattle.hs_counts.specs.declared.client.ClientCount.{ClientCount}
 use Rattle.hs_counts.specs.declared.log.LogCount.{LogCount}
 use Rattle.hs_counts.specs.Counts.{AreCounts, client_count, log_count}
-use Rattle.hs_desk.proofs.Few.{few_clients, last_low}
-use Rattle.hs_desk.proofs.Lists.{all_mapped, got, within}
+use Rattle.hs_desk.proofs.Few.{few_clients}
 use Rattle.hs_desk.specs.Agents.{IsPageThere}
 use Rattle.hs_desk.specs.Coordinators.{Coordinating}
 use Rattle.hs_desk.specs.Manned.{Manned, IsManned}
 use Rattle.hs_desk.specs.Work.{Work, came_of, is_of}
+use Rattle.hs_desk.proofs.Taking.{sheet_is}
 use Rattle.hs_journal.specs.declared.journal.Step.{Step}
 use Rattle.hs_model.specs.Laws.{EventsAddThis, ListsHaveTheirChunks, brought_by, noted_as}
 use Rattle.hs_progress.specs.Progress.{is_point, is_chunk, is_given}
 use Rattle.hs_records.specs.Plain.{PlainWorkload}
-use Rattle.hs_retell.proofs.Chunks.{sheet_is}
 use Rattle.hs_retell.proofs.Meetings.{caller_at, done_at, here_at}
 use Rattle.hs_retell.proofs.Moments.{doing_same, round_steps, site_acts, site_meets, site_of, site_there, stands_at}
 use Rattle.hs_ring.specs.Parts.{Leased}
@@ -34,6 +36,7 @@ use Rattle.hs_words.specs.Buffers.{Buffer}
 use Rattle.hs_words.specs.Pages.{Sheet}
 use Rattle.hs_workload.specs.Validity.{IsValid}
 use Rattle.hs_workload.specs.declared.word.Setting.TheVariants as settings
+use Rattle.hs_workload.proofs.Sizes.{product_few, few_nodes, last_low}
 use Rattle.hs_run.specs.declared.node.Node.{Node}
 use Rattle.hs_run.specs.Changing.{EachChanged}
 use Rattle.hs_run.specs.Moments.{RoundsMade}
@@ -42,8 +45,7 @@ use Rattle.hs_run.specs.Tallying.{FitTotals}
 use Rattle.hs_run.specs.TallyingNodes.{no_operations, no_steps, MayCountClient, MayCountNodes, CountedNodes, MayCountLog, MayCountLogs, LogCounted}
 use Rattle.hs_run.proofs.Moments.{node_count, node_low, node_stands, node_there, site_there as there_among}
 use Rattle.hs_run.proofs.Rounded.{few_operations}
-use Rattle.hs_run.proofs.Small.{few_nodes, few_products}
-use Rattle.hs_run.proofs.TallyAgents.{chunks_noted, few_gives, steps_noted}
+use Rattle.hs_run.proofs.TallyAgents.{chunks_noted, few_gives}
 use Rattle.hs_run.proofs.TallyClients.{SendSo, few_chunks, few_nulls, few_points, nothing_counted}
 use Rattle.hs_run.proofs.TallyLists.{few_filtered, replicated, sum_below}
 
@@ -51,7 +53,7 @@ use Rattle.hs_run.proofs.TallyLists.{few_filtered, replicated, sum_below}
 
 -- the agent's log has the steps of its work
 log_is : EventsAddThis → (W : PlainWorkload) (work : Work) (manned : Manned) → IsManned W work manned → manned.agent.log ≡ steps_of work.events
-log_is adds W work manned is = is.stands.works.is.follows.log ∙ steps_noted adds W.settings work.node work.events
+log_is adds W work manned is = is.stands.works.is.follows.log ∙ own_log adds W.settings work.node work.events
 
 -- no more buffers are given than chunks are taken
 gives_low : EventsAddThis → ListsHaveTheirChunks → (W : PlainWorkload) (work : Work) (manned : Manned) → IsManned W work manned → count_by is_given (steps_of work.events) ≤ count_by is_chunk (steps_of work.events)
@@ -66,8 +68,8 @@ module _ (so : SendSo) (W : PlainWorkload) (node : ℕ) (work : Work) (old new :
   came_few number low =
       let old_count = stands.count in
       let new_count = meets.stands.count in
-      let (caller, at) = got old.callers number (omega (arith, low, old_count)) in
-      let (caller', at') = got new.callers number (omega (arith, low, new_count)) in
+      let (caller, at) = get_there old.callers number (omega (arith, low, old_count)) in
+      let (caller', at') = get_there new.callers number (omega (arith, low, new_count)) in
       let met = meets.callers number caller caller' at at' in
       let (r, end, ends) = (stands.mates number caller at).chunks in
       let (r', end', ends') = (meets.stands.mates number caller' at').chunks in
@@ -91,7 +93,7 @@ module _ (so : SendSo) (W : PlainWorkload) (node : ℕ) (work : Work) (old new :
       let is = stands.agent.stands.works.is in
       let came =
       few_filtered is_of W.settings.clients MAX_OPERATIONS work.came
-      (all_mapped (IsPageThere W work.node work.pool) (λ buffer. (k : ℕ) × (k < W.settings.clients) × (is_of k buffer ≡ true)) work.came owned is.pages) came_few in
+      (all_each (IsPageThere W work.node work.pool) (λ buffer. (k : ℕ) × (k < W.settings.clients) × (is_of k buffer ≡ true)) work.came owned is.pages) came_few in
       let sheets = as_many _ work.came (flat_map brought_by work.events) is.sheets in
       let noted = chunks_noted work.events in
       omega (arith, came, sheets, noted)
@@ -236,11 +238,11 @@ module _ (W : PlainWorkload) (rounds : ℕ) (nodes : List Node) (c : Coordinatin
                 gone_on.first node number x caller (within nodes node x there) there (ap (λ (s : Site). slice_get s.callers number) is ∙ found);
             logs = λ node low.
                 let count = node_count W made.moment nodes c made.here in
-                let (x, there) = got nodes node (omega (arith, low, count)) in
+                let (x, there) = get_there nodes node (omega (arith, low, count)) in
                 let were = counted.logs_are in
                 let many = noted.many in
-                let (old, stood) = got logs node (omega (arith, low, were)) in
-                let (new, stands') = got logs' node (omega (arith, low, were, many)) in
+                let (old, stood) = get_there logs node (omega (arith, low, were)) in
+                let (new, stands') = get_there logs' node (omega (arith, low, were, many)) in
                 let log = log_is adds W (m.works node) x.site.agent (stands.each node x.site (ap (λ (l : List Site). slice_get l node) same ∙ there_among nodes node x there)).agent in
                 stands' ∙ ap (λ (count : LogCount). Some count) (noted.each node old new stood stands' x there) ∙ ap (λ (l : List Step). Some (log_count l)) log;
           }
@@ -266,10 +268,10 @@ module _ (W : PlainWorkload) (rounds : ℕ) (nodes : List Node) (c : Coordinatin
           let own : number < each = mod-lt place (omega (arith, some)) in
           let is : place_of each node number ≡ place = div-add-mod' place each in
           let nodes_are = node_count W made.moment nodes c made.here in
-          let (x, there) = got nodes node (omega (arith, low, nodes_are)) in
+          let (x, there) = get_there nodes node (omega (arith, low, nodes_are)) in
           let stands = node_stands W made.moment nodes c made.here node x there in
           let callers = stands.count in
-          let (caller, found) = got x.site.callers number (omega (arith, own, callers)) in
+          let (caller, found) = get_there x.site.callers number (omega (arith, own, callers)) in
           let ops = operations_at W (place_of each node number) in
           let counted_there = gone_on.first node number x caller (omega (arith, low, nodes_are)) there found in
           let same : count ≡ client_count ops caller = same_Some count (client_count ops caller) (sym at ∙ ap (slice_get clients') (sym is) ∙ counted_there) in
@@ -295,8 +297,8 @@ module _ (W : PlainWorkload) (rounds : ℕ) (nodes : List Node) (c : Coordinatin
           let many = noted.many in
           let were = counted.logs_are in
           let nodes_are = node_count W made.moment nodes c made.here in
-          let (x, there) = got nodes node (omega (arith, below, many, were, nodes_are)) in
-          let (old, stood) = got logs node (omega (arith, below, many)) in
+          let (x, there) = get_there nodes node (omega (arith, below, many, were, nodes_are)) in
+          let (old, stood) = get_there logs node (omega (arith, below, many)) in
           let same = noted.each node old count stood at x there in
           let small = log_small so adds lists node x there in
           let taken_is = ap (λ (x : LogCount). x.taken) same in
@@ -310,7 +312,7 @@ module _ (W : PlainWorkload) (rounds : ℕ) (nodes : List Node) (c : Coordinatin
           let many = gone_on.many in
           let were = counted.clients_are in
           let all = is_valid.count in
-          let few = few_products W.settings.nodes W.settings.clients (few_nodes W is_valid) (few_clients W is_valid) in
+          let few = product_few W.settings.nodes W.settings.clients (few_nodes W is_valid) (few_clients W is_valid) in
           omega (arith, many, were, all, few)
 
       few_logs : length logs' ≤ MAX_NODES

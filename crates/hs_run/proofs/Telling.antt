@@ -1,7 +1,7 @@
 -- Messages go from an agent to the coordinator, and asks to the agents.
-use Rattle.std.proofs.Common.{◌≡◌, inl, inr, ℕ, List, [], ◌∷◌, ◌++◌, refl, sym, ap, subst, ◌∙◌, slice_get, length}
-use Rattle.std.proofs.lemmas.Bool.{cases_eq}
+use Rattle.std.proofs.Common.{◌≡◌, ℕ, List, [], ◌∷◌, ◌++◌, refl, sym, ap, subst, ◌∙◌, slice_get, length}
 use Rattle.std.specs.Prelude.{Result, Ok, Err, OnOk}
+use Rattle.hs_lists.proofs.Updates.{same_everywhere}
 use Rattle.hs_base.specs.declared.told.Told.{Told}
 use Rattle.hs_base.proofs.Updates.{put, put_here, put_else}
 use Rattle.hs_coord.specs.Messages.{Messages}
@@ -12,12 +12,8 @@ use Rattle.hs_desk.specs.Coordinators.{Coordinating, IsCoordinating}
 use Rattle.hs_desk.specs.Manned.{Manned, IsManned}
 use Rattle.hs_desk.specs.Work.{Work, with_moved}
 use Rattle.hs_rounds.specs.Standing.{Site, SiteStands, moved_by, asked_by}
+use Rattle.hs_closing.proofs.Telling.{coordinates_same}
 use Rattle.hs_run.specs.Movings.{Tells, HasTold}
-use Rattle.hs_run.proofs.Moments.{coordinates_same}
-
--- two sequences that agree at one place and at all others
-all_same : {A : Type 0} (f g : ℕ → A) (n : ℕ) → f n ≡ g n → ((k : ℕ) → (k ≡ n → ⊥) → f k ≡ g k) → (k : ℕ) → f k ≡ g k
-all_same f g n here there k = elim (cases_eq k n) [ inl e ↦ ap f e ∙ here ∙ ap g (sym e) | inr ne ↦ there k ne ]
 
 pub on_ok_two : {T E : Type 0} (r : Result T E) (P Q R : Type 0) → OnOk r P → OnOk r Q → (P → Q → R) → OnOk r R
 on_ok_two (Ok x) P Q R p q f = f p q
@@ -33,7 +29,7 @@ module _ (W : PlainWorkload) (node : ℕ) (work : Work) (heard : Messages) (work
         manned = t.manned;
         only = refl;
         brought = λ works' here there.
-            let same = all_same works' works node (here ∙ sym t.is) there in
+            let same = same_everywhere works' works node (here ∙ sym t.is) there in
             coordinates_same W heard (moved_by works) (moved_by works') (asked_by works) (asked_by works') before (λ n. ap (λ (x : Work). x.moved) (same n)) (λ n. ap (λ (x : Work). x.asked) (same n)) t.coordinates;
         kept = refl;
         asks = refl;
@@ -66,7 +62,7 @@ module _ (W : PlainWorkload) (node : ℕ) (work : Work) (heard : Messages) (work
             heard_it (moved_by works') (ap (λ (x : Work). x.moved) at ∙ ap (λ (x : Work). x.moved ++ told ∷ []) (sym here))
             (λ other ne. ap (λ (x : Work). x.moved) (there other ne ∙ sym (put_else works node h.next other ne))) in
             coordinates_same W heard (moved_by works') (moved_by works') (asked_by (put works node h.next)) (asked_by works') after (λ n. refl)
-            (all_same (asked_by works') (asked_by (put works node h.next)) node (ap (λ (x : Work). x.asked) at ∙ ap (λ (x : Work). x.asked) (sym here))
+            (same_everywhere (asked_by works') (asked_by (put works node h.next)) node (ap (λ (x : Work). x.asked) at ∙ ap (λ (x : Work). x.asked) (sym here))
             (λ other ne. ap (λ (x : Work). x.asked) (there other ne ∙ sym (put_else works node h.next other ne))))
             coordinates;
         kept = kept ∙ h.kept;

@@ -2,6 +2,7 @@
 use Rattle.std.proofs.Common.{◌≡◌, List, [], ◌∷◌, length, map, sym, ◌∙◌}
 use Rattle.std.proofs.lemmas.List.{length-map}
 use Rattle.std.specs.List.{AllByRecursion}
+use Rattle.hs_lists.proofs.Alls.{all_each}
 use Rattle.hs_base.specs.Listing.{Listing}
 use Rattle.hs_board.specs.declared.progress.Progress.{Progress}
 use Rattle.hs_closing.specs.declared.place.Place.{Place}
@@ -18,7 +19,6 @@ use Rattle.hs_run.specs.declared.node.Node.{Node}
 use Rattle.hs_run.specs.Moments.{RoundsOver}
 use Rattle.hs_run.specs.Nodes.{sites_of}
 use Rattle.hs_run.specs.Watched.{AllWatched, HaveShown}
-use Rattle.hs_desk.proofs.Lists.{all_mapped}
 
 -- the places of nodes behind whose rounds all is done
 abbrev pub over_of : (W : PlainWorkload) (nodes : List Node) (c : Coordinating) (places : List Place) → IsValid W → map place_site places ≡ sites_of nodes → RoundsOver W nodes c → PlacesOver W places c
@@ -52,5 +52,5 @@ pub all_seen : (W : PlainWorkload) (J : PlainJournal) (watch : Showing) → Have
 all_seen W J watch shown lists two all = (
   length-map lists (λ (list : Listing Progress). list.items) ∙ two,
   all_lists (IsSeen W J) lists
-      (all_mapped (λ (list : Listing Progress). IsSeenOf watch.shown list.items) (λ (list : Listing Progress). IsSeen W J list.items) lists (λ list is. shown.seen list.items is) all),
+      (all_each (λ (list : Listing Progress). IsSeenOf watch.shown list.items) (λ (list : Listing Progress). IsSeen W J list.items) lists (λ list is. shown.seen list.items is) all),
 )

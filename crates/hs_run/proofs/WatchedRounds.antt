@@ -1,13 +1,17 @@
 -- Why what is shown to the watchers of a run goes on to be right, round by round, and what it comes to at the end.
-use Rattle.std.proofs.Common.{◌≡◌, inl, inr, ℕ, zero, suc, ◌+◌, ◌*◌, ◌-◌, ◌/◌, ◌%◌, ◌<◌, ◌≤◌, List, [], ◌∷◌, ◌++◌, length, Option, Some, None, true, false, unwrap_or, ⊎_elim, refl, sym, ap, subst, ◌∙◌, arith, slice_get, div-lt_iff_lt-mul, div-add-mod'}
+use Rattle.std.proofs.Common.{◌≡◌, inl, inr, ℕ, zero, suc, ◌+◌, ◌*◌, ◌-◌, ◌/◌, ◌%◌, ◌<◌, ◌≤◌, List, [], ◌∷◌, length, Option, Some, None, true, false, unwrap_or, ⊎_elim, refl, sym, ap, subst, ◌∙◌, arith, slice_get, div-lt_iff_lt-mul, div-add-mod'}
 use Rattle.std.proofs.Math.Nat.{mod-lt}
 use Rattle.std.specs.List.{AllByRecursion}
 use Rattle.std.specs.Prelude.{Result, Ok, Err, OnOk}
+use Rattle.std.proofs.lemmas.Option.{slice_get_within}
+use Rattle.hs_lists.proofs.Alls.{all_each, all_append}
+use Rattle.hs_lists.proofs.Places.{get_there}
 use Rattle.hs_board.specs.declared.progress.Progress.{Progress}
 use Rattle.hs_board.specs.Shown.{first, IsLast}
 use Rattle.hs_counts.specs.Counts.{Counts, AreCounts, progress_of}
 use Rattle.hs_counts.specs.Laws.{TheseAreAllRounds}
 use Rattle.hs_counts.specs.Seen.{IsTotal, IsTotalBehind}
+use Rattle.hs_counts.proofs.Seeing.{end_of}
 use Rattle.hs_desk.specs.Coordinators.{Coordinating}
 use Rattle.hs_records.specs.Plain.{Operation, PlainWorkload}
 use Rattle.hs_retell.specs.Laws.{AllBegin}
@@ -21,7 +25,6 @@ use Rattle.hs_run.specs.Moments.{ActedTo, MetTo, MovedTo, CanBegin, DoneIn, Roun
 use Rattle.hs_run.specs.Nodes.{TellsLeft}
 use Rattle.hs_run.specs.Tallying.{FitTotals, MayCount}
 use Rattle.hs_run.specs.Watched.{shown_on, MayShow, IsNeeded, RoundsWatched, WatchEnded, AllWatched}
-use Rattle.hs_desk.proofs.Lists.{all_mapped, all_more, got, within}
 use Rattle.hs_run.proofs.Moments.{site_there}
 use Rattle.hs_run.proofs.Rounded.{SendSo, begin_made, few_next, done_next, all_done}
 
@@ -72,14 +75,7 @@ total_on W made m m' came came' keeps x total =
 
 all_on : (P : Progress → Type 0) (made : ℕ) (counts : Counts) (shown : Totals) → AllByRecursion P shown → (1 ≤ made → P (progress_of made counts)) → AllByRecursion P (shown_on made counts shown)
 all_on P zero counts shown all one = all
-all_on P (suc k) counts shown all one = all_more P shown (progress_of (suc k) counts ∷ []) all (one (omega arith), tt)
-
-end_of : (P : Progress → Type 0) (xs : List Progress) → AllByRecursion P xs → (x : Progress) → IsLast x xs → P x
-end_of P xs all x (before, is) = go before (subst (AllByRecursion P) is all)
-  where
-    go : (before : List Progress) → AllByRecursion P (before ++ x ∷ []) → P x
-    go [] all = all.0
-    go (y ∷ before) all = go before all.1
+all_on P (suc k) counts shown all one = all_append P shown (progress_of (suc k) counts ∷ []) all (one (omega arith), tt)
 
 last_on : (made : ℕ) (counts : Counts) (shown : Totals) → (made ≡ 0 → IsLast first shown) → (x : Progress) × IsLast x (shown_on made counts shown) × (x.rounds ≡ made)
 last_on zero counts shown none = (first, none refl, refl)
@@ -111,9 +107,9 @@ module _ (W : PlainWorkload) (made : ℕ) (nodes : List Node) (c : Coordinating)
   low_at n number few own =
       let stands = h.here.stands in
       let count = stands.count in
-      let (site, at) = got h.moment.standing.nodes n (omega (arith, few, count)) in
+      let (site, at) = get_there h.moment.standing.nodes n (omega (arith, few, count)) in
       let clients = (stands.each n site at).count in
-      let (caller, found) = got site.callers number (omega (arith, own, clients)) in
+      let (caller, found) = get_there site.callers number (omega (arith, own, clients)) in
       let done = h.done n number site caller at found in
       let all = all_done W made nodes c h none n number site caller at found in
       omega (arith, done, all)
@@ -171,10 +167,10 @@ module _ (W : PlainWorkload) (made : ℕ) (nodes : List Node) (c : Coordinating)
         counted = counted;
         fits = λ some. fits;
         shown = subst (AllByRecursion totals) (sym shown)
-            (all_on totals made counts watch.shown (all_mapped (IsTotal W made w.rounds.moment w.rounds.came) totals watch.shown on w.shown) (λ some. on (progress_of made counts) (inr here)));
+            (all_on totals made counts watch.shown (all_each (IsTotal W made w.rounds.moment w.rounds.came) totals watch.shown on w.shown) (λ some. on (progress_of made counts) (inr here)));
         low = subst (AllByRecursion (λ (x : Progress). x.rounds ≤ suc made - 1)) (sym shown)
             (all_on (λ (x : Progress). x.rounds ≤ suc made - 1) made counts watch.shown
-            (all_mapped (λ (x : Progress). x.rounds ≤ made - 1) (λ (x : Progress). x.rounds ≤ suc made - 1) watch.shown (λ x low. omega (arith, low)) w.low) (λ some. omega arith));
+            (all_each (λ (x : Progress). x.rounds ≤ made - 1) (λ (x : Progress). x.rounds ≤ suc made - 1) watch.shown (λ x low. omega (arith, low)) w.low) (λ some. omega arith));
         begins = λ is. absurd (omega (arith, is));
         stands = stands;
       }
@@ -185,7 +181,7 @@ module _ (W : PlainWorkload) (made : ℕ) (nodes : List Node) (c : Coordinating)
       let here = total_here W made w.rounds.moment w.rounds.came counts w.counted in
       record {
         over = record { rounds = made; made = w.rounds; all = all_done W made nodes c w.rounds none };
-        all = law W made w.rounds.here.stands.valid (λ place ops at. low_place W made nodes c w.rounds none place ops at (within W.clients place ops at)) w.needed;
+        all = law W made w.rounds.here.stands.valid (λ place ops at. low_place W made nodes c w.rounds none place ops at (slice_get_within W.clients place ops at)) w.needed;
         shown = subst (AllByRecursion totals) (sym shown) (all_on totals made counts watch.shown w.shown (λ some. inr here));
         last = subst (λ (l : Totals). (x : Progress) × IsLast x l × (x.rounds ≡ made)) (sym shown) (last_on made counts watch.shown w.begins);
         ended = ended;

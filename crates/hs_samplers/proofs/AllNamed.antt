@@ -1,6 +1,7 @@
 -- Each claimed trace is named: agents claim what triggers name, and triggers are named in their clients' turns.
 use Rattle.std.proofs.Common.{List, [], ◌∷◌}
 use Rattle.std.specs.List.{AllByRecursion, flat_map}
+use Rattle.hs_lists.proofs.Alls.{all_each, all_append, all_map}
 use Rattle.hs_base.specs.Ids.{is_among}
 use Rattle.hs_model.specs.State.{ClaimedTrace}
 use Rattle.hs_sent.specs.SoFar.{AllTriggersAreSent}
@@ -11,7 +12,6 @@ use Rattle.hs_outcome.specs.Outcomes.{claimed_at}
 use Rattle.hs_samplers.specs.Coming.{named_in}
 use Rattle.hs_samplers.specs.Laws.{ClaimedTracesAreNamed}
 use Rattle.hs_samplers.proofs.Claimed.{rising_all}
-use Rattle.hs_samplers.proofs.Lists.{all_each, all_append, all_map}
 use Rattle.hs_samplers.proofs.Naming.{Among}
 use Rattle.hs_samplers.proofs.Performing.{all_claim_only}
 use Rattle.hs_samplers.proofs.Sent.{trigger_named}

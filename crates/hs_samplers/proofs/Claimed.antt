@@ -1,31 +1,24 @@
 -- The claimed traces of an outcome: those that were claimed at some node.
 use Rattle.std.proofs.Common.{◌≡◌, ℕ, Bool, true, false, ◌||◌, cond, List, [], ◌∷◌, refl, sym, ap, ◌∙◌, slice_get, Some, eqb, eqb-true, ltb}
 use Rattle.std.specs.List.{AllByRecursion, flat_map}
+use Rattle.hs_lists.proofs.Bools.{or_twice, or_swap}
+use Rattle.hs_lists.proofs.Places.{IsIn}
+use Rattle.hs_lists.proofs.Alls.{all_each}
 use Rattle.hs_base.specs.declared.ids.TraceId.{TraceId}
 use Rattle.hs_base.specs.Ids.{is_among}
 use Rattle.hs_lawful.specs.Following.{NodeRun}
 use Rattle.hs_outcome.specs.Outcomes.{put_trace, rising_traces, claimed_at}
-use Rattle.hs_samplers.proofs.Lists.{IsIn, all_each, all_themselves, in_flat}
+use Rattle.hs_samplers.proofs.Lists.{all_themselves, in_flat}
 use Rattle.hs_samplers.proofs.Naming.{Among, among_all, among_in}
 
 -- ---- rising traces
-
-twice : (b r : Bool) → (b || r) ≡ (b || (b || r))
-twice true r = refl
-twice false r = refl
-
-turned : (a b r : Bool) → (a || (b || r)) ≡ (b || (a || r))
-turned true true r = refl
-turned true false r = refl
-turned false true r = refl
-turned false false r = refl
 
 module _ (trace : TraceId) where
   put_case : (other x : TraceId) (traces : List TraceId) (b : Bool) → eqb trace.0 other.0 ≡ b → is_among (put_trace trace traces) x ≡ (eqb trace.0 x.0 || is_among traces x)
       → is_among (cond b (other ∷ traces) (other ∷ put_trace trace traces)) x ≡ (eqb trace.0 x.0 || (eqb other.0 x.0 || is_among traces x))
   put_case other x traces true e rest =
-      twice (eqb other.0 x.0) (is_among traces x) ∙ ap (λ (n : ℕ). eqb n x.0 || (eqb other.0 x.0 || is_among traces x)) (sym (eqb-true trace.0 other.0 e))
-  put_case other x traces false e rest = ap (λ (b : Bool). eqb other.0 x.0 || b) rest ∙ turned (eqb other.0 x.0) (eqb trace.0 x.0) (is_among traces x)
+      or_twice (eqb other.0 x.0) (is_among traces x) ∙ ap (λ (n : ℕ). eqb n x.0 || (eqb other.0 x.0 || is_among traces x)) (sym (eqb-true trace.0 other.0 e))
+  put_case other x traces false e rest = ap (λ (b : Bool). eqb other.0 x.0 || b) rest ∙ or_swap (eqb other.0 x.0) (eqb trace.0 x.0) (is_among traces x)
 
   put_before : (other x : TraceId) (traces after : List TraceId) (b : Bool) → is_among after x ≡ (eqb trace.0 x.0 || (eqb other.0 x.0 || is_among traces x))
       → is_among (cond b (trace ∷ other ∷ traces) after) x ≡ (eqb trace.0 x.0 || (eqb other.0 x.0 || is_among traces x))

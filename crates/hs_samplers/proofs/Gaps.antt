@@ -4,6 +4,8 @@ use Rattle.std.proofs.Common.{◌≡◌, ◌⊎◌, inl, inr, ℕ, ◌+◌, ◌<
 use Rattle.std.specs.List.{AllByRecursion, flat_map, list_any}
 use Rattle.std.proofs.lemmas.Bool.{eqb-false}
 use Rattle.std.proofs.lemmas.List.Sums.{sum_by-cons}
+use Rattle.hs_lists.proofs.Counts.{one_if, length_cons_if}
+use Rattle.hs_lists.proofs.Alls.{all_each}
 use Rattle.hs_base.specs.declared.ids.TraceId.{TraceId}
 use Rattle.hs_base.specs.Ids.{is_among}
 use Rattle.hs_ledger.specs.declared.ledger.Entry.{Entry}
@@ -15,10 +17,6 @@ use Rattle.hs_outcome.specs.Reports.{Report, is_of, report_of}
 use Rattle.hs_samplers.specs.Laws.{GapsAreInGapLines}
 use Rattle.hs_samplers.specs.Lines.{is_gap}
 use Rattle.hs_samplers.proofs.Claimed.{put_all}
-use Rattle.hs_samplers.proofs.Lists.{all_each}
-
-abbrev one : Bool → ℕ
-one b = cond b 1 0
 
 -- ---- rising traces
 
@@ -64,7 +62,7 @@ not_above n (first ∷ traces) trace above same = either (eqb first.0 trace.0) r
 
 -- ---- counts
 
-apart : (a b r : Bool) → (a ≡ true → b ≡ false) → one ((a || b) && r) ≡ one (a && r) + one (b && r)
+apart : (a b r : Bool) → (a ≡ true → b ≡ false) → one_if ((a || b) && r) ≡ one_if (a && r) + one_if (b && r)
 apart true true r never = let no : true ≡ false = never refl in absurd cc
 apart true false true never = refl
 apart true false false never = refl
@@ -81,10 +79,6 @@ turned a b = either (eqb a b) refl (eqb b a) refl
     either false e true f = absurd (eqb-false a b e (sym (eqb-true b a f)))
     either false e false f = refl
 
-length_if : {X : Type 0} (x : X) (xs : List X) (b : Bool) → length (cond b (x ∷ xs) xs) ≡ one b + length xs
-length_if x xs true = omega arith
-length_if x xs false = omega arith
-
 abbrev gap_of : TraceId → Entry → Bool
 gap_of trace entry = is_of trace entry && not (is_reported entry.fate)
 
@@ -96,17 +90,17 @@ split : (trace : TraceId) (traces : List TraceId) (entries : List Entry) → All
 split trace traces [] above = refl
 split trace traces (entry ∷ entries) above =
     let n = entry.trace.0 in
-    let mine = sum_by-cons (λ (e : Entry). one (is_gap (trace ∷ traces) e)) entry entries in
-    let others = sum_by-cons (λ (e : Entry). one (is_gap traces e)) entry entries in
+    let mine = sum_by-cons (λ (e : Entry). one_if (is_gap (trace ∷ traces) e)) entry entries in
+    let others = sum_by-cons (λ (e : Entry). one_if (is_gap traces e)) entry entries in
     let here = apart (eqb trace.0 n) (is_among traces entry.trace) (not (is_reported entry.fate)) (λ e. not_above trace.0 traces entry.trace above (sym (eqb-true trace.0 n e))) in
-    let same : one (gap_of trace entry) ≡ one (eqb trace.0 n && not (is_reported entry.fate)) = ap (λ (b : Bool). one (b && not (is_reported entry.fate))) (turned n trace.0) in
-    let kept = length_if entry (filter (gap_of trace) entries) (gap_of trace entry) in
+    let same : one_if (gap_of trace entry) ≡ one_if (eqb trace.0 n && not (is_reported entry.fate)) = ap (λ (b : Bool). one_if (b && not (is_reported entry.fate))) (turned n trace.0) in
+    let kept = length_cons_if entry (filter (gap_of trace) entries) (gap_of trace entry) in
     let rest = split trace traces entries above in
     omega (arith, mine, others, here, same, kept, rest)
 
 none_counted : (entries : List Entry) → count_by (is_gap []) entries ≡ 0
 none_counted [] = refl
-none_counted (entry ∷ entries) = let first = sum_by-cons (λ (e : Entry). one (is_gap [] e)) entry entries in let rest = none_counted entries in omega (arith, first, rest)
+none_counted (entry ∷ entries) = let first = sum_by-cons (λ (e : Entry). one_if (is_gap [] e)) entry entries in let rest = none_counted entries in omega (arith, first, rest)
 
 -- a trace without a record has no gap
 no_gap : (trace : TraceId) (entries : List Entry) → list_any (is_of trace) entries ≡ false → gaps_of entries trace ≡ 0

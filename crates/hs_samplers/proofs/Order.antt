@@ -7,6 +7,9 @@ use Rattle.std.proofs.lemmas.Grind.{flat_map-append}
 use Rattle.std.proofs.lemmas.List.{length-map}
 use Rattle.std.proofs.lemmas.Nat.{div-add-mod'}
 use Rattle.std.proofs.Math.Nat.{suc-mul, add-mul, mod-lt, mul-le-mul_right}
+use Rattle.hs_lists.proofs.Alls.{all_each, all_append}
+use Rattle.hs_lists.proofs.Ranges.{range_append}
+use Rattle.hs_lists.proofs.Parts.{flat_alike}
 use Rattle.hs_base.specs.declared.ids.ClientId.{ClientId}
 use Rattle.hs_base.specs.declared.ids.TraceId.{TraceId}
 use Rattle.hs_base.specs.declared.told.Trigger.{Trigger}
@@ -19,18 +22,11 @@ use Rattle.hs_lawful.specs.Ends.{rounds_for, rounds_of}
 use Rattle.hs_outcome.specs.Outcomes.{client_at}
 use Rattle.hs_samplers.specs.Coming.{Coming, Event, Comes, Names, comings_of, sent_comings, items_at, names_in, events_at, events_of, events_in_order, all_comings, named_by, named_in}
 use Rattle.hs_samplers.specs.Laws.{brought_by, all_names, TheOrderHasAll}
-use Rattle.hs_samplers.proofs.Lists.{all_each, all_append, in_map}
-use Rattle.hs_samplers.proofs.Same.{Same, Joins, same_from, turned_round, both, flat_equal, flat_same, flat_pairs, flat_none, by_columns, to_permutation}
+use Rattle.hs_samplers.proofs.Lists.{in_map}
+use Rattle.hs_samplers.proofs.Same.{Same, Joins, same_from, turned_round, both, flat_same, flat_pairs, flat_none, by_columns, to_permutation}
 use Rattle.hs_samplers.proofs.Sent.{max_has, numbers_low}
 
 -- ---- ranges
-
-range_joined : (start a b : ℕ) → range_with_len start (a + b) ≡ range_with_len start a ++ range_with_len (start + a) b
-range_joined start zero b = let none : zero + b ≡ b = omega arith in let same : start ≡ start + zero = omega arith in ap (range_with_len start) none ∙ ap (λ (s : ℕ). range_with_len s b) same
-range_joined start (suc a) b =
-    let more : suc a + b ≡ suc (a + b) = omega arith in
-    let same : start + 1 + a ≡ start + suc a = omega arith in
-    ap (range_with_len start) more ∙ ap (λ (rest : List ℕ). start ∷ rest) (range_joined (start + 1) a b) ∙ ap (λ (s : ℕ). start ∷ (range_with_len (start + 1) a ++ range_with_len s b)) same
 
 module _ {X : Type 0} (h : ℕ → List X) (stride : ℕ) where
   -- strides one behind another
@@ -41,7 +37,7 @@ module _ {X : Type 0} (h : ℕ → List X) (stride : ℕ) where
       let more : stride + rounds * stride ≡ suc rounds * stride = let e = suc-mul rounds stride in omega (arith, e) in
       ap (λ (rest : List X). flat_map h (range_with_len (first * stride) stride) ++ rest) (rounds_joined (first + 1) rounds ∙ ap (λ (s : ℕ). flat_map h (range_with_len s (rounds * stride))) next)
       ∙ sym (flat_map-append h (range_with_len (first * stride) stride) (range_with_len (first * stride + stride) (rounds * stride)))
-      ∙ ap (flat_map h) (sym (range_joined (first * stride) stride (rounds * stride)))
+      ∙ ap (flat_map h) (sym (range_append (first * stride) stride (rounds * stride)))
       ∙ ap (λ (n : ℕ). flat_map h (range_with_len (first * stride) n)) more
 
 -- ---- items by their numbers
@@ -89,7 +85,7 @@ module _ {A Y : Type 0} (f : A → List Y) where
       (turned
       (Joins (flat_map (λ n. flat_map f (items_at n (item ∷ items))) numbers) (flat_map (λ n. at (f item.item) item.number n ++ flat_map f (items_at n items)) numbers) (own ++ rest)
       (same_from _ _
-      (flat_equal (λ n. flat_map f (items_at n (item ∷ items))) (λ n. at (f item.item) item.number n ++ flat_map f (items_at n items)) numbers
+      (flat_alike (λ n. flat_map f (items_at n (item ∷ items))) (λ n. at (f item.item) item.number n ++ flat_map f (items_at n items)) numbers
       (λ n. item_case item (filter (λ (i : Sent A). eqb i.number n) items) (eqb item.number n)))) (flat_pairs (at (f item.item) item.number) (λ n. flat_map f (items_at n items)) numbers)))
     where
       turned : {xs ys : List Y} → Same xs ys → Same ys xs
@@ -113,7 +109,7 @@ module _ {Y : Type 0} (W : PlainWorkload) (g : Event → List Y) (h : ℕ → �
     round_is : (round place : ℕ) → flat_map g (events_of W round place) ≡ flat_map (h place) (range_with_len (round * stride) stride)
     round_is round place =
         let at = events_at W.settings.autos (client_at W.settings.clients place) (operations_at W place) in
-        flat_flat g at (range_with_len (round * stride) stride) ∙ flat_equal (λ n. flat_map g (at n)) (h place) (range_with_len (round * stride) stride) (is place)
+        flat_flat g at (range_with_len (round * stride) stride) ∙ flat_alike (λ n. flat_map g (at n)) (h place) (range_with_len (round * stride) stride) (is place)
 
     -- client by client, with all operations of each
     in_turns : Same (flat_map g (events_in_order W)) (flat_map (λ place. flat_map (h place) (range_with_len 0 (rounds_of W * stride))) places)
@@ -124,12 +120,12 @@ module _ {Y : Type 0} (W : PlainWorkload) (g : Event → List Y) (h : ℕ → �
         Joins (flat_map g (events_in_order W)) (flat_map (λ round. flat_map (cell round) places) rounds) (flat_map (λ place. flat_map (h place) (range_with_len 0 (rounds_of W * stride))) places)
         (same_from _ _
         (flat_flat g (λ round. flat_map (events_of W round) places) rounds
-        ∙ flat_equal (λ round. flat_map g (flat_map (events_of W round) places)) (λ round. flat_map (cell round) places) rounds
-        (λ round. flat_flat g (events_of W round) places ∙ flat_equal (λ place. flat_map g (events_of W round place)) (cell round) places (round_is round))))
+        ∙ flat_alike (λ round. flat_map g (flat_map (events_of W round) places)) (λ round. flat_map (cell round) places) rounds
+        (λ round. flat_flat g (events_of W round) places ∙ flat_alike (λ place. flat_map g (events_of W round place)) (cell round) places (round_is round))))
         (Joins (flat_map (λ round. flat_map (cell round) places) rounds) (flat_map (λ place. flat_map (λ round. cell round place) rounds) places)
         (flat_map (λ place. flat_map (h place) (range_with_len 0 (rounds_of W * stride))) places) (by_columns cell rounds places)
         (same_from _ _
-        (flat_equal (λ place. flat_map (λ round. cell round place) rounds) (λ place. flat_map (h place) (range_with_len 0 (rounds_of W * stride))) places
+        (flat_alike (λ place. flat_map (λ round. cell round place) rounds) (λ place. flat_map (h place) (range_with_len 0 (rounds_of W * stride))) places
         (λ place. rounds_joined (h place) stride 0 (rounds_of W) ∙ ap (λ (s : ℕ). flat_map (h place) (range_with_len s (rounds_of W * stride))) start))))
 
 -- ---- what comes with an operation
@@ -179,7 +175,7 @@ numbered_length : (k : ℕ) (records : List Record) → length (zip (range_with_
 numbered_length k [] = refl
 numbered_length k (r ∷ records) = ap suc (numbered_length (k + 1) records)
 
-beside_length : (client : ClientId) (ops : List Operation) → length (point_numbers ops) ≡ length (comings_of client ops)
+pub beside_length : (client : ClientId) (ops : List Operation) → length (point_numbers ops) ≡ length (comings_of client ops)
 beside_length client ops =
     as_many (numbered_of ops) ∙ sym (numbered_length 0 (records_of ops))
     ∙ sym

@@ -1,8 +1,12 @@
 -- A journal's steps, as long as all triggers that clients send are of traces that pass a test: whatever an agent takes brings such traces,
 -- whatever it tells and so whatever the coordinator asks is of such traces, and so is all that is claimed.
-use Rattle.std.proofs.Common.{◌≡◌, inl, inr, ℕ, zero, suc, Bool, true, false, cond, List, [], ◌∷◌, ◌++◌, set, refl, sym, subst, Option, Some, None, slice_get, option_map, count_by}
+use Rattle.std.proofs.Common.{◌≡◌, inl, inr, ℕ, Bool, true, false, cond, List, [], ◌∷◌, ◌++◌, refl, sym, subst, Option, Some, None, slice_get, option_map, count_by}
 use Rattle.std.specs.List.{AllByRecursion, range_with_len}
 use Rattle.std.specs.Option.{option_and_then}
+use Rattle.std.proofs.lemmas.Option.{same_Some}
+use Rattle.hs_lists.proofs.Options.{mapped_from}
+use Rattle.hs_lists.proofs.Places.{IsIn}
+use Rattle.hs_lists.proofs.Alls.{all_at, all_append, all_map, all_always, all_set}
 use Rattle.hs_base.specs.declared.ids.NodeId.{NodeId}
 use Rattle.hs_base.specs.declared.ids.TraceId.{TraceId}
 use Rattle.hs_base.specs.declared.told.Ask.{Ask}
@@ -19,19 +23,9 @@ use Rattle.hs_claims.specs.Bringing.{AllPass, TellsOf, ClaimsOnly, BringsOnly, C
 use Rattle.hs_lawful.specs.Following.{Chunks, Crumbs, Triggers, Asks, taken, asks_behind, asks_to, NodeRun, Run, node_start, run_start, next_of, event_of, perform, step_of, message_of, hear, is_from}
 use Rattle.hs_lawful.specs.Orders.{Performs, Leads, Stays, Goes}
 use Rattle.hs_samplers.specs.Coming.{names_in}
-use Rattle.hs_samplers.proofs.Lists.{some_same, mapped_from, IsIn, all_at, all_append, all_map, found_or}
+use Rattle.hs_samplers.proofs.Lists.{found_or}
 
 -- ---- lists
-
-module _ {X : Type 0} (P : X → Type 0) where
-  all_any : (xs : List X) → ((x : X) → P x) → AllByRecursion P xs
-  all_any [] each = tt
-  all_any (x ∷ xs) each = (each x, all_any xs each)
-
-  all_set : (xs : List X) (place : ℕ) (x : X) → AllByRecursion P xs → P x → AllByRecursion P (set xs place x)
-  all_set [] place x all here = tt
-  all_set (y ∷ xs) zero x all here = (here, all.1)
-  all_set (y ∷ xs) (suc place) x all here = (all.0, all_set xs place x all.1 here)
 
 module _ (W : PlainWorkload) (J : PlainJournal) (test : TraceId → Bool) where
   abbrev SendsOnly : ClientSends → Type 0
@@ -74,7 +68,7 @@ module _ (W : PlainWorkload) (J : PlainJournal) (test : TraceId → Bool) where
     sends_only : (node : ℕ) → AllByRecursion SendsOnly (node_sends W J node)
     sends_only node =
         all_map SendsOnly (client_sends W J node) (range_with_len 0 W.settings.clients)
-        (all_any (λ (number : ℕ). SendsOnly (client_sends W J node number)) (range_with_len 0 W.settings.clients) (λ number. only (place_of W.settings.clients node number)))
+        (all_always (λ (number : ℕ). SendsOnly (client_sends W J node number)) (range_with_len 0 W.settings.clients) (λ number. only (place_of W.settings.clients node number)))
 
     module _ (heard : Messages) (told : AllByRecursion Tells heard) (run : NodeRun) (keeps : Keeps run) where
       trigger_brings : (client : ℕ) (event : Event) (o : Option ClientSends) → slice_get run.sends client ≡ o
@@ -100,7 +94,7 @@ module _ (W : PlainWorkload) (J : PlainJournal) (test : TraceId → Bool) where
           quiet_client (λ crumb. Took (Crumbed client crumb)) event (λ (s : ClientSends). next_of (Crumbs client) run.state s.crumbs) (slice_get run.sends client) (λ crumb. tt) h
       event_brings (steps.Trigger client) event h = trigger_brings client event (slice_get run.sends client) refl h
       event_brings steps.Ask event h = ask_brings event h
-      event_brings steps.Turn event h = subst (BringsOnly test) (some_same (Took Turn) event h) tt
+      event_brings steps.Turn event h = subst (BringsOnly test) (same_Some (Took Turn) event h) tt
       event_brings (steps.Given stamp) event h = quiet (λ _. Gave (Given stamp)) event (slice_get run.state.hand 0) (λ _. tt) h
       event_brings (steps.Missed stamp) event h = quiet (λ _. Gave (Missed stamp)) event (slice_get run.state.hand 0) (λ _. tt) h
       event_brings steps.Unread event h = quiet (λ _. Gave Unread) event (slice_get run.state.hand 0) (λ _. tt) h
@@ -157,7 +151,7 @@ module _ (W : PlainWorkload) (J : PlainJournal) (test : TraceId → Bool) where
           record {
             nodes =
                 all_map Keeps (node_start W J) (range_with_len 0 W.settings.nodes)
-                (all_any (λ (node : ℕ). Keeps (node_start W J node)) (range_with_len 0 W.settings.nodes) (λ node. record { sends = refl; claims = record { claims = tt; said = tt } }));
+                (all_always (λ (node : ℕ). Keeps (node_start W J node)) (range_with_len 0 W.settings.nodes) (λ node. record { sends = refl; claims = record { claims = tt; said = tt } }));
             heard = tt;
           }
 

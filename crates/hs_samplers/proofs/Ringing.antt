@@ -2,7 +2,8 @@
 use Rattle.std.proofs.Common.{◌≡◌, ℕ, ◌-◌, ◌*◌, ◌<◌, Bool, true, false, not, cond, List, [], ◌∷◌, ◌++◌, length, refl, sym, arith, map, filter, fold, zip, eqb, eqb-true, Contains}
 use Rattle.std.specs.List.{AllByRecursion, flat_map, range_with_len}
 use Rattle.std.proofs.lemmas.List.Elements.{All-from_recursion}
-use Rattle.std.proofs.lemmas.Option.{get_or_from_slice_get}
+use Rattle.hs_lists.proofs.Places.{IsIn}
+use Rattle.hs_lists.proofs.Alls.{all_each, all_append, all_drop, all_flat_map, all_flat_range, all_map}
 use Rattle.hs_base.specs.declared.ids.ClientId.{ClientId}
 use Rattle.hs_base.specs.declared.ids.TraceId.{TraceId}
 use Rattle.hs_base.specs.declared.settings.AutoRule.{AutoRule}
@@ -12,10 +13,11 @@ use Rattle.hs_sent.specs.Sending.{Sent, operations_at, sent_triggers}
 use Rattle.hs_sent.specs.Timing.{point_numbers}
 use Rattle.hs_lawful.specs.Ends.{rounds_of}
 use Rattle.hs_outcome.specs.Outcomes.{client_at}
+use Rattle.hs_outcome.proofs.Among.{contained, in_filter}
 use Rattle.hs_samplers.specs.Coming.{Coming, Event, Comes, Names, comings_of, sent_comings, items_at, names_in, events_at, events_of, events_in_order, all_comings, named_in}
 use Rattle.hs_samplers.specs.Laws.{RingKeepsLess}
 use Rattle.hs_samplers.specs.Samplers.{is_of, tail_keeps, Ring, empty_ring, last_ones, ring_step, ring_keeps}
-use Rattle.hs_samplers.proofs.Lists.{IsIn, all_each, all_append, all_drop, all_filtered, all_flat, all_range, all_map, all_themselves, in_flat, in_range, in_filter, within}
+use Rattle.hs_samplers.proofs.Lists.{all_filtered, all_themselves, in_flat, in_range}
 use Rattle.hs_samplers.proofs.Naming.{Among, among_same, among_all, among_in, NamesOnly, all_named}
 
 -- ---- one event
@@ -108,11 +110,11 @@ module _ (W : PlainWorkload) where
   all_came : AllByRecursion (ComesAs (IsIn (all_comings W))) (events_in_order W)
   all_came =
       let Q = ComesAs (IsIn (all_comings W)) in
-      all_flat Q (λ round. flat_map (events_of W round) (range_with_len 0 (length W.clients))) (range_with_len 0 (rounds_of W))
-      (λ round. all_range Q (events_of W round) 0 (length W.clients)
+      all_flat_map Q (λ round. flat_map (events_of W round) (range_with_len 0 (length W.clients))) (range_with_len 0 (rounds_of W))
+      (λ round. all_flat_range Q (events_of W round) 0 (length W.clients)
       (λ place below.
       let low : place < length W.clients = omega (arith, below) in
-      all_flat Q (events_at W.settings.autos (client_at W.settings.clients place) (operations_at W place)) (range_with_len (round * W.settings.stride) W.settings.stride)
+      all_flat_map Q (events_at W.settings.autos (client_at W.settings.clients place) (operations_at W place)) (range_with_len (round * W.settings.stride) W.settings.stride)
       (λ n. at_right (IsIn (all_comings W)) W.settings.autos (client_at W.settings.clients place) (operations_at W place) n (client_came place low))))
 
   all_are_named : AllByRecursion (NamesOnly (Among (named_in W))) (events_in_order W)
@@ -127,9 +129,6 @@ module _ (W : PlainWorkload) where
   pub ring_holds : (room : ℕ) → Holds (all_comings W) (named_in W) (fold (ring_step room) empty_ring (events_in_order W))
   ring_holds room =
       steps_right (all_comings W) (named_in W) room (events_in_order W) empty_ring (both_right (events_in_order W) all_came all_are_named) (record { waiting = tt; known = tt; kept = tt })
-
-contained : {X : Type 0} (xs : List X) (x : X) → IsIn xs x → Contains xs x
-contained xs x h = (h.place, within xs h.place x h.there, get_or_from_slice_get xs h.place x x h.there)
 
 pub ring_keeps_less : RingKeepsLess
 ring_keeps_less W room =

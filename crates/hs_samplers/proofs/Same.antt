@@ -1,5 +1,5 @@
 -- Lists with the same items in another order, by exchanges of neighbours.
-use Rattle.std.proofs.Common.{◌≡◌, Bool, true, false, not, cond, List, [], ◌∷◌, ◌++◌, refl, sym, ap, subst, filter, append_assoc, append-nil}
+use Rattle.std.proofs.Common.{◌≡◌, Bool, true, false, not, cond, List, [], ◌∷◌, ◌++◌, refl, sym, subst, filter, append_assoc, append-nil}
 use Rattle.std.specs.Prelude.{IsPermutation}
 use Rattle.std.specs.List.{flat_map}
 use Rattle.std.proofs.lemmas.List.Sorted.{IsPermutation-refl, IsPermutation-cons, IsPermutation-append_left, IsPermutation-append_comm, IsPermutation-trans}
@@ -87,10 +87,6 @@ module _ {X : Type 0} where
 -- ---- joined lists
 
 module _ {X Y : Type 0} where
-  pub flat_equal : (f g : Y → List X) (ys : List Y) → ((y : Y) → f y ≡ g y) → flat_map f ys ≡ flat_map g ys
-  flat_equal f g [] same = refl
-  flat_equal f g (y ∷ ys) same = subst (λ (rest : List X). f y ++ flat_map f ys ≡ g y ++ rest) (flat_equal f g ys same) (ap (λ (front : List X). front ++ flat_map f ys) (same y))
-
   pub flat_same : (f g : Y → List X) (ys : List Y) → ((y : Y) → Same (f y) (g y)) → Same (flat_map f ys) (flat_map g ys)
   flat_same f g [] each = Stays []
   flat_same f g (y ∷ ys) each = both (f y) (g y) (flat_map f ys) (flat_map g ys) (each y) (flat_same f g ys each)

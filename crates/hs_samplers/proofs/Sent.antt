@@ -2,7 +2,11 @@
 use Rattle.std.proofs.Common.{◌≡◌, ℕ, zero, suc, ◌+◌, ◌-◌, ◌*◌, ◌/◌, ◌%◌, ◌<◌, ◌≤◌, true, List, [], ◌∷◌, length, refl, sym, subst, Option, Some, None, arith, map, filter, fold, slice_get, unwrap_or, eqb, eq-eqb, ltb, ltb-true, max}
 use Rattle.std.specs.List.{AllByRecursion, flat_map, range_with_len}
 use Rattle.std.proofs.lemmas.Nat.{div-add-mod'}
+use Rattle.std.proofs.lemmas.Option.{slice_get_within}
 use Rattle.std.proofs.Math.Nat.{div-lt_iff_lt-mul, mod-lt}
+use Rattle.hs_lists.proofs.Places.{IsIn}
+use Rattle.hs_lists.proofs.Alls.{all_each}
+use Rattle.hs_lists.proofs.Counts.{max_at_least}
 use Rattle.hs_base.specs.declared.ids.ClientId.{ClientId}
 use Rattle.hs_base.specs.declared.ids.TraceId.{TraceId}
 use Rattle.hs_base.specs.declared.told.Trigger.{Trigger}
@@ -11,19 +15,16 @@ use Rattle.hs_sent.specs.Sending.{Sent, operations_at, sent_triggers}
 use Rattle.hs_sent.specs.SoFar.{AllTriggersAreSent}
 use Rattle.hs_lawful.specs.Ends.{rounds_for, rounds_of}
 use Rattle.hs_outcome.specs.Outcomes.{client_at}
+use Rattle.hs_outcome.proofs.Among.{is_first, of_all, in_filter}
 use Rattle.hs_samplers.specs.Coming.{Event, Comes, Names, sent_comings, items_at, names_in, events_at, events_of, events_in_order, named_by, named_in}
-use Rattle.hs_samplers.proofs.Lists.{IsIn, all_each, all_filtered, all_themselves, all_in, is_first, in_back, in_flat, in_map, in_filter, in_range, within}
+use Rattle.hs_samplers.proofs.Lists.{all_filtered, all_themselves, in_back, in_flat, in_map, in_range}
 use Rattle.hs_samplers.proofs.Naming.{Among, among_in}
 
 -- ---- rounds
 
-max_grows : (xs : List ℕ) (a : ℕ) → a ≤ fold max a xs
-max_grows [] a = omega arith
-max_grows (x ∷ xs) a = let more = max_grows xs (max a x) in omega (arith, more)
-
 pub max_has : (xs : List ℕ) (a place x : ℕ) → slice_get xs place ≡ Some x → x ≤ fold max a xs
 max_has [] a place x h = let no : None ≡ Some x = h in absurd cc
-max_has (y ∷ xs) a zero x h = let more = max_grows xs (max a y) in let same : y ≡ x = cc in omega (arith, more, same)
+max_has (y ∷ xs) a zero x h = let more = max_at_least xs (max a y) in let same : y ≡ x = cc in omega (arith, more, same)
 max_has (y ∷ xs) a (suc place) x h = max_has xs (max a y) place x h
 
 -- an operation stands in a round below those that its client takes
@@ -52,7 +53,7 @@ module _ (sent : AllTriggersAreSent) (W : PlainWorkload) (some : 1 ≤ W.setting
   -- a client that has an operation is there
   client_there : (o : Option (List Operation)) (n : ℕ) → slice_get W.clients place ≡ o → n < length (unwrap_or o []) → place < length W.clients
   client_there None n is low = absurd (omega (arith, low))
-  client_there (Some ops) n is low = within W.clients place ops is
+  client_there (Some ops) n is low = slice_get_within W.clients place ops is
 
   round_there : (o : Option (List Operation)) (n : ℕ) → slice_get W.clients place ≡ o → n < length (unwrap_or o []) → n / W.settings.stride < rounds_of W
   round_there None n is low = absurd (omega (arith, low))
@@ -71,7 +72,7 @@ module _ (sent : AllTriggersAreSent) (W : PlainWorkload) (some : 1 ≤ W.setting
     round = n / W.settings.stride
 
     n_low : n < length ops
-    n_low = ltb-true n (length ops) (all_in (λ (item : Sent Trigger). ltb item.number (length ops) ≡ true) triggers item numbers_low there)
+    n_low = ltb-true n (length ops) (of_all (λ (item : Sent Trigger). ltb item.number (length ops) ≡ true) triggers item numbers_low there)
 
     in_stride : IsIn (range_with_len (round * W.settings.stride) W.settings.stride) n
     in_stride = in_range (round * W.settings.stride) W.settings.stride (n % W.settings.stride) n (sym (div-add-mod' n W.settings.stride)) (mod-lt n (omega (arith, some)))

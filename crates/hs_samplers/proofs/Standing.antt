@@ -1,6 +1,8 @@
 -- The records that come stand one for one with the entries, and each entry has the trace of its record.
 use Rattle.std.proofs.Common.{◌≡◌, ℕ, suc, ◌+◌, List, [], ◌∷◌, ◌++◌, length, refl, sym, ap, subst, ◌∙◌, Some, arith, map, option_map, slice_get, zip}
 use Rattle.std.specs.List.{AllByRecursion, flat_map, range_with_len}
+use Rattle.hs_lists.proofs.Alls.{all_each, all_flat_range, all_unmap}
+use Rattle.hs_lists.proofs.Parts.{map_append}
 use Rattle.hs_base.specs.declared.ids.ClientId.{ClientId}
 use Rattle.hs_journal.specs.Views.{PlainJournal}
 use Rattle.hs_ledger.specs.declared.ledger.Entry.{Entry}
@@ -13,13 +15,8 @@ use Rattle.hs_outcome.specs.Outcomes.{client_at, outcome_of}
 use Rattle.hs_outcome.specs.Records.{EndsItsTraces, EachRecordHasOneEntry, Named, named_from, client_records, all_records, name_of}
 use Rattle.hs_samplers.specs.Coming.{Coming, comings_of, all_comings}
 use Rattle.hs_samplers.specs.Laws.{name_of_coming, EntriesStandByTheRecords}
-use Rattle.hs_samplers.proofs.Lists.{all_each, all_range}
 
 -- ---- one for one
-
-map_append : {X Y : Type 0} (f : X → Y) (xs ys : List X) → map f (xs ++ ys) ≡ map f xs ++ map f ys
-map_append f [] ys = refl
-map_append f (x ∷ xs) ys = ap (λ (rest : List _). f x ∷ rest) (map_append f xs ys)
 
 map_flat : {X Y Z : Type 0} (f : X → List Y) (g : Y → Z) (h : X → List Z) (xs : List X) → ((x : X) → map g (f x) ≡ h x) → map g (flat_map f xs) ≡ flat_map h xs
 map_flat f g h [] same = refl
@@ -59,16 +56,12 @@ module _ (client : ClientId) (all : List Record) where
 
 names_are_records : (W : PlainWorkload) → AllByRecursion (IsRecord W) (all_records W)
 names_are_records W =
-    all_range (IsRecord W) (client_records W) 0 (length W.clients)
+    all_flat_range (IsRecord W) (client_records W) 0 (length W.clients)
     (λ place below.
     let client = client_at W.settings.clients place in
     let records = records_of (operations_at W place) in
     all_each (λ (name : Named). (name.id.client ≡ client) × (traces_of records name.id.number ≡ Some name.trace)) (IsRecord W) (client_records W place) (λ name is. record { place = place; client = is.0; trace = is.1 })
     (numbered client records 0 records (λ i. ap (slice_get records) (let same : 0 + i ≡ i = omega arith in same))))
 
-unmap_all : {X Y : Type 0} (P : Y → Type 0) (f : X → Y) (xs : List X) → AllByRecursion P (map f xs) → AllByRecursion (λ x. P (f x)) xs
-unmap_all P f [] all = tt
-unmap_all P f (x ∷ xs) all = (all.0, unmap_all P f xs all.1)
-
 pub entries_are_records : EachRecordHasOneEntry → (W : PlainWorkload) (J : PlainJournal) → EndsItsTraces W → IsLawful W J → AllByRecursion (λ (entry : Entry). IsRecord W (name_of entry)) (outcome_of W J).entries
-entries_are_records each W J ends lawful = unmap_all (IsRecord W) name_of (outcome_of W J).entries (subst (AllByRecursion (IsRecord W)) (sym (each W J ends lawful.L1)) (names_are_records W))
+entries_are_records each W J ends lawful = all_unmap (IsRecord W) name_of (outcome_of W J).entries (subst (AllByRecursion (IsRecord W)) (sym (each W J ends lawful.L1)) (names_are_records W))

@@ -1,8 +1,9 @@
 -- Entries that are parted are counted in three parts, beside the records that tail keeps.
-use Rattle.std.proofs.Common.{◌≡◌, ℕ, ◌+◌, Bool, true, false, cond, List, [], ◌∷◌, length, refl, sym, ap, ◌∙◌, arith, map, filter, zip, count_by}
+use Rattle.std.proofs.Common.{◌≡◌, ℕ, ◌+◌, Bool, List, [], ◌∷◌, length, refl, sym, ap, ◌∙◌, arith, map, filter, zip, count_by}
 use Rattle.std.specs.List.{AllByRecursion}
 use Rattle.std.proofs.lemmas.List.{length-map}
 use Rattle.std.proofs.lemmas.List.Sums.{sum_by-cons}
+use Rattle.hs_lists.proofs.Counts.{one_if, length_cons_if}
 use Rattle.hs_base.specs.declared.ids.TraceId.{TraceId}
 use Rattle.hs_base.specs.Ids.{is_among}
 use Rattle.hs_ledger.specs.declared.ledger.Entry.{Entry}
@@ -13,13 +14,6 @@ use Rattle.hs_outcome.specs.Records.{Named, name_of}
 use Rattle.hs_samplers.specs.Coming.{Coming, all_comings, named_in}
 use Rattle.hs_samplers.specs.Laws.{name_of_coming, EntriesStandByTheRecords, IsParted, KeptIsParted, TailIsTheSum}
 use Rattle.hs_samplers.specs.Lines.{is_gap, is_limited}
-
-abbrev one : Bool → ℕ
-one b = cond b 1 0
-
-filter_count : {X : Type 0} (x : X) (xs : List X) (b : Bool) → length (cond b (x ∷ xs) xs) ≡ one b + length xs
-filter_count x xs true = omega arith
-filter_count x xs false = omega arith
 
 module _ (W : PlainWorkload) (claimed : List TraceId) where
   abbrev Reported : Entry → Bool
@@ -43,11 +37,11 @@ module _ (W : PlainWorkload) (claimed : List TraceId) where
       let first : name_of_coming c ≡ name_of entry = cc in
       let rest : map name_of_coming records ≡ map name_of entries = cc in
       let traces : c.trace ≡ entry.trace = ap (λ (n : Named). n.trace) first in
-      let kept = filter_count c (filter (λ (c : Coming). is_among (named_in W) c.trace) records) (is_among (named_in W) c.trace) in
-      let alike : one (is_among (named_in W) c.trace) ≡ one (is_among (named_in W) entry.trace) = ap (λ (t : TraceId). one (is_among (named_in W) t)) traces in
-      let reported = filter_count (c, entry) (pairs records entries) (Reported entry) in
-      let gap = sum_by-cons (λ (e : Entry). one (InGap e)) entry entries in
-      let limited = sum_by-cons (λ (e : Entry). one (Limited e)) entry entries in
+      let kept = length_cons_if c (filter (λ (c : Coming). is_among (named_in W) c.trace) records) (is_among (named_in W) c.trace) in
+      let alike : one_if (is_among (named_in W) c.trace) ≡ one_if (is_among (named_in W) entry.trace) = ap (λ (t : TraceId). one_if (is_among (named_in W) t)) traces in
+      let reported = length_cons_if (c, entry) (pairs records entries) (Reported entry) in
+      let gap = sum_by-cons (λ (e : Entry). one_if (InGap e)) entry entries in
+      let limited = sum_by-cons (λ (e : Entry). one_if (Limited e)) entry entries in
       let here = all.0 in
       let later = counted records entries rest all.1 in
       omega (arith, kept, alike, reported, gap, limited, here, later)

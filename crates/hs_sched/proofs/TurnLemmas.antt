@@ -1,5 +1,5 @@
 -- A turn under way: the ids visited so far, and what that leaves.
-use Rattle.std.proofs.Common.{cond, ◌≡◌, ◌≢◌, ℕ, ◌+◌, ◌*◌, ◌^◌, ◌<◌, ◌≤◌, Bool, true, false, List, [], ◌∷◌, ◌++◌, length, take, drop, get_or, set, replicate, map, find, flat_map, All, AllPairs, Option, option_map, Some, None, refl, sym, ap, ◌∙◌, arith, subst, ◌==◌, eq-eqb, ⊎_elim, append-nil}
+use Rattle.std.proofs.Common.{cond, ◌≡◌, ◌≢◌, ℕ, ◌+◌, ◌*◌, ◌^◌, ◌<◌, ◌≤◌, Bool, true, false, List, [], ◌∷◌, ◌++◌, length, take, drop, get_or, set, replicate, map, find, flat_map, All, AllPairs, option_map, Some, None, refl, sym, ap, ◌∙◌, arith, subst, ◌==◌, eq-eqb, ⊎_elim, append-nil}
 use Rattle.std.specs.Option.{option_or, option_map_or}
 use Rattle.std.proofs.Math.Nat.{mul-le-mul_left}
 use Rattle.std.proofs.lemmas.Bool.{cases_eq}
@@ -8,6 +8,7 @@ use Rattle.std.proofs.lemmas.List.{take_more, drop_more, map_more, take_all, dro
 use Rattle.std.proofs.lemmas.List.Folds.{find-append}
 use Rattle.std.proofs.lemmas.Grind.{flat_map-append}
 use borrow.Author.Tests.{ne_eqb, eqb-true}
+use Rattle.hs_lists.proofs.Options.{option_or_none}
 use Rattle.hs_base.specs.declared.limits.TheConstants.{MAX_WEIGHT, MAX_SIZE}
 use Rattle.hs_base.specs.declared.settings.TriggerRule.{TriggerRule}
 use Rattle.hs_sched.specs.declared.share.Share.{Share}
@@ -31,10 +32,6 @@ none_before (x ∷ xs) id apart = rw (ne_eqb x.trigger.0 id (All-head (λ share.
 abbrev plan : ℕ → List Share → Schedule
 plan size shares = record { shares = shares; size = size }
 
-some_or_none : {X : Type 0} (o : Option X) → option_or o None ≡ o
-some_or_none None = refl
-some_or_none (Some x) = refl
-
 -- the look-up with one more share
 share_of-push : (size : ℕ) (ps : List Share) (x : Share) (id : ℕ) → share_of (plan size (ps ++ x ∷ [])) id ≡ option_or (share_of (plan size ps) id) (find (has_id id) (x ∷ []))
 share_of-push size ps x id = find-append (has_id id) ps (x ∷ [])
@@ -47,7 +44,7 @@ share_of-this size ps x apart =
 share_of-other : (size : ℕ) (ps : List Share) (x : Share) (id : ℕ) → id ≢ x.trigger.0 → share_of (plan size (ps ++ x ∷ [])) id ≡ share_of (plan size ps) id
 share_of-other size ps x id ne =
     share_of-push size ps x id ∙ ap (λ b. option_or (share_of (plan size ps) id) (cond b (Some x) None)) (ne_eqb x.trigger.0 id (λ e. ne (sym e)))
-    ∙ some_or_none (share_of (plan size ps) id)
+    ∙ option_or_none (share_of (plan size ps) id)
 
 -- how a share is after its visit
 abbrev pub served : ℕ → (ℕ → List ℕ) → Share → Share

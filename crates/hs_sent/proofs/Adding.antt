@@ -1,15 +1,15 @@
 -- What one operation more adds to what a client sends, to the page that is open and to what its autotriggers saw, by its kind.
-use Rattle.std.proofs.Common.{◌≡◌, ℕ, Bool, true, false, List, [], ◌∷◌, ◌++◌, length, reverse, Option, Some, None, IsSome, refl, sym, subst}
+use Rattle.std.proofs.Common.{◌≡◌, ℕ, Bool, true, false, List, [], ◌∷◌, ◌++◌, length, reverse, Option, Some, None, refl, sym, subst}
 use Rattle.hs_base.specs.declared.ids.TraceId.{TraceId}
 use Rattle.hs_base.specs.declared.ids.NodeId.{NodeId}
 use Rattle.hs_base.specs.declared.told.Trigger.{Trigger}
 use Rattle.hs_base.specs.declared.settings.AutoRule.{AutoRule}
 use Rattle.hs_records.specs.Plain.{Operation, Begin, Point, End, Fire, Sample}
 use Rattle.hs_records.specs.Plain as plain
-use Rattle.hs_records.specs.Records.{NumberedOperation, numbered_of, open_behind, coming}
+use Rattle.hs_records.specs.Records.{NumberedOperation, numbered_of, coming}
 use Rattle.hs_auto.specs.Firing as firing
 use Rattle.hs_auto.specs.Watching.{Watch, HasSampled}
-use Rattle.hs_sent.specs.OneMore.{open_after, AreWatching, OneMoreOperation, OneMoreCrumb, OneMoreTrigger}
+use Rattle.hs_sent.specs.OneMore.{AreWatching, OneMoreOperation, OneMoreCrumb, OneMoreTrigger}
 use Rattle.hs_sent.specs.SoFar.{has_open_page}
 use Rattle.hs_sent.specs.Sending.{crumb_in, sample_in, samples_of, trigger_in}
 
@@ -18,10 +18,6 @@ pub record OneMore : Type 0 where
   pub numbered : OneMoreOperation
   pub crumbs : OneMoreCrumb
   pub triggers : OneMoreTrigger
-
-pub open_more : (trace : Option TraceId) (ops : List Operation) (op : Operation) → open_after trace (ops ++ op ∷ []) ≡ open_behind (open_after trace ops) op
-open_more trace [] op = refl
-open_more trace (first ∷ ops) op = open_more (open_behind trace first) ops op
 
 pub page_more : (page : Bool) (ops : List Operation) (op : Operation) → has_open_page page (ops ++ op ∷ []) ≡ has_open_page (has_open_page page ops) (op ∷ [])
 page_more page [] op = refl
@@ -96,10 +92,6 @@ begin_no_trigger autos earlier trace None = refl
 begin_no_trigger autos earlier trace (Some other) = refl
 
 -- ---- point
-
-pub some_trace : (trace : Option TraceId) → IsSome trace → (t : TraceId) × (trace ≡ Some t)
-some_trace None some = absurd cc
-some_trace (Some t) some = (t, refl)
 
 pub point_no_crumb : (moment : ℕ) (payload : List ℕ) (found : Option TraceId) → crumb_in found (Point moment payload) ≡ []
 point_no_crumb moment payload None = refl

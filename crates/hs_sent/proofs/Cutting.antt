@@ -6,6 +6,8 @@ use Rattle.std.proofs.lemmas.Bool.{cases_lt, lt-ltb, le-ltb}
 use Rattle.std.proofs.lemmas.List.{append-nil, take-append-le, drop-append-le}
 use Rattle.std.proofs.lemmas.List.Elements.{filter-append}
 use Rattle.std.proofs.Math.Seq.{drop-append-add}
+use Rattle.hs_lists.proofs.Alls.{all_append, all_drop}
+use Rattle.hs_lists.proofs.Parts.{drop_length}
 use Rattle.hs_base.specs.declared.ids.TraceId.{TraceId}
 use Rattle.hs_records.specs.Fronts.{count_beside}
 use Rattle.hs_records.specs.Pages.{PlainPage, cost_of, page_room, fits}
@@ -24,10 +26,6 @@ all_kept keeps P (x ∷ xs) is all = rw (is x all.0) (ap (λ xs. x ∷ xs) (all_
 none_kept : {A : Type 0} (keeps : A → Bool) (P : A → Type 0) (xs : List A) → ((x : A) → P x → keeps x ≡ false) → AllByRecursion P xs → filter keeps xs ≡ []
 none_kept keeps P [] is all = refl
 none_kept keeps P (x ∷ xs) is all = rw (is x all.0) (none_kept keeps P xs is all.1)
-
-pub all_both : {A : Type 0} (P : A → Type 0) (xs ys : List A) → AllByRecursion P xs → AllByRecursion P ys → AllByRecursion P (xs ++ ys)
-all_both P [] ys a b = b
-all_both P (x ∷ xs) ys a b = (a.0, all_both P xs ys a.1 b)
 
 module _ (n : ℕ) where
   abbrev pub Early : TimedPage → Type 0
@@ -62,7 +60,7 @@ module _ (n : ℕ) where
         later = cut.later;
         fronts = cut.fronts;
         whole = ap (λ pages. early ++ pages) cut.whole ∙ sym (append_assoc early cut.sent (cut.kept ++ cut.later));
-        early = all_both Early early cut.sent all cut.early;
+        early = all_append Early early cut.sent all cut.early;
         opens = cut.opens;
         late = cut.late;
         front_is = ap (λ front. map page_in early ++ front) cut.front_is ∙ sym (append_assoc (map page_in early) (map page_in cut.sent) cut.fronts)
@@ -86,7 +84,7 @@ module _ (n : ℕ) where
         whole = ap (λ pages. pages ++ late) cut.whole ∙ append_assoc cut.sent (cut.kept ++ cut.later) late ∙ ap (λ pages. cut.sent ++ pages) (append_assoc cut.kept cut.later late);
         early = cut.early;
         opens = cut.opens;
-        late = all_both Late cut.later late cut.late all;
+        late = all_append Late cut.later late cut.late all;
         front_is = cut.front_is;
         same = cut.same;
         one = cut.one;
@@ -147,15 +145,6 @@ count_front budget spent (x ∷ xs) ys =
     let rest = count_front budget (spent + cost_of x) xs ys in
     count_case (leb (spent + cost_of x) budget) (count_beside budget (spent + cost_of x) (map cost_of xs)) (count_beside budget (spent + cost_of x) (map cost_of (xs ++ ys))) (length xs) rest.0 rest.1
 
-all_dropped : {A : Type 0} (P : A → Type 0) (n : ℕ) (xs : List A) → AllByRecursion P xs → AllByRecursion P (drop n xs)
-all_dropped P zero xs all = all
-all_dropped P (suc n) [] all = tt
-all_dropped P (suc n) (x ∷ xs) all = all_dropped P n xs all.1
-
-nothing_left : {A : Type 0} (xs : List A) → drop (length xs) xs ≡ []
-nothing_left [] = refl
-nothing_left (x ∷ xs) = nothing_left xs
-
 abbrev pub has_some : List Piece → Bool
 has_some [] = false
 has_some (piece ∷ pieces) = true
@@ -188,7 +177,7 @@ module _ (n end : ℕ) (is_late : n ≤ end) (points : List ℕ) (size : ℕ) (t
       → (n ≤ sent_by points end (page_with points trace (take k (y ∷ ys)) ∷ runs most (drop k (y ∷ ys))))
       × AllByRecursion (Late n) (timed points end (page_with points trace (take k (y ∷ ys)) ∷ runs most (drop k (y ∷ ys))))
   late_case most zero y ys high have on all = let none = have.0 in absurd (omega (arith, none))
-  late_case most (suc k) y ys high have on all = late_page y (take k ys) (runs most (drop k ys)) high (on (drop k ys) (all_dropped High k ys all) have.1)
+  late_case most (suc k) y ys high have on all = late_page y (take k ys) (runs most (drop k ys)) high (on (drop k ys) (all_drop High k ys all) have.1)
 
   -- pages of pieces that come later are started later
   late_runs : (most : ℕ) (ys : List Piece) → AllByRecursion High ys → AllHave (runs most ys) → (n ≤ sent_by points end (runs most ys)) × AllByRecursion (Late n) (timed points end (runs most ys))
@@ -256,7 +245,7 @@ module _ (n end : ℕ) (is_late : n ≤ end) (points : List ℕ) (size : ℕ) (t
           let some : 1 ≤ length zs = omega (arith, long, h) in
           let less : length zs ≤ most = omega (arith, long, few) in
           let fewest : length zs ≤ m = omega (arith, long, fewer) in
-          let lower = all_dropped Low k xs lows in
+          let lower = all_drop Low k xs lows in
           let low_k : k ≤ length xs = omega (arith, h) in
           let dropped : drop k (xs ++ ys) ≡ zs ++ ys = drop-append-le k xs ys low_k in
           let have_rest : AllHave (runs most (zs ++ ys)) = subst (λ (rest : List Piece). AllHave (runs most rest)) dropped have.1 in
@@ -276,8 +265,8 @@ module _ (n end : ℕ) (is_late : n ≤ end) (points : List ℕ) (size : ℕ) (t
           let sum : length xs + (k - length xs) ≡ k = omega (arith, h) in
           let rest = drop (k - length xs) ys in
           let dropped : drop k (xs ++ ys) ≡ rest = ap (λ (k : ℕ). drop k (xs ++ ys)) (sym sum) ∙ drop-append-add xs ys (k - length xs) in
-          let none : drop (length xs) xs ≡ [] = nothing_left xs in
-          let later = late_runs most rest (all_dropped High (k - length xs) ys highs) (subst (λ (rest : List Piece). AllHave (runs most rest)) dropped have.1) in
+          let none : drop (length xs) xs ≡ [] = drop_length xs in
+          let later = late_runs most rest (all_drop High (k - length xs) ys highs) (subst (λ (rest : List Piece). AllHave (runs most rest)) dropped have.1) in
           subst (λ (j : ℕ). Cut n true (timed points end (page_with points trace (x ∷ take k (xs ++ ys)) ∷ runs most (drop k (xs ++ ys)))) (page_with points trace (take j (x ∷ xs)) ∷ runs m (drop j (x ∷ xs)))) (sym count)
           (subst (λ (left : List Piece). Cut n true (timed points end (page_with points trace (x ∷ take k (xs ++ ys)) ∷ runs most (drop k (xs ++ ys)))) (page_with points trace (x ∷ take (length xs) xs) ∷ runs m left)) (sym none)
           (subst (λ (front : List PlainPage). Cut n true (timed points end (page_with points trace (x ∷ take k (xs ++ ys)) ∷ runs most (drop k (xs ++ ys)))) (page_with points trace (x ∷ take (length xs) xs) ∷ front)) (sym (no_runs m))

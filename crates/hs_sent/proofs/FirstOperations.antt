@@ -3,6 +3,7 @@
 use Rattle.std.proofs.Common.{◌≡◌, ◌⊎◌, inl, inr, ⊎_elim, ℕ, zero, suc, ◌+◌, ◌<◌, ◌≤◌, Bool, true, false, cond, leb, List, [], ◌∷◌, ◌++◌, length, refl, sym, ap, subst, ◌∙◌, Option, Some, None, arith, map, take, drop, get_or, append_assoc, length-append}
 use Rattle.std.specs.List.{AllByRecursion, flat_map}
 use Rattle.std.proofs.lemmas.List.{append-nil}
+use Rattle.hs_lists.proofs.Alls.{all_append}
 use Rattle.hs_base.specs.declared.ids.TraceId.{TraceId}
 use Rattle.hs_base.specs.declared.limits.TheConstants.{MIN_SIZE}
 use Rattle.hs_records.specs.Laws.{CarryRecords, CarriesRecords, traces_of}
@@ -12,7 +13,7 @@ use Rattle.hs_records.specs.Records.{Piece, Segment, AreBracketed, cut_within, n
 use Rattle.hs_sent.specs.Laws.{IsTimely}
 use Rattle.hs_sent.specs.SoFar.{has_open_page, FirstOperationsSend}
 use Rattle.hs_sent.specs.Timing.{TimedPage, point_numbers, timed, timed_pages}
-use Rattle.hs_sent.proofs.Cutting.{Early, Late, Cut, behind_early, before_late, all_late, started_count, sent_are, has_some, cut_runs, all_both}
+use Rattle.hs_sent.proofs.Cutting.{Early, Late, Cut, behind_early, before_late, all_late, started_count, sent_are, has_some, cut_runs}
 use Rattle.hs_sent.proofs.Timed.{page_in, page_each}
 use Rattle.hs_sent.proofs.Timely.{HasPieces, Rise, sooner, highest, runs_timely, same_point, points_in, ends_in, get_behind, all_pages, Points, Full, full_parts, closed, opened}
 
@@ -123,7 +124,7 @@ module _ (n size : ℕ) (points : List ℕ) where
         is_late = s.is_late;
         more = s.more;
         whole_is = ap (λ whole. pieces ++ whole) s.whole_is ∙ sym (append_assoc pieces front s.more);
-        lows = all_both LowPiece pieces front (lows_in points n number r moment (payload_pieces size payload) at low) s.lows;
+        lows = all_append LowPiece pieces front (lows_in points n number r moment (payload_pieces size payload) at low) s.lows;
         highs = s.highs;
         none = s.none;
         later = s.later;

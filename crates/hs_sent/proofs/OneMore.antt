@@ -1,16 +1,18 @@
 -- One operation more sends its crumb or its triggers behind what the earlier ones sent.
-use Rattle.std.proofs.Common.{◌≡◌, ℕ, suc, ◌+◌, List, [], ◌∷◌, ◌++◌, length, map, reverse, Option, None, refl, sym, ap, ◌∙◌, arith, append_assoc}
+use Rattle.std.proofs.Common.{◌≡◌, ℕ, suc, ◌+◌, List, [], ◌∷◌, ◌++◌, length, map, reverse, Option, None, refl, sym, ap, ◌∙◌, arith, append_assoc, Bool, true, false, Some, subst}
 use Rattle.std.proofs.lemmas.List.{append-nil, map-append, reverse-append}
 use Rattle.std.proofs.lemmas.Grind.{flat_map-append}
+use Rattle.std.specs.Prelude.{is_some}
 use Rattle.std.specs.List.{flat_map}
 use Rattle.hs_base.specs.declared.ids.TraceId.{TraceId}
 use Rattle.hs_base.specs.declared.told.Crumb.{Crumb}
 use Rattle.hs_base.specs.declared.told.Trigger.{Trigger}
 use Rattle.hs_base.specs.declared.settings.AutoRule.{AutoRule}
-use Rattle.hs_records.specs.Plain.{Operation}
-use Rattle.hs_records.specs.Records.{NumberedOperation, numbered_from, numbered_of, open_behind}
+use Rattle.hs_records.specs.Plain.{Operation, Begin, Point, End, Fire, Sample}
+use Rattle.hs_records.specs.Records.{NumberedOperation, numbered_from, numbered_of, open_behind, AreBracketed}
 use Rattle.hs_sent.specs.Sending.{Sent, crumb_in, sent_crumbs, trigger_in, triggers_behind, sent_triggers}
 use Rattle.hs_sent.specs.OneMore.{open_after, items_of, next_behind}
+use Rattle.hs_records.specs.Plain as plain
 
 numbered_more : (number : ℕ) (trace : Option TraceId) (ops : List Operation) (op : Operation)
     → numbered_from number trace (ops ++ op ∷ []) ≡ numbered_from number trace ops ++ record { number = number + length ops; trace = open_after trace ops; operation = op } ∷ []
@@ -74,3 +76,20 @@ pub triggers_last : (autos : List AutoRule) (ops : List Operation) (op : Operati
 triggers_last autos ops op =
     ap (λ (l : List NumberedOperation). items_of (triggers_behind autos [] l)) (numbered_last ops op) ∙ behind_last autos [] (numbered_of ops) (next_behind ops op)
     ∙ ap (λ (l : List NumberedOperation). items_of (sent_triggers autos ops) ++ trigger_in autos l (open_after None ops) op) (append-nil (reverse (numbered_of ops)))
+
+pub open_push : (trace : Option TraceId) (ops : List Operation) (op : Operation) → open_after trace (ops ++ op ∷ []) ≡ open_behind (open_after trace ops) op
+open_push trace [] op = refl
+open_push trace (o ∷ ops) op = open_push (open_behind trace o) ops op
+
+-- at the end of some operations the others are bracketed, from the trace that is open then
+pub bracketed_behind : (b : Bool) (trace : Option TraceId) (front rest : List Operation) → b ≡ is_some trace → AreBracketed b (front ++ rest) → AreBracketed (is_some (open_after trace front)) rest
+bracketed_behind b trace [] rest same h = subst (λ (b : Bool). AreBracketed b rest) same h
+bracketed_behind b trace (Begin next ∷ front) rest same h = bracketed_behind true (Some next) front rest refl h.1
+bracketed_behind b trace (Point moment payload ∷ front) rest same h = bracketed_behind b trace front rest same h.1
+bracketed_behind b trace (plain.Crumb node ∷ front) rest same h = bracketed_behind b trace front rest same h.1
+bracketed_behind b trace (End ∷ front) rest same h = bracketed_behind false None front rest refl h.1
+bracketed_behind b trace (Fire trigger ∷ front) rest same h = bracketed_behind b trace front rest same h
+bracketed_behind b trace (Sample moment auto value ∷ front) rest same h = bracketed_behind b trace front rest same h.1
+
+pub none_open : (ops : List Operation) → AreBracketed false ops → is_some (open_after None ops) ≡ false
+none_open ops h = bracketed_behind false None ops [] refl (subst (λ (l : List Operation). AreBracketed false l) (sym (append-nil ops)) h)

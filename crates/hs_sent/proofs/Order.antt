@@ -1,6 +1,8 @@
 -- Crumbs, triggers and chunks stand in the order of the operations that send them.
-use Rattle.std.proofs.Common.{ℕ, ◌+◌, ◌≤◌, List, [], ◌∷◌, ◌++◌, length, map, Option, None, arith}
+use Rattle.std.proofs.Common.{ℕ, ◌+◌, ◌≤◌, List, [], ◌∷◌, ◌++◌, length, map, Option, None, arith, ◌≡◌, zero, suc, Some, sym, ap, ◌∙◌, refl}
 use Rattle.std.specs.List.{flat_map}
+use Rattle.std.proofs.lemmas.Option.{same_Some}
+use Rattle.std.specs.Prelude.{slice_get}
 use Rattle.hs_base.specs.declared.ids.ClientId.{ClientId}
 use Rattle.hs_base.specs.declared.ids.TraceId.{TraceId}
 use Rattle.hs_base.specs.declared.settings.AutoRule.{AutoRule}
@@ -8,11 +10,12 @@ use Rattle.hs_journal.specs.declared.journal.Draw.{Draw}
 use Rattle.hs_journal.specs.declared.journal.Draw.TheVariants.{Got, Empty}
 use Rattle.hs_records.specs.Plain.{Operation}
 use Rattle.hs_records.specs.Records.{NumberedOperation, numbered_from, open_behind}
-use Rattle.hs_sent.specs.Drawn.{drawn_from}
+use Rattle.hs_sent.specs.Drawn.{drawn_from, DrawnPage}
 use Rattle.hs_sent.specs.Laws.{IsTimely, TimedPagesAreTimely}
 use Rattle.hs_sent.specs.Order.{AreInOrder, CrumbsAreInOrder, TriggersAreInOrder, ChunksAreInOrder}
 use Rattle.hs_sent.specs.Sending.{Sent, sent_chunks, crumb_in, trigger_in, triggers_behind}
 use Rattle.hs_sent.specs.Timing.{TimedPage, timed_pages}
+use Rattle.hs_sent.specs.Draws.{next_draws}
 
 module _ {A : Type 0} where
   from_lower : (low high : ℕ) (items : List (Sent A)) → low ≤ high → AreInOrder high items → AreInOrder low items
@@ -50,3 +53,22 @@ chunks_from client number from to (page ∷ pages) (Empty stamp ∷ draws) timel
 
 pub chunks_in_order : TimedPagesAreTimely → ChunksAreInOrder
 chunks_in_order timely size client ops draws least h = chunks_from client 0 0 (length ops) (timed_pages size ops) draws (timely size ops least h)
+
+-- each page has its client, and stands at its number
+pub page_at : (client : ClientId) (number : ℕ) (pages : List TimedPage) (draws : List Draw) (i : ℕ) (d : DrawnPage) → slice_get (drawn_from client number pages draws) i ≡ Some d → (d.client ≡ client) × (d.number ≡ number + i)
+page_at client number [] draws i d h = absurd cc
+page_at client number (p ∷ pages) [] i d h = absurd cc
+page_at client number (p ∷ pages) (draw ∷ draws) zero d h =
+    let first : DrawnPage = record { client = client; number = number; page = p.page; started = p.started; sent = p.sent; draw = draw } in
+    let same : first ≡ d = same_Some first d h in
+    let place : number ≡ number + 0 = omega arith in
+    (ap (λ (d : DrawnPage). d.client) (sym same), ap (λ (d : DrawnPage). d.number) (sym same) ∙ place)
+page_at client number (p ∷ pages) (draw ∷ draws) (suc i) d h =
+    let later = page_at client (number + 1) pages draws i d h in
+    let place : (number + 1) + i ≡ number + suc i = omega arith in
+    (later.0, later.1 ∙ place)
+
+pub length_next : (count stamp : ℕ) (queue : List ℕ) → length (next_draws count stamp queue) ≡ count
+length_next zero stamp queue = refl
+length_next (suc count) stamp [] = ap suc (length_next count (stamp + 1) [])
+length_next (suc count) stamp (buffer ∷ queue) = ap suc (length_next count (stamp + 1) queue)

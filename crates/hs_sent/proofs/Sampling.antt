@@ -1,7 +1,8 @@
 -- What a sample leaves of the autotriggers that a client has, and what it sends.
-use Rattle.std.proofs.Common.{◌≡◌, ℕ, zero, suc, Bool, List, [], ◌∷◌, ◌++◌, map, set, Option, Some, None, ◌⊎◌, inl, inr, eq-eqb, ne_eqb, refl, sym, ap, ◌∙◌, subst, arith}
+use Rattle.std.proofs.Common.{◌≡◌, ℕ, zero, suc, Bool, List, [], ◌∷◌, ◌++◌, map, set, Option, Some, None, inl, inr, eq-eqb, ne_eqb, refl, sym, ap, ◌∙◌, subst}
 use Rattle.std.proofs.lemmas.Option.{same_Some}
 use Rattle.std.specs.Prelude.{slice_get, if◌then◌else◌}
+use Rattle.hs_lists.proofs.Places.{get_set_cases}
 use Rattle.hs_base.specs.declared.ids.TraceId.{TraceId}
 use Rattle.hs_base.specs.declared.ids.TriggerId.{TriggerId}
 use Rattle.hs_base.specs.declared.told.Trigger.{Trigger}
@@ -16,16 +17,6 @@ use Rattle.hs_auto.specs.declared.sampled.Sampled.TheVariants as answers
 use Rattle.hs_sent.specs.OneMore.{AreWatching}
 use Rattle.hs_sent.specs.Sending.{crumb_in, samples_of, trigger_of}
 use Rattle.hs_sent.proofs.Adding.{at}
-
--- what stands at a place after another was written
-found_in : {A : Type 0} (items : List A) (place other : ℕ) (item item' x : A) → slice_get items place ≡ Some item → slice_get (set items place item') other ≡ Some x
-    → ((place ≡ other) × (item' ≡ x)) ⊎ ((place ≡ other → ⊥) × (slice_get items other ≡ Some x))
-found_in [] place other item item' x at found = absurd cc
-found_in (first ∷ items) zero zero item item' x at found = inl (refl, same_Some item' x found)
-found_in (first ∷ items) zero (suc other) item item' x at found = inr ((λ e. omega (arith, e)), found)
-found_in (first ∷ items) (suc place) zero item item' x at found = inr ((λ e. omega (arith, e)), found)
-found_in (first ∷ items) (suc place) (suc other) item item' x at found =
-    elim (found_in items place other item item' x at found) [ inl h ↦ inl (ap suc h.0, h.1) | inr h ↦ inr ((λ e. h.0 (omega (arith, e))), h.1) ]
 
 -- ---- the autotriggers
 
@@ -46,7 +37,7 @@ watches rules ops earlier autos moment place value lead watch watch' found after
     record {
       rules_are = rules_set autos place watch watch' found same ∙ w.rules_are;
       each = λ auto x there.
-          elim (found_in autos place auto watch watch' x found there) [
+          elim (get_set_cases autos place auto watch watch' x found there) [
             | inl h ↦
                 let here : HasSampled x (sample value lead ∷ samples_of place earlier) = subst (λ (y : Watch). HasSampled y (sample value lead ∷ samples_of place earlier)) h.1 (after (samples_of place earlier) (w.each place watch found)) in
                 let moved : HasSampled x (sample value lead ∷ samples_of auto earlier) = subst (λ (n : ℕ). HasSampled x (sample value lead ∷ samples_of n earlier)) h.0 here in

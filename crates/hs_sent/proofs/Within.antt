@@ -3,6 +3,7 @@ use Rattle.std.proofs.Common.{◌≡◌, ℕ, suc, ◌+◌, ◌<◌, ◌≤◌, 
 use Rattle.std.specs.List.{AllByRecursion, flat_map}
 use Rattle.std.proofs.lemmas.Bool.{lt-ltb, le-ltb}
 use Rattle.std.proofs.lemmas.List.Elements.{filter-append}
+use Rattle.hs_lists.proofs.Alls.{all_append, all_each}
 use Rattle.hs_base.specs.declared.ids.ClientId.{ClientId}
 use Rattle.hs_base.specs.declared.ids.TraceId.{TraceId}
 use Rattle.hs_base.specs.declared.settings.AutoRule.{AutoRule}
@@ -20,7 +21,7 @@ use Rattle.hs_sent.specs.Laws.{IsTimely, TimedPagesAreTimely}
 use Rattle.hs_sent.specs.Sending.{Sent, sent_within, sent_chunks, sent_crumbs, sent_triggers, crumb_in, trigger_in, triggers_behind}
 use Rattle.hs_sent.specs.SoFar.{has_open_page, FirstCrumbsAreSent, FirstTriggersAreSent, FirstChunksAreSent, AllChunksAreSent, AllCrumbsAreSent, AllTriggersAreSent}
 use Rattle.hs_sent.specs.Timing.{TimedPage, timed_pages}
-use Rattle.hs_sent.proofs.Cutting.{Early, Open, Late, all_both, sent_are}
+use Rattle.hs_sent.proofs.Cutting.{Early, Open, Late, sent_are}
 use Rattle.hs_sent.proofs.FirstOperations.{AllCarry, first_cut}
 
 -- ---- items of one operation
@@ -120,19 +121,15 @@ module _ (n : ℕ) (client : ClientId) where
   all_within number (page ∷ pages) (Got buffer stamp ∷ draws) early = rw (lt-ltb page.sent n early.0) (ap (λ (items : List (Sent Sheet)). item_of number page ∷ items) (all_within (number + 1) pages draws early.1))
   all_within number (page ∷ pages) (Empty stamp ∷ draws) early = all_within (number + 1) pages draws early.1
 
-all_of : {A : Type 0} (P Q : A → Type 0) (xs : List A) → ((x : A) → P x → Q x) → AllByRecursion P xs → AllByRecursion Q xs
-all_of P Q [] is all = tt
-all_of P Q (x ∷ xs) is all = (is x all.0, all_of P Q xs is all.1)
-
 pub first_chunks : AllCarry → FirstChunksAreSent
 first_chunks carry size client front rest draws more least h count =
     let n = length front in
     let pages = timed_pages size (front ++ rest) in
     let is_open = has_open_page false front in
     let cut = first_cut carry size front rest least h in
-    let early = all_of (Early n) (λ (p : TimedPage). p.sent < n) cut.sent (λ p is. is.1) cut.early in
-    let late = all_both (λ (p : TimedPage). n ≤ p.sent) cut.kept cut.later (all_of (Open n) (λ (p : TimedPage). n ≤ p.sent) cut.kept (λ p is. is.1) cut.opens)
-    (all_of (Late n) (λ (p : TimedPage). n ≤ p.sent) cut.later (λ p is. is.1) cut.late)
+    let early = all_each (Early n) (λ (p : TimedPage). p.sent < n) cut.sent (λ p is. is.1) cut.early in
+    let late = all_append (λ (p : TimedPage). n ≤ p.sent) cut.kept cut.later (all_each (Open n) (λ (p : TimedPage). n ≤ p.sent) cut.kept (λ p is. is.1) cut.opens)
+    (all_each (Late n) (λ (p : TimedPage). n ≤ p.sent) cut.later (λ p is. is.1) cut.late)
     in
     let a = ap length cut.front_is in
     let b = length-append (map (λ (p : TimedPage). p.page) cut.sent) cut.fronts in

@@ -44,10 +44,10 @@ push_some : (lines : List (List ℕ)) (rest : List ℕ) → HasPart (lines ++ re
 push_some [] rest = record { first = rest; others = []; are = refl }
 push_some (line ∷ lines) rest = record { first = line; others = lines ++ rest ∷ []; are = refl }
 
-no_newline : (line : List ℕ) → All (λ b. b ≢ 10) line → All (λ b. nat_eq b 10 ≡ false) line
+pub no_newline : (line : List ℕ) → All (λ b. b ≢ 10) line → All (λ b. nat_eq b 10 ≡ false) line
 no_newline line whole = λ k d within. ne_eqb (get_or line k d) 10 (whole k d within)
 
-line_part : (line behind : List ℕ) → All (λ b. b ≢ 10) line → parts_of (line ++ 10 ∷ behind) ≡ line ∷ parts_of behind
+pub line_part : (line behind : List ℕ) → All (λ b. b ≢ 10) line → parts_of (line ++ 10 ∷ behind) ≡ line ∷ parts_of behind
 line_part line behind whole = slice_split_at (λ b. nat_eq b 10) line 10 behind (no_newline line whole) refl
 
 last_part : (rest : List ℕ) → All (λ b. b ≢ 10) rest → parts_of rest ≡ rest ∷ []

@@ -4,6 +4,7 @@ use Rattle.std.specs.Str.{bytes_eq}
 use Rattle.std.specs.List.{find, list_all}
 use Rattle.std.proofs.lemmas.Bool.{and_parts}
 use Rattle.std.proofs.lemmas.Slice.Eq.{bytes_eq-Decides}
+use Rattle.hs_lists.proofs.Filters.{find_passes}
 
 -- which of these words has this text
 unfoldable pub spelled : {W : Type 0} → (W → List ℕ) → List W → List ℕ → Option W
@@ -13,14 +14,10 @@ found_at : {W : Type 0} (p : W → Bool) (v w : W) (rest : Option W) (b : Bool) 
 found_at p v w rest true holds later is = let same : v ≡ w = cc in rw (← same) holds
 found_at p v w rest false holds later is = later is
 
-found : {W : Type 0} (p : W → Bool) (words : List W) (w : W) → find p words ≡ Some w → p w ≡ true
-found p [] w is = cc
-found p (v ∷ words) w is = found_at p v w (find p words) (p v) refl (found p words w) is
-
 -- what is found has this text
 pub spelled-text : {W : Type 0} (text : W → List ℕ) (words : List W) (word : List ℕ) (w : W) → spelled text words word ≡ Some w → word ≡ text w
 unfolding spelled
-spelled-text text words word w is = (bytes_eq-Decides word (text w)).0 (found (λ v. bytes_eq word (text v)) words w is)
+spelled-text text words word w is = (bytes_eq-Decides word (text w)).0 (find_passes (λ v. bytes_eq word (text v)) words w is)
 
 every_at : {W : Type 0} (p q : W → Bool) (v w : W) (rest : Option W) (b : Bool) → q v ≡ true → (rest ≡ Some w → q w ≡ true) → cond b (Some v) rest ≡ Some w → q w ≡ true
 every_at p q v w rest true holds later is = let same : v ≡ w = cc in rw (← same) holds

@@ -9,6 +9,8 @@ use Rattle.std.proofs.lemmas.Bool.{eq-eqb, cases_lt}
 use Rattle.std.proofs.lemmas.List.{append_assoc, append-nil, length-append, length-map, map-append, take-append-drop, take-map}
 use Rattle.std.proofs.lemmas.List.Sums.{sum_by-cons, sum_by-append}
 use Rattle.std.proofs.lemmas.Option.{slice_get-map}
+use Rattle.hs_lists.proofs.Counts.{one_if}
+use Rattle.hs_lists.proofs.Places.{get_front_same}
 use Rattle.hs_journal.specs.declared.journal.Step.{Step}
 use Rattle.hs_journal.specs.declared.journal.Step.TheVariants as steps
 use Rattle.hs_model.specs.Laws.{count_of, given_places, sheets_of, brought_by, noted_as, EventsAddThis, EventsGoOn, ListsHaveTheirChunks}
@@ -23,7 +25,6 @@ use Rattle.hs_lawful.specs.Gives.{given_stamp}
 use Rattle.hs_lawful.specs.Laws.{ComesByEvents}
 use Rattle.hs_lawful.specs.Played.{state_behind}
 use Rattle.hs_lawful.specs.Pooled.{page_of, given_page}
-use Rattle.hs_clauses.proofs.Numbered.{one_if}
 use Rattle.hs_unreads.specs.Showing.{is_give}
 
 -- ---- counts of gives
@@ -98,11 +99,6 @@ module _ (adds : EventsAddThis) (settings : PlainSettings) (node : ℕ) where
 
 -- ---- behind some steps
 
-get_front : {A : Type 0} (xs ys : List A) (i : ℕ) → i < length xs → slice_get (xs ++ ys) i ≡ slice_get xs i
-get_front [] ys i less = absurd (omega arith)
-get_front (x ∷ xs) ys zero less = refl
-get_front (x ∷ xs) ys (suc i) less = get_front xs ys i (omega arith)
-
 module _ (adds : EventsAddThis) (goes_on : EventsGoOn) (lists : ListsHaveTheirChunks) (settings : PlainSettings) (run : NodeRun) (come : ComesByEvents settings run) where
   logged : run.state.log ≡ map noted_as run.events
   logged = ap (λ (s : AgentState). s.log) come ∙ log_after adds settings run.node (start settings) run.events
@@ -158,7 +154,7 @@ module _ (adds : EventsAddThis) (goes_on : EventsGoOn) (lists : ListsHaveTheirCh
         let whole : sheets_of run.state.taken ≡ sheets_of state.taken ++ more = ap (λ (s : AgentState). sheets_of s.taken) split ∙ sheets_after adds settings run.node state (drop (length earlier) run.events) in
         let long = length-map state.taken (λ (chunk : Taken). chunk.sheet) in
         by_sheet state.taken place
-        ∙ ap (λ (o : Option Sheet). option_and_then (page_of run) o) (sym (ap (λ (l : List Sheet). slice_get l place) whole ∙ get_front (sheets_of state.taken) more place (omega (arith, long, low))))
+        ∙ ap (λ (o : Option Sheet). option_and_then (page_of run) o) (sym (ap (λ (l : List Sheet). slice_get l place) whole ∙ get_front_same (sheets_of state.taken) more place (omega (arith, long, low))))
         ∙ sym (by_sheet run.state.taken place)
       where
         by_sheet : (taken : List Taken) (place : ℕ) → option_and_then (λ (chunk : Taken). page_of run chunk.sheet) (slice_get taken place) ≡ option_and_then (page_of run) (slice_get (sheets_of taken) place)

@@ -1,29 +1,24 @@
 -- What one step of a log shows more.
 use Rattle.std.proofs.Common.{◌≡◌, ℕ, zero, suc, ◌+◌, ◌<◌, ◌≤◌, Bool, true, false, cond, ltb, List, [], ◌∷◌, ◌++◌, length, take, Option, Some, None, refl, sym, ap, ◌∙◌, inl, inr, arith}
-use Rattle.std.specs.Prelude.{count_by, max, ◌||◌}
+use Rattle.std.specs.Prelude.{max, ◌||◌}
 use Rattle.std.specs.List.{list_any, cons_option}
 use Rattle.std.specs.Option.{option_map_or}
+use Rattle.std.proofs.Math.Bool.{or-false}
 use Rattle.std.proofs.lemmas.Bool.{lt-ltb, le-ltb, cases_lt}
 use Rattle.std.proofs.lemmas.List.{length-append, length-take-le}
 use Rattle.std.proofs.lemmas.List.Elements.{filter_map-append}
 use Rattle.std.proofs.lemmas.List.Folds.{list_any-append}
-use Rattle.std.proofs.lemmas.List.Sums.{sum_by-cons, sum_by-append, count_by-le-length}
+use Rattle.std.proofs.lemmas.List.Sums.{count_by-le-length}
+use Rattle.hs_lists.proofs.Counts.{one_if, count_push}
 use Rattle.hs_journal.specs.declared.journal.Step.{Step}
 use Rattle.hs_journal.specs.declared.journal.Step.TheVariants as steps
 use Rattle.hs_lawful.specs.Passes.{is_turn}
 use Rattle.hs_lawful.specs.Shape.{step_stamp, log_stamps}
 use Rattle.hs_clauses.specs.declared.found.FoundPage.{FoundPage}
-use Rattle.hs_clauses.proofs.Numbered.{one_if}
 use Rattle.hs_unreads.specs.declared.shown.Shown.{Shown}
 use Rattle.hs_unreads.specs.Showing.{is_give, is_passed, HasGiven, IsShown, HasRoom}
 
 -- ---- a step behind others
-
-count_more : (p : Step → Bool) (earlier : List Step) (step : Step) → count_by p (earlier ++ step ∷ []) ≡ count_by p earlier + one_if (p step)
-count_more p earlier step =
-    let both = sum_by-append (λ (s : Step). cond (p s) 1 0) earlier (step ∷ []) in
-    let one = sum_by-cons (λ (s : Step). cond (p s) 1 0) step [] in
-    omega (arith, both, one)
 
 -- the stamp, if the step has one, behind those before
 stamps_more : (earlier : List Step) (step : Step) (o : Option ℕ) → step_stamp step ≡ o → log_stamps (earlier ++ step ∷ []) ≡ log_stamps earlier ++ cons_option o []
@@ -44,10 +39,6 @@ passed_max stamp a b =
 abbrev pub highest_with : Option ℕ → ℕ → ℕ
 highest_with o highest = option_map_or (λ stamp. max highest stamp) o highest
 
-or_false : (b : Bool) → (b || false) ≡ b
-or_false true = refl
-or_false false = refl
-
 pub shown_more : (pages : List FoundPage) (earlier : List Step) (step : Step) (old new : Shown) (o : Option ℕ) → IsShown pages earlier old → step_stamp step ≡ o → HasGiven pages new
     → new.gives ≡ old.gives + one_if (is_give step) → new.events ≡ old.events + length (cons_option o []) → new.highest ≡ highest_with o old.highest → new.turns ≡ old.turns + one_if (is_turn step)
     → IsShown pages (earlier ++ step ∷ []) new
@@ -55,17 +46,17 @@ shown_more pages earlier step old new o was is given gives events highest turns 
     let stamps = stamps_more earlier step o is in
     record {
       given = given;
-      gives = let e = count_more is_give earlier step in let before = was.gives in omega (arith, e, before, gives);
+      gives = let e = count_push is_give earlier step in let before = was.gives in omega (arith, e, before, gives);
       events = let e = ap length stamps ∙ length-append (log_stamps earlier) (cons_option o []) in let before = was.events in omega (arith, e, before, events);
       highest = λ stamp. ap (ltb stamp) highest ∙ at o stamp ∙ sym (ap (λ (l : List ℕ). is_passed l stamp) stamps);
-      turns = let e = count_more is_turn earlier step in let before = was.turns in omega (arith, e, before, turns);
+      turns = let e = count_push is_turn earlier step in let before = was.turns in omega (arith, e, before, turns);
     }
   where
     at : (o : Option ℕ) (stamp : ℕ) → ltb stamp (highest_with o old.highest) ≡ is_passed (log_stamps earlier ++ cons_option o []) stamp
     at (Some s) stamp =
         passed_max stamp old.highest s ∙ ap (λ b. b || ltb stamp s) (was.highest stamp)
-        ∙ sym (list_any-append (λ later. ltb stamp later) (log_stamps earlier) (s ∷ []) ∙ ap (λ b. is_passed (log_stamps earlier) stamp || b) (or_false (ltb stamp s)))
-    at None stamp = was.highest stamp ∙ sym (list_any-append (λ later. ltb stamp later) (log_stamps earlier) [] ∙ or_false (is_passed (log_stamps earlier) stamp))
+        ∙ sym (list_any-append (λ later. ltb stamp later) (log_stamps earlier) (s ∷ []) ∙ ap (λ b. is_passed (log_stamps earlier) stamp || b) (or-false (ltb stamp s)))
+    at None stamp = was.highest stamp ∙ sym (list_any-append (λ later. ltb stamp later) (log_stamps earlier) [] ∙ or-false (is_passed (log_stamps earlier) stamp))
 
 -- a step that shows nothing
 pub record IsQuiet (step : Step) : Type 0 where
@@ -116,7 +107,7 @@ has_room pages log i shown is less room =
 pub one_given : (same old was : Bool) → old ≡ was → cond same true old ≡ (was || same)
 one_given true old true is = refl
 one_given true old false is = refl
-one_given false old was is = is ∙ sym (or_false was)
+one_given false old was is = is ∙ sym (or-false was)
 
 -- all pages were given before
 pub none_given : {A : Type 0} (test : A → Bool) (xs : List A) (n : ℕ) → length xs ≤ n → list_any test (take n xs) ≡ list_any test (take (n + 1) xs)

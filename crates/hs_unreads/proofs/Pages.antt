@@ -7,6 +7,8 @@ use Rattle.std.specs.Option.{option_and_then, option_map_or}
 use Rattle.std.proofs.lemmas.Bool.{and_parts, and_from, and_left, and_right, eqb-true, eq-eqb, ne_eqb, lt-ltb, le-ltb, ltb-true, cases_eq, cases_lt, false_from_ne_true, true≢false}
 use Rattle.std.proofs.lemmas.List.{map-append}
 use Rattle.std.proofs.lemmas.List.Folds.{list_any-append}
+use Rattle.hs_lists.proofs.Tests.{list_any_none}
+use Rattle.hs_lists.proofs.Alls.{all_each, all_append}
 use Rattle.hs_base.specs.declared.ids.ClientId.{ClientId}
 use Rattle.hs_journal.specs.declared.journal.Draw.{Draw}
 use Rattle.hs_journal.specs.Views.{PlainJournal}
@@ -14,14 +16,13 @@ use Rattle.hs_records.specs.Plain.{PlainWorkload}
 use Rattle.hs_sent.specs.Drawn.{DrawnPage, has_buffer, stamp_of, drawn_from}
 use Rattle.hs_sent.specs.Sending.{ClientSends, draws_at, place_of, operations_at, client_sends}
 use Rattle.hs_sent.specs.Timing.{TimedPage, timed_pages}
+use Rattle.hs_sent.proofs.Order.{page_at as own_at}
 use Rattle.hs_lawful.specs.Shape.{draw_stamps, rise, rise_above}
 use Rattle.hs_lawful.specs.Unreads.{same_page}
 use Rattle.hs_clauses.specs.declared.found.FoundClient.{FoundClient}
 use Rattle.hs_clauses.specs.declared.found.FoundPage.{FoundPage}
 use Rattle.hs_clauses.specs.Finding.{AreFound, IsFoundClient, starts_of}
-use Rattle.hs_clauses.proofs.Answered.{any_none}
 use Rattle.hs_clauses.proofs.NodeEvents.{drawn_lists}
-use Rattle.hs_clauses.proofs.Sorting.{All-weaker, All-append}
 use Rattle.hs_unreads.specs.declared.page_draws.PageDraw.{PageDraw}
 use Rattle.hs_unreads.specs.PageDraws.{first_stamp, page_draws, all_page_draws}
 use Rattle.hs_unreads.specs.Showing.{is_named, is_passed}
@@ -52,7 +53,7 @@ own_pages of k (p ∷ pages) (draw ∷ draws) = (
     number = omega arith;
     at = refl;
   },
-  All-weaker (IsOwn of (k + 1) (drawn_from of (k + 1) pages draws)) (IsOwn of k (drawn_from of k (p ∷ pages) (draw ∷ draws))) (drawn_from of (k + 1) pages draws)
+  all_each (IsOwn of (k + 1) (drawn_from of (k + 1) pages draws)) (IsOwn of k (drawn_from of k (p ∷ pages) (draw ∷ draws))) (drawn_from of (k + 1) pages draws)
       (λ d h. let e = h.number in record {
         client = h.client;
         place = suc h.place;
@@ -60,24 +61,6 @@ own_pages of k (p ∷ pages) (draw ∷ draws) = (
         at = h.at;
       }) (own_pages of (k + 1) pages draws),
 )
-
-own_at : (of : ClientId) (k : ℕ) (pages : List TimedPage) (draws : List Draw) (j : ℕ) (d : DrawnPage) → slice_get (drawn_from of k pages draws) j ≡ Some d → (d.client ≡ of) × (d.number ≡ k + j)
-own_at of k [] draws j d e = let none : None ≡ Some d = e in absurd cc
-own_at of k (p ∷ pages) [] j d e = let none : None ≡ Some d = e in absurd cc
-own_at of k (p ∷ pages) (draw ∷ draws) zero d e =
-    let x : DrawnPage =
-    record {
-      client = of;
-      number = k;
-      page = p.page;
-      started = p.started;
-      sent = p.sent;
-      draw = draw;
-    } in
-    let same : x ≡ d = cc in
-    let number : k ≡ d.number = ap (λ (y : DrawnPage). y.number) same in
-    (sym (ap (λ (y : DrawnPage). y.client) same), omega (arith, number))
-own_at of k (p ∷ pages) (draw ∷ draws) (suc j) d e = let h = own_at of (k + 1) pages draws j d e in let n = h.1 in (h.0, omega (arith, n))
 
 -- ---- the pages of all clients
 
@@ -107,15 +90,15 @@ module _ (W : PlainWorkload) (J : PlainJournal) (node : ℕ) where
       let drawn = (client_sends W J node a).drawn in
       let sends = sends_from a (suc m) in
       let rest = sends_from (a + 1) m in
-      All-append (Stands sends a) drawn (all_pages rest)
-      (All-weaker (IsOwn (id_of a) 0 drawn) (Stands sends a) drawn
+      all_append (Stands sends a) drawn (all_pages rest)
+      (all_each (IsOwn (id_of a) 0 drawn) (Stands sends a) drawn
       (λ d h.
       let e = h.number in
       let place : d.number ≡ h.place = omega (arith, e) in
       let client : d.client.number ≡ a = ap (λ (c : ClientId). c.number) h.client in
       record { place = 0; client = omega (arith, client); at = ap (slice_get drawn) place ∙ h.at })
       (own_pages (id_of a) 0 (pages_of a) (draws_of a)))
-      (All-weaker (Stands rest (a + 1)) (Stands sends a) (all_pages rest)
+      (all_each (Stands rest (a + 1)) (Stands sends a) (all_pages rest)
       (λ d h. let e = h.client in record { place = suc h.place; client = omega (arith, e); at = h.at })
       (all_stand (a + 1) m))
 
@@ -235,7 +218,7 @@ module _ (W : PlainWorkload) (J : PlainJournal) (node : ℕ) where
         let both = and_parts (ltb before (stamp_of draw)) (rise_above (stamp_of draw) (draw_stamps draws)) up in
         let less = ltb-true before (stamp_of draw) both.0 in (
           omega (arith, less),
-          All-weaker (λ (e : DrawnPage). stamp_of draw ≤ stamp_of e.draw) (λ (e : DrawnPage). before ≤ stamp_of e.draw) (drawn_from of (k + 1) pages draws) (λ e h. omega (arith, h, less)) (above (stamp_of draw) of (k + 1) pages draws both.1),
+          all_each (λ (e : DrawnPage). stamp_of draw ≤ stamp_of e.draw) (λ (e : DrawnPage). before ≤ stamp_of e.draw) (drawn_from of (k + 1) pages draws) (λ e h. omega (arith, h, less)) (above (stamp_of draw) of (k + 1) pages draws both.1),
         )
 
     rest_rises : (draw : Draw) (draws : List Draw) → rise (draw_stamps (draw ∷ draws)) ≡ true → rise (draw_stamps draws) ≡ true
@@ -268,8 +251,8 @@ module _ (W : PlainWorkload) (J : PlainJournal) (node : ℕ) where
               (let none : n + 1 - k ≡ 0 = omega arith in
               ap (λ b. (b && here) || list_any is_past later) (and_from (eqb of.number c) (ltb n k) (eq-eqb of.number c own) (lt-ltb n k behind))
               ∙ or_same here (list_any is_past later)
-              (λ nothing. any_none is_past later
-              (All-weaker (λ (e : DrawnPage). stamp_of draw ≤ stamp_of e.draw) (λ (e : DrawnPage). is_past e ≡ false) later
+              (λ nothing. list_any_none is_past later
+              (all_each (λ (e : DrawnPage). stamp_of draw ≤ stamp_of e.draw) (λ (e : DrawnPage). is_past e ≡ false) later
               (λ e h. and_right (eqb e.client.number c && ltb n e.number) (is_passed stamps (stamp_of e.draw)) (passed_below (stamp_of draw) (stamp_of e.draw) stamps h nothing))
               (above (stamp_of draw) of (k + 1) pages draws up)))
               ∙ sym (ap (λ j. option_map_or (is_passed stamps) (option_map (λ (e : DrawnPage). stamp_of e.draw) (slice_get all j)) false) none))
@@ -278,8 +261,8 @@ module _ (W : PlainWorkload) (J : PlainJournal) (node : ℕ) where
     other_client : (a : ℕ) → (a ≡ c → ⊥) → list_any is_past (client_sends W J node a).drawn ≡ false
     other_client a other =
         let drawn = (client_sends W J node a).drawn in
-        any_none is_past drawn
-        (All-weaker (IsOwn (id_of a) 0 drawn) (λ (e : DrawnPage). is_past e ≡ false) drawn
+        list_any_none is_past drawn
+        (all_each (IsOwn (id_of a) 0 drawn) (λ (e : DrawnPage). is_past e ≡ false) drawn
         (λ e h.
         let client : e.client.number ≡ a = ap (λ (x : ClientId). x.number) h.client in
         and_left (eqb e.client.number c && ltb n e.number) (list_any (λ stamp. ltb (stamp_of e.draw) stamp) stamps) (and_left (eqb e.client.number c) (ltb n e.number) (ne_eqb e.client.number c (λ same. other (sym client ∙ same)))))

@@ -1,11 +1,13 @@
 -- The unread offers of a followed node could be unread exactly where its log, its draws and the pages that were found say so.
-use Rattle.std.proofs.Common.{◌≡◌, ℕ, zero, suc, ◌+◌, ◌-◌, ◌*◌, ◌<◌, Bool, true, false, cond, eqb, leb, ltb, List, [], ◌∷◌, ◌++◌, length, map, take, Option, Some, None, refl, sym, ap, ◌∙◌, subst, inl, inr, arith}
+use Rattle.std.proofs.Common.{◌≡◌, ℕ, zero, suc, ◌+◌, ◌-◌, ◌*◌, ◌<◌, Bool, true, false, eqb, leb, ltb, List, [], ◌∷◌, ◌++◌, length, map, take, Option, Some, None, refl, sym, ap, ◌∙◌, subst, inl, inr, arith}
 use Rattle.std.specs.Prelude.{slice_get, option_map, filter, count_by, not, ◌&&◌, ◌||◌}
 use Rattle.std.specs.List.{flat_map, list_all, list_any, range_with_len, AllByRecursion}
 use Rattle.std.specs.Option.{option_and_then, option_map_or}
 use Rattle.std.proofs.lemmas.Bool.{and_parts, le-leb, lt-leb, cases_lt}
 use Rattle.std.proofs.lemmas.List.{length-map}
 use Rattle.std.proofs.lemmas.Option.{slice_get-map}
+use Rattle.hs_lists.proofs.Tests.{list_all_map}
+use Rattle.hs_lists.proofs.Alls.{all_append, all_at, all_filter}
 use Rattle.hs_journal.specs.declared.journal.Draw.{Draw}
 use Rattle.hs_journal.specs.declared.journal.Step.{Step}
 use Rattle.hs_journal.specs.Views.{PlainJournal}
@@ -31,9 +33,8 @@ use Rattle.hs_clauses.specs.Happening.{pool_event, drawn_from, node_timed}
 use Rattle.hs_clauses.proofs.Knowing.{KnownAt}
 use Rattle.hs_clauses.proofs.NodeEvents.{drawn_lists, lists_are}
 use Rattle.hs_clauses.proofs.Pooling.{noted, told_events}
-use Rattle.hs_clauses.proofs.Ranges.{each_holds, list_all-map}
-use Rattle.hs_clauses.proofs.Sorting.{All-append, buckets-map}
-use Rattle.hs_clauses.proofs.Valid.{all_at}
+use Rattle.hs_clauses.proofs.Ranges.{each_holds}
+use Rattle.hs_clauses.proofs.Sorting.{buckets-map}
 use Rattle.hs_unreads.specs.declared.page_draws.PageDraw.{PageDraw}
 use Rattle.hs_unreads.specs.PageDraws.{all_page_draws}
 use Rattle.hs_unreads.specs.Showing.{is_named, is_passed, given_by, may_wait}
@@ -44,18 +45,10 @@ use Rattle.hs_unreads.proofs.Stepping.{unreads_same}
 
 -- ---- what holds of all holds of those in order
 
-all_filtered : {A : Type 0} (P : A → Type 0) (p : A → Bool) (xs : List A) → AllByRecursion P xs → AllByRecursion P (filter p xs)
-all_filtered P p [] all = tt
-all_filtered P p (x ∷ xs) all = at (p x) (all_filtered P p xs all.1)
-  where
-    at : (b : Bool) → AllByRecursion P (filter p xs) → AllByRecursion P (cond b (x ∷ filter p xs) (filter p xs))
-    at true rest = (all.0, rest)
-    at false rest = rest
-
 all_in_order : {A : Type 0} (P : A → Type 0) (key : A → ℕ) (a m : ℕ) (xs : List A) → AllByRecursion P xs → AllByRecursion P (flat_map (λ s. filter (λ x. eqb (key x) s) xs) (range_with_len a m))
 all_in_order P key a zero xs all = tt
 all_in_order P key a (suc m) xs all =
-    All-append P (filter (λ x. eqb (key x) a) xs) (flat_map (λ s. filter (λ x. eqb (key x) s) xs) (range_with_len (a + 1) m)) (all_filtered P (λ x. eqb (key x) a) xs all) (all_in_order P key (a + 1) m xs all)
+    all_append P (filter (λ x. eqb (key x) a) xs) (flat_map (λ s. filter (λ x. eqb (key x) s) xs) (range_with_len (a + 1) m)) (all_filter P (λ x. eqb (key x) a) xs all) (all_in_order P key (a + 1) m xs all)
 
 -- ---- names of pages that were given
 
@@ -87,7 +80,7 @@ module _
       let here = each_holds (node_has_stamps W J) W.settings.nodes i stamped low in
       let parts = and_parts (are_numbered (node_stamps W J i) && list_all (λ draws. rise (draw_stamps draws)) (node_draws W J i)) (rise (log_stamps (log_at J i))) here in
       let each = and_parts (are_numbered (node_stamps W J i)) (list_all (λ draws. rise (draw_stamps draws)) (node_draws W J i)) parts.0 in
-      let by_number = sym (list_all-map (λ (draws : List Draw). rise (draw_stamps draws)) (λ number. draws_at J (place_of W.settings.clients i number)) (range_with_len 0 W.settings.clients)) ∙ each.1 in
+      let by_number = sym (list_all_map (λ (draws : List Draw). rise (draw_stamps draws)) (λ number. draws_at J (place_of W.settings.clients i number)) (range_with_len 0 W.settings.clients)) ∙ each.1 in
       each_holds (λ number. rise (draw_stamps (draws_at J (place_of W.settings.clients i number)))) W.settings.clients number by_number (omega arith)
 
   comes : ComesByEvents W.settings k.run

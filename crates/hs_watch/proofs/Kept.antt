@@ -3,21 +3,18 @@ use Rattle.std.proofs.Common.{◌≡◌, ◌⊎◌, inl, inr, ℕ, ◌<◌, ◌�
 use Rattle.std.specs.List.{AllByRecursion}
 use Rattle.hs_board.specs.declared.progress.Progress.{Progress}
 use Rattle.hs_board.specs.Shown.{IsFront, IsAmong, IsLast}
-use Rattle.hs_board.proofs.Fronts.{among_front, one_more}
+use Rattle.hs_board.proofs.Fronts.{among_front}
 use Rattle.hs_board.specs.Looking.{Looking}
 use Rattle.std.specs.Prelude.{Result, Ok, Err, OnOk, OnErr}
+use Rattle.hs_lists.proofs.Alls.{all_push, all_weaker}
 use Rattle.hs_watch.specs.Watching.{Totals, IsFrom, IsRising, Watching, Watches, HasLooked, EndsAtLatest, IsSeenOf, Showing, Stands, KnowLast}
-
-pub all_each : (P Q : Progress → Type 0) → ((x : Progress) → P x → Q x) → (xs : List Progress) → AllByRecursion P xs → AllByRecursion Q xs
-all_each P Q f [] all = tt
-all_each P Q f (x ∷ xs) all = (f x all.0, all_each P Q f xs all.1)
 
 module _ (shown known known' : Totals) (front : IsFront known known') where
   pub kept : (x : Progress) → IsFrom shown known x → IsFrom shown known' x
   kept x from = ⊎_elim (λ (a : IsAmong x known). inl (among_front known known' front x a)) (λ (a : IsAmong x shown). inr a) from
 
   pub all_kept : (xs : List Progress) → AllByRecursion (IsFrom shown known) xs → AllByRecursion (IsFrom shown known') xs
-  all_kept xs all = all_each (IsFrom shown known) (IsFrom shown known') kept xs all
+  all_kept xs all = all_weaker (IsFrom shown known) (IsFrom shown known') kept xs all
 
   pub now_from : (latest now : Progress) → IsFrom shown known latest → IsAmong now known' ⊎ (now ≡ latest) → IsFrom shown known' now
   now_from latest now from seen = ⊎_elim (λ (a : IsAmong now known'). inl a) (λ (same : now ≡ latest). subst (IsFrom shown known') (sym same) (kept latest from)) seen
@@ -25,11 +22,11 @@ module _ (shown known known' : Totals) (front : IsFront known known') where
 -- ---- rising lists
 
 pub raised : (m n : ℕ) → m ≤ n → (xs : List Progress) → AllByRecursion (λ (x : Progress). x.rounds ≤ m) xs → AllByRecursion (λ (x : Progress). x.rounds ≤ n) xs
-raised m n low xs all = all_each (λ (x : Progress). x.rounds ≤ m) (λ (x : Progress). x.rounds ≤ n) (λ x is. omega (arith, low, is)) xs all
+raised m n low xs all = all_weaker (λ (x : Progress). x.rounds ≤ m) (λ (x : Progress). x.rounds ≤ n) (λ x is. omega (arith, low, is)) xs all
 
 pub rising_more : (xs : List Progress) (x : Progress) → IsRising xs → AllByRecursion (λ (y : Progress). y.rounds < x.rounds) xs → IsRising (xs ++ x ∷ [])
 rising_more [] x rises all = (tt, tt)
-rising_more (y ∷ ys) x rises all = (one_more (λ (z : Progress). y.rounds < z.rounds) ys x rises.0 all.0, rising_more ys x rises.1 all.1)
+rising_more (y ∷ ys) x rises all = (all_push (λ (z : Progress). y.rounds < z.rounds) ys x rises.0 all.0, rising_more ys x rises.1 all.1)
 
 last_of : (P : Progress → Type 0) (xs : List Progress) (l : Progress) → AllByRecursion P (xs ++ l ∷ []) → P l
 last_of P [] l all = all.0
@@ -67,7 +64,7 @@ pub shown_more : (shown more : Totals) (w : Watching) → Watches shown w → Wa
 shown_more shown more w h =
     record {
       latest = from w.looking.latest h.latest;
-      seen = all_each (IsFrom shown w.looking.known) (IsFrom (shown ++ more) w.looking.known) from w.seen h.seen;
+      seen = all_weaker (IsFrom shown w.looking.known) (IsFrom (shown ++ more) w.looking.known) from w.seen h.seen;
       rises = h.rises;
       most = h.most;
     }
@@ -97,10 +94,10 @@ watches_noted shown w w' h front latest rises new noted =
     record {
       latest = from;
       seen = subst (AllByRecursion (IsFrom shown w'.looking.known)) (sym noted)
-          (one_more (IsFrom shown w'.looking.known) w.seen w'.looking.latest (all_kept shown w.looking.known w'.looking.known front w.seen h.seen) from);
+          (all_push (IsFrom shown w'.looking.known) w.seen w'.looking.latest (all_kept shown w.looking.known w'.looking.known front w.seen h.seen) from);
       rises = subst IsRising (sym noted) (rising_more w.seen w'.looking.latest h.rises (all_below w.seen w'.looking.latest.rounds h.rises most new));
       most = subst (AllByRecursion (λ (x : Progress). x.rounds ≤ w'.looking.latest.rounds)) (sym noted)
-          (one_more (λ (x : Progress). x.rounds ≤ w'.looking.latest.rounds) w.seen w'.looking.latest most (omega arith));
+          (all_push (λ (x : Progress). x.rounds ≤ w'.looking.latest.rounds) w.seen w'.looking.latest most (omega arith));
     }
 
 -- The same by what a look answers, which is the latest then.
@@ -134,7 +131,7 @@ watches_told shown w w' h known latest rises same =
 -- Where the reader knows a front of what was shown, all that was noted was shown.
 pub seen_among : (shown : Totals) (w : Watching) → Watches shown w → IsFront w.looking.known shown → AllByRecursion (λ (x : Progress). IsAmong x shown) w.seen
 seen_among shown w h front =
-    all_each (IsFrom shown w.looking.known) (λ (x : Progress). IsAmong x shown)
+    all_weaker (IsFrom shown w.looking.known) (λ (x : Progress). IsAmong x shown)
     (λ x f. ⊎_elim (λ (a : IsAmong x w.looking.known). among_front w.looking.known shown front x a) (λ (a : IsAmong x shown). a) f) w.seen h.seen
 
 pub seen_of : (shown : Totals) (w : Watching) → Watches shown w → ((last : Progress) → IsLast last shown → last.rounds ≤ w.looking.latest.rounds) → EndsAtLatest w → IsFront w.looking.known shown → IsSeenOf shown w.seen

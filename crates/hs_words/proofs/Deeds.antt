@@ -12,10 +12,6 @@ pub all_of : {A : Type 0} {P Q : A → Type 0} (xs : List A) → ((x : A) → P 
 all_of [] f all = tt
 all_of (x ∷ xs) f all = (f x all.0, all_of xs f all.1)
 
-pub all_both : {A : Type 0} (P : A → Type 0) (xs ys : List A) → AllByRecursion P xs → AllByRecursion P ys → AllByRecursion P (xs ++ ys)
-all_both P [] ys left right = right
-all_both P (x ∷ xs) ys left right = (left.0, all_both P xs ys left.1 right)
-
 -- ---- deeds at their stamps
 
 pub at_below : (log : List Deed) (stamp : ℕ) (deed : Deed) → IsAt log stamp deed → stamp < length log
@@ -162,7 +158,7 @@ unread_more n added log (met stamps ∷ before) below each = unread_more n added
 
 -- ---- counts
 
-event_counts : (event : Event) → draws event + gives event ≡ 1
+pub event_counts : (event : Event) → draws event + gives event ≡ 1
 event_counts (Got buffer) = refl
 event_counts Empty = refl
 event_counts (Given buffer) = refl

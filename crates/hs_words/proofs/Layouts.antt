@@ -4,11 +4,12 @@ use Rattle.std.specs.List.{sum_by, AllByRecursion}
 use Rattle.std.proofs.lemmas.List.{take_at, drop_at, length-append, append-nil}
 use Rattle.std.proofs.lemmas.List.Sums.{sum_by-cons, sum_by-append}
 use Rattle.std.proofs.lemmas.List.Concat.{flat_map-append}
+use Rattle.std.proofs.lemmas.Nat.{from_be_bytes-to_be_bytes_2, from_be_bytes-to_be_bytes_8}
+use Rattle.hs_lists.proofs.Alls.{all_push}
 use Rattle.hs_words.specs.declared.page.Header.{Header}
 use Rattle.hs_words.specs.declared.layout.Front.{Front}
 use Rattle.hs_words.specs.Pages.{Piece, Sheet, with_piece, FitsHeader, FitsPiece, cost_of, used_by, header_bytes, counts_bytes, piece_bytes, pieces_bytes, page_bytes}
 use Rattle.hs_words.specs.ChunkLayout.{pieces_in, sheet_in, Holds}
-use Rattle.hs_words.proofs.Numbers.{again_16, again_64}
 
 -- ---- lengths
 
@@ -62,8 +63,8 @@ length-pieces_in (suc count) bytes = ap suc (length-pieces_in count _)
 first_piece : (piece : Piece) (count : ℕ) (rest : List ℕ) → FitsPiece piece → pieces_in (suc count) (piece_bytes piece ++ rest) ≡ piece ∷ pieces_in count rest
 unfolding pieces_in piece_bytes
 first_piece piece count rest fits =
-    let len = again_16 (length piece.payload) fits.len in
-    let moment = again_64 piece.moment fits.moment in
+    let len = from_be_bytes-to_be_bytes_2 (length piece.payload) fits.len in
+    let moment = from_be_bytes-to_be_bytes_8 piece.moment fits.moment in
     rw (len, moment, take_at piece.payload rest (length piece.payload) refl, drop_at piece.payload rest (length piece.payload) refl) refl
 
 pub pieces_again : (pieces : List Piece) (rest : List ℕ) → AllByRecursion FitsPiece pieces → pieces_in (length pieces) (pieces_bytes pieces ++ rest) ≡ pieces
@@ -105,10 +106,6 @@ holds_page h pieces count used bytes rest fits_header fits count_is used_is byte
     )
 
 -- ---- a piece more
-
-pub all-push : {X : Type 0} (P : X → Type 0) (xs : List X) (x : X) → AllByRecursion P xs → P x → AllByRecursion P (xs ++ x ∷ [])
-all-push P [] x all fits = (fits, tt)
-all-push P (y ∷ xs) x all fits = (all.0, all-push P xs x all.1 fits)
 
 pub empty_page : (h : Header) (rest : List ℕ) → header_bytes h ++ (counts_bytes 0 24 ++ rest) ≡ page_bytes (record { header = h; pieces = [] }) ++ rest
 empty_page h rest =
@@ -154,5 +151,5 @@ extends page piece old first last at holds fits at_is first_is last_is =
     let tail : drop 32 first ≡ pieces_bytes sheet.pieces ++ more = ap (drop 32) begins ∙ behind_header sheet more in
     let last_are : last ≡ page_bytes (with_piece sheet piece) ++ rest =
     last_is ∙ ap (λ xs. xs ++ (counts_bytes count used ++ drop 32 first)) head ∙ ap (λ xs. h ++ (counts_bytes count used ++ xs)) tail ∙ longer_page sheet piece count used rest many costs in
-    holds_page page.header (sheet.pieces ++ piece ∷ []) count used last rest holds.header (all-push FitsPiece sheet.pieces piece holds.pieces fits)
+    holds_page page.header (sheet.pieces ++ piece ∷ []) count used last rest holds.header (all_push FitsPiece sheet.pieces piece holds.pieces fits)
     (omega (arith, length-append sheet.pieces (piece ∷ []))) (costs ∙ sym (used_by-push sheet.pieces piece)) last_are

@@ -76,15 +76,6 @@ all_IsBytes [] fits i = omega arith
 all_IsBytes (x ∷ xs) fits zero = fits.0
 all_IsBytes (x ∷ xs) fits (suc i) = all_IsBytes xs fits.1 i
 
-pub again_16 : (n : ℕ) → n < 2 ^ 16 → from_be_bytes w16 (to_be_bytes w16 n) ≡ n
-again_16 n fits = of_16 (to_be_bytes w16 n) ∙ big_number-reads_back 2 n [] fits
-
-pub again_32 : (n : ℕ) → n < 2 ^ 32 → from_be_bytes w32 (to_be_bytes w32 n) ≡ n
-again_32 n fits = of_32 (to_be_bytes w32 n) ∙ big_number-reads_back 4 n [] fits
-
-pub again_64 : (n : ℕ) → n < 2 ^ 64 → from_be_bytes w64 (to_be_bytes w64 n) ≡ n
-again_64 n fits = of_64 (to_be_bytes w64 n) ∙ big_number-reads_back 8 n [] fits
-
 pub again_128 : (n : ℕ) → n < 2 ^ 128 → from_be_bytes w128 (to_be_bytes w128 n) ≡ n
 again_128 n fits = of_128 (to_be_bytes w128 n) ∙ big_number-reads_back 16 n [] fits
 

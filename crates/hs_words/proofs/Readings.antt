@@ -3,21 +3,22 @@ use Rattle.std.proofs.Common.{◌≡◌, ℕ, ◌+◌, ◌^◌, ◌<◌, ◌↔�
 use Rattle.std.specs.List.{AllByRecursion}
 use Rattle.std.specs.Int.{w16, w32, w64, w128, to_be_bytes, from_be_bytes}
 use Rattle.std.proofs.lemmas.List.{take_at, drop_at, length-append}
+use Rattle.std.proofs.lemmas.Nat.{from_be_bytes-to_be_bytes_2, from_be_bytes-to_be_bytes_4, from_be_bytes-to_be_bytes_8}
 use Rattle.hs_words.specs.Pages.{Piece, Sheet, FitsHeader, FitsPiece, IsPage, used_by, header_bytes, counts_bytes, piece_bytes, pieces_bytes, page_bytes}
 use Rattle.hs_words.specs.declared.page.Header.{Header}
 use Rattle.hs_words.specs.Reading.{BeginsWithPiece, HasPieces, Spells, count_field, used_field}
-use Rattle.hs_words.proofs.Numbers.{again_16, again_32, again_64, again_128}
+use Rattle.hs_words.proofs.Numbers.{again_128}
 use Rattle.hs_words.proofs.Layouts.{length-piece_bytes, costs_at_least}
 
 -- numbers with the same bytes are the same
 same_16 : (m n : ℕ) → m < 2 ^ 16 → n < 2 ^ 16 → to_be_bytes w16 m ≡ to_be_bytes w16 n → m ≡ n
-same_16 m n fits fits' same = sym (again_16 m fits) ∙ ap (from_be_bytes w16) same ∙ again_16 n fits'
+same_16 m n fits fits' same = sym (from_be_bytes-to_be_bytes_2 m fits) ∙ ap (from_be_bytes w16) same ∙ from_be_bytes-to_be_bytes_2 n fits'
 
 same_32 : (m n : ℕ) → m < 2 ^ 32 → n < 2 ^ 32 → to_be_bytes w32 m ≡ to_be_bytes w32 n → m ≡ n
-same_32 m n fits fits' same = sym (again_32 m fits) ∙ ap (from_be_bytes w32) same ∙ again_32 n fits'
+same_32 m n fits fits' same = sym (from_be_bytes-to_be_bytes_4 m fits) ∙ ap (from_be_bytes w32) same ∙ from_be_bytes-to_be_bytes_4 n fits'
 
 same_64 : (m n : ℕ) → m < 2 ^ 64 → n < 2 ^ 64 → to_be_bytes w64 m ≡ to_be_bytes w64 n → m ≡ n
-same_64 m n fits fits' same = sym (again_64 m fits) ∙ ap (from_be_bytes w64) same ∙ again_64 n fits'
+same_64 m n fits fits' same = sym (from_be_bytes-to_be_bytes_8 m fits) ∙ ap (from_be_bytes w64) same ∙ from_be_bytes-to_be_bytes_8 n fits'
 
 same_128 : (m n : ℕ) → m < 2 ^ 128 → n < 2 ^ 128 → to_be_bytes w128 m ≡ to_be_bytes w128 n → m ≡ n
 same_128 m n fits fits' same = sym (again_128 m fits) ∙ ap (from_be_bytes w128) same ∙ again_128 n fits'

@@ -1,7 +1,9 @@
 -- A line has no fault exactly where it spells something that is allowed after the lines before it, and then it is taken.
-use Rattle.std.proofs.Common.{◌≡◌, ℕ, Bool, true, false, not, List, [], ◌∷◌, map, Option, Some, None, Ok, refl, sym, arith, ap, subst, ◌∙◌}
+use Rattle.std.proofs.Common.{◌≡◌, ℕ, true, false, not, List, [], ◌∷◌, map, Option, Some, None, Ok, refl, sym, arith, ap, subst, ◌∙◌}
 use Rattle.std.specs.Prelude.{IfSome, option_and_then, decimal, is_none}
 use Rattle.std.specs.List.{AllByRecursion}
+use Rattle.std.proofs.lemmas.Bool.{not-false}
+use Rattle.hs_lists.proofs.Parts.{length_map}
 use Rattle.hs_base.specs.declared.settings.AutoRule.{AutoRule}
 use Rattle.hs_base.specs.declared.settings.AutoRule.TheVariants.{Exception, Percentile, Category, Queue}
 use Rattle.hs_text.specs.Text.{words_of, line_of, has_bad_byte, numbers_of}
@@ -18,7 +20,7 @@ use Rattle.hs_workload.specs.Faults.{may_stand, has_no_kind, is_out_of_range, is
 use Rattle.hs_workload.specs.LookBack.{Past}
 use Rattle.hs_workload.specs.Forward.{Draft, past_of, after, line_step}
 use Rattle.hs_workload.proofs.Exact.{line_agrees}
-use Rattle.hs_workload.proofs.Spelled.{IsSmall, Form, keyword_said, IsSpelled, says_spelled, words_said, IsRead, read, numbers_of-decimals, traces_of-words, length-words}
+use Rattle.hs_workload.proofs.Spelled.{IsSmall, Form, keyword_said, IsSpelled, says_spelled, words_said, IsRead, read, numbers_of-decimals, traces_of-words}
 
 -- what may stand after lines that say this
 pub record Allowed (past : Past) (s : Statement) : Type 0 where
@@ -45,10 +47,6 @@ pub record IsTaken (d : Draft) (line : List ℕ) (next : Draft) : Type 0 where
   pub is : next ≡ after d statement
   pub clear : IsClear (past_of d) line statement
 
-is_stood : (b : Bool) → not b ≡ false → b ≡ true
-is_stood true e = refl
-is_stood false e = cc
-
 pub line_taken : (d next : Draft) (line : List ℕ) → line_step d line ≡ Ok next → IsTaken d line next
 unfolding fault_at
 line_taken d next line step =
@@ -73,7 +71,7 @@ line_taken d next line step =
         form = spelled.form;
         spelled = sym (line_of-words_of line) ∙ ap line_of words;
         allowed = record {
-          stands = ap (may_stand past) spelled.said ∙ is_stood (may_stand past known.word) known.none.0;
+          stands = ap (may_stand past) spelled.said ∙ not-false (may_stand past known.word) known.none.0;
           range = rest.0;
           order = rest.1.0;
           known = rest.1.1.0;
@@ -123,7 +121,7 @@ well_formed version (Operate (Crumb node)) f = record { kind = refl; count = ref
 well_formed version (Operate End) f = record { kind = refl; count = refl; number = refl; hex = refl }
 well_formed version (Operate (Fire t)) f =
     let few = f.3 in
-    let many = length-words (trace_word version) t.laterals in
+    let many = length_map (trace_word version) t.laterals in
     record { kind = refl; count = grind arith; number = numbers_are (t.moment ∷ t.trigger.0 ∷ []) (f.0, (f.1, tt)); hex = rw (traces_of-words version (t.lead ∷ t.laterals) (f.2, f.4)) refl }
 well_formed version (Operate (Sample m a v)) f = record { kind = refl; count = refl; number = numbers_are (m ∷ a ∷ v ∷ []) f; hex = refl }
 well_formed version Finish f = record { kind = refl; count = refl; number = refl; hex = refl }

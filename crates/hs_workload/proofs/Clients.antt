@@ -1,9 +1,10 @@
 -- The statements of a valid workload are allowed, each after those before it, and lead to that workload.
-use Rattle.std.proofs.Common.{◌≡◌, ℕ, zero, suc, ◌+◌, ◌*◌, ◌/◌, ◌%◌, ◌<◌, ◌≤◌, Bool, true, false, not, cond, nat_eq, nat_lt, nat_le, ◌&&◌, List, [], ◌∷◌, ◌++◌, length, map, refl, sym, ap, subst, ◌∙◌, append_assoc, append-nil, arith, eq-eqb, lt-ltb, le-leb}
+use Rattle.std.proofs.Common.{◌≡◌, ℕ, ◌+◌, ◌*◌, ◌/◌, ◌%◌, ◌<◌, ◌≤◌, Bool, true, false, not, cond, nat_eq, nat_lt, nat_le, ◌&&◌, List, [], ◌∷◌, ◌++◌, length, map, refl, sym, ap, subst, ◌∙◌, append_assoc, append-nil, arith, eq-eqb, lt-ltb, le-leb}
 use Rattle.std.specs.List.{AllByRecursion}
-use Rattle.std.proofs.lemmas.Bool.{le-ltb}
+use Rattle.std.proofs.lemmas.Bool.{le-ltb, or_from, and_from}
 use borrow.Author.Tests.{ne_eqb}
-use Rattle.std.proofs.Math.Nat.{mul-le-mul}
+use Rattle.std.proofs.Math.Nat.{mul-le-mul, div-le_self, mod-le}
+use Rattle.hs_lists.proofs.Numbers.{nat_le_false}
 use Rattle.hs_base.specs.declared.limits.TheConstants.{MAX_NODES, MAX_CLIENTS, MAX_AUTOS, MAX_PAYLOAD, MAX_OPERATIONS}
 use Rattle.hs_base.specs.Rules.{AreRules}
 use Rattle.hs_records.specs.Records.{AreBracketed}
@@ -18,7 +19,7 @@ use Rattle.hs_workload.specs.Forward.{Draft, fresh, past_of, open_after, after, 
 use Rattle.hs_workload.proofs.Spelled.{Form}
 use Rattle.hs_workload.proofs.Clear.{Allowed}
 use Rattle.hs_workload.proofs.Keeps.{version_in, settings_in, size_in}
-use Rattle.hs_workload.proofs.Runs.{after_all, AllowedFrom, after_all-append, allowed_join, both_false, both_true, above, declared_small, headed, head_allowed, with_rules, after_rules, rules_allowed, with_autos, after_autos, autos_allowed}
+use Rattle.hs_workload.proofs.Runs.{after_all, AllowedFrom, after_all-append, allowed_join, declared_small, headed, head_allowed, with_rules, after_rules, rules_allowed, with_autos, after_autos, autos_allowed}
 
 -- ---- the operations of a client
 
@@ -70,7 +71,7 @@ record Operates (d : Draft) : Type 0 where
   rules : AreRules d.rules
 
 stood : (d : Draft) → Operates d → (nat_lt 0 d.started && not d.is_done) ≡ true
-stood d w = both_true (nat_lt 0 d.started) (not d.is_done) (lt-ltb 0 d.started w.started) (ap not w.undone)
+stood d w = and_from (nat_lt 0 d.started) (not d.is_done) (lt-ltb 0 d.started w.started) (ap not w.undone)
 
 operation_form : (d : Draft) (op : Operation) → Operates d → IsOperation (version_in d) (settings_in d) op → Form (version_in d) (Operate op)
 operation_form d (Begin t) w is = is
@@ -103,7 +104,7 @@ operation_allowed d (Point m bytes) ops w is b few =
 operation_allowed d (Crumb node) ops w is b few =
     record {
       stands = stood d w;
-      range = above (setting_in d.head settings.Nodes) node.0 is;
+      range = nat_le_false (setting_in d.head settings.Nodes) node.0 is;
       order = refl;
       known = refl;
       opens = refl;
@@ -120,7 +121,7 @@ operation_allowed d (Sample m a v) ops w is b few =
       stands = stood d w;
       range = refl;
       order = refl;
-      known = above (length d.autos) a is.1;
+      known = nat_le_false (length d.autos) a is.1;
       opens = refl;
       trace = ap not b.0;
       left = refl;
@@ -154,14 +155,6 @@ record Awaits (d : Draft) (clients : List (List Operation)) : Type 0 where
   each : AllByRecursion (IsClient (version_in d) (settings_in d)) clients
   few : d.pieces + workload_pieces (size_in d) clients ≤ MAX_OPERATIONS
 
-quotient_small : (a b : ℕ) → a / b ≤ a
-quotient_small a zero = omega arith
-quotient_small a (suc b) = omega arith
-
-rest_small : (a b : ℕ) → a % b ≤ a
-rest_small a zero = omega arith
-rest_small a (suc b) = omega arith
-
 clients_allowed : (version : ℕ) (d : Draft) (clients : List (List Operation)) → version_in d ≡ version → Awaits d clients
     → AllowedFrom version d (client_statements (setting_in d.head settings.Clients) d.started clients ++ Finish ∷ [])
 clients_allowed version d [] same w =
@@ -171,8 +164,8 @@ clients_allowed version d [] same w =
       refl,
       tt,
       record {
-        stands = both_true (nat_lt 0 d.started && nat_le count d.started) (not d.is_done)
-            (both_true (nat_lt 0 d.started) (nat_le count d.started) (lt-ltb 0 d.started (omega (arith, some))) (le-leb count d.started (omega (arith, all)))) (ap not w.undone);
+        stands = and_from (nat_lt 0 d.started && nat_le count d.started) (not d.is_done)
+            (and_from (nat_lt 0 d.started) (nat_le count d.started) (lt-ltb 0 d.started (omega (arith, some))) (le-leb count d.started (omega (arith, all)))) (ap not w.undone);
         range = refl;
         order = refl;
         known = refl;
@@ -215,12 +208,12 @@ clients_allowed version d (ops ∷ clients) same w =
     let rest : AllowedFrom version next (map Operate ops ++ tail) =
     operations_allowed version next ops tail same operates client.words brackets (omega (arith, few)) (subst (λ (x : Draft). AllowedFrom version x tail) (sym (after_operations next ops)) more) in (
       refl,
-      (omega (arith, quotient_small d.started each, small), (omega (arith, rest_small d.started each, small), tt)),
+      (omega (arith, div-le_self d.started each, small), (omega (arith, mod-le d.started each, small), tt)),
       record {
-        stands = both_true (nat_eq (length d.head) 9 && nat_lt d.started count) (not d.is_done)
-            (both_true (nat_eq (length d.head) 9) (nat_lt d.started count) (eq-eqb (length d.head) 9 w.head) (lt-ltb d.started count (omega (arith, all)))) (ap not w.undone);
+        stands = and_from (nat_eq (length d.head) 9 && nat_lt d.started count) (not d.is_done)
+            (and_from (nat_eq (length d.head) 9) (nat_lt d.started count) (eq-eqb (length d.head) 9 w.head) (lt-ltb d.started count (omega (arith, all)))) (ap not w.undone);
         range = refl;
-        order = both_false (not (nat_eq v v)) (not (nat_eq n n)) (ap not (eq-eqb v v refl)) (ap not (eq-eqb n n refl));
+        order = or_from (not (nat_eq v v)) (not (nat_eq n n)) (ap not (eq-eqb v v refl)) (ap not (eq-eqb n n refl));
         known = refl;
         opens = refl;
         trace = refl;

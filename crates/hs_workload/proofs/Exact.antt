@@ -3,6 +3,7 @@
 use Rattle.std.proofs.Common.{◌≡◌, ℕ, suc, ◌+◌, ◌≤◌, Bool, true, false, not, ◌||◌, nat_lt, nat_le, nat_eq, List, [], ◌∷◌, length, cond, Option, Some, None, Result, Ok, Err, refl, ap, arith}
 use Rattle.std.specs.Prelude.{is_none, option_map, option_and_then}
 use borrow.Author.Tests.{ne_eqb, leb-true}
+use Rattle.hs_lists.proofs.Numbers.{nat_eq_from}
 use Rattle.hs_base.specs.declared.limits.TheConstants.{MAX_PAYLOAD, MAX_OPERATIONS, MAX_LATERALS}
 use Rattle.hs_base.specs.declared.ids.TraceId.{TraceId}
 use Rattle.hs_text.specs.Text.{number_of, payload_of, numbers_of}
@@ -95,9 +96,6 @@ few_behind kinds.Percentile = omega arith
 few_behind kinds.Category = omega arith
 few_behind kinds.Queue = omega arith
 
-pub count_is : (a b : ℕ) → not (nat_eq a b) ≡ false → a ≡ b
-count_is a b is = grind arith
-
 -- what such a line says
 abbrev pub plain_said : Keyword → List (List ℕ) → Option Statement
 plain_said k words = cond (nat_eq (length words) (number_count k)) (option_map (λ ns. numbers_say k (numbers_at ns)) (numbers_of words)) None
@@ -116,7 +114,7 @@ plain_agrees : (d : Draft) (k : Keyword) (words : List (List ℕ))
 plain_agrees d k words =
     agrees_unless (after d) (not (nat_eq (length words) (number_count k))) reasons.Count _ _ (plain_said k words) (λ counted.
     let few = few_numbers k in
-    let count = count_is (length words) (number_count k) counted in
+    let count = nat_eq_from (length words) (number_count k) counted in
     let same : nat_eq (length words) (number_count k) ≡ true = grind arith in
     let numbers = four_numbers-is words (omega (arith, few, count)) in
     rw (numbers, same) (numbers_agree d k (numbers_of words)))
@@ -212,7 +210,7 @@ kind_agrees : (d : Draft) (a : List ℕ) (words : List (List ℕ)) (kind : Kind)
 kind_agrees d a words kind =
     agrees_unless (after d) (not (nat_eq (length words) (kind_count kind))) reasons.Count _ _ (watch_said kind a words) (λ counted.
     let few = few_behind kind in
-    let count = count_is (length words) (kind_count kind) counted in
+    let count = nat_eq_from (length words) (kind_count kind) counted in
     let same : nat_eq (length words) (kind_count kind) ≡ true = grind arith in
     let numbers = four_numbers-is words (omega (arith, few, count)) in
     rw (numbers, same) (watched_of d kind (number_of a) (numbers_of words)))

@@ -3,6 +3,7 @@ use Rattle.std.proofs.Common.{◌≡◌, ℕ, zero, suc, ◌+◌, ◌*◌, ◌/�
 use Rattle.std.specs.List.{AllByRecursion}
 use Rattle.std.proofs.Math.ListN.{get_or-eq_default}
 use Rattle.std.proofs.lemmas.Bool.{ltb-false}
+use Rattle.std.proofs.lemmas.List.{map_push}
 use borrow.Author.Tests.{ltb-true}
 use Rattle.std.proofs.Math.Nat.{mul-le-mul}
 use Rattle.hs_base.specs.declared.limits.TheConstants.{MAX_NODES, MAX_CLIENTS, MAX_OPERATIONS, MAX_TRIGGER}
@@ -92,10 +93,6 @@ puts_more place [] n s at =
     ap (λ (x : Setting). Put x n ∷ []) (ap setting_at here ∙ setting_again s)
 puts_more place (m ∷ ns) n s at = ap (λ rest. Put (setting_at place) m ∷ rest) (puts_more (suc place) ns n s (omega (arith, at)))
 
-pub map_more : {A B : Type 0} (f : A → B) (xs : List A) (x : A) → map f (xs ++ x ∷ []) ≡ map f xs ++ f x ∷ []
-map_more f [] x = refl
-map_more f (y ∷ xs) x = ap (λ rest. f y ∷ rest) (map_more f xs x)
-
 pub autos_more : (number : ℕ) (rules : List AutoRule) (rule : AutoRule) → auto_statements number (rules ++ rule ∷ []) ≡ auto_statements number rules ++ Watch (number + length rules) rule ∷ []
 autos_more number [] rule = ap (λ (n : ℕ). Watch n rule ∷ []) (omega arith)
 autos_more number (r ∷ rules) rule =
@@ -117,16 +114,12 @@ pub clients_operated : (each client : ℕ) (xs : List (List Operation)) (current
     → client_statements each client (xs ++ (current ++ op ∷ []) ∷ []) ≡ client_statements each client (xs ++ current ∷ []) ++ Operate op ∷ []
 clients_operated each client [] current op =
     ap (λ rest. Start (client / each) (client % each) ∷ rest)
-    (append-nil (map Operate (current ++ op ∷ [])) ∙ map_more Operate current op ∙ ap (λ rest. rest ++ Operate op ∷ []) (sym (append-nil (map Operate current))))
+    (append-nil (map Operate (current ++ op ∷ [])) ∙ map_push Operate current op ∙ ap (λ rest. rest ++ Operate op ∷ []) (sym (append-nil (map Operate current))))
 clients_operated each client (x ∷ xs) current op =
     ap (λ rest. Start (client / each) (client % each) ∷ (map Operate x ++ rest)) (clients_operated each (client + 1) xs current op)
     ∙ ap (λ rest. Start (client / each) (client % each) ∷ rest) (sym (append_assoc (map Operate x) (client_statements each (client + 1) (xs ++ current ∷ [])) (Operate op ∷ [])))
 
 -- ---- lists with one item more
-
-pub all_more : {X : Type 0} (P : X → Type 0) (xs : List X) (x : X) → AllByRecursion P xs → P x → AllByRecursion P (xs ++ x ∷ [])
-all_more P [] x all p = (p, tt)
-all_more P (y ∷ xs) x all p = (all.0, all_more P xs x all.1 p)
 
 pub client_more : (size : ℕ) (ops : List Operation) (op : Operation) → client_pieces size (ops ++ op ∷ []) ≡ client_pieces size ops + operation_pieces size op
 client_more size [] op = omega arith

@@ -5,8 +5,11 @@ use Rattle.std.proofs.Math.ListN.{get_or-append, get_or-eq_default}
 use Rattle.std.proofs.Math.Seq.{get_or-append_seam}
 use Rattle.std.proofs.lemmas.List.Elements.{All-push}
 use Rattle.std.proofs.lemmas.List.Quantifiers.{all_pairs_push}
-use Rattle.std.proofs.lemmas.Bool.{and_parts, ltb-false}
+use Rattle.std.proofs.lemmas.Bool.{and_parts, ltb-false, or_parts, not-true, not-false}
+use Rattle.std.proofs.lemmas.List.{map_push, nil_from_length}
 use borrow.Author.Tests.{ltb-true, leb-true, eqb-true, ne_eqb}
+use Rattle.hs_lists.proofs.Numbers.{nat_eq_from, nat_le_past}
+use Rattle.hs_lists.proofs.Alls.{all_push}
 use Rattle.hs_base.specs.declared.limits.TheConstants.{MAX_TRIGGER, MAX_WEIGHT, MAX_BURST, MAX_RATE, MIN_WINDOW, MAX_WINDOW, WHOLE_SHARE, MAX_LATERALS, MAX_AUTOS, MAX_PAYLOAD, MAX_OPERATIONS}
 use Rattle.hs_base.specs.declared.settings.TriggerRule.{TriggerRule}
 use Rattle.hs_base.specs.declared.settings.AutoRule.{AutoRule}
@@ -24,22 +27,9 @@ use Rattle.hs_workload.specs.Validity.{IsOperation, IsClient, client_pieces, wor
 use Rattle.hs_workload.specs.Faults.{is_rule_out, is_window_out, is_auto_out}
 use Rattle.hs_workload.specs.LookBack.{operation_pieces}
 use Rattle.hs_workload.specs.Forward.{Draft, past_of, closed, open_after, after}
-use Rattle.hs_workload.proofs.Exact.{count_is}
 use Rattle.hs_workload.proofs.Spelled.{Form}
 use Rattle.hs_workload.proofs.Clear.{Allowed}
-use Rattle.hs_workload.proofs.Keeps.{setting_at, setting_again, nine_places, puts, ending, behind_autos, behind_rules, behind_head, last_of, deeper, puts_more, map_more, autos_more, clients_more, clients_operated, all_more, client_more, workload_more, version_in, settings_in, size_in, IsBare, Keeps, Kept, no_autos, headed}
-
-or_false : (a b : Bool) → (a || b) ≡ false → (a ≡ false) × (b ≡ false)
-or_false true b e = cc
-or_false false b e = (refl, e)
-
-not_true : (b : Bool) → not b ≡ true → b ≡ false
-not_true true e = cc
-not_true false e = refl
-
-not_false : (b : Bool) → not b ≡ false → b ≡ true
-not_false true e = refl
-not_false false e = cc
+use Rattle.hs_workload.proofs.Keeps.{setting_at, setting_again, nine_places, puts, ending, behind_autos, behind_rules, behind_head, last_of, deeper, puts_more, autos_more, clients_more, clients_operated, client_more, workload_more, version_in, settings_in, size_in, IsBare, Keeps, Kept, no_autos, headed}
 
 -- ---- a number of the head
 
@@ -90,7 +80,7 @@ put_kept d s n keeps a =
     let none = keeps.undeclared (omega (arith, place, nine)) in
     let bare : IsBare d = keeps.bare none.2 in
     let bare' : IsBare next = record { finished = bare.finished; current = bare.current; shut = bare.shut; none = bare.none; undone = bare.undone } in
-    let range = or_false (nat_lt n (least s)) (nat_lt (most s) n) a.range in
+    let range = or_parts (nat_lt n (least s)) (nat_lt (most s) n) a.range in
     let low : least s ≤ n = ltb-false n (least s) range.0 in
     let high : n ≤ most s = ltb-false (most s) n range.1 in
     let size : length (d.head ++ n ∷ []) ≡ length d.head + 1 = length-append d.head (n ∷ []) in
@@ -124,27 +114,20 @@ put_kept d s n keeps a =
 
 none_at : {X : Type 0} (p : X → Bool) (xs : List X) (k : ℕ) (d : X) → list_any p xs ≡ false → k < length xs → p (get_or xs k d) ≡ false
 none_at p [] k d e below = absurd (omega (arith, below))
-none_at p (x ∷ xs) zero d e below = (or_false (p x) (list_any p xs) e).0
-none_at p (x ∷ xs) (suc k) d e below = none_at p xs k d (or_false (p x) (list_any p xs) e).1 (omega (arith, below))
+none_at p (x ∷ xs) zero d e below = (or_parts (p x) (list_any p xs) e).0
+none_at p (x ∷ xs) (suc k) d e below = none_at p xs k d (or_parts (p x) (list_any p xs) e).1 (omega (arith, below))
 
 within : (low high n : ℕ) → is_out low high n ≡ false → (low ≤ n) × (n ≤ high)
 within low high n e =
-    let parts = or_false (nat_lt n low) (nat_lt high n) e in
+    let parts = or_parts (nat_lt n low) (nat_lt high n) e in
     (ltb-false n low parts.0, ltb-false high n parts.1)
 
 is_rule : (rule : TriggerRule) → is_rule_out rule ≡ false → IsRule rule
 is_rule rule e =
-    let a = or_false ((is_out 1 MAX_TRIGGER rule.id.0 || is_out 1 MAX_WEIGHT rule.weight) || is_out 1 MAX_BURST rule.burst) (nat_lt MAX_RATE rule.rate) e in
-    let b = or_false (is_out 1 MAX_TRIGGER rule.id.0 || is_out 1 MAX_WEIGHT rule.weight) (is_out 1 MAX_BURST rule.burst) a.0 in
-    let c = or_false (is_out 1 MAX_TRIGGER rule.id.0) (is_out 1 MAX_WEIGHT rule.weight) b.0 in
+    let a = or_parts ((is_out 1 MAX_TRIGGER rule.id.0 || is_out 1 MAX_WEIGHT rule.weight) || is_out 1 MAX_BURST rule.burst) (nat_lt MAX_RATE rule.rate) e in
+    let b = or_parts (is_out 1 MAX_TRIGGER rule.id.0 || is_out 1 MAX_WEIGHT rule.weight) (is_out 1 MAX_BURST rule.burst) a.0 in
+    let c = or_parts (is_out 1 MAX_TRIGGER rule.id.0) (is_out 1 MAX_WEIGHT rule.weight) b.0 in
     record { id = within 1 MAX_TRIGGER rule.id.0 c.0; weight = within 1 MAX_WEIGHT rule.weight c.1; burst = within 1 MAX_BURST rule.burst b.1; rate = ltb-false MAX_RATE rule.rate a.1 }
-
-not_at_most : (a b : ℕ) → nat_le a b ≡ false → b < a
-not_at_most a b is = grind arith
-
-pub length-none : {X : Type 0} (xs : List X) → length xs ≡ 0 → xs ≡ []
-length-none [] e = refl
-length-none (x ∷ xs) e = absurd (omega (arith, e))
 
 rule_kept : (d : Draft) (rule : TriggerRule) → Keeps d → Allowed (past_of d) (Declare rule) → Kept d (after d (Declare rule)) (Declare rule)
 rule_kept d rule keeps a =
@@ -152,7 +135,7 @@ rule_kept d rule keeps a =
     let p = and_parts (nat_eq (length d.head) 9 && nat_eq (length d.autos) 0) (nat_eq d.started 0) a.stands in
     let q = and_parts (nat_eq (length d.head) 9) (nat_eq (length d.autos) 0) p.0 in
     let head : length d.head ≡ 9 = eqb-true (length d.head) 9 q.0 in
-    let autos : d.autos ≡ [] = length-none d.autos (eqb-true (length d.autos) 0 q.1) in
+    let autos : d.autos ≡ [] = nil_from_length d.autos (eqb-true (length d.autos) 0 q.1) in
     let none : d.started ≡ 0 = eqb-true d.started 0 p.1 in
     let bare : IsBare d = keeps.bare none in
     let bare' : IsBare next = record { finished = bare.finished; current = bare.current; shut = bare.shut; none = bare.none; undone = bare.undone } in
@@ -166,7 +149,7 @@ rule_kept d rule keeps a =
         undeclared = λ below. absurd (omega (arith, below, head));
         rules = record {
           rising = all_pairs_push (λ (x y : TriggerRule). x.id.0 < y.id.0) d.rules rule keeps.rules.rising
-              (λ k x below. not_at_most rule.id.0 (get_or d.rules k x).id.0 (none_at (λ (earlier : TriggerRule). nat_le rule.id.0 earlier.id.0) d.rules k x a.order below));
+              (λ k x below. nat_le_past rule.id.0 (get_or d.rules k x).id.0 (none_at (λ (earlier : TriggerRule). nat_le rule.id.0 earlier.id.0) d.rules k x a.order below));
           each = All-push IsRule d.rules rule keeps.rules.each (is_rule rule a.range);
         };
         autos = subst (λ (autos : List AutoRule). AreAutoRules (d.rules ++ rule ∷ []) autos) (sym autos) (no_autos (d.rules ++ rule ∷ []));
@@ -183,21 +166,21 @@ rule_kept d rule keeps a =
         lines = omega (arith, head, size, lines);
       };
       said = deeper (puts 0 d.head) (behind_head d) (behind_head next) (Declare rule)
-          (last_of (map Declare d.rules) (map Declare next.rules) (behind_rules d) (behind_rules next) (Declare rule) (nothing_behind_rules d autos none bare) (nothing_behind_rules next autos none bare') (map_more Declare d.rules rule));
+          (last_of (map Declare d.rules) (map Declare next.rules) (behind_rules d) (behind_rules next) (Declare rule) (nothing_behind_rules d autos none bare) (nothing_behind_rules next autos none bare') (map_push Declare d.rules rule));
     }
 
 window_within : (window share : ℕ) → is_window_out window share ≡ false → ((MIN_WINDOW ≤ window) × (window ≤ MAX_WINDOW)) × ((1 ≤ share) × (share < WHOLE_SHARE))
 window_within window share e =
-    let a = or_false (is_out MIN_WINDOW MAX_WINDOW window || nat_lt share 1) (nat_le WHOLE_SHARE share) e in
-    let b = or_false (is_out MIN_WINDOW MAX_WINDOW window) (nat_lt share 1) a.0 in
-    (within MIN_WINDOW MAX_WINDOW window b.0, (ltb-false share 1 b.1, not_at_most WHOLE_SHARE share a.1))
+    let a = or_parts (is_out MIN_WINDOW MAX_WINDOW window || nat_lt share 1) (nat_le WHOLE_SHARE share) e in
+    let b = or_parts (is_out MIN_WINDOW MAX_WINDOW window) (nat_lt share 1) a.0 in
+    (within MIN_WINDOW MAX_WINDOW window b.0, (ltb-false share 1 b.1, nat_le_past WHOLE_SHARE share a.1))
 
 is_auto_rule : (rule : AutoRule) → is_auto_out rule ≡ false → IsAutoRule rule
 is_auto_rule (Exception t) e = tt
 is_auto_rule (Percentile t w s) e = window_within w s e
 is_auto_rule (Category t w s) e = window_within w s e
 is_auto_rule (Queue t w s l) e =
-    let a = or_false (is_window_out w s) (is_out 1 MAX_LATERALS l) e in
+    let a = or_parts (is_window_out w s) (is_out 1 MAX_LATERALS l) e in
     let b = window_within w s a.0 in
     (b.0, b.1, within 1 MAX_LATERALS l a.1)
 
@@ -209,9 +192,9 @@ auto_kept d number rule keeps a =
     let none : d.started ≡ 0 = eqb-true d.started 0 p.1 in
     let bare : IsBare d = keeps.bare none in
     let bare' : IsBare next = record { finished = bare.finished; current = bare.current; shut = bare.shut; none = bare.none; undone = bare.undone } in
-    let range = or_false (nat_le MAX_AUTOS number) (is_auto_out rule) a.range in
-    let turn : number ≡ length d.autos = count_is number (length d.autos) a.order in
-    let few : number < MAX_AUTOS = not_at_most MAX_AUTOS number range.0 in
+    let range = or_parts (nat_le MAX_AUTOS number) (is_auto_out rule) a.range in
+    let turn : number ≡ length d.autos = nat_eq_from number (length d.autos) a.order in
+    let few : number < MAX_AUTOS = nat_le_past MAX_AUTOS number range.0 in
     let size : length (d.autos ++ rule ∷ []) ≡ length d.autos + 1 = length-append d.autos (rule ∷ []) in
     let lines = keeps.undone bare.undone in
     record {
@@ -224,7 +207,7 @@ auto_kept d number rule keeps a =
         autos = record {
           few = omega (arith, size, turn, few);
           each = All-push IsAutoRule d.autos rule keeps.autos.each (is_auto_rule rule range.1);
-          declared = All-push (λ (auto : AutoRule). is_declared d.rules (fired_by auto) ≡ true) d.autos rule keeps.autos.declared (not_false (is_declared d.rules (fired_by rule)) a.known);
+          declared = All-push (λ (auto : AutoRule). is_declared d.rules (fired_by auto) ≡ true) d.autos rule keeps.autos.declared (not-false (is_declared d.rules (fired_by rule)) a.known);
         };
         bare = λ _. bare';
         begun = keeps.begun;
@@ -257,7 +240,7 @@ clients_closed d keeps shut = by_start (nat_eq d.started 0)
   where
     by_start : (b : Bool) → AllByRecursion (IsClient (version_in d) (settings_in d)) (cond b d.finished (d.finished ++ d.current ∷ []))
     by_start true = keeps.finished
-    by_start false = all_more (IsClient (version_in d) (settings_in d)) d.finished d.current keeps.finished
+    by_start false = all_push (IsClient (version_in d) (settings_in d)) d.finished d.current keeps.finished
         (record { words = keeps.words; bracketed = subst (AreBracketed false) (append-nil d.current) (keeps.bracketed [] shut) })
 
 pub pieces_closed : (d : Draft) → Keeps d → d.pieces ≡ workload_pieces (size_in d) (closed d)
@@ -279,10 +262,10 @@ start_kept d v n keeps a =
     let q = and_parts (nat_eq (length d.head) 9) (nat_lt d.started (nodes * each)) p.0 in
     let head : length d.head ≡ 9 = eqb-true (length d.head) 9 q.0 in
     let left : d.started < nodes * each = ltb-true d.started (nodes * each) q.1 in
-    let undone : d.is_done ≡ false = not_true d.is_done p.1 in
-    let order = or_false (not (nat_eq v (d.started / each))) (not (nat_eq n (d.started % each))) a.order in
-    let v-is : v ≡ d.started / each = count_is v (d.started / each) order.0 in
-    let n-is : n ≡ d.started % each = count_is n (d.started % each) order.1 in
+    let undone : d.is_done ≡ false = not-true d.is_done p.1 in
+    let order = or_parts (not (nat_eq v (d.started / each))) (not (nat_eq n (d.started % each))) a.order in
+    let v-is : v ≡ d.started / each = nat_eq_from v (d.started / each) order.0 in
+    let n-is : n ≡ d.started % each = nat_eq_from n (d.started % each) order.1 in
     let one_more : closed next ≡ closed d ++ [] ∷ [] = closed_next d in
     let size : length (closed d ++ [] ∷ []) ≡ length (closed d) + 1 = length-append (closed d) ([] ∷ []) in
     let lines = keeps.undone undone in
@@ -354,7 +337,7 @@ operation_kept d op keeps fits =
         begun = many' ∙ size_b ∙ sym size_a ∙ sym many ∙ begun;
         within = keeps.within;
         finished = keeps.finished;
-        words = all_more (IsOperation (version_in d) (settings_in d)) d.current op keeps.words fits.is;
+        words = all_push (IsOperation (version_in d) (settings_in d)) d.current op keeps.words fits.is;
         bracketed = λ rest b. subst (AreBracketed false) (sym (append_assoc d.current (op ∷ []) rest)) (keeps.bracketed (op ∷ rest) (fits.leads rest b));
         pieces = (let all = client_more (size_in d) d.current op in let sum = keeps.pieces in omega (arith, all, sum));
         few = fits.few;
@@ -367,7 +350,7 @@ operation_kept d op keeps fits =
     }
 
 behind_start : (d : Draft) → (nat_lt 0 d.started && not d.is_done) ≡ true → (0 < d.started) × (d.is_done ≡ false)
-behind_start d e = let p = and_parts (nat_lt 0 d.started) (not d.is_done) e in (ltb-true 0 d.started p.0, not_true d.is_done p.1)
+behind_start d e = let p = and_parts (nat_lt 0 d.started) (not d.is_done) e in (ltb-true 0 d.started p.0, not-true d.is_done p.1)
 
 few_enough : (d : Draft) (op : Operation) → nat_lt MAX_OPERATIONS (d.pieces + operation_pieces (size_in d) op) ≡ false → d.pieces + operation_pieces (size_in d) op ≤ MAX_OPERATIONS
 few_enough d op e = ltb-false MAX_OPERATIONS (d.pieces + operation_pieces (size_in d) op) e
@@ -382,7 +365,7 @@ fits d (Point m bytes) form a =
       started = s.0;
       undone = s.1;
       is = (form.0, ltb-false MAX_PAYLOAD (length bytes) a.range, form.1);
-      leads = λ rest b. (not_false d.is_open a.trace, b);
+      leads = λ rest b. (not-false d.is_open a.trace, b);
       few = few_enough d (Point m bytes) a.few;
       once = omega arith;
     }
@@ -391,20 +374,20 @@ fits d (Crumb node) form a =
     record {
       started = s.0;
       undone = s.1;
-      is = not_at_most (setting_in d.head settings.Nodes) node.0 a.range;
-      leads = λ rest b. (not_false d.is_open a.trace, b);
+      is = nat_le_past (setting_in d.head settings.Nodes) node.0 a.range;
+      leads = λ rest b. (not-false d.is_open a.trace, b);
       few = few_enough d (Crumb node) a.few;
       once = omega arith;
     }
 fits d End form a =
     let s = behind_start d a.stands in
-    record { started = s.0; undone = s.1; is = tt; leads = λ rest b. (not_false d.is_open a.trace, b); few = few_enough d End a.few; once = omega arith }
+    record { started = s.0; undone = s.1; is = tt; leads = λ rest b. (not-false d.is_open a.trace, b); few = few_enough d End a.few; once = omega arith }
 fits d (Fire t) form a =
     let s = behind_start d a.stands in
     record {
       started = s.0;
       undone = s.1;
-      is = (form.0, not_false (is_declared d.rules t.trigger) a.known, form.2, form.3, form.4);
+      is = (form.0, not-false (is_declared d.rules t.trigger) a.known, form.2, form.3, form.4);
       leads = λ rest b. b;
       few = few_enough d (Fire t) a.few;
       once = omega arith;
@@ -414,8 +397,8 @@ fits d (Sample m auto v) form a =
     record {
       started = s.0;
       undone = s.1;
-      is = (form.0, not_at_most (length d.autos) auto a.known, form.1.1.0);
-      leads = λ rest b. (not_false d.is_open a.trace, b);
+      is = (form.0, nat_le_past (length d.autos) auto a.known, form.1.1.0);
+      leads = λ rest b. (not-false d.is_open a.trace, b);
       few = few_enough d (Sample m auto v) a.few;
       once = omega arith;
     }
@@ -429,7 +412,7 @@ finish_kept d keeps a =
     let q = and_parts (nat_lt 0 d.started) (nat_le (nodes * each) d.started) p.0 in
     let some : 0 < d.started = ltb-true 0 d.started q.0 in
     let all : nodes * each ≤ d.started = leb-true (nodes * each) d.started q.1 in
-    let undone : d.is_done ≡ false = not_true d.is_done p.1 in
+    let undone : d.is_done ≡ false = not-true d.is_done p.1 in
     let head = headed d keeps some in
     let lines = keeps.undone undone in
     let ended : ending true ≡ ending d.is_done ++ Finish ∷ [] = ap (λ (b : Bool). ending b ++ Finish ∷ []) (sym undone) in

@@ -12,3 +12,4 @@ pub mod Clients
 pub mod Faultless
 pub mod Writing
 pub mod Versions
+pub mod Sizes

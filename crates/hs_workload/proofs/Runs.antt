@@ -1,11 +1,12 @@
 -- The lines of a valid workload are taken one after another, up to that workload.
-use Rattle.std.proofs.Common.{◌≡◌, ℕ, ◌+◌, ◌^◌, ◌<◌, ◌≤◌, Bool, true, false, not, nat_eq, nat_lt, nat_le, ◌||◌, ◌&&◌, List, [], ◌∷◌, ◌++◌, length, map, get_or, Ok, refl, sym, ap, subst, ◌∙◌, append_assoc, append-nil, length-append, arith, eq-eqb}
+use Rattle.std.proofs.Common.{◌≡◌, ℕ, ◌+◌, ◌^◌, ◌<◌, ◌≤◌, true, false, not, nat_eq, nat_lt, nat_le, ◌||◌, ◌&&◌, List, [], ◌∷◌, ◌++◌, length, map, get_or, Ok, refl, sym, ap, subst, ◌∙◌, append_assoc, append-nil, length-append, arith, eq-eqb}
 use Rattle.std.specs.List.{AllByRecursion}
 use Rattle.std.proofs.Math.ListN.{get_or-append}
 use Rattle.std.proofs.Math.Seq.{get_or-append_seam}
 use Rattle.std.proofs.lemmas.List.Folds.{list_any_none, Any-from_list_any}
-use Rattle.std.proofs.lemmas.Bool.{le-ltb}
+use Rattle.std.proofs.lemmas.Bool.{le-ltb, or_from, and_from}
 use borrow.Author.Tests.{eqb-true}
+use Rattle.hs_lists.proofs.Numbers.{nat_le_false}
 use Rattle.hs_base.specs.declared.limits.TheConstants.{MAX_TRIGGER, MAX_WEIGHT, MAX_BURST, MAX_RATE, MIN_WINDOW, MAX_WINDOW, WHOLE_SHARE, MAX_LATERALS, MAX_AUTOS}
 use Rattle.hs_base.specs.declared.settings.TriggerRule.{TriggerRule}
 use Rattle.hs_base.specs.declared.settings.AutoRule.{AutoRule}
@@ -51,17 +52,8 @@ pub allowed_join : (version : ℕ) (d : Draft) (xs ys : List Statement) → Allo
 allowed_join version d [] ys a b = b
 allowed_join version d (s ∷ xs) ys a b = (a.0, a.1, a.2, allowed_join version (after d s) xs ys a.3 b)
 
-pub both_false : (a b : Bool) → a ≡ false → b ≡ false → (a || b) ≡ false
-both_false a b p q = rw (p, q) refl
-
-pub both_true : (a b : Bool) → a ≡ true → b ≡ true → (a && b) ≡ true
-both_true a b p q = rw (p, q) refl
-
 inside : (low high n : ℕ) → low ≤ n → n ≤ high → is_out low high n ≡ false
-inside low high n p q = both_false (nat_lt n low) (nat_lt high n) (le-ltb n low p) (le-ltb high n q)
-
-pub above : (a b : ℕ) → b < a → nat_le a b ≡ false
-above a b h = grind arith
+inside low high n p q = or_from (nat_lt n low) (nat_lt high n) (le-ltb n low p) (le-ltb high n q)
 
 -- ---- the head
 
@@ -151,9 +143,9 @@ after_rules d (rule ∷ more) =
 
 rule_inside : (rule : TriggerRule) → IsRule rule → is_rule_out rule ≡ false
 rule_inside rule r =
-    both_false ((is_out 1 MAX_TRIGGER rule.id.0 || is_out 1 MAX_WEIGHT rule.weight) || is_out 1 MAX_BURST rule.burst) (nat_lt MAX_RATE rule.rate)
-    (both_false (is_out 1 MAX_TRIGGER rule.id.0 || is_out 1 MAX_WEIGHT rule.weight) (is_out 1 MAX_BURST rule.burst)
-    (both_false (is_out 1 MAX_TRIGGER rule.id.0) (is_out 1 MAX_WEIGHT rule.weight) (inside 1 MAX_TRIGGER rule.id.0 r.id.0 r.id.1) (inside 1 MAX_WEIGHT rule.weight r.weight.0 r.weight.1))
+    or_from ((is_out 1 MAX_TRIGGER rule.id.0 || is_out 1 MAX_WEIGHT rule.weight) || is_out 1 MAX_BURST rule.burst) (nat_lt MAX_RATE rule.rate)
+    (or_from (is_out 1 MAX_TRIGGER rule.id.0 || is_out 1 MAX_WEIGHT rule.weight) (is_out 1 MAX_BURST rule.burst)
+    (or_from (is_out 1 MAX_TRIGGER rule.id.0) (is_out 1 MAX_WEIGHT rule.weight) (inside 1 MAX_TRIGGER rule.id.0 r.id.0 r.id.1) (inside 1 MAX_WEIGHT rule.weight r.weight.0 r.weight.1))
     (inside 1 MAX_BURST rule.burst r.burst.0 r.burst.1))
     (le-ltb MAX_RATE rule.rate r.rate)
 
@@ -172,10 +164,10 @@ rules_allowed version d (rule ∷ more) same head autos none are =
       refl,
       (omega (arith, a), (omega (arith, b), (omega (arith, c), (omega (arith, e), tt)))),
       record {
-        stands = both_true (nat_eq (length d.head) 9 && nat_eq (length d.autos) 0) (nat_eq d.started 0) (both_true (nat_eq (length d.head) 9) (nat_eq (length d.autos) 0) (eq-eqb (length d.head) 9 head) (eq-eqb (length d.autos) 0 no_autos)) (eq-eqb d.started 0 none);
+        stands = and_from (nat_eq (length d.head) 9 && nat_eq (length d.autos) 0) (nat_eq d.started 0) (and_from (nat_eq (length d.head) 9) (nat_eq (length d.autos) 0) (eq-eqb (length d.head) 9 head) (eq-eqb (length d.autos) 0 no_autos)) (eq-eqb d.started 0 none);
         range = rule_inside rule is;
         order = list_any_none (λ (earlier : TriggerRule). nat_le rule.id.0 earlier.id.0) d.rules (λ k x within.
-            above rule.id.0 (get_or d.rules k x).id.0
+            nat_le_false rule.id.0 (get_or d.rules k x).id.0
             (subst (λ (r : TriggerRule). (get_or d.rules k x).id.0 < r.id.0) (get_or-append_seam d.rules rule more x)
             (subst (λ (r : TriggerRule). r.id.0 < (get_or (d.rules ++ rule ∷ more) (length d.rules) x).id.0) (get_or-append d.rules (rule ∷ more) x k within) (are.rising k (length d.rules) x within below))));
         known = refl;
@@ -202,13 +194,13 @@ after_autos d number (rule ∷ more) =
 
 window_inside : (window share : ℕ) → MIN_WINDOW ≤ window → window ≤ MAX_WINDOW → 1 ≤ share → share < WHOLE_SHARE → is_window_out window share ≡ false
 window_inside window share a b c e =
-    both_false (is_out MIN_WINDOW MAX_WINDOW window || nat_lt share 1) (nat_le WHOLE_SHARE share) (both_false (is_out MIN_WINDOW MAX_WINDOW window) (nat_lt share 1) (inside MIN_WINDOW MAX_WINDOW window a b) (le-ltb share 1 c)) (above WHOLE_SHARE share e)
+    or_from (is_out MIN_WINDOW MAX_WINDOW window || nat_lt share 1) (nat_le WHOLE_SHARE share) (or_from (is_out MIN_WINDOW MAX_WINDOW window) (nat_lt share 1) (inside MIN_WINDOW MAX_WINDOW window a b) (le-ltb share 1 c)) (nat_le_false WHOLE_SHARE share e)
 
 auto_inside : (rule : AutoRule) → IsAutoRule rule → is_auto_out rule ≡ false
 auto_inside (Exception t) r = refl
 auto_inside (Percentile t w s) r = window_inside w s r.0.0 r.0.1 r.1.0 r.1.1
 auto_inside (Category t w s) r = window_inside w s r.0.0 r.0.1 r.1.0 r.1.1
-auto_inside (Queue t w s l) r = both_false (is_window_out w s) (is_out 1 MAX_LATERALS l) (window_inside w s r.0.0 r.0.1 r.1.0 r.1.1) (inside 1 MAX_LATERALS l r.2.0 r.2.1)
+auto_inside (Queue t w s l) r = or_from (is_window_out w s) (is_out 1 MAX_LATERALS l) (window_inside w s r.0.0 r.0.1 r.1.0 r.1.1) (inside 1 MAX_LATERALS l r.2.0 r.2.1)
 
 -- a declared id is small
 pub declared_small : (rules : List TriggerRule) (id : ℕ) → AreRules rules → is_declared rules (record { 0 = id }) ≡ true → IsSmall id
@@ -243,8 +235,8 @@ autos_allowed version d number (rule ∷ more) same head none turn rules are =
       refl,
       (omega (arith, turn, few, size), auto_small d.rules rule is rules known),
       record {
-        stands = both_true (nat_eq (length d.head) 9) (nat_eq d.started 0) (eq-eqb (length d.head) 9 head) (eq-eqb d.started 0 none);
-        range = both_false (nat_le MAX_AUTOS number) (is_auto_out rule) (above MAX_AUTOS number (omega (arith, turn, few, size))) (auto_inside rule is);
+        stands = and_from (nat_eq (length d.head) 9) (nat_eq d.started 0) (eq-eqb (length d.head) 9 head) (eq-eqb d.started 0 none);
+        range = or_from (nat_le MAX_AUTOS number) (is_auto_out rule) (nat_le_false MAX_AUTOS number (omega (arith, turn, few, size))) (auto_inside rule is);
         order = ap not (eq-eqb number (length d.autos) turn);
         known = ap not known;
         opens = refl;

@@ -2,6 +2,7 @@
 use Rattle.std.proofs.Common.{◌≡◌, ℕ, ◌+◌, ◌<◌, Bool, true, false, nat_lt, List, [], ◌∷◌, ◌++◌, length, map, Option, None, Ok, refl, sym, ap, subst, ◌∙◌, arith}
 use Rattle.std.specs.List.{cons_option}
 use Rattle.std.proofs.lemmas.Bool.{ltb-false}
+use Rattle.std.proofs.lemmas.List.{map_push, nil_from_length}
 use borrow.Author.Tests.{ltb-true}
 use Rattle.hs_text.specs.Judging.{onto}
 use Rattle.hs_text.specs.JudgingLaws.{Reader, IsReading, onto-append}
@@ -17,8 +18,8 @@ use Rattle.hs_workload.specs.Faults.{fault_at, fault_of, judging, version_of}
 use Rattle.hs_workload.specs.Forward.{Draft, fresh, past_of, open_after, after, line_step}
 use Rattle.hs_workload.proofs.Exact.{line_agrees}
 use Rattle.hs_workload.proofs.Clear.{IsClear, line_taken, statement_read}
-use Rattle.hs_workload.proofs.Keeps.{version_in, map_more, draft_statements, behind_head, puts, IsBare, Keeps, Kept, keeps_fresh}
-use Rattle.hs_workload.proofs.Kept.{length-none, set_before, nothing_behind_head, statement_kept}
+use Rattle.hs_workload.proofs.Keeps.{version_in, draft_statements, behind_head, puts, IsBare, Keeps, Kept, keeps_fresh}
+use Rattle.hs_workload.proofs.Kept.{set_before, nothing_behind_head, statement_kept}
 
 -- ---- looking back
 
@@ -82,7 +83,7 @@ put_alike d n next keeps is = by_place (nat_lt 0 (length d.head)) refl
         let same : version_in next ≡ version_in d = ap (λ (head : List ℕ). setting_in head settings.Version) is ∙ set_before d.head n settings.Version some in
         ap (λ (v : ℕ). map (statement_line v) (draft_statements d)) same
     by_place false e =
-        let none : d.head ≡ [] = length-none d.head (let few = ltb-false 0 (length d.head) e in omega (arith, few)) in
+        let none : d.head ≡ [] = nil_from_length d.head (let few = ltb-false 0 (length d.head) e in omega (arith, few)) in
         let nothing = nothing_said d keeps none in
         ap (map (statement_line (version_in next))) nothing ∙ sym (ap (map (statement_line (version_in d))) nothing)
 
@@ -130,7 +131,7 @@ seen_next d earlier line s sees clear =
       lines =
           onto-append earlier (line ∷ []) ∙ ap (λ lines. lines ++ line ∷ []) (sees.lines ∙ sym (spelled_alike d s sees.keeps))
           ∙ ap (λ l. spelled_in d next ++ l ∷ []) (clear.spelled ∙ line_alike d s)
-          ∙ sym (map_more (statement_line (version_in next)) (draft_statements d) s) ∙ ap (map (statement_line (version_in next))) (sym kept.said);
+          ∙ sym (map_push (statement_line (version_in next)) (draft_statements d) s) ∙ ap (map (statement_line (version_in next))) (sym kept.said);
       count = omega (arith, count, one);
     }
 

@@ -1,7 +1,9 @@
 -- What a line says is spelled by the line, and a spelled line says what it spells.
-use Rattle.std.proofs.Common.{◌≡◌, ℕ, suc, ◌^◌, ◌<◌, ◌≤◌, Bool, true, false, cond, nat_eq, nat_le, ◌&&◌, List, [], ◌∷◌, length, map, drop, Option, Some, None, refl, sym, ap, subst, ◌∙◌, arith}
+use Rattle.std.proofs.Common.{◌≡◌, ℕ, ◌^◌, ◌<◌, ◌≤◌, Bool, true, false, cond, nat_eq, nat_le, List, [], ◌∷◌, length, map, drop, Option, Some, None, refl, sym, ap, subst, ◌∙◌, arith}
 use Rattle.std.specs.Prelude.{IfSome, option_map, option_and_then, decimal, ⊤}
 use Rattle.std.specs.List.{All, AllByRecursion, list_all}
+use Rattle.std.proofs.lemmas.Bool.{and_from}
+use Rattle.hs_lists.proofs.Parts.{length_map}
 use Rattle.hs_base.specs.declared.limits.TheConstants.{MAX_LATERALS}
 use Rattle.hs_base.specs.declared.ids.TraceId.{TraceId}
 use Rattle.hs_base.specs.declared.settings.AutoRule.{AutoRule}
@@ -140,10 +142,6 @@ words-traces_of : (version : ℕ) (words : List (List ℕ)) (ts : List TraceId) 
 words-traces_of version [] ts is = no_traces version ts cc
 words-traces_of version (word ∷ words) ts is = traces_cons version word words ts (trace_of version word) (traces_of version words) refl (words-traces_of version words) is
 
-pub length-words : {A : Type 0} (f : A → List ℕ) (xs : List A) → length (map f xs) ≡ length xs
-length-words f [] = refl
-length-words f (x ∷ xs) = ap suc (length-words f xs)
-
 -- ---- what words say is spelled by them
 
 pub record IsSpelled (version : ℕ) (keyword : Keyword) (words : List (List ℕ)) (s : Statement) : Type 0 where
@@ -194,7 +192,7 @@ numbers_spelled version keywords.Auto ns plain small count = absurd plain
 count_of : (words : List (List ℕ)) (ns : List ℕ) (count : ℕ) → words ≡ map decimal ns → nat_eq (length words) count ≡ true → length ns ≡ count
 count_of words ns count are is =
     let same = ap length are in
-    let as_many = length-words decimal ns in
+    let as_many = length_map decimal ns in
     grind arith
 
 plain_spelled : (version : ℕ) (k : Keyword) (words : List (List ℕ)) → IsPlain k → (b : Bool) (o : Option (List ℕ)) → nat_eq (length words) (number_count k) ≡ b → numbers_of words ≡ o
@@ -228,7 +226,7 @@ point_spelled version v w (Some m) (Some bytes) e f =
 few_laterals : (version : ℕ) (words : List (List ℕ)) (ts : List TraceId) → words ≡ map (trace_word version) ts → nat_le (length words) MAX_LATERALS ≡ true → length ts ≤ MAX_LATERALS
 few_laterals version words ts are is =
     let same = ap length are in
-    let as_many = length-words (trace_word version) ts in
+    let as_many = length_map (trace_word version) ts in
     grind arith
 
 trigger_spelled : (version : ℕ) (u v w : List ℕ) (ws : List (List ℕ)) (b : Bool) (o p : Option ℕ) (q : Option TraceId) (r : Option (List TraceId)) → nat_le (length ws) MAX_LATERALS ≡ b
@@ -358,25 +356,20 @@ keyword_prints = spelled-every keyword_text all_keywords (λ k. is_word (keyword
 kind_prints : (kind : Kind) → is_word (kind_text kind) ≡ true
 kind_prints = spelled-every kind_text all_kinds (λ k. is_word (kind_text k)) kinds_told_apart refl
 
-both : (a b : Bool) → a ≡ true → b ≡ true → (a && b) ≡ true
-both true true p q = refl
-both true false p q = cc
-both false b p q = cc
-
 decimals_print : (ns : List ℕ) → AllByRecursion IsSmall ns → list_all is_word (map decimal ns) ≡ true
 decimals_print [] small = refl
-decimals_print (n ∷ ns) small = both _ _ (is_word-decimal n small.0) (decimals_print ns small.1)
+decimals_print (n ∷ ns) small = and_from _ _ (is_word-decimal n small.0) (decimals_print ns small.1)
 
 trace_prints : (version : ℕ) (t : TraceId) → is_word (trace_word version t) ≡ true
 trace_prints version t = is_word-hex_text (trace_digits version) t.0 (digits_positive version)
 
 traces_print : (version : ℕ) (ts : List TraceId) → list_all is_word (map (trace_word version) ts) ≡ true
 traces_print version [] = refl
-traces_print version (t ∷ ts) = both _ _ (trace_prints version t) (traces_print version ts)
+traces_print version (t ∷ ts) = and_from _ _ (trace_prints version t) (traces_print version ts)
 
 -- a line of numbers alone
 plain_read : (version : ℕ) (k : Keyword) (ns : List ℕ) → AllByRecursion IsSmall ns → list_all is_word (keyword_text k ∷ map decimal ns) ≡ true
-plain_read version k ns small = both _ _ (keyword_prints k) (decimals_print ns small)
+plain_read version k ns small = and_from _ _ (keyword_prints k) (decimals_print ns small)
 
 numbers_said : (k : Keyword) (ns : List ℕ) → AllByRecursion IsSmall ns → option_map (λ ms. numbers_say k (numbers_at ms)) (numbers_of (map decimal ns)) ≡ Some (numbers_say k (numbers_at ns))
 numbers_said k ns small = ap (option_map (λ (ms : List ℕ). numbers_say k (numbers_at ms))) (numbers_of-decimals ns small)
@@ -402,7 +395,7 @@ auto_said number (Queue t w s l) small smalls =
 trigger_said : (version m i : ℕ) (l : TraceId) (ls : List TraceId) → IsSmall m → IsSmall i → HasDigits version l → length ls ≤ MAX_LATERALS → AllByRecursion (HasDigits version) ls
     → says version keywords.Trigger (decimal m ∷ decimal i ∷ trace_word version l ∷ map (trace_word version) ls) ≡ Some (fire m i l ls)
 trigger_said version m i l ls small_m small_i digits few all =
-    let many = length-words (trace_word version) ls in
+    let many = length_map (trace_word version) ls in
     let within : nat_le (length (map (trace_word version) ls)) MAX_LATERALS ≡ true = grind arith in
     let words : List (List ℕ) = map (trace_word version) ls in
     ap (λ (b : Bool). cond b (option_and_then (λ x. option_and_then (λ y. option_and_then (λ z. option_map (fire x y z) (traces_of version words)) (trace_of version (trace_word version l))) (number_of (decimal i))) (number_of (decimal m))) None) within
@@ -417,16 +410,16 @@ read version (Declare rule) f = record { words = refl; print = plain_read versio
 read version (Watch number rule) f =
     record {
       words = refl;
-      print = both _ _ (is_word-decimal number f.0) (both _ _ (kind_prints (auto_kind rule)) (decimals_print (auto_numbers rule) f.1));
+      print = and_from _ _ (is_word-decimal number f.0) (and_from _ _ (kind_prints (auto_kind rule)) (decimals_print (auto_numbers rule) f.1));
       said = auto_said number rule f.0 f.1;
     }
 read version (Start a b) f = record { words = refl; print = plain_read version keywords.Client (a ∷ b ∷ []) f; said = numbers_said keywords.Client (a ∷ b ∷ []) f }
 read version (Operate (Begin id)) f =
-    record { words = refl; print = both _ _ (trace_prints version id) refl; said = ap (option_map (λ (t : TraceId). Operate (Begin t))) (trace_of-word version id f) }
+    record { words = refl; print = and_from _ _ (trace_prints version id) refl; said = ap (option_map (λ (t : TraceId). Operate (Begin t))) (trace_of-word version id f) }
 read version (Operate (Point m bytes)) f =
     record {
       words = refl;
-      print = both _ _ (is_word-decimal m f.0) (both _ _ (is_word-payload_text bytes f.1) refl);
+      print = and_from _ _ (is_word-decimal m f.0) (and_from _ _ (is_word-payload_text bytes f.1) refl);
       said = ap (λ (o : Option ℕ). option_and_then (λ n. option_map (λ p. Operate (Point n p)) (payload_of (payload_text bytes))) o) (number_of-decimal m f.0)
           ∙ ap (option_map (λ (p : List ℕ). Operate (Point m p))) (payload_of-payload_text bytes f.1);
     }
@@ -435,7 +428,7 @@ read version (Operate End) f = record { words = refl; print = refl; said = refl 
 read version (Operate (Fire t)) f =
     record {
       words = refl;
-      print = both _ _ (is_word-decimal t.moment f.0) (both _ _ (is_word-decimal t.trigger.0 f.1) (both _ _ (trace_prints version t.lead) (traces_print version t.laterals)));
+      print = and_from _ _ (is_word-decimal t.moment f.0) (and_from _ _ (is_word-decimal t.trigger.0 f.1) (and_from _ _ (trace_prints version t.lead) (traces_print version t.laterals)));
       said = trigger_said version t.moment t.trigger.0 t.lead t.laterals f.0 f.1 f.2 f.3 f.4;
     }
 read version (Operate (Sample m a v)) f = record { words = refl; print = plain_read version keywords.Sample (m ∷ a ∷ v ∷ []) f; said = numbers_said keywords.Sample (m ∷ a ∷ v ∷ []) f }

@@ -1,5 +1,5 @@
 -- The text of what is said, a line after the other.
-use Rattle.std.proofs.Common.{◌≡◌, ℕ, ◌+◌, ◌*◌, ◌≤◌, ◌<◌, suc, List, [], ◌∷◌, ◌++◌, length, map, drop, drop-cons, add-one, get_or, refl, sym, ap, ◌∙◌, append_assoc, arith}
+use Rattle.std.proofs.Common.{◌≡◌, ℕ, ◌+◌, ◌*◌, ◌≤◌, List, [], ◌∷◌, ◌++◌, length, map, drop, refl, sym, ap, ◌∙◌, append_assoc, arith}
 use Rattle.std.proofs.lemmas.List.{append-nil, drop_all}
 use Rattle.hs_base.specs.declared.limits.TheConstants.{MAX_NODES, MAX_CLIENTS}
 use Rattle.hs_base.specs.declared.settings.TriggerRule.{TriggerRule}
@@ -38,10 +38,6 @@ next_lines version first these more out text new whole so_far begun is =
 pub next_line : (version : ℕ) (first : Statement) (more : List Statement) (out new whole : List ℕ) → out ++ statements_text version (first ∷ more) ≡ whole
     → new ≡ out ++ (statement_line version first ++ 10 ∷ []) → new ++ statements_text version more ≡ whole
 next_line version first more out new whole so_far is = next_lines version first [] more out new new whole so_far is (sym (append-nil new))
-
--- where one is left, those that are left begin with it
-pub drop_next : {A : Type 0} (items : List A) (i : ℕ) (x : A) → i < length items → x ≡ get_or items i x → drop i items ≡ x ∷ drop (i + 1) items
-drop_next items i x within is = drop-cons items i x within ∙ ap (λ y. y ∷ drop (suc i) items) (sym is) ∙ ap (λ n. x ∷ drop n items) (sym (add-one i))
 
 -- ---- declarations are the same in each version
 

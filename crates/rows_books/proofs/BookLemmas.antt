@@ -1,6 +1,7 @@
 -- The books of the test fit.
-use Rattle.std.proofs.Common.{◌≡◌, ℕ, zero, suc, ◌+◌, ◌<◌, ◌^◌, ◌==◌, if◌then◌else◌, List, [], ◌∷◌, ◌++◌, All, map, length, filter, Some, slice_get, refl, sym, ap, subst, ◌∙◌, inr, lit<, lit≤, arith}
-use Rattle.std.proofs.lemmas.List.Elements.{All-cons}
+use Rattle.std.proofs.Common.{◌≡◌, ℕ, zero, suc, ◌+◌, ◌<◌, ◌^◌, ◌==◌, if◌then◌else◌, List, [], ◌∷◌, ◌++◌, All, map, length, filter, Some, slice_get, refl, sym, ap, subst, ◌∙◌, inr, lit<, lit≤}
+use Rattle.std.proofs.lemmas.List.Elements.{All-cons, All-nil}
+use Rattle.hs_lists.proofs.Alls.{all_one}
 use Rattle.hs_base.specs.declared.ids.ClientId.{ClientId}
 use Rattle.hs_base.specs.declared.ids.NodeId.{NodeId}
 use Rattle.hs_base.specs.declared.told.Fate.TheVariants.{Live}
@@ -14,12 +15,6 @@ use Rattle.hs_journal.specs.Books.{PlainAgentBook, client_book_of, agent_book_of
 use Rattle.hs_ledger.specs.Books.{AreNumbered, BookFits, BooksFit, IsOfGotPage, is_of, standings_at, record_count}
 use Rattle.rows_books.specs.Books.{IsSampleClient, IsSampleAgent}
 use Rattle.hs_ledger.proofs.Numbering.{IsCounted}
-
-none_all : {X : Type 0} (P : X → Type 0) → All P []
-none_all P = λ k d within. absurd (omega arith)
-
-one_all : {X : Type 0} (P : X → Type 0) (x : X) → P x → All P (x ∷ [])
-one_all P x p = All-cons P x [] p (none_all P)
 
 abbrev draws : List Draw
 draws = Got 0 0 ∷ Empty 1 ∷ []
@@ -59,19 +54,19 @@ sample_fits clients agents book agent one_client one_agent sample at =
     fits : BooksFit (client_book_of book ∷ []) (agent_book_of agent ∷ [])
     fits =
         record {
-          ordered = (none_all _, tt);
+          ordered = (All-nil _, tt);
           each =
-              one_all (BookFits (agent_book_of agent ∷ [])) (client_book_of book)
+              all_one (BookFits (agent_book_of agent ∷ [])) (client_book_of book)
               (record {
                 drawn = ap length sample.draws ∙ sym (ap length sample.pages);
-                counted = subst (All IsCounted) (sym sample.pages) (All-cons IsCounted first_page (second_page ∷ []) (lit≤ tt) (one_all IsCounted second_page (lit≤ tt)));
+                counted = subst (All IsCounted) (sym sample.pages) (All-cons IsCounted first_page (second_page ∷ []) (lit≤ tt) (all_one IsCounted second_page (lit≤ tt)));
                 numbered = subst AreNumbered (sym sample.pages) ((refl, (inr (refl, refl), tt)));
                 standing = λ page buffer stamp is. at_first (agent_book_of agent ∷ []) book.client one_standing page buffer stamp (ap (λ ds. slice_get ds page) (sym sample.draws) ∙ is);
               });
           few = subst (λ n. n < 2 ^ 32) (sym (ap (λ ps. 0 + record_count ps) sample.pages)) (lit< tt);
           got =
-              one_all (λ (a : PlainAgentBook). All (IsOfGotPage (client_book_of book ∷ []) a.node.0) a.standings) (agent_book_of agent)
+              all_one (λ (a : PlainAgentBook). All (IsOfGotPage (client_book_of book ∷ []) a.node.0) a.standings) (agent_book_of agent)
               (subst (All (IsOfGotPage (client_book_of book ∷ []) agent.node.0)) (sym at.standings)
-              (one_all (IsOfGotPage (client_book_of book ∷ []) agent.node.0) (record { client = client_zero; page = 0; fate = Live })
+              (all_one (IsOfGotPage (client_book_of book ∷ []) agent.node.0) (record { client = client_zero; page = 0; fate = Live })
               (sym (ap (λ (node : NodeId). node.0) at.node), (client_book_of book, 0, 0, (0, lit< tt, refl), sample.client, ap (λ ds. slice_get ds 0) sample.draws))));
         }

@@ -1,5 +1,6 @@
 use Rattle.std.proofs.Common.{◌≡◌, List, [], ◌∷◌, ◌++◌, refl, sym, ap, subst, ◌∙◌}
 use Rattle.std.specs.Prelude.{OnOk}
+use Rattle.std.proofs.lemmas.Result.{on_ok_weaker}
 use Rattle.hs_base.specs.declared.told.Why.TheVariants.{Answer}
 use Rattle.hs_words.specs.Buffers.{buffer_of}
 use Rattle.hs_sched.specs.Turns.{Schedule}
@@ -11,7 +12,7 @@ use Rattle.hs_agent.specs.Runs.{StandsAt, IsTakable, taken_in}
 use Rattle.hs_agent.specs.Points.{sheet_in, chunk_taken, crumb_taken, trigger_taken, claimed_for}
 use Rattle.hs_agent.proofs.Offered.{holds-rest}
 use Rattle.hs_agent.proofs.Unchanged.{chunk-shares, crumb-shares, trigger-shares, claim-shares}
-use Rattle.hs_agent.proofs.Following.{on_ok-then, stands-then, nothing-came}
+use Rattle.hs_agent.proofs.Following.{stands-then, nothing-came}
 use Rattle.hs_agent.proofs.agent.take_input.Goals as goal
 
 pub returns-in_ok-take_chunk-in-Chunk-clause-after : goal.returns-in_ok-take_chunk-in-Chunk-clause-after
@@ -26,7 +27,7 @@ returns-in_ok-take_chunk-in-Chunk-clause-after g c = λ point stands places.
 pub returns-in-Crumb-clause-after : goal.returns-in-Crumb-clause-after
 returns-in-Crumb-clause-after g c = λ point stands places.
     subst (λ input. OnOk c.take_crumb.result (StandsAt c.take_crumb.new.self c.args.scheduler.now (taken_in {L = g.row.L.Denot} {g = g.L.Token} input point))) (sym c.in-Crumb.is)
-    (on_ok-then c.take_crumb.result
+    (on_ok_weaker c.take_crumb.result
     (λ (holds : Holds c.take_crumb.new.self (crumb_taken c.in-Crumb.crumb point)).
     nothing-came c.take_crumb.new.self c.args.scheduler.now (crumb_taken c.in-Crumb.crumb point)
     (stands-then c.args.holdings.now c.take_crumb.new.self c.args.scheduler.now point (crumb_taken c.in-Crumb.crumb point) stands refl (crumb-shares point.settings c.in-Crumb.crumb point.state) holds))
@@ -35,7 +36,7 @@ returns-in-Crumb-clause-after g c = λ point stands places.
 pub returns-in-Trigger-clause-after : goal.returns-in-Trigger-clause-after
 returns-in-Trigger-clause-after g c = λ point stands places.
     subst (λ input. OnOk c.take_trigger.result (StandsAt c.take_trigger.new.self c.args.scheduler.now (taken_in {L = g.row.L.Denot} {g = g.L.Token} input point))) (sym c.in-Trigger.is)
-    (on_ok-then c.take_trigger.result
+    (on_ok_weaker c.take_trigger.result
     (λ (holds : Holds c.take_trigger.new.self (trigger_taken c.in-Trigger.trigger point)).
     nothing-came c.take_trigger.new.self c.args.scheduler.now (trigger_taken c.in-Trigger.trigger point)
     (stands-then c.args.holdings.now c.take_trigger.new.self c.args.scheduler.now point (trigger_taken c.in-Trigger.trigger point) stands refl (trigger-shares point.settings point.node c.in-Trigger.trigger point.state) holds))

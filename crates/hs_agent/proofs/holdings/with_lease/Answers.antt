@@ -1,8 +1,9 @@
 use Rattle.std.proofs.Common.{◌≡◌, ℕ, Option, None, Some, get_or, set, length, refl, ap, sym, ◌∙◌, subst, option_map}
 use Rattle.std.specs.Bool.{IsTrue}
 use Rattle.std.specs.Option.{option_map_or}
+use Rattle.hs_lists.proofs.Lent.{written_back}
 use Rattle.hs_agent.specs.Placing.{Pledged, pledged_of, pledges_in}
-use Rattle.hs_agent.proofs.Writing.{written, kept_at, pledges-set}
+use Rattle.hs_agent.proofs.Writing.{kept_at, pledges-set}
 use Rattle.hs_agent.proofs.holdings.with_lease.Goals as goal
 
 pub unreachable-requires : goal.unreachable-requires
@@ -36,7 +37,7 @@ returns g c =
       chunk = refl;
       was = c.requires.pledged.is ∙ ap (λ (l : g.row.L.Denot). Some (Some (record { lease = l; number = c.args.held.chunk.number }))) lease;
       now =
-          ap (pledges_in {L = g.row.L.Denot} {g = g.L.Token}) (written c.args.leases.now.items c.as_mut_slice-leases.result.now c.args.held.lease.0 c.take.new.self c.as_mut_slice-leases.ensures.value)
+          ap (pledges_in {L = g.row.L.Denot} {g = g.L.Token}) (written_back c.args.leases.now.items c.as_mut_slice-leases.result.now c.args.held.lease.0 c.take.new.self c.as_mut_slice-leases.ensures.value)
           ∙ pledges-set {L = g.row.L.Denot} {g = g.L.Token} c.args.leases.now.items c.args.held.lease.0 c.take.new.self
           ∙ ap (λ s. set (pledges_in {L = g.row.L.Denot} {g = g.L.Token} c.args.leases.now.items) c.args.held.lease.0 (option_map (pledged_of {L = g.row.L.Denot} {g = g.L.Token}) s)) c.take.ensures.after;
     }

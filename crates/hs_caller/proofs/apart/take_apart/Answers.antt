@@ -2,12 +2,13 @@ use Rattle.std.proofs.Common.{[], ◌∷◌, ◌++◌, List, length, map, refl, 
 use Rattle.std.proofs.lemmas.Iterator.Adapters.{YieldsList-from_vec}
 use Rattle.std.proofs.lemmas.Iterator.Consumers.{YieldsList-turn, YieldsList-end}
 use Rattle.std.proofs.lemmas.List.{map-append}
+use Rattle.hs_lists.proofs.Parts.{map_self}
 use Rattle.hs_journal.specs.Books.{PlainClientBook, client_book_of}
 use Rattle.hs_live.specs.Live.{outgoing}
 use Rattle.hs_caller.specs.Calling.{Calling}
 use Rattle.hs_caller.specs.Nodes.{AreNotes}
 use Rattle.hs_caller.specs.Standing.{IsDone}
-use Rattle.hs_caller.proofs.Parting.{all_at, one_noted, map_same, one_more}
+use Rattle.hs_caller.proofs.Parting.{all_at, one_noted, one_more}
 use Rattle.hs_caller.proofs.apart.take_apart.Goals as goal
 
 pub close-closed-requires : goal.close-closed-requires
@@ -39,28 +40,28 @@ pub returns-clause-books : goal.returns-clause-books
 returns-clause-books c =
     let all = YieldsList-from_vec {s = c.into_iter-caller-iterator.result} c.args.callers.items (cc) (cc) in
     let last = YieldsList-end all c.loop-caller.yielded c.loop-caller.caller-iterator c.loop-caller.yielded_by c.next.result c.next.new.self c.in-None.is c.next.ensures.steps in
-    subst (λ (l : List Calling). AreNotes l (map client_book_of c.loop-caller.apart.books.items)) (sym (map_same c.loop-caller.yielded) ∙ last.0) c.loop-caller.invariant.2
+    subst (λ (l : List Calling). AreNotes l (map client_book_of c.loop-caller.apart.books.items)) (sym (map_self c.loop-caller.yielded) ∙ last.0) c.loop-caller.invariant.2
 
 pub returns-clause-drawers : goal.returns-clause-drawers
 returns-clause-drawers c =
     let all = YieldsList-from_vec {s = c.into_iter-caller-iterator.result} c.args.callers.items (cc) (cc) in
     let last = YieldsList-end all c.loop-caller.yielded c.loop-caller.caller-iterator c.loop-caller.yielded_by c.next.result c.next.new.self c.in-None.is c.next.ensures.steps in
-    c.loop-caller.invariant.3 ∙ ap (map (λ (k : Calling). k.client.drawer)) (sym (map_same c.loop-caller.yielded) ∙ last.0)
+    c.loop-caller.invariant.3 ∙ ap (map (λ (k : Calling). k.client.drawer)) (sym (map_self c.loop-caller.yielded) ∙ last.0)
 
 pub returns-clause-chunks : goal.returns-clause-chunks
 returns-clause-chunks c =
     let all = YieldsList-from_vec {s = c.into_iter-caller-iterator.result} c.args.callers.items (cc) (cc) in
     let last = YieldsList-end all c.loop-caller.yielded c.loop-caller.caller-iterator c.loop-caller.yielded_by c.next.result c.next.new.self c.in-None.is c.next.ensures.steps in
-    c.loop-caller.invariant.4 ∙ ap (map (λ (k : Calling). k.client.chunks)) (sym (map_same c.loop-caller.yielded) ∙ last.0)
+    c.loop-caller.invariant.4 ∙ ap (map (λ (k : Calling). k.client.chunks)) (sym (map_self c.loop-caller.yielded) ∙ last.0)
 
 pub returns-clause-crumbs : goal.returns-clause-crumbs
 returns-clause-crumbs c =
     let all = YieldsList-from_vec {s = c.into_iter-caller-iterator.result} c.args.callers.items (cc) (cc) in
     let last = YieldsList-end all c.loop-caller.yielded c.loop-caller.caller-iterator c.loop-caller.yielded_by c.next.result c.next.new.self c.in-None.is c.next.ensures.steps in
-    c.loop-caller.invariant.5 ∙ ap (map (λ (k : Calling). k.client.crumbs)) (sym (map_same c.loop-caller.yielded) ∙ last.0)
+    c.loop-caller.invariant.5 ∙ ap (map (λ (k : Calling). k.client.crumbs)) (sym (map_self c.loop-caller.yielded) ∙ last.0)
 
 pub returns-clause-triggers : goal.returns-clause-triggers
 returns-clause-triggers c =
     let all = YieldsList-from_vec {s = c.into_iter-caller-iterator.result} c.args.callers.items (cc) (cc) in
     let last = YieldsList-end all c.loop-caller.yielded c.loop-caller.caller-iterator c.loop-caller.yielded_by c.next.result c.next.new.self c.in-None.is c.next.ensures.steps in
-    c.loop-caller.invariant.6 ∙ ap (map (λ (k : Calling). k.client.triggers)) (sym (map_same c.loop-caller.yielded) ∙ last.0)
+    c.loop-caller.invariant.6 ∙ ap (map (λ (k : Calling). k.client.triggers)) (sym (map_self c.loop-caller.yielded) ∙ last.0)

@@ -3,10 +3,11 @@ use Rattle.std.proofs.lemmas.List.{length-map}
 use Rattle.hs_live.specs.Live.{Port, incoming}
 use Rattle.hs_ring.specs.Parts.{new_drawers}
 use Rattle.hs_words.specs.Chunks.{clear_chunks}
+use Rattle.hs_words.proofs.Chunks.{length_clear}
 use Rattle.hs_workload.specs.Validity.{client_pieces}
 use Rattle.hs_workload.specs.Views.{operations_of, workload_of}
 use Rattle.hs_caller.specs.Nodes.{NodeBegins, Receiving, lefts_of}
-use Rattle.hs_caller.proofs.Clients.{is_sized, are_few, clients_sliced, sum_few, each_few, count_of, count_clear}
+use Rattle.hs_caller.proofs.Clients.{is_sized, are_few, clients_sliced, sum_few, each_few, count_of}
 use Rattle.hs_caller.proofs.Connecting.{is_port, node_begins}
 use Rattle.hs_caller.proofs.node.begin_node.Goals as goal
 
@@ -35,18 +36,18 @@ pub make-requires-2-clause-some : goal.make-requires-2-clause-some
 make-requires-2-clause-some c =
     let s = c.args.workload.now.settings in
     let sized = is_sized (workload_of c.args.workload.now) c.requires.valid in
-    omega (arith, ap length c.in_ok-stock.ensures, count_clear s.buffers s.size, sized.some)
+    omega (arith, ap length c.in_ok-stock.ensures, length_clear s.buffers s.size, sized.some)
 
 pub make-requires-2-clause-few : goal.make-requires-2-clause-few
 make-requires-2-clause-few c =
     let s = c.args.workload.now.settings in
     let sized = is_sized (workload_of c.args.workload.now) c.requires.valid in
-    omega (arith, ap length c.in_ok-stock.ensures, count_clear s.buffers s.size, sized.few)
+    omega (arith, ap length c.in_ok-stock.ensures, length_clear s.buffers s.size, sized.few)
 
 pub make-requires-2-clause-clear : goal.make-requires-2-clause-clear
 make-requires-2-clause-clear c =
     let s = c.args.workload.now.settings in
-    let count = ap length c.in_ok-stock.ensures ∙ count_clear s.buffers s.size in
+    let count = ap length c.in_ok-stock.ensures ∙ length_clear s.buffers s.size in
     (s.size, c.in_ok-stock.ensures ∙ ap (λ k. clear_chunks k s.size) (sym count))
 
 pub make-requires-2-clause-drawers : goal.make-requires-2-clause-drawers
@@ -71,14 +72,14 @@ make-requires-2-clause-draws c =
 pub connect_all-requires-clause-size : goal.connect_all-requires-clause-size
 connect_all-requires-clause-size c =
     let s = c.args.workload.now.settings in
-    let count = ap length c.in_ok-stock.ensures ∙ count_clear s.buffers s.size in
+    let count = ap length c.in_ok-stock.ensures ∙ length_clear s.buffers s.size in
     let ends = c.in_ok-giver.ensures s.size (c.in_ok-stock.ensures ∙ ap (λ k. clear_chunks k s.size) (sym count)) in
     ap (λ g. g.size) ends.giver_is
 
 pub connect_all-requires-clause-drawers : goal.connect_all-requires-clause-drawers
 connect_all-requires-clause-drawers c =
     let s = c.args.workload.now.settings in
-    let count = ap length c.in_ok-stock.ensures ∙ count_clear s.buffers s.size in
+    let count = ap length c.in_ok-stock.ensures ∙ length_clear s.buffers s.size in
     let ends = c.in_ok-giver.ensures s.size (c.in_ok-stock.ensures ∙ ap (λ k. clear_chunks k s.size) (sym count)) in
     ends.drawers_are ∙ ap₂ (λ n lefts. new_drawers c.in_ok-giver.giver.pool n s.size 0 lefts) count (c.as_slice-2.ensures ∙ c.in_ok-allowances.ensures)
 
@@ -97,7 +98,7 @@ returns c =
     let first = c.args.node * s.clients in
     let clients = take (first + s.clients - first) (drop first c.as_slice.result.now) in
     let are = clients_sliced w c.requires.valid c.args.node c.requires.low c.as_slice.result.now c.as_slice.ensures (first + s.clients - first) (omega arith) in
-    let count = ap length c.in_ok-stock.ensures ∙ count_clear s.buffers s.size in
+    let count = ap length c.in_ok-stock.ensures ∙ length_clear s.buffers s.size in
     let made = c.in_ok-giver.ensures s.size (c.in_ok-stock.ensures ∙ ap (λ k. clear_chunks k s.size) (sym count)) in
     let many : length c.as_slice-2.result.now ≡ s.clients = ap length (c.as_slice-2.ensures ∙ c.in_ok-allowances.ensures) ∙ length-map clients _ ∙ count_of w c.args.node clients are in
     let ends = c.in_ok-callers.field-0 in

@@ -8,11 +8,12 @@ use Rattle.hs_player.specs.Places.{IsPlayable}
 use Rattle.hs_records.specs.Plain.{Operation}
 use Rattle.hs_sent.specs.Sending.{place_of, ops_of}
 use Rattle.hs_workload.specs.Views.{operation_of, workload_of}
+use Rattle.hs_ring.proofs.Making.{new_drawers_length}
 use Rattle.hs_caller.specs.Calling.{Calling}
 use Rattle.hs_caller.specs.Making.{IsConnected}
 use Rattle.hs_caller.specs.Nodes.{AreBegun, Receiving, lefts_of}
 use Rattle.hs_caller.specs.Standing.{IsDrawerFor}
-use Rattle.hs_caller.proofs.Clients.{next_is, can_draw, are_few, place_low, count_of, count_drawers}
+use Rattle.hs_caller.proofs.Clients.{next_is, can_draw, are_few, place_low, count_of}
 use Rattle.hs_caller.proofs.Connecting.{begun_more}
 use Rattle.hs_caller.proofs.node.connect_all.Goals as goal
 
@@ -130,5 +131,5 @@ returns c =
     let last = YieldsList-end all c.loop-drawer.yielded c.loop-drawer.drawer-iterator c.loop-drawer.yielded_by c.next.result c.next.new.self c.in-None.is c.next.ensures.steps in
     let lefts = lefts_of w.settings.size c.args.clients.now in
     let count : length c.loop-drawer.yielded ≡ w.settings.clients =
-    last.1 ∙ ap length c.requires.drawers ∙ count_drawers c.args.giver.now.pool w.settings.buffers w.settings.size 0 lefts ∙ length-map c.args.clients.now _ ∙ count_of w c.args.node c.args.clients.now c.requires.clients in
+    last.1 ∙ ap length c.requires.drawers ∙ new_drawers_length c.args.giver.now.pool w.settings.buffers w.settings.size 0 lefts ∙ length-map c.args.clients.now _ ∙ count_of w c.args.node c.args.clients.now c.requires.clients in
     subst (λ n. AreBegun W c.args.node c.args.giver.now n ends.callers.items (record { chunks = map incoming ends.chunks.items; crumbs = ends.crumbs.items; triggers = ends.triggers.items })) count c.loop-drawer.invariant.7

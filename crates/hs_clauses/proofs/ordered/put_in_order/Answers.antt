@@ -1,26 +1,24 @@
-use Rattle.std.proofs.Common.{◌≡◌, ℕ, ◌+◌, Bool, eqb, ltb, List, map, refl, sym, ap, ◌∙◌, rules, arith}
-use Rattle.std.specs.Prelude.{filter, not, ◌&&◌}
+use Rattle.std.proofs.Common.{◌≡◌, ℕ, ◌+◌, Bool, eqb, ltb, List, map, refl, sym, ap, ◌∙◌, rules}
+use Rattle.std.specs.Prelude.{filter}
 use Rattle.std.specs.List.Sorted.{IsStableByKey, ties}
 use Rattle.std.specs.Ordering.{nat_cmp, is_lt}
-use Rattle.std.proofs.lemmas.Bool.Decides.{nat_tests}
+use Rattle.std.proofs.lemmas.List.Elements.{filter_agree}
 use Rattle.std.proofs.lemmas.List.Sorted.{IsNonDecreasingBy-from_sort_by_key, answers_always}
+use Rattle.hs_lists.proofs.Numbers.{nat_cmp_tie}
 use Rattle.hs_lawful.specs.Pooled.{PoolEvent}
 use Rattle.hs_clauses.specs.declared.happened.Timed.{Timed}
 use Rattle.hs_clauses.specs.declared.happened.Happening.TheVariants as happenings
 use Rattle.hs_clauses.specs.Happening.{pool_event}
-use Rattle.hs_clauses.proofs.Sorting.{filter_same, put_in_order, buckets-map}
+use Rattle.hs_clauses.proofs.Sorting.{put_in_order, buckets-map}
 use Rattle.hs_clauses.proofs.ordered.put_in_order.Goals as goal
-
-tie : (a b : ℕ) → (not (is_lt (nat_cmp a b)) && not (is_lt (nat_cmp b a))) ≡ eqb b a
-tie a b = grind (arith, nat_tests)
 
 -- what ties with an event of a stamp has that stamp
 same_stamp : (s : ℕ) (xs ys : List Timed) → IsStableByKey (λ (t : Timed). t.stamp) nat_cmp xs ys → filter (λ (t : Timed). eqb t.stamp s) ys ≡ filter (λ (t : Timed). eqb t.stamp s) xs
 same_stamp s xs ys stable =
     let one : Timed = record { stamp = s; event = happenings.Empty } in
-    filter_same (λ (t : Timed). eqb t.stamp s) (λ (t : Timed). ties (λ (x y : Timed). is_lt (nat_cmp x.stamp y.stamp)) one t) (λ t. sym (tie s t.stamp)) ys
+    filter_agree (λ (t : Timed). eqb t.stamp s) (λ (t : Timed). ties (λ (x y : Timed). is_lt (nat_cmp x.stamp y.stamp)) one t) (λ t. sym (nat_cmp_tie s t.stamp)) ys
     ∙ stable one
-    ∙ filter_same (λ (t : Timed). ties (λ (x y : Timed). is_lt (nat_cmp x.stamp y.stamp)) one t) (λ (t : Timed). eqb t.stamp s) (λ t. tie s t.stamp) xs
+    ∙ filter_agree (λ (t : Timed). ties (λ (x y : Timed). is_lt (nat_cmp x.stamp y.stamp)) one t) (λ (t : Timed). eqb t.stamp s) (λ t. nat_cmp_tie s t.stamp) xs
 
 pub returns-clause-order : goal.returns-clause-order
 returns-clause-order c = λ bound.

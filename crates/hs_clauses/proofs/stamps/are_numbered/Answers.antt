@@ -3,7 +3,8 @@ use Rattle.std.specs.Prelude.{count_by}
 use Rattle.std.proofs.lemmas.Bool.{eq-eqb, lt-ltb}
 use Rattle.std.proofs.lemmas.List.{get_or_default, length-set}
 use Rattle.std.proofs.lemmas.List.Sums.{count_by_more_yes}
-use Rattle.hs_clauses.proofs.Numbered.{one_if, numbered, too_high, twice, marked, at_most_one}
+use Rattle.hs_lists.proofs.Counts.{one_if, one_few}
+use Rattle.hs_clauses.proofs.Numbered.{numbered, too_high, twice, marked}
 use Rattle.hs_clauses.proofs.stamps.are_numbered.Goals as goal
 
 pub returns-then-place-len : goal.returns-then-place-len
@@ -49,4 +50,4 @@ returns c =
     let all : take i xs ≡ xs = take_all i xs c.loop-stamp-test.false in
     let same : i ≡ length xs = omega arith in
     numbered xs (sym (ap (count_by (λ t. ltb t (length xs))) all) ∙ c.loop-stamp.invariant.low ∙ same)
-    (λ s low. let e : count_by (λ t. eqb t s) xs ≡ one_if (get_or seen s false) = sym (ap (count_by (λ t. eqb t s)) all) ∙ c.loop-stamp.invariant.counts s low in omega (arith, e, at_most_one (get_or seen s false)))
+    (λ s low. let e : count_by (λ t. eqb t s) xs ≡ one_if (get_or seen s false) = sym (ap (count_by (λ t. eqb t s)) all) ∙ c.loop-stamp.invariant.counts s low in omega (arith, e, one_few (get_or seen s false)))

@@ -1,11 +1,12 @@
 use Rattle.std.proofs.Common.{◌≡◌, ℕ, Bool, ◌+◌, List, sym, ap, ◌∙◌, arith}
 use Rattle.std.specs.List.{list_all, range_with_len}
+use Rattle.hs_lists.proofs.Tests.{list_all_map}
 use Rattle.hs_journal.specs.declared.journal.Draw.{Draw}
 use Rattle.hs_journal.specs.Views.{PlainJournal, journal_of}
 use Rattle.hs_lawful.specs.Shape.{draw_stamps, rise, node_draws}
 use Rattle.hs_sent.specs.Sending.{draws_at, place_of}
 use Rattle.hs_workload.specs.Views.{workload_of}
-use Rattle.hs_clauses.proofs.Ranges.{all_more, all_fails, all_done, list_all-map}
+use Rattle.hs_clauses.proofs.Ranges.{all_more, all_fails, all_done}
 use Rattle.hs_clauses.proofs.stamps.clients_rise.Goals as goal
 
 abbrev test : PlainJournal → ℕ → ℕ → ℕ → Bool
@@ -15,7 +16,7 @@ pub loop-number-init : goal.loop-number-init
 loop-number-init c =
     let j = journal_of c.args.journal.now in
     let n = c.args.workload.now.settings.clients in
-    sym (list_all-map (λ draws. rise (draw_stamps draws)) (λ number. draws_at j (place_of n c.args.node number)) (range_with_len 0 n))
+    sym (list_all_map (λ draws. rise (draw_stamps draws)) (λ number. draws_at j (place_of n c.args.node number)) (range_with_len 0 n))
 
 pub loop-number-preserved : goal.loop-number-preserved
 loop-number-preserved c =

@@ -1,7 +1,7 @@
 use Rattle.std.proofs.Common.{◌<◌, ◌+◌, get_or, length, List, sym, subst, arith}
+use Rattle.hs_lists.proofs.Lent.{lent_is, lent_from}
 use Rattle.hs_desk.specs.Shut.{Shut}
 use Rattle.hs_closing.specs.Shutting.{Passing}
-use Rattle.hs_desk.proofs.Lists.{lent_is, lent_from}
 use Rattle.hs_closing.proofs.Passed.{passing_none, passing_more, can_pass, passing_so}
 use Rattle.hs_closing.proofs.closing.agents_pass.Goals as goal
 

@@ -1,7 +1,7 @@
 use Rattle.std.proofs.Common.{◌<◌, ◌+◌, get_or, length, length-set, List, refl, sym, ap, subst, ◌∙◌, arith}
+use Rattle.hs_lists.proofs.Lent.{lent_is, lent_from}
 use Rattle.hs_desk.specs.Shut.{Shut}
 use Rattle.hs_closing.specs.Shutting.{AskedFirst}
-use Rattle.hs_desk.proofs.Lists.{lent_is, lent_from}
 use Rattle.hs_closing.proofs.Asking.{asked_none, asked_more, asked_to_all}
 use Rattle.hs_closing.proofs.closing.ask.Goals as goal
 

@@ -1,6 +1,8 @@
 use Rattle.std.proofs.Common.{◌≡◌, Some, sym, ap, subst, ◌∙◌, inl, inr, arith, slice_get}
+use Rattle.std.proofs.lemmas.Option.{slice_get_within}
+use Rattle.hs_lists.proofs.Numbers.{same_or_less}
+use Rattle.hs_lists.proofs.Lent.{indexed}
 use Rattle.hs_desk.specs.Shut.{IsShut, IsBare}
-use Rattle.hs_desk.proofs.Lists.{same_or_less, within, indexed}
 use Rattle.hs_closing.proofs.closing.is_bare.Goals as goal
 
 pub loop-number-preserved : goal.loop-number-preserved
@@ -8,7 +10,7 @@ loop-number-preserved c = λ W sents works stand k shut low at.
     elim (same_or_less k c.loop-number.number (omega (arith, low))) [
       | inl less ↦ c.loop-number.invariant W sents works stand k shut less at
       | inr same ↦
-          let inside = within c.args.nodes.now.items k shut at in
+          let inside = slice_get_within c.args.nodes.now.items k shut at in
           let here = indexed c.args.nodes.now.items c.as_slice.result.now c.loop-number.number c.index-as_slice-number.result c.as_slice.ensures (omega (arith, inside, same)) c.index-as_slice-number.is in
           let one : Some c.index-as_slice-number.result ≡ Some shut = sym here ∙ ap (slice_get c.args.nodes.now.items) (sym same) ∙ at in
           let is : c.index-as_slice-number.result ≡ shut = cc in
@@ -20,7 +22,7 @@ pub returns : goal.returns
 returns c = λ W sents works stand bare.
     record {
       each = λ k shut at.
-          let low = within c.args.nodes.now.items k shut at in
+          let low = slice_get_within c.args.nodes.now.items k shut at in
           let high = c.loop-number-test.false in
           let end = c.loop-number.auto.number-end in
           let len = c.len-number-end.ensures in

@@ -2,6 +2,7 @@ use Rattle.std.proofs.Common.{◌≡◌, [], ◌∷◌, ◌++◌, List, length, 
 use Rattle.std.proofs.lemmas.Iterator.Adapters.{YieldsList-from_vec}
 use Rattle.std.proofs.lemmas.Iterator.Consumers.{YieldsList-turn, YieldsList-end}
 use Rattle.std.proofs.lemmas.List.{map-append}
+use Rattle.hs_lists.proofs.Parts.{map_self}
 use Rattle.hs_journal.specs.Books.{PlainClientBook, client_book_of}
 use Rattle.hs_ring.specs.Parts.{Drawing}
 use Rattle.hs_desk.specs.Shut.{Shut}
@@ -9,7 +10,7 @@ use Rattle.hs_rounds.specs.Standing.{Site}
 use Rattle.hs_closing.specs.declared.place.Place.{Place}
 use Rattle.hs_closing.specs.Ended.{AreShut, items_of}
 use Rattle.hs_closing.specs.Over.{place_site}
-use Rattle.hs_closing.proofs.Shut.{there, map_same, shut_more}
+use Rattle.hs_closing.proofs.Shut.{there, shut_more}
 use Rattle.hs_closing.proofs.shutting.shut_all.Goals as goal
 
 pub shut-requires : goal.shut-requires
@@ -45,4 +46,4 @@ returns c =
     let all = YieldsList-from_vec {s = c.into_iter-place-iterator.result} c.args.places.items (c.into_iter-place-iterator.ensures.into_iter_gives.0 ∙ c.into_vec-place-items.ensures.items)
     (c.into_iter-place-iterator.ensures.into_iter_gives.1 ∙ c.into_vec-place-items.result.ok.0 ∙ ap length c.into_vec-place-items.ensures.items) in
     let last = YieldsList-end all c.loop-place.yielded c.loop-place.place-iterator c.loop-place.yielded_by c.next.result c.next.new.self c.in-None.is c.next.ensures.steps in
-    subst (λ (l : List Place). AreShut (map place_site l) (map client_book_of c.loop-place.ended.books.items) (items_of c.loop-place.ended.drawers.items) c.loop-place.ended.nodes.items) (sym (map_same c.loop-place.yielded) ∙ last.0) c.loop-place.invariant.2
+    subst (λ (l : List Place). AreShut (map place_site l) (map client_book_of c.loop-place.ended.books.items) (items_of c.loop-place.ended.drawers.items) c.loop-place.ended.nodes.items) (sym (map_self c.loop-place.yielded) ∙ last.0) c.loop-place.invariant.2

@@ -1,9 +1,9 @@
 use Rattle.std.proofs.Common.{map, ap₂, sym, ◌∙◌}
+use Rattle.std.proofs.lemmas.Result.{IfOk-weaker}
 use Rattle.hs_records.specs.Plain.{settings_of}
 use Rattle.hs_sent.specs.Sending.{sent_triggers}
 use Rattle.hs_workload.specs.Views.{operation_of}
 use Rattle.hs_compare.specs.Happens.{names_by}
-use Rattle.hs_compare.proofs.Firsts.{if_ok}
 use Rattle.hs_compare.proofs.Named.{names_are}
 use Rattle.hs_compare.proofs.Quiet.{names_nothing}
 use Rattle.hs_compare.proofs.client.client_names.Goals as goal
@@ -12,7 +12,7 @@ pub returns : goal.returns
 returns c =
     let ops = map operation_of c.args.operations.now in
     let autos = (settings_of c.args.settings.now).autos in
-    if_ok c.names_of.result _ _
+    IfOk-weaker c.names_of.result _ _
     (λ names is.
     is ∙ ap₂ names_by (c.as_slice.ensures ∙ c.in_ok-sending.ensures.found.triggers) c.in_ok-sending.ensures.triggers ∙ names_are (sent_triggers autos ops))
     c.names_of.ensures

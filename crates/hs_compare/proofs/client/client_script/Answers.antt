@@ -1,20 +1,20 @@
 use Rattle.std.proofs.Common.{List, map, sym, ◌∙◌, subst, arith}
 use Rattle.std.proofs.lemmas.List.{length-map}
-use Rattle.hs_clauses.proofs.Valid.{ops_few}
+use Rattle.std.proofs.lemmas.Result.{IfOk-weaker}
 use Rattle.hs_records.specs.Plain.{settings_of}
 use Rattle.hs_sent.specs.Sending.{sent_triggers}
 use Rattle.hs_workload.specs.Views.{operation_of}
+use Rattle.hs_workload.proofs.Sizes.{operations_few}
 use Rattle.hs_compare.specs.Points.{IsScriptOf}
 use Rattle.hs_compare.specs.Scripts.{names_of}
 use Rattle.hs_compare.specs.Walking.{AreInTurn}
 use Rattle.hs_compare.specs.declared.happening.Happening.{Happening}
-use Rattle.hs_compare.proofs.Firsts.{if_ok}
 use Rattle.hs_compare.proofs.Named.{names_turn}
 use Rattle.hs_compare.proofs.client.client_script.Goals as goal
 
 pub script_of-requires-clause-few : goal.script_of-requires-clause-few
 script_of-requires-clause-few c =
-    omega (arith, c.requires.playable.few, ops_few (settings_of c.args.settings.now).size (map operation_of c.args.operations.now), length-map c.args.operations.now operation_of)
+    omega (arith, c.requires.playable.few, operations_few (settings_of c.args.settings.now).size (map operation_of c.args.operations.now), length-map c.args.operations.now operation_of)
 
 pub script_of-requires-clause-names : goal.script_of-requires-clause-names
 script_of-requires-clause-names c =
@@ -26,6 +26,6 @@ pub returns : goal.returns
 returns c =
     let ops = map operation_of c.args.operations.now in
     let autos = (settings_of c.args.settings.now).autos in
-    if_ok c.script_of.result (IsScriptOf c.args.client c.as_slice.result.now ops) (IsScriptOf c.args.client (names_of autos ops) ops)
+    IfOk-weaker c.script_of.result (IsScriptOf c.args.client c.as_slice.result.now ops) (IsScriptOf c.args.client (names_of autos ops) ops)
     (λ script is. subst (λ (names : List Happening). IsScriptOf c.args.client names ops script) (c.as_slice.ensures ∙ c.in_ok-names.ensures) is)
     c.script_of.ensures

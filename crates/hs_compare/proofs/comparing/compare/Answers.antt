@@ -1,4 +1,5 @@
 use Rattle.std.proofs.Common.{◌≡◌, map, ap, ap₂, ◌∙◌}
+use Rattle.std.proofs.lemmas.Result.{IfOk-weaker}
 use Rattle.hs_lockstep.specs.Lockstep.{lockstep}
 use Rattle.hs_samplers.specs.Laws.{compared_by, SumsToTail}
 use Rattle.hs_workload.specs.Views.{workload_of}
@@ -6,7 +7,6 @@ use Rattle.hs_compare.specs.declared.comparison.Comparison.{Comparison}
 use Rattle.hs_compare.specs.Comparing.{comparison_by}
 use Rattle.hs_compare.specs.Happens.{coming_of}
 use Rattle.hs_compare.specs.Plain.{plain_comparison}
-use Rattle.hs_compare.proofs.Firsts.{if_ok}
 use Rattle.hs_compare.proofs.Claiming.{traces_in}
 use Rattle.hs_compare.proofs.Few.{records_fit, bytes_fit, ring_fits, named_once}
 use Rattle.hs_compare.proofs.Outcomed.{outcome_beside, compared_is, sums_to_tail}
@@ -36,7 +36,7 @@ returns-clause-numbers c =
     let W = workload_of c.args.workload.now in
     let all = c.as_slice.result.now in
     let ring = c.in_ok-ring.ring in
-    if_ok c.compared.result (λ (found : Comparison). found ≡ comparison_by c.args.one_in all ring.named ring.traces c.as_slice-2.result.now c.as_slice-3.result.now)
+    IfOk-weaker c.compared.result (λ (found : Comparison). found ≡ comparison_by c.args.one_in all ring.named ring.traces c.as_slice-2.result.now c.as_slice-3.result.now)
     (λ (found : Comparison). plain_comparison found ≡ compared_by W (lockstep W) c.args.one_in c.args.room)
     (λ found is.
     ap plain_comparison is ∙ ap₂ (λ es ts. plain_comparison (comparison_by c.args.one_in all ring.named ring.traces es ts)) c.as_slice-2.ensures c.as_slice-3.ensures
@@ -46,6 +46,6 @@ returns-clause-numbers c =
 pub returns-clause-sum : goal.returns-clause-sum
 returns-clause-sum c =
     let W = workload_of c.args.workload.now in
-    if_ok c.compared.result (λ (found : Comparison). plain_comparison found ≡ compared_by W (lockstep W) c.args.one_in c.args.room) (λ (found : Comparison). SumsToTail (plain_comparison found))
+    IfOk-weaker c.compared.result (λ (found : Comparison). plain_comparison found ≡ compared_by W (lockstep W) c.args.one_in c.args.room) (λ (found : Comparison). SumsToTail (plain_comparison found))
     (λ found. sums_to_tail c.tail_is_the_sum.ensures W (lockstep W) c.args.one_in c.args.room (plain_comparison found) c.requires.valid (c.schedule_is_lawful.ensures W c.requires.valid))
     (returns-clause-numbers c)

@@ -1,9 +1,9 @@
 use Rattle.std.proofs.Common.{List, ◌∙◌, subst}
+use Rattle.std.proofs.lemmas.Result.{IfOk-weaker}
 use Rattle.hs_base.specs.declared.ids.TraceId.{TraceId}
 use Rattle.hs_compare.specs.Counting.{AreCounted}
-use Rattle.hs_compare.proofs.Firsts.{if_ok}
 use Rattle.hs_compare.proofs.comparison.counts_of.Goals as goal
 
 pub returns : goal.returns
 returns c =
-    if_ok c.counted.result _ _ (λ counts are. subst (λ (ts : List TraceId). AreCounted ts counts.entries) (c.deref.ensures.value ∙ c.in_ok-traces.ensures) are) c.counted.ensures
+    IfOk-weaker c.counted.result _ _ (λ counts are. subst (λ (ts : List TraceId). AreCounted ts counts.entries) (c.deref.ensures.value ∙ c.in_ok-traces.ensures) are) c.counted.ensures

@@ -1,8 +1,8 @@
 use Rattle.std.proofs.Common.{length, ap, arith}
+use Rattle.hs_lists.proofs.Parts.{length_map}
 use Rattle.hs_compare.specs.declared.coming.Coming.{Coming}
 use Rattle.hs_compare.specs.Marked.{marked}
 use Rattle.hs_compare.proofs.Marking.{marked_few}
-use Rattle.hs_compare.proofs.Tails.{length_map}
 use Rattle.hs_compare.proofs.comparison.marked_line.Goals as goal
 
 pub line_of-requires-clause-kept : goal.line_of-requires-clause-kept

@@ -1,7 +1,7 @@
 use Rattle.std.proofs.Common.{◌∷◌, [], ◌++◌, Some, cond, sym, ap, ◌∙◌, is_some}
 use Rattle.std.specs.Prelude.{unwrap_or}
 use Rattle.std.specs.Map.{lookup}
-use Rattle.hs_compare.proofs.Firsts.{on_ok, on_err}
+use Rattle.hs_lists.proofs.Options.{on_ok_map, on_err_map}
 use Rattle.hs_compare.proofs.Queued.{is_key, changed, unchanged}
 use Rattle.hs_compare.proofs.queue.add.Goals as goal
 
@@ -9,7 +9,7 @@ pub returns-in-Some-clause-ok : goal.returns-in-Some-clause-ok
 returns-in-Some-clause-ok c =
     let new = (c.get_mut.follows.lender c.push.new.self).entries in
     let updates = (c.get_mut.follows.holds c.push.new.self).3 (ap is_some (sym c.in-Some.ensures.value)) in
-    on_ok c.push.result _ _
+    on_ok_map c.push.result _ _
     (λ is.
     changed (λ q. q ++ c.args.id ∷ []) c.args.queues.now.entries new c.args.trace (Some c.push.new.self) updates.0
     (is ∙ ap (λ o. unwrap_or o [] ++ c.args.id ∷ []) c.in-Some.ensures.value))
@@ -19,7 +19,7 @@ pub returns-in-Some-clause-err : goal.returns-in-Some-clause-err
 returns-in-Some-clause-err c =
     let new = (c.get_mut.follows.lender c.push.new.self).entries in
     let updates = (c.get_mut.follows.holds c.push.new.self).3 (ap is_some (sym c.in-Some.ensures.value)) in
-    on_err c.push.result _ _
+    on_err_map c.push.result _ _
     (λ same. unchanged c.args.queues.now.entries new c.args.trace c.push.new.self updates.0 (sym c.in-Some.ensures.value ∙ ap Some (sym same)))
     c.push.ensures.err
 

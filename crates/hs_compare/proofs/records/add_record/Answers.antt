@@ -1,9 +1,9 @@
 use Rattle.std.proofs.Common.{◌++◌, ◌∷◌, [], Some, None, map, sym, ap, ◌∙◌}
 use Rattle.std.proofs.lemmas.List.{append-nil}
+use Rattle.hs_lists.proofs.Options.{on_ok_map}
 use Rattle.hs_samplers.specs.Coming.{comings_of}
 use Rattle.hs_workload.specs.Views.{operation_of}
 use Rattle.hs_compare.specs.Happens.{coming_of}
-use Rattle.hs_compare.proofs.Firsts.{on_ok}
 use Rattle.hs_compare.proofs.Pointed.{joined_on}
 use Rattle.hs_compare.proofs.records.add_record.Goals as goal
 
@@ -11,7 +11,7 @@ pub returns-in-Some-clause-joined : goal.returns-in-Some-clause-joined
 returns-in-Some-clause-joined c = λ before first joined.
     let op = operation_of c.args.operation.now in
     let walk = c.args.walk.now in
-    on_ok c.append.result _ _
+    on_ok_map c.append.result _ _
     (λ more.
     record {
       gone = c.in-Some.ensures.gone before joined.gone;

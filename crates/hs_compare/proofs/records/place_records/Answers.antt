@@ -1,15 +1,16 @@
 use Rattle.std.proofs.Common.{◌≡◌, ◌++◌, List, length, map, ap, ◌∙◌, arith}
 use Rattle.std.proofs.lemmas.List.{length-map}
-use Rattle.hs_clauses.proofs.Valid.{ops_few}
+use Rattle.hs_lists.proofs.Places.{row_is}
+use Rattle.hs_lists.proofs.Options.{on_ok_map}
 use Rattle.hs_outcome.specs.Outcomes.{client_at}
 use Rattle.hs_records.specs.Plain.{Operation}
 use Rattle.hs_samplers.specs.Coming.{comings_of}
 use Rattle.hs_sent.specs.Sending.{operations_at}
 use Rattle.hs_workload.specs.Views.{workload_of, operation_of, operations_of}
 use Rattle.hs_workload.specs.declared.word.Setting.TheVariants.{Nodes}
+use Rattle.hs_workload.proofs.Sizes.{operations_few}
 use Rattle.hs_compare.specs.Happens.{coming_of}
-use Rattle.hs_compare.proofs.Beginning.{place_low, row_is}
-use Rattle.hs_compare.proofs.Firsts.{on_ok}
+use Rattle.hs_compare.proofs.Beginning.{place_low}
 use Rattle.hs_compare.proofs.records.place_records.Goals as goal
 
 pub client_at-client-requires-clause-low : goal.client_at-client-requires-clause-low
@@ -27,7 +28,7 @@ add_records-requires c =
     ap (map operation_of) c.as_slice-operations.ensures
     ∙ row_is c.args.workload.now.clients.items c.as_slice.result.now operations_of c.args.place c.index-as_slice-place.result c.as_slice.ensures c.requires.low c.index-as_slice-place.is in
     let playable = c.valid_clients_may_be_played.ensures W c.requires.valid c.args.place (omega (arith, c.requires.low, rows)) in
-    omega (arith, playable.few, ops_few W.settings.size (operations_at W c.args.place), ap length is, length-map c.as_slice-operations.result.now operation_of)
+    omega (arith, playable.few, operations_few W.settings.size (operations_at W c.args.place), ap length is, length-map c.as_slice-operations.result.now operation_of)
 
 pub returns : goal.returns
 returns c =
@@ -35,7 +36,7 @@ returns c =
     let is : map operation_of c.as_slice-operations.result.now ≡ operations_at W c.args.place =
     ap (map operation_of) c.as_slice-operations.ensures
     ∙ row_is c.args.workload.now.clients.items c.as_slice.result.now operations_of c.args.place c.index-as_slice-place.result c.as_slice.ensures c.requires.low c.index-as_slice-place.is in
-    on_ok c.add_records.result _ _
+    on_ok_map c.add_records.result _ _
     (λ joins.
     joins ∙ ap (λ client. map coming_of c.args.all.now.items ++ comings_of client (map operation_of c.as_slice-operations.result.now)) c.client_at-client.ensures
     ∙ ap (λ (o : List Operation). map coming_of c.args.all.now.items ++ comings_of (client_at W.settings.clients c.args.place) o) is)

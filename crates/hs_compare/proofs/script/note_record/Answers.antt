@@ -1,12 +1,12 @@
 use Rattle.std.proofs.Common.{◌++◌, sym, ap, ◌∙◌}
 use Rattle.std.proofs.lemmas.List.{append-nil}
+use Rattle.hs_lists.proofs.Options.{on_ok_map}
 use Rattle.hs_compare.specs.Points.{comes_in}
-use Rattle.hs_compare.proofs.Firsts.{on_ok}
 use Rattle.hs_compare.proofs.script.note_record.Goals as goal
 
 pub returns-in-Some-clause-comes : goal.returns-in-Some-clause-comes
 returns-in-Some-clause-comes c = λ before gone.
-    on_ok c.append.result _ _ (λ more. more ∙ ap (λ found. c.args.events.now.items ++ comes_in found) (c.in-Some.ensures.brings before gone)) c.append.ensures.ok
+    on_ok_map c.append.result _ _ (λ more. more ∙ ap (λ found. c.args.events.now.items ++ comes_in found) (c.in-Some.ensures.brings before gone)) c.append.ensures.ok
 
 pub returns-in-None-clause-comes : goal.returns-in-None-clause-comes
 returns-in-None-clause-comes c = λ before gone.

@@ -1,5 +1,7 @@
 use Rattle.std.proofs.Common.{◌≡◌, List, length, map, sym, ap, subst, ◌∙◌, arith}
 use Rattle.std.proofs.lemmas.List.{length-map}
+use Rattle.std.proofs.lemmas.Result.{IfOk-weaker}
+use Rattle.hs_lists.proofs.Places.{row_is}
 use Rattle.hs_base.specs.Listing.{Listing}
 use Rattle.hs_journal.specs.Views.{journal_of}
 use Rattle.hs_journal.specs.declared.journal.Draw.{Draw}
@@ -11,8 +13,7 @@ use Rattle.hs_sent.specs.Sending.{draws_at, operations_at}
 use Rattle.hs_workload.specs.Views.{workload_of, operation_of, operations_of}
 use Rattle.hs_workload.specs.declared.word.Setting.TheVariants.{Nodes}
 use Rattle.hs_compare.specs.Scripts.{IsClientScript}
-use Rattle.hs_compare.proofs.Beginning.{place_low, draws_many, draws_each, row_is}
-use Rattle.hs_compare.proofs.Firsts.{if_ok}
+use Rattle.hs_compare.proofs.Beginning.{place_low, draws_many, draws_each}
 use Rattle.hs_compare.proofs.scripts.place_script.Goals as goal
 
 pub client_at-client-requires-clause-low : goal.client_at-client-requires-clause-low
@@ -63,7 +64,7 @@ returns c =
     let is : map operation_of c.as_slice-operations.result.now ≡ operations_at W c.args.place =
     ap (map operation_of) c.as_slice-operations.ensures
     ∙ row_is c.args.workload.now.clients.items c.as_slice.result.now operations_of c.args.place c.index-as_slice-place.result c.as_slice.ensures c.requires.low c.index-as_slice-place.is in
-    if_ok c.client_script.result _ _
+    IfOk-weaker c.client_script.result _ _
     (λ script found.
     subst (λ (o : List Operation). IsClientScript W.settings.autos (client_at W.settings.clients c.args.place) o script) is
     (subst (λ client. IsClientScript W.settings.autos client (map operation_of c.as_slice-operations.result.now) script) c.client_at-client.ensures found))

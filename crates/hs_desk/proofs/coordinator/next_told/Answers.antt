@@ -1,8 +1,8 @@
 use Rattle.std.proofs.Common.{List, get_or, sym, subst}
+use Rattle.hs_lists.proofs.Lent.{lent_is, lent_from}
 use Rattle.hs_base.specs.declared.told.Told.{Told}
 use Rattle.hs_desk.specs.Coordinators.{IsTakenOut}
 use Rattle.hs_desk.proofs.Inboxes.{taken_out}
-use Rattle.hs_desk.proofs.Lists.{lent_is, lent_from}
 use Rattle.hs_desk.proofs.coordinator.next_told.Goals as goal
 
 pub returns : goal.returns

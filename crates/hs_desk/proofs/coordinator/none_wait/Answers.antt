@@ -1,6 +1,6 @@
 use Rattle.std.proofs.Common.{◌<◌, ◌∙◌, sym, ap, arith, length}
+use Rattle.hs_lists.proofs.Lent.{indexed}
 use Rattle.hs_desk.proofs.Inboxes.{none_waits, one_waits, below_more}
-use Rattle.hs_desk.proofs.Lists.{indexed}
 use Rattle.hs_desk.proofs.coordinator.none_wait.Goals as goal
 
 pub loop-inbox-preserved : goal.loop-inbox-preserved

@@ -1,5 +1,5 @@
 use Rattle.std.proofs.Common.{◌≡◌, ◌<◌, sym, ap, arith, length}
-use Rattle.hs_desk.proofs.Lists.{indexed}
+use Rattle.hs_lists.proofs.Lent.{indexed}
 use Rattle.hs_desk.proofs.Resting.{all_were, one_was_not, given_more}
 use Rattle.hs_desk.proofs.rests.all_given.Goals as goal
 

@@ -1,6 +1,6 @@
 use Rattle.std.proofs.Common.{get_or}
 use Rattle.std.proofs.lemmas.Option.{IfSome_then}
-use Rattle.hs_desk.proofs.Lists.{lent_from}
+use Rattle.hs_lists.proofs.Lent.{lent_from}
 use Rattle.hs_desk.proofs.Resting.{given_at}
 use Rattle.hs_desk.proofs.rests.next_at.Goals as goal
 

@@ -1,6 +1,6 @@
 use Rattle.std.proofs.Common.{arith, inr, refl, get_or}
+use Rattle.hs_lists.proofs.Lent.{lent_is, lent_from}
 use Rattle.hs_given.specs.declared.sending.Sending.{Sending}
-use Rattle.hs_followed.proofs.Lists.{lent_is, lent_from}
 use Rattle.hs_followed.proofs.clients.next_crumb.Goals as goal
 
 pub returns : goal.returns

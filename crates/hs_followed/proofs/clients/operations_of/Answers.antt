@@ -1,8 +1,8 @@
 use Rattle.std.proofs.Common.{ap, map, length, ◌∙◌, arith}
 use Rattle.std.proofs.lemmas.List.{length-map}
+use Rattle.hs_lists.proofs.Places.{row_is}
 use Rattle.hs_sent.specs.Sending.{place_of}
 use Rattle.hs_workload.specs.Views.{operation_of, operations_of}
-use Rattle.hs_followed.proofs.Rows.{row_is}
 use Rattle.hs_followed.proofs.clients.operations_of.Goals as goal
 
 pub bounds-as_slice-place : goal.bounds-as_slice-place

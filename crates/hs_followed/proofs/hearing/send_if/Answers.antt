@@ -1,12 +1,12 @@
 use Rattle.std.proofs.Common.{cond, get_or, sym, ap, ◌∙◌, [], ◌∷◌, ◌++◌}
 use Rattle.std.proofs.lemmas.Result.{on_ok_weaker}
-use Rattle.hs_followed.proofs.Heard.{get_low}
-use Rattle.hs_followed.proofs.Lists.{lent_is, lent_from, set_same}
+use Rattle.hs_lists.proofs.Places.{get_there, set_same}
+use Rattle.hs_lists.proofs.Lent.{lent_is, lent_from}
 use Rattle.hs_followed.proofs.hearing.send_if.Goals as goal
 
 pub returns-else-contains : goal.returns-else-contains
 returns-else-contains c =
-    let there = get_low c.args.lists.now.items c.args.node c.requires.node in
+    let there = get_there c.args.lists.now.items c.args.node c.requires.node in
     record {
       before = there.0;
       stood = there.1;

@@ -1,5 +1,5 @@
 use Rattle.std.proofs.Common.{get_or, refl}
-use Rattle.hs_followed.proofs.Lists.{lent_is, lent_from}
+use Rattle.hs_lists.proofs.Lent.{lent_is, lent_from}
 use Rattle.hs_followed.proofs.hearing.set_count.Goals as goal
 
 pub returns : goal.returns

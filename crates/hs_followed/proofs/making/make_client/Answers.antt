@@ -1,5 +1,6 @@
 use Rattle.std.proofs.Common.{◌≡◌, List, length, map, sym, refl, ap, subst, ◌∙◌, arith}
 use Rattle.std.proofs.lemmas.List.{length-map}
+use Rattle.hs_lists.proofs.Places.{row_is}
 use Rattle.hs_base.specs.Listing.{Listing}
 use Rattle.hs_journal.specs.Views.{journal_of}
 use Rattle.hs_journal.specs.declared.journal.Draw.{Draw}
@@ -9,7 +10,6 @@ use Rattle.hs_records.specs.Plain.{Operation}
 use Rattle.hs_sent.specs.Sending.{draws_at, place_of}
 use Rattle.hs_workload.specs.Views.{workload_of, operation_of}
 use Rattle.hs_followed.proofs.Beginning.{place_below, draws_many, draws_each, client_begins}
-use Rattle.hs_followed.proofs.Rows.{row_is}
 use Rattle.hs_followed.proofs.making.make_client.Goals as goal
 
 pub bounds-as_slice-place : goal.bounds-as_slice-place

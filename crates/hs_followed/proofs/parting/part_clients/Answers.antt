@@ -1,8 +1,9 @@
 use Rattle.std.proofs.Common.{[], ◌++◌, List, map, refl, sym, ap, ◌∙◌}
 use Rattle.std.proofs.lemmas.Iterator.Adapters.{YieldsList-from_vec}
 use Rattle.std.proofs.lemmas.Iterator.Consumers.{YieldsList-end}
+use Rattle.hs_lists.proofs.Parts.{nil_behind, map_self}
 use Rattle.hs_given.specs.declared.sending.Sending.{Sending}
-use Rattle.hs_followed.proofs.FoundAll.{map_same, read_more, nil_behind}
+use Rattle.hs_followed.proofs.FoundAll.{read_more}
 use Rattle.hs_followed.proofs.parting.part_clients.Goals as goal
 
 pub loop-sending-init : goal.loop-sending-init
@@ -23,10 +24,10 @@ pub returns-clause-found : goal.returns-clause-found
 returns-clause-found c =
     let all = YieldsList-from_vec {s = c.into_iter-sending-iterator.result} c.args.clients.items (cc) (cc) in
     let last = YieldsList-end all c.loop-sending.yielded c.loop-sending.sending-iterator c.loop-sending.yielded_by c.next.result c.next.new.self c.in-None.is c.next.ensures.steps in
-    c.loop-sending.invariant.2 ∙ ap (map (λ (s : Sending). s.found)) (sym (map_same c.loop-sending.yielded) ∙ last.0)
+    c.loop-sending.invariant.2 ∙ ap (map (λ (s : Sending). s.found)) (sym (map_self c.loop-sending.yielded) ∙ last.0)
 
 pub returns-clause-books : goal.returns-clause-books
 returns-clause-books c =
     let all = YieldsList-from_vec {s = c.into_iter-sending-iterator.result} c.args.clients.items (cc) (cc) in
     let last = YieldsList-end all c.loop-sending.yielded c.loop-sending.sending-iterator c.loop-sending.yielded_by c.next.result c.next.new.self c.in-None.is c.next.ensures.steps in
-    c.loop-sending.invariant.3 ∙ ap (λ (l : List Sending). c.args.books.now.items ++ map (λ (s : Sending). s.book) l) (sym (map_same c.loop-sending.yielded) ∙ last.0)
+    c.loop-sending.invariant.3 ∙ ap (λ (l : List Sending). c.args.books.now.items ++ map (λ (s : Sending). s.book) l) (sym (map_self c.loop-sending.yielded) ∙ last.0)

@@ -2,10 +2,11 @@ use Rattle.std.proofs.Common.{[], ◌∷◌, ◌++◌, List, map, refl, sym, ap,
 use Rattle.std.proofs.lemmas.Iterator.Adapters.{YieldsList-from_vec}
 use Rattle.std.proofs.lemmas.Iterator.Consumers.{YieldsList-end}
 use Rattle.std.specs.List.{flat_map}
+use Rattle.hs_lists.proofs.Parts.{nil_behind, map_self}
 use Rattle.hs_clauses.specs.Finding.{AreFound}
 use Rattle.hs_followed.specs.Parting.{books_left, IsFoundOf}
 use Rattle.hs_followed.specs.declared.tracked.Tracked.{Tracked}
-use Rattle.hs_followed.proofs.FoundAll.{map_same, read_more, flat_more, found_more, nil_behind}
+use Rattle.hs_followed.proofs.FoundAll.{read_more, flat_more, found_more}
 use Rattle.hs_followed.proofs.parting.part_nodes.Goals as goal
 
 pub loop-tracked-init : goal.loop-tracked-init
@@ -28,16 +29,16 @@ pub returns-clause-found : goal.returns-clause-found
 returns-clause-found c =
     let all = YieldsList-from_vec {s = c.into_iter-tracked-iterator.result} c.args.nodes.items (cc) (cc) in
     let last = YieldsList-end all c.loop-tracked.yielded c.loop-tracked.tracked-iterator c.loop-tracked.yielded_by c.next.result c.next.new.self c.in-None.is c.next.ensures.steps in
-    subst (λ (l : List Tracked). AreFound IsFoundOf l c.loop-tracked.found.items) (sym (map_same c.loop-tracked.yielded) ∙ last.0) c.loop-tracked.invariant.2
+    subst (λ (l : List Tracked). AreFound IsFoundOf l c.loop-tracked.found.items) (sym (map_self c.loop-tracked.yielded) ∙ last.0) c.loop-tracked.invariant.2
 
 pub returns-clause-clients : goal.returns-clause-clients
 returns-clause-clients c =
     let all = YieldsList-from_vec {s = c.into_iter-tracked-iterator.result} c.args.nodes.items (cc) (cc) in
     let last = YieldsList-end all c.loop-tracked.yielded c.loop-tracked.tracked-iterator c.loop-tracked.yielded_by c.next.result c.next.new.self c.in-None.is c.next.ensures.steps in
-    c.loop-tracked.invariant.3 ∙ ap (λ (l : List Tracked). c.args.ended.now.clients.items ++ flat_map books_left l) (sym (map_same c.loop-tracked.yielded) ∙ last.0)
+    c.loop-tracked.invariant.3 ∙ ap (λ (l : List Tracked). c.args.ended.now.clients.items ++ flat_map books_left l) (sym (map_self c.loop-tracked.yielded) ∙ last.0)
 
 pub returns-clause-agents : goal.returns-clause-agents
 returns-clause-agents c =
     let all = YieldsList-from_vec {s = c.into_iter-tracked-iterator.result} c.args.nodes.items (cc) (cc) in
     let last = YieldsList-end all c.loop-tracked.yielded c.loop-tracked.tracked-iterator c.loop-tracked.yielded_by c.next.result c.next.new.self c.in-None.is c.next.ensures.steps in
-    c.loop-tracked.invariant.4 ∙ ap (λ (l : List Tracked). c.args.ended.now.agents.items ++ map (λ (t : Tracked). t.follower.agent) l) (sym (map_same c.loop-tracked.yielded) ∙ last.0)
+    c.loop-tracked.invariant.4 ∙ ap (λ (l : List Tracked). c.args.ended.now.agents.items ++ map (λ (t : Tracked). t.follower.agent) l) (sym (map_self c.loop-tracked.yielded) ∙ last.0)

@@ -1,4 +1,5 @@
 use Rattle.std.proofs.Common.{◌≡◌, ◌&&◌, true, false, nat_eq, Some, Err, length, refl, sym, ap, subst, ◌∙◌}
+use Rattle.std.proofs.lemmas.Bool.{and_left, and_right}
 use Rattle.hs_text.proofs.TidyLines.{tidy_line}
 use Rattle.hs_text.specs.JudgingLaws.{IsReading, reading_starts, reading_goes_on, line_refused, text_cut_off, text_read}
 use Rattle.hs_journal.specs.declared.refusal.JournalReason.TheVariants as reasons
@@ -7,7 +8,7 @@ use Rattle.hs_journal.specs.Faults.{first_fault, refusal_at, is_ended}
 use Rattle.hs_journal.specs.Grammar.{Reads}
 use Rattle.hs_journal.specs.Forward.{draft_of, line_step}
 use Rattle.hs_journal.proofs.Seen.{journal_reader}
-use Rattle.hs_journal.proofs.WholeTexts.{first_fault-judged, made_reads, one_journal, never_refused, cut_short, cut_within}
+use Rattle.hs_journal.proofs.WholeTexts.{first_fault-judged, made_reads, one_journal, never_refused}
 use Rattle.hs_journal.proofs.reading.read_journal.Goals as goal
 use Rattle.hs_journal.proofs.reading.read_journal.Goals.{then-not-is_empty-via-then-not-is_empty, then-not-is_empty-via-else-not-is_empty+then-not-is_ended}
 
@@ -54,8 +55,8 @@ returns-then-not-is_empty c =
     let draft = draft_of c.loop-line.reader in
     let is_cut : (nat_eq (length rest) 0 && is_ended draft.place) ≡ false =
     elim c.then-not-is_empty.branch [
-      | then-not-is_empty-via-then-not-is_empty w ↦ cut_within _ (is_ended draft.place) (sym c.is_empty.ensures ∙ w.if-not-is_empty.true)
-      | then-not-is_empty-via-else-not-is_empty+then-not-is_ended w ↦ cut_short (nat_eq (length rest) 0) _ (sym w.is_ended.ensures ∙ w.if-not-is_ended.true)
+      | then-not-is_empty-via-then-not-is_empty w ↦ and_left _ (is_ended draft.place) (sym c.is_empty.ensures ∙ w.if-not-is_empty.true)
+      | then-not-is_empty-via-else-not-is_empty+then-not-is_ended w ↦ and_right (nat_eq (length rest) 0) _ (sym w.is_ended.ensures ∙ w.if-not-is_ended.true)
     ] in
     let fault : first_fault text ≡ Some (refusal_at line reasons.Truncated) =
     first_fault-judged text ∙ text_cut_off journal_reader text rest line draft c.loop-line.invariant.at c.in_default.ensures.none is_cut in

@@ -1,8 +1,9 @@
 use Rattle.std.proofs.Common.{◌+◌, ◌++◌, map, refl, sym, ap, ◌∙◌, arith}
+use Rattle.hs_lists.proofs.Parts.{drop_next}
 use Rattle.hs_journal.specs.Statements.{draw_statement}
 use Rattle.hs_journal.specs.Grammar.{draw_statements, statements_text}
 use Rattle.hs_journal.proofs.Drafts.{draws_at}
-use Rattle.hs_journal.proofs.Writing.{next_lines, no_line, drop_next}
+use Rattle.hs_journal.proofs.Writing.{next_lines, no_line}
 use Rattle.hs_journal.proofs.writer.push_clients.Goals as goal
 
 pub loop-draws-preserved : goal.loop-draws-preserved

@@ -1,8 +1,9 @@
 use Rattle.std.proofs.Common.{◌+◌, ◌++◌, map, refl, sym, ap, ◌∙◌, arith}
+use Rattle.hs_lists.proofs.Parts.{drop_next}
 use Rattle.hs_journal.specs.Statements.{step_statement}
 use Rattle.hs_journal.specs.Grammar.{log_statements, statements_text}
 use Rattle.hs_journal.proofs.Drafts.{log_at}
-use Rattle.hs_journal.proofs.Writing.{next_lines, no_line, drop_next}
+use Rattle.hs_journal.proofs.Writing.{next_lines, no_line}
 use Rattle.hs_journal.proofs.writer.push_logs.Goals as goal
 
 pub loop-log-preserved : goal.loop-log-preserved

@@ -1,7 +1,8 @@
 use Rattle.std.proofs.Common.{arith, ◌∙◌, sym, ap, subst, inl, inr, length, length-append}
 use lib.ListN.{get_elem?}
+use Rattle.hs_lists.proofs.Places.{elem_push_cases}
 use Rattle.hs_link.specs.Ring.{put_of}
-use Rattle.hs_link.proofs.Lists.{beginning_short, at_grown}
+use Rattle.hs_link.proofs.Lists.{beginning_short}
 use Rattle.hs_link.proofs.sender.put_or_keep.Goals as goal
 
 pub push_back_reserved-requires : goal.push_back_reserved-requires
@@ -10,7 +11,7 @@ push_back_reserved-requires g c = let did = c.put_outbox.ensures in let box = c.
     omega (arith, length-append (put_of c.put_outbox.new.place) box.items, length-append (put_of c.args.place.now) was.items)
 
 pub returns-clause-fact : goal.returns-clause-fact
-returns-clause-fact g c = λ p x e. elim (at_grown c.put_outbox.new.outbox.items c.args.item x p (ap (λ z. get_elem? z p) (sym c.push_back_reserved.ensures.items) ∙ e)) [
+returns-clause-fact g c = λ p x e. elim (elem_push_cases c.put_outbox.new.outbox.items c.args.item x p (ap (λ z. get_elem? z p) (sym c.push_back_reserved.ensures.items) ∙ e)) [
   | inl old ↦ c.put_outbox.ensures.fact p x old
   | inr new ↦ subst (g.F.Fact.holds c.args.entries.now.key) new.1 c.requires.fact.0
 ]

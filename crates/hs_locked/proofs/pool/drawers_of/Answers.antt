@@ -4,9 +4,10 @@ use Rattle.atomic_table.specs.Seated.{TableId}
 use Rattle.std.specs.Arc.{arc_value}
 use Rattle.hs_ring.specs.Parts.{Drawing, new_drawers}
 use Rattle.hs_ring.specs.Seats.{name_of}
+use Rattle.hs_ring.proofs.Making.{new_drawers_length}
 use Rattle.hs_locked.specs.Views.{post_of}
 use Rattle.hs_locked.specs.Making.{IsMaking}
-use Rattle.hs_locked.proofs.Making.{new_drawer_of, new_drawers_and, new_drawers_length, makes_one, made_one}
+use Rattle.hs_locked.proofs.Making.{new_drawer_of, new_drawers_and, makes_one, made_one}
 use Rattle.hs_locked.proofs.pool.drawers_of.Goals as goal
 
 pub split_seat-seat-requires : goal.split_seat-seat-requires

@@ -2,8 +2,9 @@ use Rattle.std.proofs.Common.{◌≡◌, ℕ, ◌≤◌, List, [], ◌∷◌, �
 use Rattle.std.specs.Prelude.{sum}
 use Rattle.hs_base.specs.declared.limits.TheConstants.{MAX_OPERATIONS}
 use Rattle.hs_words.specs.Chunks.{Contents, clear_chunks}
+use Rattle.hs_ring.proofs.Making.{first_size}
 use Rattle.hs_locked.specs.declared.store.Store.{Store}
-use Rattle.hs_locked.proofs.Making.{no_tally, new_locked, first_size}
+use Rattle.hs_locked.proofs.Making.{no_tally, new_locked}
 use Rattle.hs_locked.proofs.pool.lock_of.Goals as goal
 
 pub new-requires : goal.new-requires

@@ -1,11 +1,11 @@
 use Rattle.std.proofs.Common.{cond, sym, ap, ◌∙◌}
+use Rattle.hs_lists.proofs.Places.{get_there, set_same}
 use Rattle.hs_nodes.specs.Hearing.{with_ask}
-use Rattle.hs_nodes.proofs.Heard.{get_low, set_same}
 use Rattle.hs_nodes.proofs.coordinator.ask_if.Goals as goal
 
 pub returns-else-contains : goal.returns-else-contains
 returns-else-contains c =
-    let there = get_low c.args.nodes.now.items c.args.node c.requires.node in
+    let there = get_there c.args.nodes.now.items c.args.node c.requires.node in
     record {
       before = there.0;
       stood = there.1;

@@ -2,10 +2,11 @@ use Rattle.std.proofs.Common.{◌≡◌, ◌∙◌, [], ◌∷◌, ◌++◌, Lis
 use Rattle.std.proofs.lemmas.Iterator.Adapters.{YieldsList-from_vec}
 use Rattle.std.proofs.lemmas.Iterator.Consumers.{YieldsList-turn, YieldsList-end}
 use Rattle.std.specs.List.{range_with_len}
+use Rattle.hs_lists.proofs.Places.{item_there}
 use Rattle.hs_journal.specs.Books.{client_book_of}
 use Rattle.hs_journal.specs.declared.books.ClientBook.{ClientBook}
 use Rattle.hs_nodes.specs.Finishing.{client_noted}
-use Rattle.hs_nodes.proofs.Ended.{item_there, is_done, noted_more}
+use Rattle.hs_nodes.proofs.Ended.{is_done, noted_more}
 use Rattle.hs_nodes.proofs.finishing.note_players.Goals as goal
 
 pub finish-requires : goal.finish-requires

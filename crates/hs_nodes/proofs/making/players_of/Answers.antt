@@ -1,4 +1,5 @@
 use Rattle.std.proofs.Common.{◌≡◌, ◌<◌, ◌+◌, [], ◌∷◌, ◌∙◌, refl, ap, sym, arith, length, map, List, subst, length-append}
+use Rattle.hs_lists.proofs.Lent.{indexed}
 use Rattle.hs_player.specs.Places.{IsPlayable}
 use Rattle.hs_player.specs.Playing.{Playing}
 use Rattle.hs_records.specs.Plain.{Operation, PlainSettings, PlainWorkload, settings_of}
@@ -8,7 +9,6 @@ use Rattle.hs_workload.specs.Views.{operation_of}
 use Rattle.hs_nodes.specs.Making.{IsNewNode, AreNew}
 use Rattle.hs_nodes.proofs.Begun.{one_more_new, player_made}
 use Rattle.hs_nodes.proofs.Going.{place_there}
-use Rattle.hs_nodes.proofs.Lists.{indexed}
 use Rattle.hs_nodes.proofs.making.players_of.Goals as goal
 
 pub overflow_cast-number : goal.overflow_cast-number

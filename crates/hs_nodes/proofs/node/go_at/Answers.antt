@@ -1,5 +1,6 @@
 use Rattle.std.proofs.Common.{get_or}
-use Rattle.hs_nodes.proofs.Lists.{lent_is, lent_from, on_ok}
+use Rattle.hs_lists.proofs.Lent.{lent_is, lent_from}
+use Rattle.hs_nodes.proofs.Lists.{on_ok}
 use Rattle.hs_nodes.proofs.node.go_at.Goals as goal
 
 pub go-requires-clause-within : goal.go-requires-clause-within

@@ -1,9 +1,9 @@
 use Rattle.std.proofs.Common.{◌+◌, get_or, sym, subst, ◌∙◌, arith}
+use Rattle.hs_lists.proofs.Lent.{lent_is, lent_from}
 use Rattle.hs_run.specs.declared.node.Node.{Node}
 use Rattle.hs_run.specs.Changing.{FirstChanged}
 use Rattle.hs_run.specs.Movings.{HasMet}
 use Rattle.hs_run.proofs.Changed.{first_none, first_more, first_all}
-use Rattle.hs_desk.proofs.Lists.{lent_is, lent_from}
 use Rattle.hs_run.proofs.meeting.meet_all.Goals as goal
 
 pub loop-number-init : goal.loop-number-init

@@ -1,9 +1,8 @@
 use Rattle.std.proofs.Common.{◌≡◌, Some, sym, ap, subst, ◌∙◌, arith, rules}
-use Rattle.std.proofs.lemmas.Option.{slice_get-get_or, get_or_from_slice_get}
+use Rattle.std.proofs.lemmas.Option.{slice_get-get_or, get_or_from_slice_get, slice_get_within}
 use Rattle.std.proofs.iter.Serving.{serving}
 use Rattle.hs_run.specs.declared.node.Node.{Node}
 use Rattle.hs_run.specs.Nodes.{HasActedAt}
-use Rattle.hs_desk.proofs.Lists.{within}
 use Rattle.hs_run.proofs.rounds.act_all.Goals as goal
 
 pub for_each_mut-requires-clause-accepts : goal.for_each_mut-requires-clause-accepts
@@ -20,7 +19,7 @@ returns g c =
     record {
       count = let same = c.for_each_mut.auto.s in omega (arith, same);
       each = λ place x y at at'.
-          let h = (c.for_each_mut.ensures place x (within old place x at)).1 in
+          let h = (c.for_each_mut.ensures place x (slice_get_within old place x at)).1 in
           let a : h.argument.now ≡ x = h.argument_is ∙ get_or_from_slice_get old place x x at in
           let b : h.after_call.now ≡ y = h.left ∙ get_or_from_slice_get new place y x at' in
           subst (λ (z : Node). HasActedAt w place x z) b (subst (λ (z : Node). HasActedAt w place z h.after_call.now) a h.call);

@@ -1,5 +1,6 @@
 use Rattle.std.proofs.Common.{sym, ap, ◌∙◌, inl, inr, arith, slice_get}
-use Rattle.hs_desk.proofs.Lists.{same_or_less, within}
+use Rattle.std.proofs.lemmas.Option.{slice_get_within}
+use Rattle.hs_lists.proofs.Numbers.{same_or_less}
 use Rattle.hs_run.proofs.rounds.has_failed.Goals as goal
 
 pub loop-number-preserved : goal.loop-number-preserved
@@ -11,6 +12,6 @@ loop-number-preserved c = λ k node low at.
 
 pub returns : goal.returns
 returns c = λ no k node at.
-    let low = within c.args.nodes.now.items k node at in
+    let low = slice_get_within c.args.nodes.now.items k node at in
     let high = c.loop-number-test.false in
     c.loop-number.invariant k node (omega (arith, low, high)) at

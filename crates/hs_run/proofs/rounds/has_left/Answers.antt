@@ -1,9 +1,10 @@
 use Rattle.std.proofs.Common.{ℕ, get_or, false, sym, ap, subst, ◌∙◌, inl, inr, arith, slice_get}
-use Rattle.std.proofs.lemmas.Option.{same_Some}
+use Rattle.std.proofs.lemmas.Option.{same_Some, slice_get_within}
+use Rattle.hs_lists.proofs.Numbers.{same_or_less}
+use Rattle.hs_lists.proofs.Lent.{lent_from}
 use Rattle.hs_workload.specs.Views.{workload_of}
 use Rattle.hs_run.specs.declared.node.Node.{Node}
 use Rattle.hs_run.specs.Nodes.{TellsNodeLeft}
-use Rattle.hs_desk.proofs.Lists.{same_or_less, within, lent_from}
 use Rattle.hs_run.proofs.rounds.has_left.Goals as goal
 
 pub has_left_at-requires : goal.has_left_at-requires
@@ -32,6 +33,6 @@ loop-number-preserved c = λ k node low at.
 
 pub returns : goal.returns
 returns c = λ k node at.
-    let low = within c.args.nodes.now.items k node at in
+    let low = slice_get_within c.args.nodes.now.items k node at in
     let high = c.loop-number-test.false in
     c.loop-number.invariant k node (omega (arith, low, high)) at

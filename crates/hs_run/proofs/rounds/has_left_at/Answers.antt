@@ -1,5 +1,7 @@
 use Rattle.std.proofs.Common.{◌≡◌, ◌+◌, ◌-◌, ◌*◌, ℕ, Bool, true, false, List, Some, length, take, drop, sym, ap, ◌∙◌, arith, slice_get}
 use Rattle.std.proofs.lemmas.List.{length-map}
+use Rattle.std.proofs.lemmas.Option.{slice_get_within}
+use Rattle.hs_lists.proofs.Places.{get_there}
 use Rattle.hs_base.specs.Listing.{Listing}
 use Rattle.hs_base.specs.declared.settings.Settings.{Settings}
 use Rattle.hs_records.specs.Plain.{PlainWorkload}
@@ -7,11 +9,10 @@ use Rattle.hs_rounds.specs.Standing.{Site}
 use Rattle.hs_sent.specs.Sending.{operations_at, place_of}
 use Rattle.hs_workload.specs.Views.{workload_of, operation_of}
 use Rattle.hs_workload.specs.declared.operation.Op.{Op}
+use Rattle.hs_workload.proofs.Sizes.{product_few, few_nodes}
 use Rattle.hs_run.specs.Nodes.{TellsNodeLeft}
 use Rattle.hs_run.specs.Sites.{AreClients, TellsSiteLeft}
 use Rattle.hs_run.proofs.Clients.{clients_are}
-use Rattle.hs_desk.proofs.Lists.{got, within}
-use Rattle.hs_run.proofs.Small.{few_nodes, few_products}
 use Rattle.hs_desk.proofs.Few.{few_clients}
 use Rattle.hs_run.proofs.rounds.has_left_at.Goals as goal
 
@@ -24,9 +25,9 @@ tells : (W : PlainWorkload) (n : ℕ) (settings : Settings) (lists : List (Listi
 tells W n settings lists are site count true (number, caller, ops, at, found, less) =
     let same = count_of W n number settings lists are ops found in (number, caller, at, omega (arith, less, same))
 tells W n settings lists are site count false none = λ number caller at.
-    let low = within site.callers number caller at in
+    let low = slice_get_within site.callers number caller at in
     let many = are.count in
-    let (ops, found) = got lists number (omega (arith, low, many, count)) in
+    let (ops, found) = get_there lists number (omega (arith, low, many, count)) in
     let same = count_of W n number settings lists are ops found in
     let all = none number caller ops at found in
     omega (arith, all, same)
@@ -36,7 +37,7 @@ overflow_mul-first c =
     let W = workload_of c.args.workload.now in
     let nodes = few_nodes W c.requires.valid in
     let low = c.requires.low in
-    let few = few_products c.args.number W.settings.clients (omega (arith, nodes, low)) (few_clients W c.requires.valid) in
+    let few = product_few c.args.number W.settings.clients (omega (arith, nodes, low)) (few_clients W c.requires.valid) in
     omega (arith, few)
 
 pub returns : goal.returns

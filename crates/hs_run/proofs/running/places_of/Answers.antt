@@ -1,7 +1,8 @@
-use Rattle.std.proofs.Common.{◌≡◌, ◌∙◌, [], ◌∷◌, ◌++◌, List, map, sym, ap, refl}
+use Rattle.std.proofs.Common.{◌≡◌, ◌∙◌, [], ◌∷◌, ◌++◌, List, map, sym, ap}
 use Rattle.std.proofs.lemmas.Iterator.Adapters.{YieldsList-from_vec}
 use Rattle.std.proofs.lemmas.Iterator.Consumers.{YieldsList-end}
 use Rattle.std.proofs.lemmas.List.{map-append}
+use Rattle.hs_lists.proofs.Parts.{map_self}
 use Rattle.hs_closing.specs.Over.{place_site}
 use Rattle.hs_closing.specs.declared.place.Place.{Place}
 use Rattle.hs_rounds.specs.Standing.{Site}
@@ -11,10 +12,6 @@ use Rattle.hs_run.proofs.running.places_of.Goals as goal
 
 site_in : Node → Site
 site_in node = node.site
-
-themselves : (nodes : List Node) → map (λ (x : Node). x) nodes ≡ nodes
-themselves [] = refl
-themselves (x ∷ nodes) = ap (λ (l : List Node). x ∷ l) (themselves nodes)
 
 pub loop-node-preserved : goal.loop-node-preserved
 unfolding site_in
@@ -32,4 +29,4 @@ pub returns : goal.returns
 returns c =
     let all = YieldsList-from_vec {s = c.into_iter-node-iterator.result} c.args.nodes.items (cc) (cc) in
     let last = YieldsList-end all c.loop-node.yielded c.loop-node.node-iterator c.loop-node.yielded_by c.next.result c.next.new.self c.in-None.is c.next.ensures.steps in
-    c.loop-node.invariant.2 ∙ ap (λ (l : List Node). sites_of l) (sym (themselves c.loop-node.yielded) ∙ last.0)
+    c.loop-node.invariant.2 ∙ ap (λ (l : List Node). sites_of l) (sym (map_self c.loop-node.yielded) ∙ last.0)

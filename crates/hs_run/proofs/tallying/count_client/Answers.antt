@@ -1,10 +1,10 @@
 use Rattle.std.proofs.Common.{◌≡◌, ℕ, ◌<◌, List, Some, get_or, length, map, set, sym, ap, subst, ◌∙◌, arith, slice_get}
 use Rattle.std.proofs.lemmas.List.{length-map}
+use Rattle.hs_lists.proofs.Lent.{lent_is, lent_from, indexed}
 use Rattle.hs_base.specs.Listing.{Listing}
 use Rattle.hs_caller.specs.Calling.{Calling}
 use Rattle.hs_counts.specs.declared.client.ClientCount.{ClientCount}
 use Rattle.hs_counts.specs.Counts.{client_count}
-use Rattle.hs_desk.proofs.Lists.{indexed, lent_from, lent_is}
 use Rattle.hs_records.specs.Plain.{Operation}
 use Rattle.hs_sent.specs.Sending.{operations_at}
 use Rattle.hs_workload.specs.declared.operation.Op.{Op}

@@ -1,7 +1,8 @@
 use Rattle.std.proofs.Common.{◌+◌, get_or, sym, ap, subst, ◌∙◌, arith}
 use Rattle.std.proofs.lemmas.Option.{same_Some}
+use Rattle.hs_lists.proofs.Lent.{lent_from}
+use Rattle.hs_lists.proofs.Places.{get_there}
 use Rattle.hs_counts.specs.Counts.{log_count}
-use Rattle.hs_desk.proofs.Lists.{got, lent_from}
 use Rattle.hs_run.specs.declared.node.Node.{Node}
 use Rattle.hs_run.specs.Changing.{FirstChanged}
 use Rattle.hs_run.specs.TallyingNodes.{LogCounted}
@@ -41,7 +42,7 @@ loop-number-preserved c =
     let as_many = c.requires.many in
     let node = get_or now n c.index-as_slice-number.result in
     let there = lent_from nodes now n c.index-as_slice-number.result c.as_slice.ensures (omega (arith, low, len)) in
-    let (x, stood) = got mid n (omega (arith, low, len, many, as_many)) in
+    let (x, stood) = get_there mid n (omega (arith, low, len, many, as_many)) in
     let y = log_count node.site.agent.agent.log in
     subst (FirstChanged (LogCounted nodes) (n + 1) old) (sym c.count_log.ensures)
     (first_more (LogCounted nodes) n old mid x y c.loop-number.invariant stood (λ at there'. ap (λ (z : Node). log_count z.site.agent.agent.log) (same_Some node at (sym there ∙ there'))))

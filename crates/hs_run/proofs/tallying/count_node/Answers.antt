@@ -1,11 +1,12 @@
 use Rattle.std.proofs.Common.{◌≡◌, ℕ, length, Some, sym, ap, subst, ◌∙◌, arith, slice_get}
-use Rattle.hs_desk.proofs.Few.{few_clients, last_low}
-use Rattle.hs_desk.proofs.Lists.{got, indexed}
+use Rattle.hs_lists.proofs.Lent.{indexed}
+use Rattle.hs_lists.proofs.Places.{get_there}
+use Rattle.hs_desk.proofs.Few.{few_clients}
 use Rattle.hs_rounds.specs.Standing.{Site}
 use Rattle.hs_sent.specs.Sending.{place_of}
 use Rattle.hs_workload.specs.Views.{workload_of}
+use Rattle.hs_workload.proofs.Sizes.{product_few, few_nodes, last_low}
 use Rattle.hs_run.specs.TallyingNodes.{CountedFirst}
-use Rattle.hs_run.proofs.Small.{few_nodes, few_products}
 use Rattle.hs_run.proofs.TallyCounting.{none_first, one_first}
 use Rattle.hs_run.proofs.tallying.count_node.Goals as goal
 
@@ -14,7 +15,7 @@ overflow_mul-first c =
     let W = workload_of c.args.workload.now in
     let nodes = few_nodes W c.requires.valid in
     let low = c.requires.low in
-    let few = few_products c.args.node W.settings.clients (omega (arith, nodes, low)) (few_clients W c.requires.valid) in
+    let few = product_few c.args.node W.settings.clients (omega (arith, nodes, low)) (few_clients W c.requires.valid) in
     omega (arith, few)
 
 pub overflow_add-first : goal.overflow_add-first
@@ -23,7 +24,7 @@ overflow_add-first c =
     let nodes = few_nodes W c.requires.valid in
     let clients = few_clients W c.requires.valid in
     let node = c.requires.low in
-    let few = few_products c.args.node W.settings.clients (omega (arith, nodes, node)) clients in
+    let few = product_few c.args.node W.settings.clients (omega (arith, nodes, node)) clients in
     let low = c.loop-number-test.true in
     let len = c.len-number-end.ensures in
     let view = ap (λ (s : Site). length s.callers) c.site.view_is in
@@ -87,7 +88,7 @@ loop-number-preserved c =
     let caller = c.index-as_slice-number.result in
     let there = indexed items now n caller c.as_slice.ensures (omega (arith, low, len)) c.index-as_slice-number.is in
     let found : slice_get c.args.site.now.callers n ≡ Some caller = sym (ap (λ (s : Site). slice_get s.callers n) c.site.view_is) ∙ there in
-    let (count, stood) = got mid (place_of W.settings.clients c.args.node n) (omega (arith, last, low, len, view, callers, many, were)) in
+    let (count, stood) = get_there mid (place_of W.settings.clients c.args.node n) (omega (arith, last, low, len, view, callers, many, were)) in
     one_first W c.args.node c.args.site.now.callers c.args.counts.now.items n mid c.count_client.new.counts.items count caller c.loop-number.invariant found stood c.count_client.ensures
 
 pub returns : goal.returns

@@ -1,16 +1,14 @@
-use Rattle.std.proofs.Common.{◌≡◌, ℕ, true, eqb, ltb, List, None, sym, ◌∙◌, rules, arith}
-use Rattle.std.specs.Prelude.{filter, not, ◌&&◌}
+use Rattle.std.proofs.Common.{◌≡◌, ℕ, true, eqb, ltb, List, None, sym, ◌∙◌, rules}
+use Rattle.std.specs.Prelude.{filter}
 use Rattle.std.specs.List.Sorted.{IsStableByKey, ties}
 use Rattle.std.specs.Ordering.{nat_cmp, is_lt}
-use Rattle.std.proofs.lemmas.Bool.Decides.{nat_tests}
 use Rattle.std.proofs.lemmas.Fn.{filter_same as kept_same}
+use Rattle.std.proofs.lemmas.List.Elements.{filter_agree}
 use Rattle.std.proofs.lemmas.List.Sorted.{IsNonDecreasingBy-from_sort_by_key, answers_always}
-use Rattle.hs_clauses.proofs.Sorting.{filter_same, put_in_order}
+use Rattle.hs_lists.proofs.Numbers.{nat_cmp_tie}
+use Rattle.hs_clauses.proofs.Sorting.{put_in_order}
 use Rattle.hs_unreads.specs.declared.page_draws.PageDraw.{PageDraw}
 use Rattle.hs_unreads.proofs.page_draws.put_in_order.Goals as goal
-
-tie : (a b : ℕ) → (not (is_lt (nat_cmp a b)) && not (is_lt (nat_cmp b a))) ≡ eqb b a
-tie a b = grind (arith, nat_tests)
 
 -- what ties with a draw of a stamp has that stamp
 same_stamp : (s : ℕ) (xs ys : List PageDraw) → IsStableByKey (λ (d : PageDraw). d.stamp) nat_cmp xs ys → filter (λ (d : PageDraw). eqb d.stamp s) ys ≡ filter (λ (d : PageDraw). eqb d.stamp s) xs
@@ -23,9 +21,9 @@ same_stamp s xs ys stable =
       next = None;
       started = 0;
     } in
-    filter_same (λ (d : PageDraw). eqb d.stamp s) (λ (d : PageDraw). ties (λ (x y : PageDraw). is_lt (nat_cmp x.stamp y.stamp)) one d) (λ d. sym (tie s d.stamp)) ys
+    filter_agree (λ (d : PageDraw). eqb d.stamp s) (λ (d : PageDraw). ties (λ (x y : PageDraw). is_lt (nat_cmp x.stamp y.stamp)) one d) (λ d. sym (nat_cmp_tie s d.stamp)) ys
     ∙ stable one
-    ∙ filter_same (λ (d : PageDraw). ties (λ (x y : PageDraw). is_lt (nat_cmp x.stamp y.stamp)) one d) (λ (d : PageDraw). eqb d.stamp s) (λ d. tie s d.stamp) xs
+    ∙ filter_agree (λ (d : PageDraw). ties (λ (x y : PageDraw). is_lt (nat_cmp x.stamp y.stamp)) one d) (λ (d : PageDraw). eqb d.stamp s) (λ d. nat_cmp_tie s d.stamp) xs
 
 pub returns : goal.returns
 returns c =

@@ -1,9 +1,8 @@
 use Rattle.std.proofs.Common.{◌≡◌, ◌+◌, ◌++◌, ◌∷◌, [], ℕ, List, map, take, sym, ap, ◌∙◌}
-use Rattle.std.proofs.lemmas.List.{take_more}
+use Rattle.std.proofs.lemmas.List.{take_more, map_push}
 use Rattle.std.proofs.lemmas.Option.{slice_get_within, get_or_from_slice_get}
 use Rattle.hs_base.specs.declared.ids.TraceId.{TraceId}
 use Rattle.hs_text.specs.Writing.{spaced, trace_word, spaced_more, spaced_one}
-use Rattle.hs_workload.proofs.Keeps.{map_more}
 use Rattle.hs_workload.proofs.writer.push_laterals.Goals as goal
 
 pub loop-place-preserved : goal.loop-place-preserved
@@ -21,5 +20,5 @@ loop-place-preserved c =
       most = c.loop-place.invariant.most;
       text =
           spaced_more c.args.out.now.items before behind (map word (take i all)) (word trace ∷ []) c.loop-place.invariant.text (spaced_one before behind (word trace) c.in_ok-push_spaced_trace.ensures)
-          ∙ ap (λ words. c.args.out.now.items ++ spaced words) (sym (map_more word (take i all) trace) ∙ ap (map word) (sym next));
+          ∙ ap (λ words. c.args.out.now.items ++ spaced words) (sym (map_push word (take i all) trace) ∙ ap (map word) (sym next));
     }

@@ -1,11 +1,12 @@
 use Rattle.std.proofs.Common.{◌≡◌, ℕ, [], ◌∷◌, List, Option, Some, None, refl, sym, ap, subst, ◌∙◌}
 use Rattle.std.specs.List.{AllByRecursion}
+use Rattle.std.proofs.lemmas.Result.{on_ok_weaker}
+use Rattle.hs_lists.proofs.Alls.{all_weaker, all_back}
 use Rattle.hs_agent.specs.Placing.{Placed, IsPledged}
 use Rattle.hs_agent.specs.Keeping.{Kept, Keeping, Holds, Point, IsKept, waiting_chunks}
 use Rattle.hs_agent.specs.Runs.{Run, Follows, point_of, state_of, after_offer}
-use Rattle.hs_agent.proofs.Alls.{all-weaker, all-right}
 use Rattle.hs_agent.proofs.Offered.{offers-first, offers-empty, offers-holds}
-use Rattle.hs_agent.proofs.Following.{on_ok-then, follows-offered}
+use Rattle.hs_agent.proofs.Following.{follows-offered}
 use Rattle.hs_agent.proofs.agent.Agent.first.Goals as goal
 
 pub offer-requires-clause-pledged : goal.offer-requires-clause-pledged
@@ -13,9 +14,9 @@ offer-requires-clause-pledged g c =
     let run = c.requires.0 in
     let kept = c.args.self.now.kept in
     let h : Holds kept (point_of run) = c.requires.1.stands.chunks in
-    let each = all-right (IsKept kept.leases run.buffers) (waiting_chunks kept h.memory.pinned) kept.hand h.each in
+    let each = all_back (IsKept kept.leases run.buffers) (waiting_chunks kept h.memory.pinned) kept.hand h.each in
     subst (λ (k : Keeping g.row.L.Denot). AllByRecursion (IsPledged k.kept.leases) k.kept.hand) (sym c.self.view_is)
-    (all-weaker (IsKept kept.leases run.buffers) (IsPledged kept.leases) (λ (placed : Placed) (k : IsKept kept.leases run.buffers placed). record { lease = k.lease; is = k.kept }) kept.hand each)
+    (all_weaker (IsKept kept.leases run.buffers) (IsPledged kept.leases) (λ (placed : Placed) (k : IsKept kept.leases run.buffers placed). record { lease = k.lease; is = k.kept }) kept.hand each)
 
 pub returns-clause-first : goal.returns-clause-first
 returns-clause-first g c = λ run follows.
@@ -37,6 +38,6 @@ returns-clause-after g c = λ run follows.
     let h : Holds kept (point_of run) = subst (λ (k : Keeping g.row.L.Denot). Holds k.kept (point_of run)) (sym c.self.view_is) follows.stands.chunks in
     let none : run.offered ≡ None = sym follows.stands.chunks.offered ∙ c.requires.1.stands.chunks.offered ∙ c.requires.2 in
     let next : Keeping g.row.L.Denot = record { kept = c.offer.new.self; schedule = c.self.inside.scheduler; log = c.reserve.new.self.items; spent = c.self.inside.spent } in
-    on_ok-then c.offer.result
+    on_ok_weaker c.offer.result
     (follows-offered c.args.self.now next run follows (ap (λ (k : Keeping g.row.L.Denot). k.schedule) c.self.view_is) (c.in_ok-reserve.ensures.items ∙ ap (λ (k : Keeping g.row.L.Denot). k.log) c.self.view_is) (ap (λ (k : Keeping g.row.L.Denot). k.spent) c.self.view_is))
     (offers-holds kept c.offer.new.self (point_of run) h (c.standings_partition.ensures run.settings run.node run.events) none {g = g.L.Token} c.offer.result c.offer.ensures.some c.offer.ensures.none)

@@ -5,18 +5,19 @@ use Rattle.std.proofs.lemmas.Iterator.Consumers.{YieldsList-end}
 use Rattle.hs_pins.specs.Remembered.{Remembered, pin_of}
 use Rattle.hs_pins.specs.Abandoning.{leaving, relieved, drops}
 use Rattle.hs_pins.specs.PinsLayout.{Remembers}
+use Rattle.hs_pins.proofs.Sound.{staying_few}
 use Rattle.hs_agent.specs.declared.placed.Place.{Place}
 use Rattle.hs_agent.specs.Keeping.{Kept}
 use Rattle.hs_agent.specs.KeptLayout.{kept_in}
 use Rattle.hs_agent.specs.LettingGo.{let_go_all, abandoned_going}
-use Rattle.hs_agent.proofs.Going.{pins-let_go_all, length-staying}
+use Rattle.hs_agent.proofs.Going.{pins-let_go_all}
 use Rattle.hs_agent.proofs.holdings.Holdings.abandon.Goals as goal
 
 pub invariant_of-self-2 : goal.invariant_of-self-2
 invariant_of-self-2 g c =
     let room = c.self.invariant.sent in
     let memory = room.0 in
-    let fewer : length (relieved memory).pinned ≤ length memory.pinned = length-staying (leaving memory.most memory.pinned) memory.pinned in
+    let fewer : length (relieved memory).pinned ≤ length memory.pinned = staying_few (leaving memory.most memory.pinned) memory.pinned in
     let fits = room.2 in
     record { sent = (relieved memory, c.in_ok-abandon.ensures.after memory room.1, omega (arith, fewer, fits)); hand = c.self.invariant.hand }
 

@@ -1,5 +1,6 @@
 use Rattle.std.proofs.Common.{◌≡◌, ◌+◌, ◌<◌, ◌≤◌, ◌++◌, ◌∷◌, [], None, Some, length, map, refl, sym, ap, subst, ◌∙◌, arith}
 use Rattle.std.proofs.lemmas.List.{length-append, length-map}
+use Rattle.hs_lists.proofs.Options.{on_ok_always}
 use Rattle.hs_base.specs.declared.told.Group.{Group}
 use Rattle.hs_pins.specs.Remembered.{Claim, Pin, Remembered, claim_of, claimed, pin_for, pin_of}
 use Rattle.hs_pins.specs.PinsLayout.{Pinning, Remembers}
@@ -9,7 +10,7 @@ use Rattle.hs_model.specs.Claiming.{claim_trace, claim_unclaimed}
 use Rattle.hs_agent.specs.declared.placed.Place.{Place}
 use Rattle.hs_agent.specs.Keeping.{Kept, Point, Holds, with_state}
 use Rattle.hs_agent.specs.KeptLayout.{kept_in}
-use Rattle.hs_agent.proofs.Outcomes.{on_ok, none_mapped, some_mapped}
+use Rattle.hs_agent.proofs.Outcomes.{none_mapped, some_mapped}
 use Rattle.hs_agent.proofs.Claimed.{left, holds-claimed, stays-claimed, is_unclaimed}
 use Rattle.hs_agent.proofs.holdings.Holdings.claim.Goals as goal
 use Rattle.hs_agent.proofs.holdings.Holdings.claim.Goals.{in-Ok, in-Err}
@@ -67,7 +68,7 @@ returns g c = record {
         | in-Ok w ↦
             let remembers : Remembers c.claim-2.new.self (claimed h.memory ask.group ask.laterals c.args.trace (noted_of c.args.trace c.self.inside.index.touched).chunks (noted_of c.args.trace c.self.inside.index.touched).crumbs) =
             subst (Remembers c.claim-2.new.self) (λ i. claimed h.memory ask.group ask.laterals c.args.trace (c.in_ok-taken.ensures.held i) (c.in_ok-taken.ensures.crumbs i)) (w.in-Ok.ensures.after h.memory h.remembers) in
-            on_ok c.match-claim.result
+            on_ok_always c.match-claim.result
             (subst (λ k. Holds k (with_state (claim_unclaimed ask point.state c.args.trace) point))
             (λ i. record kept { index = sym c.claim.ensures.after i; pins = c.claim-2.new.self; sent = map pin_of (sym c.reserve.ensures.items i); claims = sym c.in_ok-append.ensures.ok i })
             (subst (λ s. Holds (left kept point h ask c.args.trace free c.claim-2.new.self) (with_state s point)) (sym (is_unclaimed kept point h ask c.args.trace free)) (holds-claimed kept point h ask c.args.trace free c.claim-2.new.self remembers)))

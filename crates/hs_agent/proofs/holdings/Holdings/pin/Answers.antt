@@ -5,13 +5,14 @@ use Rattle.hs_words.specs.Buffers.{buffer_of}
 use Rattle.hs_pins.specs.Remembered.{Remembered, arrived, comes_back, pin_of}
 use Rattle.hs_pins.specs.PinsLayout.{Remembers}
 use Rattle.hs_pins.specs.Abandoning.{drops, relieved}
+use Rattle.hs_pins.proofs.Remembering.{arrived-back}
 use Rattle.hs_agent.specs.declared.placed.Place.{Place}
 use Rattle.hs_agent.specs.Keeping.{Kept}
 use Rattle.hs_agent.specs.KeptLayout.{kept_in}
 use Rattle.hs_agent.specs.LettingGo.{Going, let_go, let_go_all, abandoned_going, abandoned_fate}
 use Rattle.hs_agent.specs.Arriving.{ArrivesAtPins}
 use Rattle.hs_agent.proofs.Outcomes.{on_ok_both}
-use Rattle.hs_agent.proofs.Returning.{length-arrived, arrived-back, none-back, some-back}
+use Rattle.hs_agent.proofs.Returning.{length-arrived, none-back, some-back}
 use Rattle.hs_agent.proofs.holdings.Holdings.pin.Goals as goal
 
 pub invariant_of-self-in-Ok-None : goal.invariant_of-self-in-Ok-None

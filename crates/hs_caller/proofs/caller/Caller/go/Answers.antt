@@ -4,10 +4,11 @@ use Rattle.hs_base.specs.declared.settings.AutoRule.{AutoRule}
 use Rattle.hs_records.specs.Plain.{settings_of}
 use Rattle.hs_sent.specs.SoFar.{done_behind}
 use Rattle.hs_workload.specs.Views.{operation_of}
+use Rattle.hs_workload.proofs.Sizes.{operations_few}
 use Rattle.hs_caller.specs.Calling.{Calling}
 use Rattle.hs_caller.specs.Performing.{MayDo}
 use Rattle.hs_caller.specs.Standing.{IsAt, Goes}
-use Rattle.hs_caller.proofs.Operations.{stands, fewer_operations}
+use Rattle.hs_caller.proofs.Operations.{stands}
 use Rattle.hs_caller.proofs.Going.{may_do}
 use Rattle.hs_caller.proofs.Coming.{HasCome, come_none, come_more, went}
 use Rattle.hs_caller.proofs.caller.Caller.go.Goals as goal
@@ -18,7 +19,7 @@ loop-place-init g c = (refl, come_none (settings_of c.args.settings.now) (map op
 pub overflow_cast-place : goal.overflow_cast-place
 overflow_cast-place g c =
     let operations = c.args.operations.now in
-    let fewer = fewer_operations c.args.settings.now.size (map operation_of operations) in
+    let fewer = operations_few c.args.settings.now.size (map operation_of operations) in
     omega (arith, c.loop-place-test.true, c.min-end.ensures, fewer, length-map operations operation_of, c.requires.1.playable.few)
 
 pub perform-requires : goal.perform-requires

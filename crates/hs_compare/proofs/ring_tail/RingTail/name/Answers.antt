@@ -1,10 +1,12 @@
 use Rattle.std.proofs.Common.{◌≡◌, ◌++◌, cond, Bool, List, [], ◌∷◌, false, length, map, sym, ap, ◌∙◌, subst, arith, length-append}
+use Rattle.std.proofs.lemmas.Bool.{not-true}
+use Rattle.hs_lists.proofs.Parts.{length_map}
 use Rattle.hs_base.specs.declared.ids.TraceId.{TraceId}
 use Rattle.hs_base.specs.declared.ids.RecordId.{RecordId}
 use Rattle.hs_compare.specs.Ringing.{alive, names, is_among}
 use Rattle.hs_compare.specs.Queues.{AreQueued}
 use Rattle.hs_compare.proofs.Rings.{among_is}
-use Rattle.hs_compare.proofs.Tails.{ringing, turned, length_map, count_left, queued_left, names_first}
+use Rattle.hs_compare.proofs.Tails.{ringing, count_left, queued_left, names_first}
 use Rattle.hs_compare.proofs.ring_tail.RingTail.name.Goals as goal
 
 pub overflow_sub-self : goal.overflow_sub-self
@@ -27,7 +29,7 @@ invariant_of-self-2 c =
     let a = c.self.inside in
     let named = a.named.keys in
     let trace = c.args.trace in
-    let absent = turned _ (sym c.in_ok-insert.ensures.added ∙ c.if-not-branch.false) in
+    let absent = not-true _ (sym c.in_ok-insert.ensures.added ∙ c.if-not-branch.false) in
     let are : c.insert.new.self.keys ≡ named ++ trace ∷ [] = c.in_ok-insert.ensures.keys ∙ ap (λ (b : Bool). cond b named (named ++ trace ∷ [])) absent in
     let left = count_left named trace a.ring.items a.queues.entries c.self.invariant.queued in
     let queue = ap length c.take-queue.ensures.queue in
@@ -54,7 +56,7 @@ returns-clause-ok c =
     let trace = c.args.trace in
     let kept = c.keep_all.new.kept.items in
     let traces = c.keep_all.new.traces.items in
-    let absent = turned _ (sym c.in_ok-insert.ensures.added ∙ c.if-not-branch.false) in
+    let absent = not-true _ (sym c.in_ok-insert.ensures.added ∙ c.if-not-branch.false) in
     let are : c.insert.new.self.keys ≡ named ++ trace ∷ [] = c.in_ok-insert.ensures.keys ∙ ap (λ (b : Bool). cond b named (named ++ trace ∷ [])) absent in
     let among : is_among named trace ≡ false = sym (among_is named trace) ∙ absent in
     let queue = c.take-queue.ensures.queue ∙ c.self.invariant.queued trace in

@@ -1,11 +1,11 @@
 use Rattle.std.proofs.Common.{◌≡◌, leb, List, length, Some, option_map, slice_get, sym, ap, ◌∙◌, arith}
 use Rattle.std.proofs.lemmas.List.{length-map}
 use Rattle.std.proofs.lemmas.Option.{slice_get-map}
+use Rattle.hs_lists.proofs.Lent.{lent_from}
 use Rattle.hs_base.specs.Listing.{Listing}
 use Rattle.hs_journal.specs.Views.{journal_of}
 use Rattle.hs_journal.specs.declared.journal.Step.{Step}
 use Rattle.hs_followed.specs.declared.tracked.Tracked.{Tracked}
-use Rattle.hs_followed.proofs.Lists.{lent_from}
 use Rattle.hs_followed.proofs.Done.{through_more, not_through, all_done}
 use Rattle.hs_followed.proofs.following.Following.is_done.Goals as goal
 

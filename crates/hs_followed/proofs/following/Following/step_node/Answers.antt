@@ -2,12 +2,12 @@ use Rattle.std.proofs.Common.{◌≡◌, List, get_or, Some, option_map, refl, s
 use Rattle.std.proofs.lemmas.List.{length-map}
 use Rattle.std.proofs.lemmas.Option.{slice_get-map}
 use Rattle.std.specs.Prelude.{slice_get}
+use Rattle.hs_lists.proofs.Lent.{lent_is, lent_from}
 use Rattle.hs_base.specs.Listing.{Listing}
 use Rattle.hs_base.specs.declared.told.Ask.{Ask}
 use Rattle.hs_journal.specs.Views.{journal_of}
 use Rattle.hs_journal.specs.declared.journal.Step.{Step}
 use Rattle.hs_workload.specs.Views.{workload_of}
-use Rattle.hs_followed.proofs.Lists.{lent_is, lent_from}
 use Rattle.hs_followed.proofs.Steps.{may_step, node_done}
 use Rattle.hs_followed.specs.Whole.{MayStepAt, StepsOn}
 use Rattle.hs_followed.proofs.following.Following.step_node.Goals as goal

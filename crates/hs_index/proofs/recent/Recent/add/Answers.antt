@@ -9,8 +9,8 @@ use Rattle.hs_index.specs.Index.{Noted, noted_of, touch, with_chunk, chunk_count
 use Rattle.hs_words.specs.Buffers.{buffer_of}
 use Rattle.hs_index.specs.Touched.{Touched, listed}
 use Rattle.hs_index.proofs.Listed.{count-listed, find-missing}
-use Rattle.hs_index.proofs.Outcomes.{on_err}
 use Rattle.std.proofs.lemmas.List.{length-append}
+use Rattle.hs_lists.proofs.Options.{on_err_always}
 use Rattle.hs_index.proofs.Touching.{noted-found, noted-missing, touch-missing, touch-found, length-touched, count-touched, count-with_chunk}
 use Rattle.hs_index.proofs.recent.Recent.add.Goals as goal
 
@@ -28,7 +28,7 @@ returns-in_err-add-in-Some-clause-err g c =
     let same : set_value (same_trace c.args.trace) c.self.inside.cache.entries c.add.new.self ≡ c.self.inside.cache.entries =
     set_value_same (same_trace c.args.trace) c.self.inside.cache.entries c.add.new.self (sym c.in-Some.ensures.value ∙ ap Some (sym c.in_err-add-in-Some.ensures.err)) in
     let all : listed (set_value (same_trace c.args.trace) c.self.inside.cache.entries c.add.new.self) ≡ c.args.self.now.traces = ap listed same ∙ ap (λ (t : Touched g.row.L.Denot). t.traces) c.self.view_is in
-    on_err c.from_residual.result all
+    on_err_always c.from_residual.result all
 
 pub invariant_of-self-in-Some : goal.invariant_of-self-in-Some
 invariant_of-self-in-Some g c =

@@ -3,11 +3,11 @@ use Rattle.std.specs.Prelude.{sum_by}
 use Rattle.std.proofs.lemmas.Result.{on_ok_weaker}
 use Rattle.std.specs.Map.{values_of, lookup, set_value}
 use Rattle.lru.specs.LruCache.{LruCache, promoted}
+use Rattle.hs_lists.proofs.Options.{on_err_always, on_ok_always}
 use Rattle.hs_base.specs.declared.ids.TraceId.{TraceId}
 use Rattle.hs_base.specs.Ids.{same_trace}
 use Rattle.hs_index.specs.Index.{Noted, Indexed, is_of, noted_of, touch, with_crumb, chunk_count, count_chunks}
 use Rattle.hs_index.specs.Touched.{Touched, listed}
-use Rattle.hs_index.proofs.Outcomes.{on_ok, on_err}
 use Rattle.hs_index.proofs.Listed.{count-listed, find-missing}
 use Rattle.hs_index.proofs.Touching.{noted-found, noted-missing, touch-missing, touch-found, length-touched, count-touched, count-with_crumb}
 use Rattle.hs_index.proofs.recent.Recent.add_crumb.Goals as goal
@@ -62,7 +62,7 @@ returns-after-insert-clause-ok g c =
     (c.add_crumb-in-None.ensures ∙ ap (λ (n : Noted g.row.L.Denot). with_crumb n c.args.crumb.node) (c.new-entry.ensures ∙ sym (noted-missing c.args.crumb.trace c.self.inside.cache.entries missing)))
     ∙ ap (λ (t : Touched g.row.L.Denot). touch c.args.crumb.trace (with_crumb (noted_of c.args.crumb.trace t.traces) c.args.crumb.node) t.traces) c.self.view_is in
     elim c.match-insert.branch [
-      | in-Ok w ↦ on_ok c.match-insert.result (w.in-Ok.ensures.ok ∙ touch-missing c.args.crumb.trace c.self.inside.cache.entries c.add_crumb-in-None.new.self missing ∙ rest)
+      | in-Ok w ↦ on_ok_always c.match-insert.result (w.in-Ok.ensures.ok ∙ touch-missing c.args.crumb.trace c.self.inside.cache.entries c.add_crumb-in-None.new.self missing ∙ rest)
       | in-Err w ↦ rw w.result-is tt
     ]
 
@@ -76,7 +76,7 @@ returns-then-full-clause-fresh g c =
 
 pub returns-after-insert-clause-fresh : goal.returns-after-insert-clause-fresh
 returns-after-insert-clause-fresh g c =
-    on_err c.match-insert.result
+    on_err_always c.match-insert.result
     (none_there c.args.crumb.trace c.args.self.now _ _ c.self.view_is (find-missing c.args.crumb.trace c.self.inside.cache.entries (sym c.in-None.ensures.value)))
 
 pub returns-in-Some-clause-count : goal.returns-in-Some-clause-count

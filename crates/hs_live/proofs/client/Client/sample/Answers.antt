@@ -1,5 +1,6 @@
 use Rattle.std.proofs.Common.{◌≡◌, List, map, get_or, sym, ap, ◌∙◌, subst}
 use Rattle.std.proofs.lemmas.List.{append-nil}
+use Rattle.hs_lists.proofs.Lent.{lent, lent_is}
 use Rattle.hs_records.specs.Plain.{Sample}
 use Rattle.hs_auto.specs.Watching.{Watch}
 use Rattle.hs_auto.specs.declared.sampled.Sampled.TheVariants.{Quiet, Fired}
@@ -11,7 +12,6 @@ use Rattle.hs_live.specs.Done.{Does}
 use Rattle.hs_live.specs.Calls.{IsAutoOf}
 use Rattle.hs_live.specs.ClientInside.{live_of}
 use Rattle.hs_live.proofs.Samples.{is_found, sample_done}
-use Rattle.hs_live.proofs.Lists.{lent, lent_is}
 use Rattle.hs_live.proofs.client.Client.sample.Goals as goal
 
 pub returns-in-Quiet-clause-does : goal.returns-in-Quiet-clause-does

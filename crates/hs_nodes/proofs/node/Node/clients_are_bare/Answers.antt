@@ -1,13 +1,13 @@
-use Rattle.std.proofs.Common.{◌<◌, ◌∙◌, ap, sym, arith, length, subst}
-use Rattle.std.proofs.lemmas.Option.{same_Some}
+use Rattle.std.proofs.Common.{◌<◌, ◌∙◌, ap, sym, arith, length, subst, below_more}
+use Rattle.std.proofs.lemmas.Option.{same_Some, slice_get_within}
+use Rattle.hs_lists.proofs.Lent.{indexed}
 use Rattle.hs_lawful.specs.Following.{NodeRun, followed}
 use Rattle.hs_nodes.specs.Left.{are_clients_bare}
 use Rattle.hs_nodes.specs.NodeLayout.{parts_in}
 use Rattle.hs_nodes.specs.Parts.{Parts}
 use Rattle.hs_nodes.specs.Standing.{NodeIsAt}
 use Rattle.hs_nodes.proofs.Going.{place_there}
-use Rattle.hs_nodes.proofs.LeftOver.{AllTaken, bare_is, was_bare, not_bare, below_more, clients_bare, count_sends}
-use Rattle.hs_nodes.proofs.Lists.{found_within, indexed}
+use Rattle.hs_nodes.proofs.LeftOver.{AllTaken, bare_is, was_bare, not_bare, clients_bare, count_sends}
 use Rattle.hs_nodes.proofs.node.Node.clients_are_bare.Goals as goal
 
 pub returns-then-not-is_bare : goal.returns-then-not-is_bare
@@ -20,7 +20,7 @@ returns-then-not-is_bare c = λ W m n still done run there.
     let within : c.loop-player.player-index < W.settings.clients = omega (arith, inside, players) in
     let stood = indexed c.self.inside.players.items c.as_slice-player-items.result.now c.loop-player.player-index c.player-item.result c.as_slice-player-items.ensures inside c.player-item.is in
     let nodes = (c.machines_are_whole.ensures W still.valid m still.reached).count in
-    let found = found_within (followed W m.journal).nodes n at.run at.at in
+    let found = slice_get_within (followed W m.journal).nodes n at.run at.at in
     let here : n < W.settings.nodes = omega (arith, nodes, found) in
     let whole = place_there W n c.loop-player.player-index still.valid.count here within in
     let is = bare_is W m n (parts_in c.self.inside) at c.loop-player.player-index c.player-item.result stood c.all_is_sent_in_the_end.ensures.chunks c.all_is_sent_in_the_end.ensures.crumbs c.all_is_sent_in_the_end.ensures.triggers
@@ -38,7 +38,7 @@ loop-player-preserved c = λ W m n still done.
     let within : c.loop-player.player-index < W.settings.clients = omega (arith, inside, players) in
     let stood = indexed c.self.inside.players.items c.as_slice-player-items.result.now c.loop-player.player-index c.player-item.result c.as_slice-player-items.ensures inside c.player-item.is in
     let nodes = (c.machines_are_whole.ensures W still.valid m still.reached).count in
-    let found = found_within (followed W m.journal).nodes n at.run at.at in
+    let found = slice_get_within (followed W m.journal).nodes n at.run at.at in
     let here : n < W.settings.nodes = omega (arith, nodes, found) in
     let whole = place_there W n c.loop-player.player-index still.valid.count here within in
     let all = was_bare W m n (parts_in c.self.inside) at c.loop-player.player-index c.player-item.result stood c.all_is_sent_in_the_end.ensures.chunks c.all_is_sent_in_the_end.ensures.crumbs c.all_is_sent_in_the_end.ensures.triggers

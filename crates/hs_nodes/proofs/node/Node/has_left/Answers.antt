@@ -1,12 +1,12 @@
-use Rattle.std.proofs.Common.{◌≡◌, ◌<◌, ◌∙◌, refl, ap, sym, arith, length, map, subst}
+use Rattle.std.proofs.Common.{◌≡◌, ◌<◌, ◌∙◌, refl, ap, sym, arith, length, map, subst, below_more}
+use Rattle.hs_lists.proofs.Lent.{indexed}
 use Rattle.hs_sent.specs.Sending.{operations_at, place_of}
 use Rattle.hs_workload.specs.Views.{operation_of}
 use Rattle.hs_nodes.specs.Left.{done_of, all_of}
 use Rattle.hs_nodes.specs.NodeLayout.{parts_in}
 use Rattle.hs_nodes.specs.Parts.{Parts}
 use Rattle.hs_nodes.specs.Standing.{NodeIsAt}
-use Rattle.hs_nodes.proofs.LeftOver.{left_is, none_left, below_more}
-use Rattle.hs_nodes.proofs.Lists.{indexed}
+use Rattle.hs_nodes.proofs.LeftOver.{left_is, none_left}
 use Rattle.hs_nodes.proofs.node.Node.has_left.Goals as goal
 
 pub returns-then-has_left : goal.returns-then-has_left

@@ -2,10 +2,11 @@ use Rattle.std.proofs.Common.{◌≡◌, ◌∙◌, ap, sym, arith, length, subs
 use Rattle.hs_base.specs.Rules.{AreRules}
 use Rattle.hs_workload.specs.declared.word.Setting.TheVariants as settings
 use Rattle.hs_words.specs.Chunks.{clear_chunks}
+use Rattle.hs_words.proofs.Chunks.{length_clear}
 use Rattle.hs_agent.specs.Runs.{Follows, new_run}
 use Rattle.hs_records.specs.Plain.{PlainSettings, settings_of}
 use Rattle.hs_nodes.specs.Parts.{Parts}
-use Rattle.hs_nodes.proofs.Begun.{new_node, new_pool, count_clear}
+use Rattle.hs_nodes.proofs.Begun.{new_node, new_pool}
 use Rattle.hs_nodes.proofs.node.Node.make.Goals as goal
 
 pub make-requires-clause-some : goal.make-requires-clause-some
@@ -40,7 +41,7 @@ pub make-requires-2-clause-some : goal.make-requires-2-clause-some
 make-requires-2-clause-some c =
     let (W, new) = c.requires in
     let count = ap length c.in_ok-stock.ensures in
-    let clear = count_clear c.args.settings.now.buffers c.args.settings.now.size in
+    let clear = length_clear c.args.settings.now.buffers c.args.settings.now.size in
     let same = ap (λ s. s.buffers) new.are.settings_are in
     let bound = (new.valid.head settings.Buffers).0 in
     omega (arith, count, clear, same, bound)
@@ -49,7 +50,7 @@ pub make-requires-2-clause-few : goal.make-requires-2-clause-few
 make-requires-2-clause-few c =
     let (W, new) = c.requires in
     let count = ap length c.in_ok-stock.ensures in
-    let clear = count_clear c.args.settings.now.buffers c.args.settings.now.size in
+    let clear = length_clear c.args.settings.now.buffers c.args.settings.now.size in
     let same = ap (λ s. s.buffers) new.are.settings_are in
     let bound = (new.valid.head settings.Buffers).1 in
     omega (arith, count, clear, same, bound)
@@ -63,7 +64,7 @@ make-requires-3-clause-nodes c =
 
 pub make-requires-2-clause-clear : goal.make-requires-2-clause-clear
 make-requires-2-clause-clear c =
-    let count = ap length c.in_ok-stock.ensures ∙ count_clear c.args.settings.now.buffers c.args.settings.now.size in
+    let count = ap length c.in_ok-stock.ensures ∙ length_clear c.args.settings.now.buffers c.args.settings.now.size in
     (c.args.settings.now.size, c.in_ok-stock.ensures ∙ ap (λ k. clear_chunks k c.args.settings.now.size) (sym count))
 
 pub make-requires-3-clause-rules : goal.make-requires-3-clause-rules

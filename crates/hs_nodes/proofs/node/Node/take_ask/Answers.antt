@@ -1,4 +1,5 @@
 use Rattle.std.proofs.Common.{◌≡◌, [], subst, sym, ◌∙◌}
+use Rattle.hs_lists.proofs.Parts.{nil_of_rest}
 use Rattle.hs_agent.specs.declared.input.Input.{Input}
 use Rattle.hs_agent.specs.declared.input.Input.TheVariants as inputs
 use Rattle.hs_journal.specs.declared.journal.Step.TheVariants as steps
@@ -7,7 +8,6 @@ use Rattle.hs_nodes.specs.declared.queue.Queue.TheVariants as queues
 use Rattle.hs_nodes.specs.NodeLayout.{parts_in}
 use Rattle.hs_nodes.specs.Parts.{Parts}
 use Rattle.hs_nodes.specs.Passing.{IsAmid}
-use Rattle.hs_nodes.proofs.Lists.{nil_of_rest}
 use Rattle.hs_nodes.proofs.TakingOut.{ask_there, asks_gone}
 use Rattle.hs_nodes.proofs.Taken.{took_one}
 use Rattle.hs_nodes.proofs.node.Node.take_ask.Goals as goal

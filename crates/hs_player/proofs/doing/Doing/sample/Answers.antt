@@ -1,10 +1,11 @@
 use Rattle.std.proofs.Common.{get_or, sym, ap, ◌∙◌}
 use Rattle.std.proofs.lemmas.Option.{get_or_from_slice_get}
 use Rattle.std.proofs.lemmas.List.{append-nil}
+use Rattle.hs_lists.proofs.Lent.{lent, lent_is}
 use Rattle.hs_auto.specs.declared.sampled.Sampled.TheVariants.{Quiet, Fired}
 use Rattle.hs_base.specs.Rules.{fired_by}
 use Rattle.hs_player.specs.Inside.{working_in}
-use Rattle.hs_player.proofs.Samples.{lent, lent_is, is_found, sample_done}
+use Rattle.hs_player.proofs.Samples.{is_found, sample_done}
 use Rattle.hs_player.proofs.doing.Doing.sample.Goals as goal
 
 pub returns-in-Quiet-clause-done : goal.returns-in-Quiet-clause-done

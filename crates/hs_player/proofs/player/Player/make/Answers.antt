@@ -1,6 +1,7 @@
 use Rattle.std.proofs.Common.{◌≡◌, List, [], ◌∷◌, ◌++◌, length, map, get_or, sym, ap, ap₂, ◌∙◌, subst, arith}
 use Rattle.std.proofs.lemmas.List.{map-append, take_more, take_all}
 use Rattle.std.specs.List.{AllByRecursion}
+use Rattle.hs_lists.proofs.Alls.{all_push}
 use Rattle.hs_auto.specs.Watching.{Watch, HasSampled}
 use Rattle.hs_base.specs.declared.settings.AutoRule.{AutoRule}
 use Rattle.hs_base.specs.declared.settings.AutoRule.TheVariants.{Exception}
@@ -10,7 +11,7 @@ use Rattle.hs_workload.specs.Views.{operation_of}
 use Rattle.hs_client.specs.Core.{new_core}
 use Rattle.hs_player.specs.Playing.{Working}
 use Rattle.hs_player.specs.Inside.{working_in}
-use Rattle.hs_player.proofs.Making.{all_behind, new_at}
+use Rattle.hs_player.proofs.Making.{new_at}
 use Rattle.hs_player.proofs.player.Player.make.Goals as goal
 
 abbrev rule_of : Watch → AutoRule
@@ -28,7 +29,7 @@ loop-rule-preserved c =
     let rule : auto.rule ≡ get_or rules i default = c.in_ok-make.ensures.rule ∙ ap (λ (l : List AutoRule). get_or l i default) same in (
       omega (arith, is.0, c.push.ensures.room),
       ap (map rule_of) pushed ∙ map-append rule_of c.loop-rule.autos.items (auto ∷ []) ∙ ap₂ (λ (l : List AutoRule) (r : AutoRule). l ++ r ∷ []) is.1 rule ∙ sym (take_more rules i default (omega (arith, c.loop-rule-test.true, ap length same))),
-      subst (λ (l : List Watch). AllByRecursion (λ (w : Watch). HasSampled w []) l) (sym pushed) (all_behind (λ (w : Watch). HasSampled w []) c.loop-rule.autos.items auto is.2 c.in_ok-make.ensures.fresh),
+      subst (λ (l : List Watch). AllByRecursion (λ (w : Watch). HasSampled w []) l) (sym pushed) (all_push (λ (w : Watch). HasSampled w []) c.loop-rule.autos.items auto is.2 c.in_ok-make.ensures.fresh),
     )
 
 pub returns : goal.returns

@@ -1,9 +1,9 @@
 use Rattle.std.proofs.Common.{map, subst}
+use Rattle.hs_lists.proofs.Parts.{map_option_append, map_rest}
 use Rattle.hs_words.specs.Buffers.{buffer_of, buffer_in}
 use Rattle.hs_player.specs.Playing.{Playing}
 use Rattle.hs_player.specs.PlayerInside.{playing_in}
 use Rattle.hs_player.specs.Places.{TakesChunk}
-use Rattle.hs_player.proofs.Lists.{mapped, mapped_rest}
 use Rattle.hs_player.proofs.Taking.{takes_chunk}
 use Rattle.hs_player.proofs.player.Player.next_chunk.Goals as goal
 
@@ -16,5 +16,5 @@ returns c =
     playing_in
     (record { doing = record { writer = record { core = s.doing.writer.core; chunks = c.pop_front.new.self }; autos = s.doing.autos; crumbs = s.doing.crumbs; triggers = s.doing.triggers }; done = s.done }) in
     subst (λ (old : Playing). TakesChunk old (buffer_in c.pop_front.result) new) c.self.view_is
-    (takes_chunk (playing_in s) (buffer_in c.pop_front.result) (map buffer_of more) c.items_are_sent_in_order.ensures.chunks (mapped buffer_of chunks more c.pop_front.result c.pop_front.ensures.items)
-    (mapped_rest buffer_of chunks more c.pop_front.ensures.rest))
+    (takes_chunk (playing_in s) (buffer_in c.pop_front.result) (map buffer_of more) c.items_are_sent_in_order.ensures.chunks (map_option_append buffer_of chunks more c.pop_front.result c.pop_front.ensures.items)
+    (map_rest buffer_of chunks more c.pop_front.ensures.rest))

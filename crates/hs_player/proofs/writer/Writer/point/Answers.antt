@@ -1,8 +1,9 @@
 use Rattle.std.proofs.Common.{ap, ◌∙◌}
 use Rattle.std.proofs.lemmas.Result.{on_ok_weaker}
 use Rattle.hs_records.specs.Records.{piece_limit}
+use Rattle.hs_records.proofs.Payloads.{AreCut}
 use Rattle.hs_player.specs.Inside.{writing_in}
-use Rattle.hs_player.proofs.Cuts.{AreCut, cut_none, cut_further, cut_all, cut_ready}
+use Rattle.hs_player.proofs.Cuts.{cut_none, cut_further, cut_all, cut_ready}
 use Rattle.hs_player.proofs.writer.Writer.point.Goals as goal
 
 pub loop-rest-init : goal.loop-rest-init

@@ -1,7 +1,7 @@
 use Rattle.std.proofs.Common.{◌+◌, Some, None, refl, ap, sym, subst, ◌∙◌, arith}
+use Rattle.hs_lists.proofs.Counts.{one_if}
 use Rattle.hs_lawful.specs.Passes.{is_turn}
 use Rattle.hs_lawful.specs.Shape.{step_stamp}
-use Rattle.hs_clauses.proofs.Numbered.{one_if}
 use Rattle.hs_journal.specs.declared.journal.Step.{Step}
 use Rattle.hs_unreads.specs.declared.shown.Shown.{Shown}
 use Rattle.hs_unreads.specs.Showing.{is_give, HasGiven}

@@ -1,0 +1,16 @@
+-- The sheets that an input brings.
+use Rattle.std.proofs.Common.{◌≡◌, map, refl}
+use Rattle.hs_model.specs.Laws.{brought_by}
+use Rattle.hs_model.specs.Stepping.{Took}
+use Rattle.hs_agent.specs.declared.input.Input.{Input}
+use Rattle.hs_agent.specs.declared.input.Input.TheVariants as inputs
+use Rattle.hs_agent.specs.Points.{sheet_in}
+use Rattle.hs_agent.specs.Runs.{buffers_in, input_of}
+
+-- the pages that an input brings
+pub sheets_brought : {g : _} (input : Input (Unit {0}) g) → map sheet_in (buffers_in input) ≡ brought_by (Took (input_of input))
+sheets_brought (inputs.Chunk client held) = refl
+sheets_brought (inputs.Crumb client crumb) = refl
+sheets_brought (inputs.Trigger client trigger) = refl
+sheets_brought (inputs.Ask ask) = refl
+sheets_brought inputs.Turn = refl

@@ -1,0 +1,12 @@
+pub mod Bools
+pub mod Numbers
+pub mod Options
+pub mod Parts
+pub mod Places
+pub mod Alls
+pub mod Filters
+pub mod Tests
+pub mod Counts
+pub mod Ranges
+pub mod Lent
+pub mod Updates
