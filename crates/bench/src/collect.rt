@@ -1,7 +1,9 @@
 //! Pages given to a collector.
 
 use anyhow::{Context, Result, bail};
-use fixtures::{add_page, fill_page, no_pages};
+use tests_with::add_page;
+use tests_with::fill_page;
+use tests_with::no_pages;
 use hs_base::limits::{MAX_OPERATIONS, MAX_SIZE};
 use hs_words::{Chunk, Stock};
 use std::rt::Clock;

@@ -4,10 +4,13 @@
 ghost use Rattle.std.specs.Prelude.{◌≡◌, ◌≤◌, length};
 ghost use Rattle.std.specs.Thread.{IsSync};
 ghost use Rattle.hs_records.specs.Records.{piece_count};
-ghost use Rattle.fixtures_live.specs.Pairs.{CanCall, KeepsPort, HasClient};
+ghost use Rattle.tests_with.specs.Pairs.{CanCall, KeepsPort, HasClient};
 
 use anyhow::{Context, Result, ensure};
-use fixtures_live::{Making, client_and_port, give_back, next_chunk};
+use tests_with::Making;
+use tests_with::client_and_port;
+use tests_with::give_back;
+use tests_with::next_chunk;
 use hs_base::TraceId;
 use hs_base::limits::{HEADER_COST, MAX_OPERATIONS, MAX_SIZE, PIECE_COST};
 use hs_live::{AgentPort, Client};

@@ -1,10 +1,16 @@
 //! Claims, arrivals, takes and abandonments at pins that grow.
 
 ghost use Rattle.std.specs.Prelude.{IfOk, OnOk};
-ghost use Rattle.fixtures.specs.Claims.{IsReady};
+ghost use Rattle.tests_with.specs.Claims.{IsReady};
 
 use anyhow::{Context, Result, bail};
-use fixtures::{arrives, claims, fresh_pins, group_of, lets_go, page_of, takes};
+use tests_with::arrives;
+use tests_with::claims;
+use tests_with::fresh_pins;
+use tests_with::group_of;
+use tests_with::lets_go;
+use tests_with::page_of;
+use tests_with::takes;
 use hs_base::{List, TraceId};
 use hs_pins::Pins;
 use hs_words::Held;

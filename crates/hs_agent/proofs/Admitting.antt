@@ -12,8 +12,8 @@ use Rattle.hs_pins.specs.Buckets.{level_found, attempted}
 use Rattle.hs_pins.specs.Remembered.{Remembered, admission, answered, tried_at, admitted_after}
 use Rattle.hs_pins.specs.Remembered as pins
 use Rattle.hs_pins.specs.PinsLayout.{Pinning, Remembers}
-use Rattle.hs_model.specs.State.{AgentState}
-use Rattle.hs_model.specs.Stepping.{rule_of, admits, note_trigger, count_admitted}
+use Rattle.hs_law_agent.specs.State.{AgentState}
+use Rattle.hs_law_agent.specs.Stepping.{rule_of, admits, note_trigger, count_admitted}
 use Rattle.hs_agent.specs.declared.placed.Place.{Place}
 use Rattle.hs_agent.specs.Keeping.{Kept, Holds, Point, RemembersAs, with_state}
 

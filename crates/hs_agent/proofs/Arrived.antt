@@ -18,10 +18,10 @@ use Rattle.hs_pins.specs.Remembered.{Claim, Pin, Remembered, claim_of, with_pin,
 use Rattle.hs_pins.specs.PinsLayout.{Pinning, Remembers}
 use Rattle.hs_index.specs.Index.{Index, Indexed, Noted, noted_of, others, touch, with_chunk, with_touched, chunks_left, count_chunks, trace_of}
 use Rattle.hs_index.specs.Index as index
-use Rattle.hs_model.specs.State.{AgentState}
-use Rattle.hs_model.specs.Standings.{Taken, ChunkStanding, is_indexed, Indexed as IsIn, Pinned, Abandoned, pinning_group, pinned_for}
-use Rattle.hs_model.specs.Books.{page_standing, bytes_at}
-use Rattle.hs_model.specs.Stepping.{with_taken, with_indexed, with_pinned, with_abandoned}
+use Rattle.hs_law_agent.specs.State.{AgentState}
+use Rattle.hs_law_agent.specs.Standings.{Taken, ChunkStanding, is_indexed, Indexed as IsIn, Pinned, Abandoned, pinning_group, pinned_for}
+use Rattle.hs_law_agent.specs.Books.{page_standing, bytes_at}
+use Rattle.hs_law_agent.specs.Stepping.{with_taken, with_indexed, with_pinned, with_abandoned}
 use Rattle.hs_agent.specs.declared.placed.Place.{Place}
 use Rattle.hs_agent.specs.Placing.{Placed, Pledged, place_of, placed_at}
 use Rattle.hs_agent.specs.Keeping.{Kept, Holds, HasPage, IsKept, IsIndexed, RemembersAs, Point, with_state, pinned_place, waiting_chunks, all_held}

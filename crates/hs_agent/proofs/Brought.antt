@@ -1,7 +1,7 @@
 -- The sheets that an input brings.
 use Rattle.std.proofs.Common.{◌≡◌, map, refl}
-use Rattle.hs_model.specs.Laws.{brought_by}
-use Rattle.hs_model.specs.Stepping.{Took}
+use Rattle.hs_law_agent.specs.Laws.{brought_by}
+use Rattle.hs_law_agent.specs.Stepping.{Took}
 use Rattle.hs_agent.specs.declared.input.Input.{Input}
 use Rattle.hs_agent.specs.declared.input.Input.TheVariants as inputs
 use Rattle.hs_agent.specs.Points.{sheet_in}

@@ -13,10 +13,10 @@ use Rattle.hs_pins.specs.Remembered.{Claim, Pin, Remembered, claim_of, is_claim_
 use Rattle.hs_pins.specs.PinsLayout.{Pinning, Remembers}
 use Rattle.hs_index.specs.Index.{Indexed, Noted, is_of, nothing, noted_of, others, chunks_left, count_chunks}
 use Rattle.hs_index.specs.Index as index
-use Rattle.hs_model.specs.State.{AgentState, ClaimedTrace, is_claimed}
-use Rattle.hs_model.specs.Standings.{Pinned, moved, indexed_places, pinned_for, Taken}
-use Rattle.hs_model.specs.Books.{page_standing, claim_note, bytes_at}
-use Rattle.hs_model.specs.Claiming.{claim_trace, claim_unclaimed}
+use Rattle.hs_law_agent.specs.State.{AgentState, ClaimedTrace, is_claimed}
+use Rattle.hs_law_agent.specs.Standings.{Pinned, moved, indexed_places, pinned_for, Taken}
+use Rattle.hs_law_agent.specs.Books.{page_standing, claim_note, bytes_at}
+use Rattle.hs_law_agent.specs.Claiming.{claim_trace, claim_unclaimed}
 use Rattle.hs_agent.specs.declared.placed.Place.{Place}
 use Rattle.hs_agent.specs.Placing.{Placed, place_of}
 use Rattle.hs_agent.specs.Keeping.{Kept, Holds, HasPage, IsKept, RemembersAs, Point, with_state, pinned_place, plain_claim, waiting_chunks, all_held}

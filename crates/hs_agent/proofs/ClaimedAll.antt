@@ -16,10 +16,10 @@ use Rattle.hs_pins.specs.Abandoning.{drops, relieved}
 use Rattle.hs_agent.specs.declared.placed.Place.{Place}
 use Rattle.hs_agent.specs.LettingGo.{let_go_all, abandoned_going}
 use Rattle.hs_agent.specs.Points.{claimed_for}
-use Rattle.hs_model.specs.State.{AgentState, ClaimedTrace, is_claimed}
-use Rattle.hs_model.specs.Claiming.{claim_trace, claim_unclaimed, claim_each, traces_of}
-use Rattle.hs_model.specs.Stepping.{claim_for}
-use Rattle.hs_model.proofs.Traces.{same_trace-refl}
+use Rattle.hs_law_agent.specs.State.{AgentState, ClaimedTrace, is_claimed}
+use Rattle.hs_law_agent.specs.Claiming.{claim_trace, claim_unclaimed, claim_each, traces_of}
+use Rattle.hs_law_agent.specs.Stepping.{claim_for}
+use Rattle.hs_law_agent.proofs.Traces.{same_trace-refl}
 use Rattle.hs_agent.specs.Keeping.{Kept, Holds, Point, with_state, plain_claim}
 use Rattle.hs_agent.proofs.Claimed.{claimed-plain}
 use Rattle.hs_agent.proofs.Unchanged.{abandon-keeps}

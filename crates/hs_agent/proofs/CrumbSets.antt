@@ -15,7 +15,7 @@ use Rattle.hs_base.specs.Ids.{same_trace}
 use Rattle.hs_pins.specs.Remembered.{Claim, claim_of}
 use Rattle.hs_pins.specs.Remembered as pins
 use Rattle.hs_index.specs.Index.{Indexed, noted_of}
-use Rattle.hs_model.specs.Messages.{same_crumb, has_crumb, crumb_nodes}
+use Rattle.hs_law_agent.specs.Messages.{same_crumb, has_crumb, crumb_nodes}
 use Rattle.hs_agent.specs.declared.placed.Place.{Place}
 use Rattle.hs_agent.specs.Keeping.{crumbs_known}
 

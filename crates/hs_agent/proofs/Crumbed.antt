@@ -20,13 +20,13 @@ use Rattle.hs_pins.specs.Remembered as pins
 use Rattle.hs_pins.specs.PinsLayout.{Pinning, Remembers}
 use Rattle.hs_index.specs.Index.{Index, Indexed, Noted, noted_of, touch, chunks_left}
 use Rattle.hs_index.specs.Index as index
-use Rattle.hs_model.specs.State.{AgentState, ClaimedTrace}
-use Rattle.hs_model.specs.State as model
-use Rattle.hs_model.specs.Standings.{indexed_places, indexed_count}
-use Rattle.hs_model.specs.Messages.{has_crumb, same_crumb, with_crumb, late_of, say}
-use Rattle.hs_model.specs.Stepping.{with_touched, late_crumb, tell_late, remember, take_crumb}
-use Rattle.hs_model.specs.Evicting.{evict}
-use Rattle.hs_model.proofs.Traces.{same_trace-true, same_trace-refl}
+use Rattle.hs_law_agent.specs.State.{AgentState, ClaimedTrace}
+use Rattle.hs_law_agent.specs.State as model
+use Rattle.hs_law_agent.specs.Standings.{indexed_places, indexed_count}
+use Rattle.hs_law_agent.specs.Messages.{has_crumb, same_crumb, with_crumb, late_of, say}
+use Rattle.hs_law_agent.specs.Stepping.{with_touched, late_crumb, tell_late, remember, take_crumb}
+use Rattle.hs_law_agent.specs.Evicting.{evict}
+use Rattle.hs_law_agent.proofs.Traces.{same_trace-true, same_trace-refl}
 use Rattle.hs_agent.specs.declared.placed.Place.{Place}
 use Rattle.hs_agent.specs.Placing.{Placed}
 use Rattle.hs_agent.specs.Keeping.{Kept, Holds, IsKept, HasPage, IsIndexed, Point, with_state, plain_claim, waiting_chunks, crumbs_known}

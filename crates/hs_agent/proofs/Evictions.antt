@@ -14,11 +14,11 @@ use Rattle.hs_journal.specs.declared.books.Standing.{Standing}
 use Rattle.hs_records.specs.Plain.{PlainSettings}
 use Rattle.hs_index.specs.Index.{Indexed, Leaving, leaving, chunk_count, count_chunks, chunks_left, kept, evicted, is_over, is_of, nothing}
 use Rattle.hs_pins.specs.Remembered.{Claim}
-use Rattle.hs_model.specs.Standings.{moved, indexed_places, indexed_count, pinned_for, Evicted}
-use Rattle.hs_model.specs.State.{AgentState}
-use Rattle.hs_model.specs.Books.{page_standing, fate_of}
-use Rattle.hs_model.specs.Evicting as model
-use Rattle.hs_model.proofs.Traces.{same_trace-refl}
+use Rattle.hs_law_agent.specs.Standings.{moved, indexed_places, indexed_count, pinned_for, Evicted}
+use Rattle.hs_law_agent.specs.State.{AgentState}
+use Rattle.hs_law_agent.specs.Books.{page_standing, fate_of}
+use Rattle.hs_law_agent.specs.Evicting as model
+use Rattle.hs_law_agent.proofs.Traces.{same_trace-refl}
 use Rattle.hs_agent.specs.declared.placed.Place.{Place}
 use Rattle.hs_agent.specs.Placing.{Placed, place_of}
 use Rattle.hs_agent.specs.Keeping.{IsIndexed}

@@ -10,10 +10,10 @@ use Rattle.hs_sched.specs.Turns.{Schedule, IsSchedule}
 use Rattle.hs_words.specs.Buffers.{Buffer, buffer_of}
 use Rattle.hs_words.specs.declared.token.Given.{Given as Answer}
 use Rattle.hs_words.specs.declared.token.Given.TheVariants as given
-use Rattle.hs_model.specs.Laws.{IsInOnePlace, EventsGoOn}
-use Rattle.hs_model.specs.State.{AgentState}
-use Rattle.hs_model.specs.Stepping.{Answered, Given, Missed, Unread, Took, Gave, note, step_of, take_input, step_of_answer, give_back, take_answer, after_gave}
-use Rattle.hs_model.proofs.Bearing.{answer_shares}
+use Rattle.hs_law_agent.specs.Laws.{IsInOnePlace, EventsGoOn}
+use Rattle.hs_law_agent.specs.State.{AgentState}
+use Rattle.hs_law_agent.specs.Stepping.{Answered, Given, Missed, Unread, Took, Gave, note, step_of, take_input, step_of_answer, give_back, take_answer, after_gave}
+use Rattle.hs_law_agent.proofs.Bearing.{answer_shares}
 use Rattle.hs_agent.specs.Keeping.{Kept, Keeping, Holds, Point}
 use Rattle.hs_agent.specs.Offering.{answered}
 use Rattle.hs_agent.specs.Runs.{Run, input_of, taken_in, after_input, Follows, StandsAt, point_of, state_of, after_offer, answer_of, back_in, with_back, after_answer}

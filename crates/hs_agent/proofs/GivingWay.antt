@@ -11,12 +11,12 @@ use Rattle.hs_pins.proofs.Order.{same_group-true}
 use Rattle.std.proofs.lemmas.Bool.{eqb-true}
 use Rattle.std.proofs.lemmas.List.{append_assoc, map-append, length-map}
 use Rattle.hs_records.specs.Plain.{PlainSettings}
-use Rattle.hs_model.specs.State.{AgentState}
-use Rattle.hs_model.specs.Standings.{moved_from, moved, is_among, Taken, ChunkStanding, Indexed, Pinned, Reported, Evicted, Abandoned, pinning_group, pinned_for, is_pinned_for, is_pinned_to, same_group}
-use Rattle.hs_model.specs.Abandoning as model
-use Rattle.hs_model.specs.Standings.{indexed_places, indexed_count, is_indexed, stands}
-use Rattle.hs_model.specs.Books.{page_standing, fate_of}
-use Rattle.hs_model.proofs.Limits.{pinned_to}
+use Rattle.hs_law_agent.specs.State.{AgentState}
+use Rattle.hs_law_agent.specs.Standings.{moved_from, moved, is_among, Taken, ChunkStanding, Indexed, Pinned, Reported, Evicted, Abandoned, pinning_group, pinned_for, is_pinned_for, is_pinned_to, same_group}
+use Rattle.hs_law_agent.specs.Abandoning as model
+use Rattle.hs_law_agent.specs.Standings.{indexed_places, indexed_count, is_indexed, stands}
+use Rattle.hs_law_agent.specs.Books.{page_standing, fate_of}
+use Rattle.hs_law_agent.proofs.Limits.{pinned_to}
 use Rattle.hs_journal.specs.declared.books.Standing.{Standing}
 use Rattle.hs_base.specs.declared.ids.TraceId.{TraceId}
 use Rattle.std.proofs.lemmas.List.Sums.{fold-append}

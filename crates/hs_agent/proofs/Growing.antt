@@ -10,8 +10,8 @@ use Rattle.hs_journal.specs.declared.books.Standing.{Standing}
 use Rattle.hs_records.specs.Plain.{PlainSettings}
 use Rattle.hs_words.specs.Pages.{page_bytes}
 use Rattle.hs_words.specs.Buffers.{Buffer}
-use Rattle.hs_model.specs.Standings.{Taken, pinning_group, pinned_for}
-use Rattle.hs_model.specs.Books.{bytes_at}
+use Rattle.hs_law_agent.specs.Standings.{Taken, pinning_group, pinned_for}
+use Rattle.hs_law_agent.specs.Books.{bytes_at}
 use Rattle.hs_agent.specs.Placing.{Placed, Pledged, place_of}
 use Rattle.hs_agent.specs.Keeping.{IsKept, HasPage}
 use Rattle.hs_agent.specs.LettingGo.{with_fate}

@@ -28,15 +28,15 @@ use Rattle.hs_index.specs.Index.{Noted, Indexed, is_of, is_other, nothing, noted
 use Rattle.hs_index.specs.Index as index
 use Rattle.hs_pins.specs.Remembered.{Claim, claim_of, is_claim_of}
 use Rattle.hs_pins.specs.Remembered as pins
-use Rattle.hs_model.specs.Standings.{moved, places_from, indexed_places, indexed_count, is_indexed, is_indexed_of, trace_of, Taken, ChunkStanding, Indexed as IsIn, Pinned, Reported, Evicted, Abandoned}
+use Rattle.hs_law_agent.specs.Standings.{moved, places_from, indexed_places, indexed_count, is_indexed, is_indexed_of, trace_of, Taken, ChunkStanding, Indexed as IsIn, Pinned, Reported, Evicted, Abandoned}
 use Rattle.hs_records.specs.Plain.{PlainSettings}
-use Rattle.hs_model.specs.State.{AgentState, start, without_trace, without_crumbs}
-use Rattle.hs_model.specs.Evicting.{evict_trace}
-use Rattle.hs_model.specs.Evicting as model
-use Rattle.hs_model.specs.Claiming.{claim_trace}
-use Rattle.hs_model.specs.Messages.{has_crumb, same_crumb, with_crumb}
-use Rattle.hs_model.specs.Stepping.{with_indexed, with_touched, next_place}
-use Rattle.hs_model.proofs.Traces.{same_trace-true, same_trace-refl}
+use Rattle.hs_law_agent.specs.State.{AgentState, start, without_trace, without_crumbs}
+use Rattle.hs_law_agent.specs.Evicting.{evict_trace}
+use Rattle.hs_law_agent.specs.Evicting as model
+use Rattle.hs_law_agent.specs.Claiming.{claim_trace}
+use Rattle.hs_law_agent.specs.Messages.{has_crumb, same_crumb, with_crumb}
+use Rattle.hs_law_agent.specs.Stepping.{with_indexed, with_touched, next_place}
+use Rattle.hs_law_agent.proofs.Traces.{same_trace-true, same_trace-refl}
 use Rattle.hs_agent.specs.declared.placed.Place.{Place}
 use Rattle.hs_agent.specs.Placing.{Placed, place_of}
 use Rattle.hs_agent.specs.Keeping.{AreApart, IsIndexed, crumbs_known}

@@ -9,9 +9,9 @@ use Rattle.hs_index.specs.Index.{chunks_left}
 use Rattle.hs_words.specs.Buffers.{Buffer}
 use Rattle.hs_journal.specs.Books.{PlainAgentBook}
 use Rattle.hs_journal.specs.declared.journal.Step.{Step}
-use Rattle.hs_model.specs.Books.{book_of}
-use Rattle.hs_model.specs.Standings.{Taken, indexed_places}
-use Rattle.hs_model.specs.State.{AgentState}
+use Rattle.hs_law_agent.specs.Books.{book_of}
+use Rattle.hs_law_agent.specs.Standings.{Taken, indexed_places}
+use Rattle.hs_law_agent.specs.State.{AgentState}
 use Rattle.hs_agent.specs.Placing.{Placed, Pledged, place_of, leased, lent, IsPledged}
 use Rattle.hs_agent.specs.Keeping.{Kept, Holds, Point, IsKept, waiting_chunks}
 use Rattle.hs_agent.specs.Points.{places_left, buffers_left}

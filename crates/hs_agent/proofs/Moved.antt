@@ -10,8 +10,8 @@ use Rattle.hs_base.specs.Ids.{same_trace}
 use Rattle.hs_records.specs.Plain.{PlainSettings}
 use Rattle.hs_words.specs.Pages.{Sheet, page_bytes}
 use Rattle.hs_words.specs.Chunks.{used_of}
-use Rattle.hs_model.specs.Standings.{moved_from, moved, is_among, places_from, indexed_places, indexed_count, is_indexed, is_indexed_of, trace_of, Taken, ChunkStanding}
-use Rattle.hs_model.specs.Books.{bytes_at}
+use Rattle.hs_law_agent.specs.Standings.{moved_from, moved, is_among, places_from, indexed_places, indexed_count, is_indexed, is_indexed_of, trace_of, Taken, ChunkStanding}
+use Rattle.hs_law_agent.specs.Books.{bytes_at}
 use Rattle.hs_agent.specs.Keeping.{HasPage}
 use Rattle.hs_agent.specs.Placing.{Placed, place_of}
 

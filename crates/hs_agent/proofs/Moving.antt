@@ -7,11 +7,11 @@ use borrow.Author.Tests.{ne_eqb}
 use Rattle.hs_lists.proofs.Bools.{by_answer}
 use Rattle.hs_lists.proofs.Alls.{all_weaker}
 use Rattle.hs_base.specs.declared.ids.TraceId.{TraceId}
-use Rattle.hs_model.specs.Standings.{moved_from, moved, is_among, places_from, indexed_places, indexed_count, is_indexed, is_indexed_of, trace_of, pinned_for, pinning_group, Taken, ChunkStanding, Indexed, Pinned, Reported, Evicted, Abandoned}
+use Rattle.hs_law_agent.specs.Standings.{moved_from, moved, is_among, places_from, indexed_places, indexed_count, is_indexed, is_indexed_of, trace_of, pinned_for, pinning_group, Taken, ChunkStanding, Indexed, Pinned, Reported, Evicted, Abandoned}
 use Rattle.hs_base.specs.declared.told.Fate.TheVariants as fates
 use Rattle.hs_base.specs.declared.told.Group.{Group}
 use Rattle.hs_base.specs.Ids.{same_trace}
-use Rattle.hs_model.specs.Books.{page_standing, fate_of}
+use Rattle.hs_law_agent.specs.Books.{page_standing, fate_of}
 use Rattle.hs_agent.proofs.GivingWay.{unmoved}
 
 -- a chunk that stands anew where it passes a test

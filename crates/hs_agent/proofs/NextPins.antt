@@ -14,8 +14,8 @@ use Rattle.hs_pins.specs.Priorities.{is_no_greater}
 use Rattle.hs_pins.specs.Remembered.{Pin, Remembered, is_for, is_under, pins_under, without_first}
 use Rattle.hs_pins.specs.Waiting.{goes_behind, order_of, next_of, without_next}
 use Rattle.hs_pins.proofs.Order.{same_group-true, same_group-refl}
-use Rattle.hs_model.specs.Standings.{is_among}
-use Rattle.hs_model.specs.Laws.{count_of}
+use Rattle.hs_law_agent.specs.Standings.{is_among}
+use Rattle.hs_law_agent.specs.Laws.{count_of}
 
 -- ---- one group
 

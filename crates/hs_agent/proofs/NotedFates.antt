@@ -4,8 +4,8 @@ use Rattle.std.specs.Option.{option_map_or}
 use borrow.Author.Tests.{ne_eqb}
 use Rattle.hs_base.specs.declared.told.Fate.{Fate}
 use Rattle.hs_journal.specs.declared.books.Standing.{Standing}
-use Rattle.hs_model.specs.Standings.{moved_from, moved, is_among, Taken, ChunkStanding}
-use Rattle.hs_model.specs.Books.{page_standing, fate_of}
+use Rattle.hs_law_agent.specs.Standings.{moved_from, moved, is_among, Taken, ChunkStanding}
+use Rattle.hs_law_agent.specs.Books.{page_standing, fate_of}
 use Rattle.hs_agent.specs.LettingGo.{with_fate}
 
 -- the first standing stays where a later one changes

@@ -13,10 +13,10 @@ use Rattle.hs_words.specs.Buffers.{Buffer, buffer_of, buffer_in}
 use Rattle.hs_words.specs.declared.token.Held.{Held}
 use Rattle.hs_sched.specs.declared.share.Share.{Share}
 use Rattle.hs_pins.specs.Remembered.{Pin}
-use Rattle.hs_model.specs.State.{AgentState, GivenPlace}
-use Rattle.hs_model.specs.Standings.{Taken}
-use Rattle.hs_model.specs.Laws.{count_of, IsInOnePlace}
-use Rattle.hs_model.specs.Stepping.{Given, note, step_of_answer, give_back, after_gave}
+use Rattle.hs_law_agent.specs.State.{AgentState, GivenPlace}
+use Rattle.hs_law_agent.specs.Standings.{Taken}
+use Rattle.hs_law_agent.specs.Laws.{count_of, IsInOnePlace}
+use Rattle.hs_law_agent.specs.Stepping.{Given, note, step_of_answer, give_back, after_gave}
 use Rattle.hs_agent.specs.declared.placed.Place.{Place}
 use Rattle.hs_agent.specs.Placing.{Placed, Pledged, place_of, placed_at, leased, HandsOut}
 use Rattle.hs_agent.specs.Keeping.{Kept, Holds, Point, IsKept, with_state, waiting_chunks, all_held}

@@ -9,11 +9,11 @@ use Rattle.hs_pins.specs.Remembered.{Pin, pins_under, is_under}
 use Rattle.hs_pins.specs.Waiting.{goes_behind}
 use Rattle.hs_pins.specs.Waiting as pins
 use Rattle.hs_pins.specs.Priorities.{is_no_greater}
-use Rattle.hs_model.specs.Standings.{Taken, ChunkStanding, Indexed, Pinned, Reported, Evicted, Abandoned, pinning_group, pinned_for, stands}
-use Rattle.hs_model.specs.State.{AgentState}
-use Rattle.hs_model.specs.Abandoning as model_order
-use Rattle.hs_model.specs.Turning.{is_pinned_under, place_is_no_greater, put_before, by_priority}
-use Rattle.hs_model.specs.Turning as model
+use Rattle.hs_law_agent.specs.Standings.{Taken, ChunkStanding, Indexed, Pinned, Reported, Evicted, Abandoned, pinning_group, pinned_for, stands}
+use Rattle.hs_law_agent.specs.State.{AgentState}
+use Rattle.hs_law_agent.specs.Abandoning as model_order
+use Rattle.hs_law_agent.specs.Turning.{is_pinned_under, place_is_no_greater, put_before, by_priority}
+use Rattle.hs_law_agent.specs.Turning as model
 use Rattle.hs_agent.proofs.GivingWay.{ArePinned}
 
 same_order : (group other : Group) → model_order.is_no_greater group other ≡ is_no_greater group other

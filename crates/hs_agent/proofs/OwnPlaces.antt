@@ -12,11 +12,11 @@ use Rattle.hs_base.specs.declared.ids.TraceId.{TraceId}
 use Rattle.hs_base.specs.Ids.{same_trace}
 use Rattle.hs_index.specs.Index.{Indexed, Noted, noted_of, is_of, nothing, chunks_left}
 use Rattle.hs_pins.specs.Remembered.{Pin}
-use Rattle.hs_model.specs.Standings.{Taken, trace_of, is_indexed, is_indexed_of, is_pinned, indexed_places, places_from, passes, stands}
-use Rattle.hs_model.specs.State.{AgentState}
-use Rattle.hs_model.specs.Laws.{count_of, given_places, IsInOnePlace}
-use Rattle.hs_model.proofs.Counts.{count-append}
-use Rattle.hs_model.proofs.Traces.{same_trace-true, same_trace-refl}
+use Rattle.hs_law_agent.specs.Standings.{Taken, trace_of, is_indexed, is_indexed_of, is_pinned, indexed_places, places_from, passes, stands}
+use Rattle.hs_law_agent.specs.State.{AgentState}
+use Rattle.hs_law_agent.specs.Laws.{count_of, given_places, IsInOnePlace}
+use Rattle.hs_law_agent.proofs.Counts.{count-append}
+use Rattle.hs_law_agent.proofs.Traces.{same_trace-true, same_trace-refl}
 use Rattle.hs_agent.specs.declared.placed.Place.{Place}
 use Rattle.hs_agent.specs.Placing.{Placed, place_of, HaveOwnPlaces}
 use Rattle.hs_agent.specs.Keeping.{Kept, Holds, Point, AreApart, IsIndexed, pinned_place, waiting_chunks, all_held}

@@ -13,11 +13,11 @@ use Rattle.hs_pins.specs.Abandoning.{leaving, staying, going, drops, relieved}
 use Rattle.hs_pins.specs.PinsLayout.{Pinning, Remembers}
 use Rattle.hs_pins.proofs.Sound.{staying_few}
 use Rattle.hs_index.specs.Index.{Indexed, chunks_left, count_chunks}
-use Rattle.hs_model.specs.State.{AgentState}
-use Rattle.hs_model.specs.Standings.{Taken}
-use Rattle.hs_model.specs.Books.{page_standing, claim_note, bytes_at}
-use Rattle.hs_model.specs.Messages.{has_crumb}
-use Rattle.hs_model.specs.Abandoning as model
+use Rattle.hs_law_agent.specs.State.{AgentState}
+use Rattle.hs_law_agent.specs.Standings.{Taken}
+use Rattle.hs_law_agent.specs.Books.{page_standing, claim_note, bytes_at}
+use Rattle.hs_law_agent.specs.Messages.{has_crumb}
+use Rattle.hs_law_agent.specs.Abandoning as model
 use Rattle.hs_agent.specs.declared.placed.Place.{Place}
 use Rattle.hs_agent.specs.Placing.{Placed, Pledged, place_of}
 use Rattle.hs_agent.specs.Keeping.{Kept, Holds, HasPage, IsKept, IsIndexed, IsIndexOf, RemembersAs, Point, with_state, pinned_place, waiting_chunks, all_held}

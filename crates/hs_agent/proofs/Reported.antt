@@ -3,9 +3,9 @@ use Rattle.std.proofs.Common.{◌≡◌, ℕ, ◌+◌, ◌<◌, zero, suc, Bool,
 use Rattle.std.specs.List.{list_any}
 use Rattle.std.proofs.lemmas.List.{append_assoc}
 use borrow.Author.Tests.{ne_eqb}
-use Rattle.hs_model.specs.Standings.{Taken, ChunkStanding, Indexed, Pinned, Reported, Evicted, Abandoned, is_among, is_indexed, moved_from, moved}
-use Rattle.hs_model.specs.State.{AgentState}
-use Rattle.hs_model.specs.Turning.{report, reported_standing}
+use Rattle.hs_law_agent.specs.Standings.{Taken, ChunkStanding, Indexed, Pinned, Reported, Evicted, Abandoned, is_among, is_indexed, moved_from, moved}
+use Rattle.hs_law_agent.specs.State.{AgentState}
+use Rattle.hs_law_agent.specs.Turning.{report, reported_standing}
 use Rattle.hs_agent.proofs.Moved.{MovesUnindexed}
 
 abbrev pub report_one : AgentState → ℕ → AgentState

@@ -20,11 +20,11 @@ use Rattle.hs_pins.specs.Waiting as pins
 use Rattle.hs_sched.specs.declared.share.Share.{Share}
 use Rattle.hs_sched.specs.Visits.{count_sent}
 use Rattle.hs_sched.specs.Sending.{SendsEach}
-use Rattle.hs_model.specs.Standings.{Taken, ChunkStanding, Indexed, Pinned, Reported, Evicted, Abandoned, indexed_places, indexed_count, pinned_for, pinning_group, is_among, moved}
-use Rattle.hs_model.specs.State.{AgentState}
-use Rattle.hs_model.specs.Books.{page_standing, fate_of}
-use Rattle.hs_model.specs.Turning.{order_of, used_at, reported_standing, visit, report}
-use Rattle.hs_model.specs.Turning as model
+use Rattle.hs_law_agent.specs.Standings.{Taken, ChunkStanding, Indexed, Pinned, Reported, Evicted, Abandoned, indexed_places, indexed_count, pinned_for, pinning_group, is_among, moved}
+use Rattle.hs_law_agent.specs.State.{AgentState}
+use Rattle.hs_law_agent.specs.Books.{page_standing, fate_of}
+use Rattle.hs_law_agent.specs.Turning.{order_of, used_at, reported_standing, visit, report}
+use Rattle.hs_law_agent.specs.Turning as model
 use Rattle.hs_agent.specs.declared.placed.Place.{Place}
 use Rattle.hs_agent.specs.Placing.{Placed, place_of}
 use Rattle.hs_agent.specs.Keeping.{Kept, Point, Holds, IsKept, HasPage, pinned_place, waiting_chunks}

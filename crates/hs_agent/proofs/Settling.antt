@@ -9,9 +9,9 @@ use Rattle.hs_lists.proofs.Alls.{all_weaker, all_append, all_front, all_back}
 use Rattle.hs_journal.specs.declared.books.Standing.{Standing}
 use Rattle.hs_pins.specs.Remembered.{Pin}
 use Rattle.hs_index.specs.Index.{Index, Indexed, Leaving, chunks_left, kept, evicted, settled, going, with_touched}
-use Rattle.hs_model.specs.State.{AgentState}
-use Rattle.hs_model.specs.Books.{page_standing, claim_note, bytes_at}
-use Rattle.hs_model.specs.Evicting.{evict}
+use Rattle.hs_law_agent.specs.State.{AgentState}
+use Rattle.hs_law_agent.specs.Books.{page_standing, claim_note, bytes_at}
+use Rattle.hs_law_agent.specs.Evicting.{evict}
 use Rattle.hs_agent.specs.declared.placed.Place.{Place}
 use Rattle.hs_agent.specs.Placing.{Placed, place_of}
 use Rattle.hs_agent.specs.Keeping.{Kept, Holds, HasPage, IsKept, RemembersAs, Point, with_state, pinned_place, waiting_chunks, all_held}

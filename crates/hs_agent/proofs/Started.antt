@@ -4,7 +4,7 @@ use Rattle.hs_records.specs.Plain.{PlainSettings}
 use Rattle.hs_pins.specs.Remembered.{fresh}
 use Rattle.hs_pins.specs.PinsLayout.{Pinning, Remembers}
 use Rattle.hs_index.specs.Index.{new_index}
-use Rattle.hs_model.specs.State.{start}
+use Rattle.hs_law_agent.specs.State.{start}
 use Rattle.hs_agent.specs.declared.placed.Place.{Place}
 use Rattle.hs_agent.specs.Keeping.{Kept, Point, Holds}
 use Rattle.hs_agent.proofs.Indexing.{indexed-start}

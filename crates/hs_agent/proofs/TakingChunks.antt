@@ -12,10 +12,10 @@ use Rattle.hs_pins.specs.Remembered.{Claim, Remembered, claim_of, claim_for, arr
 use Rattle.hs_pins.specs.Remembered as pins
 use Rattle.hs_pins.specs.PinsLayout.{Pinning, Remembers}
 use Rattle.hs_pins.specs.Abandoning.{drops, relieved}
-use Rattle.hs_model.specs.State.{AgentState, ClaimedTrace, is_abandoned}
-use Rattle.hs_model.specs.Abandoning.{abandon}
-use Rattle.hs_model.specs.Evicting.{evict}
-use Rattle.hs_model.specs.Stepping.{with_indexed, with_pinned, with_abandoned, pin_chunk, take_chunk}
+use Rattle.hs_law_agent.specs.State.{AgentState, ClaimedTrace, is_abandoned}
+use Rattle.hs_law_agent.specs.Abandoning.{abandon}
+use Rattle.hs_law_agent.specs.Evicting.{evict}
+use Rattle.hs_law_agent.specs.Stepping.{with_indexed, with_pinned, with_abandoned, pin_chunk, take_chunk}
 use Rattle.hs_agent.specs.declared.placed.Place.{Place}
 use Rattle.hs_agent.specs.Placing.{Placed, placed_at}
 use Rattle.hs_agent.specs.Keeping.{Kept, Holds, Point, with_state, plain_claim}

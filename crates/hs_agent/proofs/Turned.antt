@@ -19,13 +19,13 @@ use Rattle.hs_sched.specs.declared.share.Share.{Share}
 use Rattle.hs_sched.specs.Sending.{SendsEach}
 use Rattle.hs_sched.specs.Turns.{Schedule, IsSchedule, after_turn}
 use Rattle.hs_sched.specs.Visits.{visited}
-use Rattle.hs_model.specs.Standings.{Taken}
-use Rattle.hs_model.specs.State.{AgentState}
-use Rattle.hs_model.specs.Messages.{has_crumb}
-use Rattle.hs_model.specs.Books.{page_standing, claim_note, bytes_at}
-use Rattle.hs_model.specs.Turning.{visit, turn, shares_after}
-use Rattle.hs_model.specs.Turning as model
-use Rattle.hs_model.specs.Laws.{PlacesMatch, count_of}
+use Rattle.hs_law_agent.specs.Standings.{Taken}
+use Rattle.hs_law_agent.specs.State.{AgentState}
+use Rattle.hs_law_agent.specs.Messages.{has_crumb}
+use Rattle.hs_law_agent.specs.Books.{page_standing, claim_note, bytes_at}
+use Rattle.hs_law_agent.specs.Turning.{visit, turn, shares_after}
+use Rattle.hs_law_agent.specs.Turning as model
+use Rattle.hs_law_agent.specs.Laws.{PlacesMatch, count_of}
 use Rattle.hs_agent.specs.declared.placed.Place.{Place}
 use Rattle.hs_agent.specs.Placing.{Placed, place_of}
 use Rattle.hs_agent.specs.Keeping.{Kept, Point, Holds, IsKept, HasPage, IsIndexed, RemembersAs, with_state, pinned_place, plain_claim, waiting_chunks, all_held}

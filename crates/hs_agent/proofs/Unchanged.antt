@@ -10,13 +10,13 @@ use Rattle.hs_journal.specs.declared.journal.Step.{Step}
 use Rattle.hs_records.specs.Plain.{PlainSettings}
 use Rattle.hs_sched.specs.declared.share.Share.{Share}
 use Rattle.hs_words.specs.Pages.{Sheet}
-use Rattle.hs_model.specs.State.{AgentState, ClaimedTrace, claim_of, is_claimed, is_abandoned}
-use Rattle.hs_model.specs.Evicting.{is_over, evict_trace, evict_from, evict}
-use Rattle.hs_model.specs.Claiming.{claim_trace, claim_unclaimed, claim_each, traces_of}
-use Rattle.hs_model.specs.Abandoning.{abandon_group, abandon_within, abandon, next_to_go, pinned_groups}
-use Rattle.hs_model.specs.Turning.{report, visit, turn}
-use Rattle.hs_model.specs.Messages.{has_crumb}
-use Rattle.hs_model.specs.Stepping.{Input, Chunk, Crumbed, Triggered, Asked, Turn, take_input, take_chunk, take_crumb, take_trigger, take_ask, pin_chunk, late_crumb, tell_late, claim_for, admits, admit, note_trigger, count_admitted, group_of, with_indexed, with_touched, with_pinned, with_abandoned}
+use Rattle.hs_law_agent.specs.State.{AgentState, ClaimedTrace, claim_of, is_claimed, is_abandoned}
+use Rattle.hs_law_agent.specs.Evicting.{is_over, evict_trace, evict_from, evict}
+use Rattle.hs_law_agent.specs.Claiming.{claim_trace, claim_unclaimed, claim_each, traces_of}
+use Rattle.hs_law_agent.specs.Abandoning.{abandon_group, abandon_within, abandon, next_to_go, pinned_groups}
+use Rattle.hs_law_agent.specs.Turning.{report, visit, turn}
+use Rattle.hs_law_agent.specs.Messages.{has_crumb}
+use Rattle.hs_law_agent.specs.Stepping.{Input, Chunk, Crumbed, Triggered, Asked, Turn, take_input, take_chunk, take_crumb, take_trigger, take_ask, pin_chunk, late_crumb, tell_late, claim_for, admits, admit, note_trigger, count_admitted, group_of, with_indexed, with_touched, with_pinned, with_abandoned}
 
 module _ {X : Type 0} (f : AgentState → X) (settings : PlainSettings) where
   pub evict-keeps : ((trace : TraceId) (later : List TraceId) (state : AgentState) → f (evict_trace trace later state) ≡ f state) → (traces : List TraceId) (state : AgentState) → f (evict_from settings traces state) ≡ f state

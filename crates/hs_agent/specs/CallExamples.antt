@@ -3,9 +3,9 @@ use Rattle.std.specs.Prelude.{◌≡◌, ℕ, List, [], ◌∷◌, map, Option, 
 use Rattle.hs_base.specs.declared.told.Why.TheVariants.{Fired}
 use Rattle.hs_base.specs.Samples.{one_rule, t}
 use Rattle.hs_words.specs.Buffers.{Buffer}
-use Rattle.hs_model.specs.Standings.{sample_sheet}
-use Rattle.hs_model.specs.Stepping.{Chunk, Triggered, Turn, Given, Missed, Unread}
-use Rattle.hs_model.specs.Samples.{settings_with, group}
+use Rattle.hs_law_agent.specs.Standings.{sample_sheet}
+use Rattle.hs_law_agent.specs.Stepping.{Chunk, Triggered, Turn, Given, Missed, Unread}
+use Rattle.hs_law_agent.specs.Samples.{settings_with, group}
 use Rattle.hs_agent.specs.Points.{buffers_left}
 use Rattle.hs_agent.specs.Runs.{Run, new_run, point_of, offered_next}
 use Rattle.hs_agent.specs.Calls.{Call, Takes, Offers, Answers, run_after, told_from}

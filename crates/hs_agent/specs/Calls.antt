@@ -8,8 +8,8 @@ use Rattle.hs_base.specs.declared.told.Told.{Told}
 use Rattle.hs_records.specs.Plain.{PlainSettings}
 use Rattle.hs_words.specs.Buffers.{Buffer}
 use Rattle.hs_words.specs.declared.token.Given.{Given}
-use Rattle.hs_model.specs.Stepping.{Input, Chunk, Turn, Answered, Event, Took, Gave, told_by, after}
-use Rattle.hs_model.specs.Laws.{noted_as}
+use Rattle.hs_law_agent.specs.Stepping.{Input, Chunk, Turn, Answered, Event, Took, Gave, told_by, after}
+use Rattle.hs_law_agent.specs.Laws.{noted_as}
 use Rattle.hs_agent.specs.declared.input.Input.{Input as Taken}
 use Rattle.hs_agent.specs.Points.{sheet_in}
 use Rattle.hs_agent.specs.Runs.{Run, new_run, state_of, input_of, buffers_in, after_input, after_chunk, after_turn, after_offer, answer_of, back_in, with_back, after_answer}

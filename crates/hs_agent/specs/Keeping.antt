@@ -18,10 +18,10 @@ use Rattle.hs_index.specs.Index.{Index, Indexed, noted_of, count_chunks, chunks_
 use Rattle.hs_pins.specs.Remembered.{Claim, Pin, Remembered, claim_of}
 use Rattle.hs_pins.specs.PinsLayout.{Pinning, Remembers}
 use Rattle.hs_sched.specs.Turns.{Schedule}
-use Rattle.hs_model.specs.Standings.{Taken, indexed_places, indexed_count, pinned_for}
-use Rattle.hs_model.specs.State.{AgentState, ClaimedTrace}
-use Rattle.hs_model.specs.Messages.{has_crumb}
-use Rattle.hs_model.specs.Books.{page_standing, claim_note, bytes_at}
+use Rattle.hs_law_agent.specs.Standings.{Taken, indexed_places, indexed_count, pinned_for}
+use Rattle.hs_law_agent.specs.State.{AgentState, ClaimedTrace}
+use Rattle.hs_law_agent.specs.Messages.{has_crumb}
+use Rattle.hs_law_agent.specs.Books.{page_standing, claim_note, bytes_at}
 use Rattle.hs_agent.specs.declared.placed.Place.{Place}
 use Rattle.hs_agent.specs.Placing.{Placed, Pledged, place_of, leased}
 

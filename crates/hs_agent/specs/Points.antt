@@ -6,9 +6,9 @@ use Rattle.hs_base.specs.declared.told.Crumb.{Crumb}
 use Rattle.hs_base.specs.declared.told.Trigger.{Trigger}
 use Rattle.hs_words.specs.Buffers.{Buffer}
 use Rattle.hs_words.specs.Pages.{Sheet}
-use Rattle.hs_model.specs.Standings.{indexed_places}
-use Rattle.hs_model.specs.State.{AgentState}
-use Rattle.hs_model.specs.Stepping.{take_chunk, take_crumb, take_trigger, claim_for}
+use Rattle.hs_law_agent.specs.Standings.{indexed_places}
+use Rattle.hs_law_agent.specs.State.{AgentState}
+use Rattle.hs_law_agent.specs.Stepping.{take_chunk, take_crumb, take_trigger, claim_for}
 use Rattle.hs_agent.specs.Keeping.{Point, with_state}
 
 -- the page that came in a chunk

@@ -10,9 +10,9 @@ use Rattle.hs_sched.specs.Turns.{Schedule, IsSchedule}
 use Rattle.hs_words.specs.declared.token.Given.{Given}
 use Rattle.hs_words.specs.declared.token.Given.TheVariants as given
 use Rattle.hs_words.specs.Buffers.{Buffer, buffer_of}
-use Rattle.hs_model.specs.State.{AgentState}
-use Rattle.hs_model.specs.Stepping.{Event, Took, Gave, Answered, after, take_input, told_by}
-use Rattle.hs_model.specs.Stepping as model
+use Rattle.hs_law_agent.specs.State.{AgentState}
+use Rattle.hs_law_agent.specs.Stepping.{Event, Took, Gave, Answered, after, take_input, told_by}
+use Rattle.hs_law_agent.specs.Stepping as model
 use Rattle.hs_agent.specs.declared.input.Input.{Input}
 use Rattle.hs_agent.specs.declared.input.Input.TheVariants as inputs
 use Rattle.hs_agent.specs.Keeping.{Kept, Keeping, Point, Holds}

@@ -1,5 +1,5 @@
 //! The agent of a node: it takes what its clients and the coordinator send, keeps or evicts, pins or abandons, reports by
-//! fair turns, and hands buffers back (`docs/RULES.md`, "The agent"). It is exactly the model of `hs_model`.
+//! fair turns, and hands buffers back (`docs/RULES.md`, "The agent"). It is exactly the model of `hs_law_agent`.
 #![tactic(auto)]
 
 mod agent;

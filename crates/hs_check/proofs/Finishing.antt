@@ -3,13 +3,13 @@ use Rattle.std.proofs.Common.{◌≡◌, ℕ, ◌+◌, ◌<◌, List, [], ◌∷
 use Rattle.std.proofs.lemmas.List.{map-append, drop_all}
 use Rattle.hs_agent.specs.Keeping.{Keeping}
 use Rattle.hs_agent.specs.Runs as agents
-use Rattle.hs_clauses.proofs.Knowing.{found_at, found_as_many}
-use Rattle.hs_followed.specs.Nodes.{agent_run}
+use Rattle.hs_check_clauses.proofs.Knowing.{found_at, found_as_many}
+use Rattle.hs_check_follow.specs.Nodes.{agent_run}
 use Rattle.hs_journal.specs.Books.{PlainAgentBook, agent_book_of}
 use Rattle.hs_journal.specs.declared.books.AgentBook.{AgentBook}
-use Rattle.hs_lawful.specs.Following.{NodeRun}
-use Rattle.hs_model.specs.Books.{book_of}
-use Rattle.hs_model.specs.State.{AgentState}
+use Rattle.hs_law_journal.specs.Following.{NodeRun}
+use Rattle.hs_law_agent.specs.Books.{book_of}
+use Rattle.hs_law_agent.specs.State.{AgentState}
 use Rattle.hs_records.specs.Plain.{PlainSettings}
 use Rattle.hs_check.specs.Leaving.{IsAgentOf, AreAgentsOf, book_at}
 

@@ -2,8 +2,8 @@
 use Rattle.std.proofs.Common.{◌≡◌, ℕ, Bool, true, false, not, cond, List, [], ◌∷◌, ◌++◌, Option, Some, None, refl, ap}
 use Rattle.std.specs.Prelude.{option_map, find}
 use Rattle.std.specs.List.{AllByRecursion}
-use Rattle.hs_lawful.specs.Lawful.{Clause}
-use Rattle.hs_lawful.specs.Played.{Played}
+use Rattle.hs_law_journal.specs.Lawful.{Clause}
+use Rattle.hs_law_journal.specs.Played.{Played}
 use Rattle.hs_check.specs.Asking.{first_among}
 
 -- the number of the clause that was found

@@ -9,20 +9,20 @@ use Rattle.std.proofs.lemmas.Option.{slice_get-map, slice_get-get_or, slice_get_
 use Rattle.hs_lists.proofs.Places.{get_there}
 use Rattle.hs_lists.proofs.Tests.{list_all_at}
 use Rattle.hs_lists.proofs.Ranges.{range_append}
-use Rattle.hs_clauses.specs.Finding.{AreFound}
-use Rattle.hs_followed.specs.Parting.{books_left}
-use Rattle.hs_followed.specs.Whole.{AllAt}
-use Rattle.hs_followed.specs.declared.hearing.Hearing.{Hearing}
-use Rattle.hs_followed.specs.declared.parting.Ended.{Ended}
-use Rattle.hs_followed.specs.declared.tracked.Tracked.{Tracked}
-use Rattle.hs_given.specs.declared.sending.Sending.{Sending}
+use Rattle.hs_check_clauses.specs.Finding.{AreFound}
+use Rattle.hs_check_follow.specs.Parting.{books_left}
+use Rattle.hs_check_follow.specs.Whole.{AllAt}
+use Rattle.hs_check_follow.specs.declared.hearing.Hearing.{Hearing}
+use Rattle.hs_check_follow.specs.declared.parting.Ended.{Ended}
+use Rattle.hs_check_follow.specs.declared.tracked.Tracked.{Tracked}
+use Rattle.hs_check_follow.specs.declared.sending.Sending.{Sending}
 use Rattle.hs_journal.specs.Books.{client_book_of}
 use Rattle.hs_journal.specs.Views.{PlainJournal}
-use Rattle.hs_lawful.specs.Ends.{is_left_bare}
-use Rattle.hs_lawful.specs.Extending.{RunsAreOfTheJournal}
-use Rattle.hs_lawful.specs.Following.{NodeRun, Run, followed}
-use Rattle.hs_lawful.specs.Lawful.{IsLawful}
-use Rattle.hs_outcome.specs.Outcomes.{client_book}
+use Rattle.hs_law_journal.specs.Ends.{is_left_bare}
+use Rattle.hs_law_journal.specs.Extending.{RunsAreOfTheJournal}
+use Rattle.hs_law_journal.specs.Following.{NodeRun, Run, followed}
+use Rattle.hs_law_journal.specs.Lawful.{IsLawful}
+use Rattle.hs_law_outcome.specs.Outcomes.{client_book}
 use Rattle.hs_records.specs.Plain.{PlainWorkload}
 use Rattle.hs_check.specs.Leaving.{IsAgentOf, AreAgentsOf, AreLeft}
 

@@ -1,18 +1,18 @@
 -- The clauses in the parts in which they are asked: those that look at the journal alone; the eighth, whether it can be followed; and
 -- those that look at what following it found.
 use Rattle.std.specs.Prelude.{◌≡◌, ℕ, true, not, List, [], ◌∷◌, ◌++◌, Option, option_map, find, refl}
-use Rattle.hs_clauses.specs.Finding.{IsFound}
-use Rattle.hs_clauses.specs.declared.found.Found.{Found}
+use Rattle.hs_check_clauses.specs.Finding.{IsFound}
+use Rattle.hs_check_clauses.specs.declared.found.Found.{Found}
 use Rattle.hs_journal.specs.Views.{PlainJournal}
-use Rattle.hs_lawful.specs.Ends.{is_followed, has_rounds, is_bare}
-use Rattle.hs_lawful.specs.Following.{followed}
-use Rattle.hs_lawful.specs.Lawful.{Clause, clauses}
-use Rattle.hs_lawful.specs.Pace.{has_pace}
-use Rattle.hs_lawful.specs.Passes.{has_passes, has_offers}
-use Rattle.hs_lawful.specs.Played.{Played, played}
-use Rattle.hs_lawful.specs.Pooled.{has_history, has_answers}
-use Rattle.hs_lawful.specs.Shape.{has_shape, has_stamps}
-use Rattle.hs_lawful.specs.Unreads.{has_unreads}
+use Rattle.hs_law_journal.specs.Ends.{is_followed, has_rounds, is_bare}
+use Rattle.hs_law_journal.specs.Following.{followed}
+use Rattle.hs_law_journal.specs.Lawful.{Clause, clauses}
+use Rattle.hs_law_journal.specs.Pace.{has_pace}
+use Rattle.hs_law_journal.specs.Passes.{has_passes, has_offers}
+use Rattle.hs_law_journal.specs.Played.{Played, played}
+use Rattle.hs_law_journal.specs.Pooled.{has_history, has_answers}
+use Rattle.hs_law_journal.specs.Shape.{has_shape, has_stamps}
+use Rattle.hs_law_journal.specs.Unreads.{has_unreads}
 use Rattle.hs_records.specs.Plain.{PlainWorkload}
 use Rattle.hs_workload.specs.Validity.{IsValid}
 

@@ -1,15 +1,15 @@
 -- What is left where a lawful journal was followed: the books of the clients, and agents that have nothing pinned.
 use Rattle.std.specs.Prelude.{◌≡◌, List, [], map}
 use Rattle.hs_agent.specs.Keeping.{Keeping}
-use Rattle.hs_clauses.specs.Finding.{AreFound}
-use Rattle.hs_followed.specs.Nodes.{AgentStands}
-use Rattle.hs_followed.specs.declared.parting.Ended.{Ended}
+use Rattle.hs_check_clauses.specs.Finding.{AreFound}
+use Rattle.hs_check_follow.specs.Nodes.{AgentStands}
+use Rattle.hs_check_follow.specs.declared.parting.Ended.{Ended}
 use Rattle.hs_journal.specs.Books.{PlainAgentBook, client_book_of}
 use Rattle.hs_journal.specs.Views.{PlainJournal}
-use Rattle.hs_lawful.specs.Following.{NodeRun, followed}
-use Rattle.hs_lawful.specs.Lawful.{IsLawful}
-use Rattle.hs_model.specs.Books.{book_of}
-use Rattle.hs_outcome.specs.Outcomes.{client_books}
+use Rattle.hs_law_journal.specs.Following.{NodeRun, followed}
+use Rattle.hs_law_journal.specs.Lawful.{IsLawful}
+use Rattle.hs_law_agent.specs.Books.{book_of}
+use Rattle.hs_law_outcome.specs.Outcomes.{client_books}
 use Rattle.hs_records.specs.Plain.{PlainSettings, PlainWorkload}
 use Rattle.hs_workload.specs.Validity.{IsValid}
 

@@ -3,3 +3,9 @@ pub mod Clauses
 pub mod Leaving
 pub mod Parts
 pub mod Verdicts
+pub mod Counting
+pub mod Pacing
+pub mod Besides
+pub mod CountedAsks
+pub mod PageDraws
+pub mod Showing

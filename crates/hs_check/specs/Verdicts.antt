@@ -2,7 +2,7 @@
 -- clauses that fails, in the order in which they are asked.
 use Rattle.std.specs.Prelude.{◌≡◌, Some}
 use Rattle.hs_journal.specs.Views.{PlainJournal}
-use Rattle.hs_lawful.specs.Lawful.{IsLawful, first_unlawful}
+use Rattle.hs_law_journal.specs.Lawful.{IsLawful, first_unlawful}
 use Rattle.hs_records.specs.Plain.{PlainWorkload}
 use Rattle.hs_report.specs.Outcomes.{IsOutcome}
 use Rattle.hs_check.specs.Clauses.{number_of}

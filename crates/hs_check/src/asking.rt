@@ -2,7 +2,7 @@
 
 ghost use Rattle.std.specs.Prelude.{◌≡◌, option_map, IfOk};
 ghost use Rattle.hs_journal.specs.Views.{journal_of};
-ghost use Rattle.hs_lawful.specs.Played.{played};
+ghost use Rattle.hs_law_journal.specs.Played.{played};
 ghost use Rattle.hs_workload.specs.Validity.{IsValid};
 ghost use Rattle.hs_workload.specs.Views.{workload_of};
 ghost use Rattle.hs_check.specs.Asking.{of_the_journal, of_the_pools, of_the_end, first_among, WasFollowed};
@@ -10,13 +10,18 @@ ghost use Rattle.hs_check.specs.Clauses.{number_of};
 
 use crate::clause::Clause;
 use hs_base::Memory;
-use hs_clauses::{
-    Found, has_answers, has_history, has_offers, has_passes, has_rounds, has_shape, has_stamps,
-    is_bare,
-};
+use hs_check_clauses::Found;
+use hs_check_clauses::has_answers;
+use hs_check_clauses::has_history;
+use hs_check_clauses::has_offers;
+use hs_check_clauses::has_passes;
+use hs_check_clauses::has_rounds;
+use hs_check_clauses::has_shape;
+use hs_check_clauses::has_stamps;
+use hs_check_clauses::is_bare;
 use hs_journal::Journal;
-use hs_pace::has_pace;
-use hs_unreads::has_unreads;
+use crate::pace::has_pace;
+use crate::unreads::has_unreads;
 use hs_workload::Workload;
 use std::alloc::Global;
 

@@ -9,7 +9,7 @@ ghost use Rattle.hs_check.specs.Leaving.{AreLeft, MayFinish, HaveFinished};
 
 use hs_agent::Agent;
 use hs_base::{List, Memory};
-use hs_followed::Ended;
+use hs_check_follow::Ended;
 use hs_journal::{AgentBook, Journal};
 use hs_report::{Books, Outcome, gather};
 use hs_workload::Workload;

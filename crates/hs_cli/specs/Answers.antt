@@ -4,9 +4,9 @@ use Rattle.hs_base.specs.Outside.{Rose}
 use Rattle.hs_base.specs.declared.limits.TheConstants.{MAX_INPUT}
 use Rattle.hs_journal.specs.Grammar.{Reads as ReadsJournal}
 use Rattle.hs_journal.specs.Views.{PlainJournal}
-use Rattle.hs_lawful.specs.Lawful.{IsLawful}
-use Rattle.hs_outcome.specs.OutcomeText.{outcome_text}
-use Rattle.hs_outcome.specs.declared.form.Form.TheVariants.{Text as Lines}
+use Rattle.hs_law_journal.specs.Lawful.{IsLawful}
+use Rattle.hs_law_outcome.specs.OutcomeText.{outcome_text}
+use Rattle.hs_law_outcome.specs.declared.form.Form.TheVariants.{Text as Lines}
 use Rattle.hs_records.specs.Plain.{PlainWorkload}
 use Rattle.hs_workload.specs.Validity.{IsValid}
 use Rattle.hs_workload.specs.Views.{workload_of}

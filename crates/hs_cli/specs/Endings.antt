@@ -12,18 +12,18 @@ use Rattle.hs_journal.specs.declared.refusal.JournalRefusal.{JournalRefusal}
 use Rattle.hs_journal.specs.Views.{PlainJournal}
 use Rattle.hs_journal.specs.Grammar.{Reads as ReadsJournal}
 use Rattle.hs_journal.specs.Faults.{first_fault as first_journal_fault}
-use Rattle.hs_lawful.specs.Lawful.{IsLawful, first_unlawful}
+use Rattle.hs_law_journal.specs.Lawful.{IsLawful, first_unlawful}
 use Rattle.hs_ledger.specs.Totals.{totals_of}
-use Rattle.hs_lockstep.specs.Lockstep.{lockstep}
-use Rattle.hs_outcome.specs.Outcomes.{outcome_of}
-use Rattle.hs_outcome.specs.OutcomeText.{outcome_text, total_line}
-use Rattle.hs_outcome.specs.declared.form.Form.TheVariants.{Text as Lines}
+use Rattle.hs_law_lockstep.specs.Lockstep.{lockstep}
+use Rattle.hs_law_outcome.specs.Outcomes.{outcome_of}
+use Rattle.hs_law_outcome.specs.OutcomeText.{outcome_text, total_line}
+use Rattle.hs_law_outcome.specs.declared.form.Form.TheVariants.{Text as Lines}
 use Rattle.hs_text.specs.Text.{text_of}
 use Rattle.hs_check.specs.Parts.{workload_part, journal_part}
 use Rattle.hs_compare.specs.ComparisonText.{comparison_text}
-use Rattle.hs_counts.specs.Seen.{AreSeen}
-use Rattle.hs_samplers.specs.Lines.{comparison_of}
-use Rattle.hs_seen.specs.WatchText.{watch_text}
+use Rattle.hs_run.specs.Seen.{AreSeen}
+use Rattle.hs_compare.specs.Lines.{comparison_of}
+use Rattle.hs_board.specs.WatchText.{watch_text}
 use Rattle.hs_streams.specs.Input.{ReadWhole, ReadBeyond, ReadFront}
 use Rattle.hs_streams.specs.Refusals.{IsRefused, too_long_text}
 use Rattle.hs_streams.specs.Written.{GainsFront}

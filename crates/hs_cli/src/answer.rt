@@ -15,7 +15,7 @@ use crate::comparing::comparison;
 use hs_base::{Bytes, Gate, Memory, Source};
 use hs_check::split_input;
 use hs_json::write_outcome;
-use hs_lockstep::laws::schedule_is_lawful;
+use hs_law_lockstep::laws::schedule_is_lawful;
 use hs_make::make_workload;
 use hs_replay::{into_outcome, replay, write_total};
 use hs_run::run;

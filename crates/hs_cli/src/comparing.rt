@@ -4,8 +4,8 @@ ghost use Rattle.std.specs.Prelude.{◌≡◌, IfOk};
 ghost use Rattle.hs_cli.specs.Commands.{AreSamplers};
 ghost use Rattle.hs_cli.specs.Endings.{compared_text};
 ghost use Rattle.hs_compare.specs.Plain.{plain_comparison};
-ghost use Rattle.hs_lockstep.specs.Lockstep.{lockstep};
-ghost use Rattle.hs_samplers.specs.Laws.{compared_by};
+ghost use Rattle.hs_law_lockstep.specs.Lockstep.{lockstep};
+ghost use Rattle.hs_compare.specs.SamplerLaws.{compared_by};
 ghost use Rattle.hs_workload.specs.Validity.{IsValid};
 ghost use Rattle.hs_workload.specs.Views.{workload_of};
 

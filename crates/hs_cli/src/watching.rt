@@ -3,7 +3,7 @@
 ghost use Rattle.std.specs.Prelude.{◌≡◌, ◌++◌, [], map, IfOk};
 ghost use Rattle.hs_workload.specs.Validity.{IsValid};
 ghost use Rattle.hs_workload.specs.Views.{workload_of};
-ghost use Rattle.hs_seen.specs.WatchText.{watch_text};
+ghost use Rattle.hs_board.specs.WatchText.{watch_text};
 ghost use Rattle.hs_cli.specs.Endings.{Due, EndsWith};
 ghost use Rattle.hs_cli.specs.declared.command.Command.TheVariants.{Watch};
 
@@ -12,9 +12,9 @@ use crate::command::Command;
 use hs_base::{Bytes, Gate, List, Memory, Sink, Source};
 use hs_board::Progress;
 use hs_json::write_outcome;
-use hs_outcome::Form;
+use hs_law_outcome::Form;
 use hs_run::run_watched;
-use hs_seen::write_watched;
+use hs_board::write_watched;
 use hs_streams::{Status, finish, refuse_too_long};
 use hs_workload::Workload;
 use std::alloc::Global;

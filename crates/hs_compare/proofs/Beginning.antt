@@ -6,15 +6,15 @@ use Rattle.std.proofs.lemmas.List.{append-nil, length_push}
 use Rattle.std.proofs.lemmas.List.Concat.{flat_map-append}
 use Rattle.std.proofs.lemmas.Option.{same_Some}
 use Rattle.hs_lists.proofs.Ranges.{range_append}
-use Rattle.hs_clauses.specs.Beginning.{MayBegin}
+use Rattle.hs_check_clauses.specs.Beginning.{MayBegin}
 use Rattle.hs_journal.specs.Views.{PlainJournal}
-use Rattle.hs_lawful.specs.Shape.{same_counts}
-use Rattle.hs_outcome.specs.Outcomes.{client_at}
-use Rattle.hs_outcome.proofs.Entries.{same_length, same_many}
+use Rattle.hs_law_journal.specs.Shape.{same_counts}
+use Rattle.hs_law_outcome.specs.Outcomes.{client_at}
+use Rattle.hs_law_outcome.proofs.Entries.{same_length, same_many}
 use Rattle.hs_records.specs.Pages.{pages_of}
 use Rattle.hs_records.specs.Plain.{PlainWorkload}
-use Rattle.hs_samplers.specs.Coming.{comings_of}
-use Rattle.hs_sent.specs.Sending.{draws_at, operations_at}
+use Rattle.hs_compare.specs.Coming.{comings_of}
+use Rattle.hs_law_sends.specs.Sending.{draws_at, operations_at}
 use Rattle.hs_workload.specs.Validity.{IsValid}
 use Rattle.hs_compare.specs.declared.script.Script.{Script}
 use Rattle.hs_compare.specs.Scripts.{IsClientScript}

@@ -10,7 +10,7 @@ use Rattle.hs_lists.proofs.Alls.{all_weaker}
 use Rattle.hs_base.specs.declared.ids.TraceId.{TraceId}
 use Rattle.hs_ledger.specs.declared.ledger.Entry.{Entry}
 use Rattle.hs_ledger.specs.Totals.{is_reported}
-use Rattle.hs_samplers.specs.Lines.{is_gap, is_limited}
+use Rattle.hs_compare.specs.Lines.{is_gap, is_limited}
 use Rattle.hs_compare.specs.Counting.{AreCounted, is_counted}
 use Rattle.hs_compare.specs.Ringing.{is_among}
 use Rattle.hs_compare.proofs.Counted.{Counts, among_more, counted_is}

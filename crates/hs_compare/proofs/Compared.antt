@@ -6,10 +6,10 @@ use Rattle.hs_lists.proofs.Counts.{count_alike}
 use Rattle.hs_lists.proofs.Parts.{length_map}
 use Rattle.hs_base.specs.declared.ids.TraceId.{TraceId}
 use Rattle.hs_records.specs.Plain.{PlainWorkload}
-use Rattle.hs_samplers.specs.Coming as samplers
-use Rattle.hs_samplers.specs.Coming.{all_comings, named_in, events_in_order}
-use Rattle.hs_samplers.specs.Samplers.{is_of}
-use Rattle.hs_samplers.specs.Lines.{PlainLine, each_once, is_whole}
+use Rattle.hs_compare.specs.Coming as samplers
+use Rattle.hs_compare.specs.Coming.{all_comings, named_in, events_in_order}
+use Rattle.hs_compare.specs.Samplers.{is_of}
+use Rattle.hs_compare.specs.Lines.{PlainLine, each_once, is_whole}
 use Rattle.hs_compare.specs.Counting.{is_same, times, is_whole_by, line_by}
 use Rattle.hs_compare.specs.Plain.{plain_line}
 use Rattle.hs_compare.proofs.Ringed.{HasNames}

@@ -10,14 +10,14 @@ use Rattle.hs_base.specs.declared.ids.ClientId.{ClientId}
 use Rattle.hs_base.specs.declared.ids.TraceId.{TraceId}
 use Rattle.hs_base.specs.declared.limits.TheConstants.{MAX_PAYLOAD, MAX_OPERATIONS}
 use Rattle.hs_base.specs.Ids.{is_among}
-use Rattle.hs_outcome.specs.Outcomes.{client_at}
+use Rattle.hs_law_outcome.specs.Outcomes.{client_at}
 use Rattle.hs_records.specs.Plain.{Operation, Begin, Point, Crumb, End, Fire, Sample, PlainSettings, PlainWorkload}
 use Rattle.hs_records.specs.Records.{Record, numbered_from, record_at, records_of, open_behind}
-use Rattle.hs_sent.specs.Sending.{operations_at}
-use Rattle.hs_samplers.specs.Coming as samplers
-use Rattle.hs_samplers.specs.Coming.{comings_of, all_comings, named_in}
-use Rattle.hs_samplers.specs.Laws.{RingKeepsEachOnce}
-use Rattle.hs_samplers.specs.Samplers.{tail_keeps, ring_keeps}
+use Rattle.hs_law_sends.specs.Sending.{operations_at}
+use Rattle.hs_compare.specs.Coming as samplers
+use Rattle.hs_compare.specs.Coming.{comings_of, all_comings, named_in}
+use Rattle.hs_compare.specs.SamplerLaws.{RingKeepsEachOnce}
+use Rattle.hs_compare.specs.Samplers.{tail_keeps, ring_keeps}
 use Rattle.hs_workload.specs.Validity.{IsOperation, IsClient, IsValid, workload_pieces}
 use Rattle.hs_workload.specs.declared.word.Setting.TheVariants as settings
 use Rattle.hs_workload.proofs.Sizes.{operations_few}

@@ -20,3 +20,17 @@ pub mod Outcomed
 pub mod Few
 pub mod Together
 pub mod Quiet
+pub mod Lists
+pub mod Naming
+pub mod Ringing
+pub mod Standing
+pub mod Claimed
+pub mod Parting
+pub mod Summing
+pub mod Sent
+pub mod Performing
+pub mod AllNamed
+pub mod Gaps
+pub mod Same
+pub mod Order
+pub mod RingOnce

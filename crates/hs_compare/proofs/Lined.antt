@@ -8,11 +8,11 @@ use Rattle.hs_base.specs.Ids.{is_among}
 use Rattle.hs_ledger.specs.declared.ledger.Entry.{Entry}
 use Rattle.hs_ledger.specs.Totals.{is_reported}
 use Rattle.hs_records.specs.Plain.{PlainWorkload}
-use Rattle.hs_samplers.specs.Coming as samplers
-use Rattle.hs_samplers.specs.Coming.{all_comings, named_in}
-use Rattle.hs_samplers.specs.Samplers.{kept_by_rank, chosen, head_keeps, tail_keeps, ring_keeps, hindsight_keeps}
-use Rattle.hs_samplers.specs.Lines as lines
-use Rattle.hs_samplers.specs.Lines.{PlainLine, PlainComparison, line_of, is_gap, is_limited, comparison_of}
+use Rattle.hs_compare.specs.Coming as samplers
+use Rattle.hs_compare.specs.Coming.{all_comings, named_in}
+use Rattle.hs_compare.specs.Samplers.{kept_by_rank, chosen, head_keeps, tail_keeps, ring_keeps, hindsight_keeps}
+use Rattle.hs_compare.specs.Lines as lines
+use Rattle.hs_compare.specs.Lines.{PlainLine, PlainComparison, line_of, is_gap, is_limited, comparison_of}
 use Rattle.hs_compare.specs.declared.coming.Coming.{Coming}
 use Rattle.hs_compare.specs.Happens.{coming_of}
 use Rattle.hs_compare.specs.Counting.{line_by}

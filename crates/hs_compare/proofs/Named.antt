@@ -9,13 +9,13 @@ use Rattle.hs_base.specs.declared.ids.ClientId.{ClientId}
 use Rattle.hs_base.specs.declared.ids.TraceId.{TraceId}
 use Rattle.hs_base.specs.declared.settings.AutoRule.{AutoRule}
 use Rattle.hs_base.specs.declared.told.Trigger.{Trigger}
-use Rattle.hs_clauses.specs.Finding.{numbers_of}
+use Rattle.hs_check_clauses.specs.Finding.{numbers_of}
 use Rattle.hs_records.specs.Plain.{Operation}
-use Rattle.hs_sent.specs.OneMore.{items_of}
-use Rattle.hs_sent.specs.Order.{AreInOrder}
-use Rattle.hs_sent.specs.Sending.{Sent, sent_triggers}
-use Rattle.hs_samplers.specs.Coming.{names_in, items_at, sent_comings, events_at}
-use Rattle.hs_samplers.specs.Coming as samplers
+use Rattle.hs_law_sends.specs.OneMore.{items_of}
+use Rattle.hs_law_sends.specs.Order.{AreInOrder}
+use Rattle.hs_law_sends.specs.Sending.{Sent, sent_triggers}
+use Rattle.hs_compare.specs.Coming.{names_in, items_at, sent_comings, events_at}
+use Rattle.hs_compare.specs.Coming as samplers
 use Rattle.hs_compare.specs.Happens.{name_at, names_at, names_by, comes_at, points_by}
 use Rattle.hs_compare.specs.Scripts.{sent_names, names_of, event_of}
 use Rattle.hs_compare.specs.Walking.{AreInTurn, events_in, events_of, both_of}

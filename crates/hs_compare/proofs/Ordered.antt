@@ -2,11 +2,11 @@
 use Rattle.std.proofs.Common.{◌≡◌, ℕ, suc, ◌+◌, ◌*◌, List, [], ◌∷◌, ◌++◌, length, map, Some, refl, sym, ap, ap₂, ◌∙◌, arith, slice_get}
 use Rattle.std.specs.List.{flat_map, range_with_len, AllByRecursion}
 use Rattle.std.proofs.lemmas.List.{map-append}
-use Rattle.hs_lawful.specs.Ends.{rounds_of}
-use Rattle.hs_outcome.specs.Outcomes.{client_at}
+use Rattle.hs_law_journal.specs.Ends.{rounds_of}
+use Rattle.hs_law_outcome.specs.Outcomes.{client_at}
 use Rattle.hs_records.specs.Plain.{PlainWorkload}
-use Rattle.hs_samplers.specs.Coming.{events_at, events_of, events_in_order}
-use Rattle.hs_sent.specs.Sending.{operations_at}
+use Rattle.hs_compare.specs.Coming.{events_at, events_of, events_in_order}
+use Rattle.hs_law_sends.specs.Sending.{operations_at}
 use Rattle.hs_compare.specs.declared.script.Script.{Script}
 use Rattle.hs_compare.specs.Beginning.{AreScripts}
 use Rattle.hs_compare.specs.Happens.{points_by}

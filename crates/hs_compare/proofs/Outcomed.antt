@@ -3,20 +3,20 @@
 use Rattle.std.proofs.Common.{◌≡◌, ℕ, List, [], ◌∷◌, map, refl, sym, ap, subst, ◌∙◌}
 use Rattle.std.specs.Prelude.{fold}
 use Rattle.hs_base.specs.declared.ids.TraceId.{TraceId}
-use Rattle.hs_clauses.specs.Beginning.{MayBegin}
+use Rattle.hs_check_clauses.specs.Beginning.{MayBegin}
 use Rattle.hs_journal.specs.Views.{PlainJournal}
 use Rattle.hs_ledger.specs.declared.ledger.Entry.{Entry}
-use Rattle.hs_lawful.specs.Ends.{rounds_of}
-use Rattle.hs_lawful.specs.Lawful.{IsLawful}
-use Rattle.hs_outcome.specs.Outcomes.{outcome_of}
-use Rattle.hs_outcome.specs.Records.{Named, name_of}
+use Rattle.hs_law_journal.specs.Ends.{rounds_of}
+use Rattle.hs_law_journal.specs.Lawful.{IsLawful}
+use Rattle.hs_law_outcome.specs.Outcomes.{outcome_of}
+use Rattle.hs_law_outcome.specs.Records.{Named, name_of}
 use Rattle.hs_records.specs.Plain.{PlainWorkload}
 use Rattle.hs_report.specs.declared.outcome.Outcome.{Outcome}
 use Rattle.hs_report.specs.Outcomes.{IsOutcome}
-use Rattle.hs_samplers.specs.Coming.{all_comings, events_in_order, named_by, named_in}
-use Rattle.hs_samplers.specs.Laws.{CanBeCompared, EntriesStandByTheRecords, TailIsTheSum, SumsToTail, name_of_coming, compared_by}
-use Rattle.hs_samplers.specs.Lines.{PlainComparison, comparison_of}
-use Rattle.hs_samplers.specs.Samplers.{Ring, ring_step, empty_ring}
+use Rattle.hs_compare.specs.Coming.{all_comings, events_in_order, named_by, named_in}
+use Rattle.hs_compare.specs.SamplerLaws.{CanBeCompared, EntriesStandByTheRecords, TailIsTheSum, SumsToTail, name_of_coming, compared_by}
+use Rattle.hs_compare.specs.Lines.{PlainComparison, comparison_of}
+use Rattle.hs_compare.specs.Samplers.{Ring, ring_step, empty_ring}
 use Rattle.hs_workload.specs.Validity.{IsValid}
 use Rattle.hs_workload.specs.declared.word.Setting.TheVariants as settings
 use Rattle.hs_workload.proofs.Sizes.{bracketed}

@@ -9,8 +9,8 @@ use Rattle.hs_base.specs.declared.settings.AutoRule.{AutoRule}
 use Rattle.hs_base.specs.declared.told.Trigger.{Trigger}
 use Rattle.hs_records.specs.Plain.{Operation}
 use Rattle.hs_records.specs.Records.{NumberedOperation, numbered_from, open_behind}
-use Rattle.hs_sent.specs.Sending.{Sent, trigger_in, triggers_behind}
-use Rattle.hs_samplers.specs.Coming.{names_in}
+use Rattle.hs_law_sends.specs.Sending.{Sent, trigger_in, triggers_behind}
+use Rattle.hs_compare.specs.Coming.{names_in}
 use Rattle.hs_compare.specs.declared.happening.Happening.{Happening}
 use Rattle.hs_compare.specs.declared.script.Script.{Script}
 use Rattle.hs_compare.specs.Happens.{name_at, points_by}

@@ -13,13 +13,13 @@ use Rattle.hs_base.specs.declared.ids.ClientId.{ClientId}
 use Rattle.hs_base.specs.declared.ids.TraceId.{TraceId}
 use Rattle.hs_records.specs.Plain.{Operation, Begin, Point, Crumb, End, Fire, Sample}
 use Rattle.hs_records.specs.Records.{Record, NumberedOperation, numbered_from, numbered_of, record_at, record_in, records_of, open_behind}
-use Rattle.hs_sent.specs.OneMore.{OneMoreOperation, open_after, next_behind}
-use Rattle.hs_sent.specs.Sending.{Sent}
-use Rattle.hs_sent.specs.Timing.{point_numbers}
-use Rattle.hs_sent.proofs.OneMore.{open_push}
-use Rattle.hs_samplers.specs.Coming.{comings_of, sent_comings}
-use Rattle.hs_samplers.specs.Coming as samplers
-use Rattle.hs_samplers.proofs.Order.{beside_length}
+use Rattle.hs_law_sends.specs.OneMore.{OneMoreOperation, open_after, next_behind}
+use Rattle.hs_law_sends.specs.Sending.{Sent}
+use Rattle.hs_law_sends.specs.Timing.{point_numbers}
+use Rattle.hs_law_sends.proofs.OneMore.{open_push}
+use Rattle.hs_compare.specs.Coming.{comings_of, sent_comings}
+use Rattle.hs_compare.specs.Coming as samplers
+use Rattle.hs_compare.proofs.Order.{beside_length}
 use Rattle.hs_compare.specs.Happens.{coming_of, comes_at, points_by}
 use Rattle.hs_compare.specs.Points.{HasGone, brought, coming_seen, record_seen}
 use Rattle.hs_compare.specs.declared.coming.Coming.{Coming}

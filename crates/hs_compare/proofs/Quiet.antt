@@ -6,7 +6,7 @@ use Rattle.hs_base.specs.declared.ids.TraceId.{TraceId}
 use Rattle.hs_base.specs.declared.settings.AutoRule.{AutoRule}
 use Rattle.hs_records.specs.Plain.{Operation, Begin, Point, Crumb, End, Fire, Sample}
 use Rattle.hs_records.specs.Records.{NumberedOperation, numbered_from, open_behind}
-use Rattle.hs_sent.specs.Sending.{trigger_in, triggers_behind}
+use Rattle.hs_law_sends.specs.Sending.{trigger_in, triggers_behind}
 use Rattle.hs_workload.specs.Views.{operation_of}
 use Rattle.hs_workload.specs.declared.operation.Op.{Op}
 use Rattle.hs_compare.specs.Scripts.{may_trigger, names_of, sent_names}

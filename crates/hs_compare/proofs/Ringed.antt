@@ -8,11 +8,11 @@ use Rattle.hs_lists.proofs.Parts.{map_drop, length_map}
 use Rattle.hs_lists.proofs.Filters.{filter_mapped}
 use Rattle.hs_base.specs.declared.ids.TraceId.{TraceId}
 use Rattle.hs_base.specs.Ids.{is_among}
-use Rattle.hs_samplers.specs.Coming.{Coming}
-use Rattle.hs_samplers.specs.Coming as samplers
-use Rattle.hs_samplers.specs.Samplers.{Ring, is_of, last_ones, ring_step}
-use Rattle.hs_samplers.specs.Samplers as rings
-use Rattle.hs_samplers.specs.Lines.{each_once}
+use Rattle.hs_compare.specs.Coming.{Coming}
+use Rattle.hs_compare.specs.Coming as samplers
+use Rattle.hs_compare.specs.Samplers.{Ring, is_of, last_ones, ring_step}
+use Rattle.hs_compare.specs.Samplers as rings
+use Rattle.hs_compare.specs.Lines.{each_once}
 use Rattle.hs_compare.specs.Ringing.{is_noted_of, ids_in, traces_in, last_noted}
 use Rattle.hs_compare.specs.Scripts.{event_of}
 use Rattle.hs_compare.specs.Walking.{ring_after, rings_after}

@@ -5,7 +5,7 @@ use Rattle.std.proofs.lemmas.List.{append-nil, length_push}
 use Rattle.hs_base.specs.declared.ids.ClientId.{ClientId}
 use Rattle.hs_records.specs.Plain.{Operation}
 use Rattle.hs_records.specs.Records.{records_of}
-use Rattle.hs_sent.specs.OneMore.{OneMoreOperation}
+use Rattle.hs_law_sends.specs.OneMore.{OneMoreOperation}
 use Rattle.hs_compare.specs.Happens.{comes_at, points_by}
 use Rattle.hs_compare.specs.Points.{HasGone, HasScript, IsScriptOf, brought, comes_in}
 use Rattle.hs_compare.specs.Walking.{AreOf, IsScript, events_in, events_of, events_from}

@@ -5,7 +5,7 @@ use Rattle.hs_lists.proofs.Parts.{length_map}
 use Rattle.hs_base.specs.declared.ids.TraceId.{TraceId}
 use Rattle.hs_base.specs.declared.limits.TheConstants.{MAX_OPERATIONS}
 use Rattle.hs_ledger.specs.declared.ledger.Entry.{Entry}
-use Rattle.hs_samplers.specs.Lines.{is_gap, is_limited}
+use Rattle.hs_compare.specs.Lines.{is_gap, is_limited}
 use Rattle.hs_compare.specs.declared.coming.Coming.{Coming}
 use Rattle.hs_compare.specs.declared.comparison.Comparison.{Comparison}
 use Rattle.hs_compare.specs.declared.lines.Line.{Line}

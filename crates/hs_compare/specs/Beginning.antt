@@ -1,10 +1,10 @@
 -- The scripts of the clients of a workload, and the records that they have.
 use Rattle.std.specs.Prelude.{◌≡◌, ℕ, List, length, Some, slice_get}
 use Rattle.std.specs.List.{flat_map, range_with_len}
-use Rattle.hs_outcome.specs.Outcomes.{client_at}
+use Rattle.hs_law_outcome.specs.Outcomes.{client_at}
 use Rattle.hs_records.specs.Plain.{PlainWorkload}
-use Rattle.hs_samplers.specs.Coming.{Coming, comings_of}
-use Rattle.hs_sent.specs.Sending.{operations_at}
+use Rattle.hs_compare.specs.Coming.{Coming, comings_of}
+use Rattle.hs_law_sends.specs.Sending.{operations_at}
 use Rattle.hs_compare.specs.declared.script.Script.{Script}
 use Rattle.hs_compare.specs.Scripts.{IsClientScript}
 

@@ -4,7 +4,7 @@ use Rattle.std.specs.Prelude.{ℕ, Bool, List, map, count_by}
 use Rattle.hs_base.specs.declared.ids.TraceId.{TraceId}
 use Rattle.hs_ledger.specs.declared.ledger.Entry.{Entry}
 use Rattle.hs_ledger.specs.Totals.{is_reported}
-use Rattle.hs_samplers.specs.Lines.{is_gap, is_limited}
+use Rattle.hs_compare.specs.Lines.{is_gap, is_limited}
 use Rattle.hs_compare.specs.Ringing.{is_among, kept_by_rank}
 use Rattle.hs_compare.specs.Counting.{line_by}
 use Rattle.hs_compare.specs.Marked.{marked, traces_of, bytes_in}

@@ -1,7 +1,7 @@
 -- The text of a comparison: a line for each sampler, one that says where the rest went, and the end.
 use Rattle.std.specs.Prelude.{◌≡◌, ℕ, List, [], ◌∷◌, codes, decimal, refl}
 use Rattle.std.specs.Fmt.{digits}
-use Rattle.hs_samplers.specs.Lines.{PlainLine, PlainComparison}
+use Rattle.hs_compare.specs.Lines.{PlainLine, PlainComparison}
 use Rattle.hs_text.specs.Text.{line_of, text_of}
 
 -- the line of the sampler that has this name

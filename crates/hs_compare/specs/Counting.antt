@@ -1,5 +1,5 @@
 -- How many records each trace has, and the line of a comparison from such counts.
-pub use Rattle.hs_samplers.specs.Lines.{each_once}
+pub use Rattle.hs_compare.specs.Lines.{each_once}
 use Rattle.std.specs.Prelude.{◌≡◌, ℕ, ◌==◌, nat_lt, Bool, ◌&&◌, List, length, count_by, Some, None, unwrap_or, is_some, if◌then◌else◌}
 use Rattle.std.specs.Map.{lookup}
 use Rattle.hs_base.specs.declared.ids.TraceId.{TraceId}

@@ -4,9 +4,9 @@ use Rattle.hs_base.specs.declared.ids.ClientId.{ClientId}
 use Rattle.hs_base.specs.declared.ids.TraceId.{TraceId}
 use Rattle.hs_base.specs.declared.told.Trigger.{Trigger}
 use Rattle.hs_records.specs.Plain.{Operation}
-use Rattle.hs_samplers.specs.Coming.{names_in, sent_comings}
-use Rattle.hs_samplers.specs.Coming as samplers
-use Rattle.hs_sent.specs.Sending.{Sent}
+use Rattle.hs_compare.specs.Coming.{names_in, sent_comings}
+use Rattle.hs_compare.specs.Coming as samplers
+use Rattle.hs_law_sends.specs.Sending.{Sent}
 use Rattle.hs_compare.specs.declared.coming.Coming.{Coming}
 use Rattle.hs_compare.specs.declared.happening.Event.TheVariants.{Comes, Names}
 use Rattle.hs_compare.specs.declared.happening.Happening.{Happening}

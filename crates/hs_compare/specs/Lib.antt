@@ -13,3 +13,8 @@ pub mod Whole
 pub mod Beginning
 pub mod Plain
 pub mod ComparisonText
+pub mod Coming
+pub mod Samplers
+pub mod Lines
+pub mod SamplerExamples
+pub mod SamplerLaws

@@ -1,5 +1,5 @@
 -- A comparison as its definition has it, read off the one in memory.
-use Rattle.hs_samplers.specs.Lines.{PlainLine, PlainComparison}
+use Rattle.hs_compare.specs.Lines.{PlainLine, PlainComparison}
 use Rattle.hs_compare.specs.declared.comparison.Comparison.{Comparison}
 use Rattle.hs_compare.specs.declared.lines.Line.{Line}
 

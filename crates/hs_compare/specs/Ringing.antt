@@ -1,7 +1,7 @@
 -- A ring of records, without their payloads. A record of a trace that was not named waits in the ring, which has the last ones that there
 -- is room for. Where a trace is first named its waiting records are kept, and what comes of it later is kept as it comes.
 pub use Rattle.hs_base.specs.Ids.{is_among}
-pub use Rattle.hs_samplers.specs.Samplers.{kept_by_rank}
+pub use Rattle.hs_compare.specs.Samplers.{kept_by_rank}
 use Rattle.std.specs.Prelude.{ℕ, ◌-◌, ◌==◌, Bool, not, List, [], ◌∷◌, ◌++◌, length, map, filter, drop, if◌then◌else◌}
 use Rattle.hs_base.specs.declared.ids.TraceId.{TraceId}
 use Rattle.hs_base.specs.declared.ids.RecordId.{RecordId}

@@ -5,8 +5,8 @@ use Rattle.hs_base.specs.declared.ids.ClientId.{ClientId}
 use Rattle.hs_base.specs.declared.settings.AutoRule.{AutoRule}
 use Rattle.hs_base.specs.declared.told.Trigger.{Trigger}
 use Rattle.hs_records.specs.Plain.{Operation, Fire, Sample}
-use Rattle.hs_sent.specs.Sending.{Sent, sent_triggers}
-use Rattle.hs_samplers.specs.Coming as samplers
+use Rattle.hs_law_sends.specs.Sending.{Sent, sent_triggers}
+use Rattle.hs_compare.specs.Coming as samplers
 use Rattle.hs_compare.specs.Happens.{names_at}
 use Rattle.hs_compare.specs.Points.{IsScriptOf}
 use Rattle.hs_compare.specs.declared.happening.Event.{Event}

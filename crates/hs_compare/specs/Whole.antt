@@ -1,7 +1,7 @@
 -- The ring of the definition, whose records are whole, as one of records without their payloads.
 use Rattle.std.specs.Prelude.{ℕ, map}
-use Rattle.hs_samplers.specs.Coming.{Coming}
-use Rattle.hs_samplers.specs.Samplers.{Ring}
+use Rattle.hs_compare.specs.Coming.{Coming}
+use Rattle.hs_compare.specs.Samplers.{Ring}
 use Rattle.hs_compare.specs.declared.ring.Noted.{Noted}
 use Rattle.hs_compare.specs.Ringing.{Ringing}
 

@@ -2,14 +2,14 @@
 
 ghost use Rattle.std.specs.Prelude.{◌≤◌, ◌≡◌, fold, IfOk};
 ghost use Rattle.hs_journal.specs.Views.{journal_of};
-ghost use Rattle.hs_lockstep.specs.Lockstep.{lockstep};
+ghost use Rattle.hs_law_lockstep.specs.Lockstep.{lockstep};
 ghost use Rattle.hs_report.specs.Outcomes.{IsOutcome};
-ghost use Rattle.hs_samplers.specs.Coming.{events_in_order};
-ghost use Rattle.hs_samplers.specs.Laws.{compared_by, SumsToTail};
-ghost use Rattle.hs_samplers.specs.Samplers.{ring_step, empty_ring};
+ghost use Rattle.hs_compare.specs.Coming.{events_in_order};
+ghost use Rattle.hs_compare.specs.SamplerLaws.{compared_by, SumsToTail};
+ghost use Rattle.hs_compare.specs.Samplers.{ring_step, empty_ring};
 ghost use Rattle.hs_workload.specs.Validity.{IsValid};
 ghost use Rattle.hs_workload.specs.Views.{workload_of};
-ghost use Rattle.hs_clauses.specs.Beginning.{MayBegin};
+ghost use Rattle.hs_check_clauses.specs.Beginning.{MayBegin};
 ghost use Rattle.hs_compare.specs.Plain.{plain_comparison};
 ghost use Rattle.hs_compare.specs.Whole.{ringing_by};
 
@@ -20,11 +20,13 @@ use crate::ring_tail::RingTail;
 use crate::scripts::scripts_of;
 use crate::walk::walk;
 use hs_base::Memory;
-use hs_clauses::count_rounds;
+use hs_check_clauses::count_rounds;
 use hs_journal::Journal;
-use hs_lockstep::laws::schedule_is_lawful;
+use hs_law_lockstep::laws::schedule_is_lawful;
 use hs_report::Outcome;
-use hs_samplers::laws::{kept_is_parted, ring_keeps_each_once, tail_is_the_sum};
+use crate::laws::kept_is_parted;
+use crate::laws::ring_keeps_each_once;
+use crate::laws::tail_is_the_sum;
 use hs_workload::Workload;
 use std::alloc::Global;
 

@@ -4,7 +4,7 @@ ghost use Rattle.std.specs.Prelude.{◌≡◌, ◌≤◌, ◌<◌, ◌^◌, ◌&
 ghost use Rattle.std.specs.List.{AllByRecursion};
 ghost use Rattle.hs_base.specs.declared.ids.TraceId.{TraceId};
 ghost use Rattle.hs_ledger.specs.declared.ledger.Entry.{Entry};
-ghost use Rattle.hs_samplers.specs.Lines.{is_gap, is_limited};
+ghost use Rattle.hs_compare.specs.Lines.{is_gap, is_limited};
 ghost use Rattle.hs_compare.specs.Counting.{AreCounted, times, is_counted};
 ghost use Rattle.hs_compare.specs.Ringing.{is_among};
 ghost use Rattle.hs_compare.specs.declared.coming.Coming.{Coming};

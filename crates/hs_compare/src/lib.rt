@@ -1,4 +1,5 @@
-//! What other samplers would have kept of a workload (`docs/RULES.md`, "Other samplers").
+//! What other samplers would have kept of a workload, beside what Hindsight keeps, and the text that says so. The laws of `laws` say how
+//! the samplers' records lie within one another (`docs/RULES.md`, "Other samplers").
 #![tactic(auto)]
 
 mod by_rank;
@@ -7,6 +8,7 @@ mod coming;
 mod comparing;
 mod comparison;
 mod happening;
+pub mod laws;
 pub mod limits;
 mod lines;
 mod marks;

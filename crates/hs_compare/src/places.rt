@@ -1,7 +1,7 @@
 //! The places of clients.
 
 ghost use Rattle.std.specs.Prelude.{◌≡◌, ◌<◌, ◌*◌, ◌^◌};
-ghost use Rattle.hs_outcome.specs.Outcomes.{client_at};
+ghost use Rattle.hs_law_outcome.specs.Outcomes.{client_at};
 
 use hs_base::ClientId;
 

@@ -1,9 +1,9 @@
 //! The records of all clients.
 
 ghost use Rattle.std.specs.Prelude.{◌≡◌, ◌<◌, ◌≤◌, ◌++◌, ◌∷◌, [], List, length, map, IfOk, OnOk};
-ghost use Rattle.hs_outcome.specs.Outcomes.{client_at};
-ghost use Rattle.hs_samplers.specs.Coming.{all_comings, comings_of};
-ghost use Rattle.hs_sent.specs.Sending.{operations_at};
+ghost use Rattle.hs_law_outcome.specs.Outcomes.{client_at};
+ghost use Rattle.hs_compare.specs.Coming.{all_comings, comings_of};
+ghost use Rattle.hs_law_sends.specs.Sending.{operations_at};
 ghost use Rattle.hs_workload.specs.Validity.{IsValid};
 ghost use Rattle.hs_workload.specs.Views.{operation_of, workload_of};
 ghost use Rattle.hs_compare.specs.Happens.{coming_of};
@@ -14,8 +14,8 @@ use crate::places::client_at;
 use crate::points::Walk;
 use hs_base::limits::MAX_OPERATIONS;
 use hs_base::{ClientId, List, Memory};
-use hs_player::valid_clients_may_be_played;
-use hs_sent::laws::one_operation_more;
+use hs_law_sends::laws::valid_clients_may_be_played;
+use hs_law_sends::laws::one_operation_more;
 use hs_workload::{Op, Workload};
 use std::alloc::Global;
 

@@ -2,19 +2,19 @@
 
 ghost use Rattle.std.specs.Prelude.{◌<◌, length, IfOk};
 ghost use Rattle.hs_journal.specs.Views.{journal_of};
-ghost use Rattle.hs_outcome.specs.Outcomes.{client_at};
-ghost use Rattle.hs_sent.specs.Sending.{operations_at};
+ghost use Rattle.hs_law_outcome.specs.Outcomes.{client_at};
+ghost use Rattle.hs_law_sends.specs.Sending.{operations_at};
 ghost use Rattle.hs_workload.specs.Views.{workload_of};
 ghost use Rattle.hs_compare.specs.Scripts.{IsClientScript};
 ghost use Rattle.hs_compare.specs.Beginning.{AreScripts};
-ghost use Rattle.hs_clauses.specs.Beginning.{MayBegin};
+ghost use Rattle.hs_check_clauses.specs.Beginning.{MayBegin};
 
 use crate::client::client_script;
 use crate::places::client_at;
 use crate::script::Script;
 use hs_base::{List, Memory};
 use hs_journal::Journal;
-use hs_player::valid_clients_may_be_played;
+use hs_law_sends::laws::valid_clients_may_be_played;
 use hs_workload::Workload;
 use std::alloc::Global;
 

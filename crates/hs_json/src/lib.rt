@@ -4,5 +4,5 @@
 mod values;
 mod writing;
 
-pub use hs_outcome::Form;
+pub use hs_law_outcome::Form;
 pub use writing::write_outcome;

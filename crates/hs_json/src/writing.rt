@@ -2,16 +2,16 @@
 
 ghost use Rattle.std.specs.Prelude.{◌≡◌, IfOk};
 ghost use Rattle.hs_journal.specs.Views.{PlainJournal};
-ghost use Rattle.hs_lawful.specs.Lawful.{IsLawful};
-ghost use Rattle.hs_outcome.specs.OutcomeText.{outcome_text};
-ghost use Rattle.hs_outcome.specs.declared.form.Form.TheVariants.{Json};
+ghost use Rattle.hs_law_journal.specs.Lawful.{IsLawful};
+ghost use Rattle.hs_law_outcome.specs.OutcomeText.{outcome_text};
+ghost use Rattle.hs_law_outcome.specs.declared.form.Form.TheVariants.{Json};
 ghost use Rattle.hs_records.specs.Plain.{PlainWorkload};
 ghost use Rattle.hs_report.specs.Outcomes.{IsOutcome};
 ghost use Rattle.hs_workload.specs.Validity.{IsValid};
 
 use crate::values::push_json;
 use hs_base::{Bytes, Memory};
-use hs_outcome::Form;
+use hs_law_outcome::Form;
 use hs_report::{Outcome, close_text, open_text, sort_out, write_lines};
 use std::alloc::Global;
 

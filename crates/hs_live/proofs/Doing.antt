@@ -15,15 +15,15 @@ use Rattle.hs_client.specs.Core.{Core, Current, Step, Began, after_step, new_cor
 use Rattle.hs_client.specs.Calls.{AreSteps, IsBook, May, with_all}
 use Rattle.hs_link.specs.Contents.{Outgoing, sent}
 use Rattle.hs_ring.specs.Parts.{Leased}
-use Rattle.hs_sent.specs.SoFar.{has_open_page}
-use Rattle.hs_sent.specs.Sending.{crumb_in, trigger_in}
+use Rattle.hs_law_sends.specs.SoFar.{has_open_page}
+use Rattle.hs_law_sends.specs.Sending.{crumb_in, trigger_in}
 use Rattle.hs_live.specs.Keys.{Key}
 use Rattle.hs_live.specs.Live.{Live}
 use Rattle.hs_live.specs.Writing.{Made, Writing, IsWriting, WritesPieces, WritesEnd, writing_of}
 use Rattle.hs_live.specs.Done.{HasDone}
-use Rattle.hs_sent.specs.OneMore.{next_behind, AreWatching}
-use Rattle.hs_sent.proofs.Adding.{OneMore, page_more, at, unseen, begin_unseen, point_unseen, end_unseen, crumb_unseen, fire_unseen, begin_no_crumb, begin_no_trigger, point_no_crumb, point_no_trigger, end_no_crumb, end_no_trigger, coming_crumb, crumb_no_trigger, coming_fire, fire_no_crumb, trigger_of_fire}
-use Rattle.hs_sent.proofs.OneMore.{open_push}
+use Rattle.hs_law_sends.specs.OneMore.{next_behind, AreWatching}
+use Rattle.hs_law_sends.proofs.Adding.{OneMore, page_more, at, unseen, begin_unseen, point_unseen, end_unseen, crumb_unseen, fire_unseen, begin_no_crumb, begin_no_trigger, point_no_crumb, point_no_trigger, end_no_crumb, end_no_trigger, coming_crumb, crumb_no_trigger, coming_fire, fire_no_crumb, trigger_of_fire}
+use Rattle.hs_law_sends.proofs.OneMore.{open_push}
 use Rattle.hs_lists.proofs.Options.{is_some_true, some_item}
 use Rattle.hs_lists.proofs.Alls.{all_everywhere}
 use Rattle.hs_live.specs.declared.called.Called.{Called}

@@ -18,10 +18,10 @@ use Rattle.hs_auto.specs.Firing as firing
 use Rattle.hs_auto.specs.Watching.{Watch, HasSampled}
 use Rattle.hs_auto.specs.declared.sampled.Sampled.{Sampled}
 use Rattle.hs_link.specs.Contents.{Outgoing, sent}
-use Rattle.hs_sent.specs.OneMore.{AreWatching}
-use Rattle.hs_sent.specs.Sending.{samples_of, trigger_in, trigger_of}
-use Rattle.hs_sent.proofs.Sampling.{sample, fired_trigger, trigger_is, watches, coming_sample, sample_no_crumb}
-use Rattle.hs_sent.proofs.Adding.{OneMore}
+use Rattle.hs_law_sends.specs.OneMore.{AreWatching}
+use Rattle.hs_law_sends.specs.Sending.{samples_of, trigger_in, trigger_of}
+use Rattle.hs_law_sends.proofs.Sampling.{sample, fired_trigger, trigger_is, watches, coming_sample, sample_no_crumb}
+use Rattle.hs_law_sends.proofs.Adding.{OneMore}
 use Rattle.hs_live.specs.declared.called.Called.TheVariants as called
 use Rattle.hs_live.specs.Keys.{Key}
 use Rattle.hs_live.specs.Live.{Live}

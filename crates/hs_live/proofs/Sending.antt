@@ -20,11 +20,11 @@ use Rattle.hs_client.specs.Core.{Core, Step, all_pages, handed}
 use Rattle.hs_client.specs.Calls.{AreSteps, IsBook, after, open_trace, segments_of_steps, pages_of_steps, filled_chunks, sheet_for, note_of, with_all}
 use Rattle.hs_link.specs.Contents.{sent}
 use Rattle.hs_ring.specs.Parts.{Leased}
-use Rattle.hs_sent.specs.Timing.{TimedPage, timed_pages}
-use Rattle.hs_sent.specs.Drawn.{drawn_from, drawn_pages, has_buffer}
-use Rattle.hs_sent.specs.Sending.{Sent, sent_chunks}
-use Rattle.hs_sent.specs.Laws.{TimedPagesAreThePages}
-use Rattle.hs_sent.specs.OneMore.{open_after, items_of}
+use Rattle.hs_law_sends.specs.Timing.{TimedPage, timed_pages}
+use Rattle.hs_law_sends.specs.Drawn.{drawn_from, drawn_pages, has_buffer}
+use Rattle.hs_law_sends.specs.Sending.{Sent, sent_chunks}
+use Rattle.hs_law_sends.specs.Laws.{TimedPagesAreThePages}
+use Rattle.hs_law_sends.specs.OneMore.{open_after, items_of}
 use Rattle.hs_live.specs.Live.{Live}
 use Rattle.hs_live.specs.Writing.{Made, new_of, noted, draws_by, buffer_got, buffers_by}
 use Rattle.hs_live.specs.Done.{HasDone, HasSent, HasSentAll}

@@ -23,7 +23,7 @@ use hs_base::{Crumb, List, NodeId, TraceId, Trigger, TriggerId};
 use hs_client::{ClientCore, any_steps_make_the_book};
 use hs_link::{Receiver, Sender};
 use hs_ring::{Drawer, Giver, Lease};
-use hs_sent::laws::one_operation_more;
+use hs_law_sends::laws::one_operation_more;
 use hs_words::Held;
 use std::marker::Model;
 

@@ -21,19 +21,19 @@ use Rattle.hs_journal.specs.Books.{PlainAgentBook, PlainClientBook, agent_book_o
 use Rattle.hs_journal.specs.Views.{PlainJournal}
 use Rattle.hs_journal.specs.declared.books.AgentBook.{AgentBook}
 use Rattle.hs_journal.specs.declared.books.ClientBook.{ClientBook}
-use Rattle.hs_lawful.specs.Ends.{is_left_bare}
-use Rattle.hs_lawful.specs.Following.{NodeRun, Run, followed}
-use Rattle.hs_lockstep.specs.Lockstep.{Machine, lockstep}
-use Rattle.hs_lockstep.specs.Parts.{heard_in}
-use Rattle.hs_lockstep.specs.Reaching.{MachinesAreWhole}
-use Rattle.hs_model.specs.Books.{book_of}
-use Rattle.hs_outcome.specs.Outcomes.{client_at, client_book, client_books, agent_books}
+use Rattle.hs_law_journal.specs.Ends.{is_left_bare}
+use Rattle.hs_law_journal.specs.Following.{NodeRun, Run, followed}
+use Rattle.hs_law_lockstep.specs.Lockstep.{Machine, lockstep}
+use Rattle.hs_law_lockstep.specs.Parts.{heard_in}
+use Rattle.hs_law_lockstep.specs.Reaching.{MachinesAreWhole}
+use Rattle.hs_law_agent.specs.Books.{book_of}
+use Rattle.hs_law_outcome.specs.Outcomes.{client_at, client_book, client_books, agent_books}
 use Rattle.hs_records.specs.Pages.{pages_of}
 use Rattle.hs_records.specs.Plain.{PlainWorkload}
-use Rattle.hs_sent.specs.Sending.{draws_at, operations_at, place_of}
-use Rattle.hs_nodes.specs.All.{AllClosed}
-use Rattle.hs_nodes.specs.Finishing.{HasEnded, IsBookAt, client_noted}
-use Rattle.hs_nodes.specs.Parts.{Parts}
+use Rattle.hs_law_sends.specs.Sending.{draws_at, operations_at, place_of}
+use Rattle.hs_replay.specs.All.{AllClosed}
+use Rattle.hs_replay.specs.Finishing.{HasEnded, IsBookAt, client_noted}
+use Rattle.hs_replay.specs.Parts.{Parts}
 
 -- ---- lists
 

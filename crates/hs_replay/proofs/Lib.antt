@@ -1,2 +1,19 @@
 mod Lists
+mod Counting
+mod Readying
+mod TakingOut
+mod Taken
+mod Looping
+mod Passed
+mod Giving
+mod Going
+mod LeftOver
+mod Begun
+mod Ended
+mod Heard
+mod Coordinated
+mod Others
+mod Scheduled
+mod Started
 mod Booked
+pub mod Values

@@ -1,6 +1,6 @@
--- What follows of a value that there is.
-use Rattle.std.specs.Prelude.{Result, Ok, Err, IfOk}
+-- Lists of which an item was lent and written, and what stands in a list of mapped numbers.
+use Rattle.std.specs.Prelude.{Result, Ok, Err, OnOk}
 
-pub on_ok_value : {T E : Type 0} (r : Result T E) (P Q : T → Type 0) → IfOk r P → ((x : T) → P x → Q x) → IfOk r Q
-on_ok_value (Ok x) P Q h f = f x h
-on_ok_value (Err e) P Q h f = tt
+pub on_ok : {T E : Type 0} (r : Result T E) (P Q : Type 0) → OnOk r P → (P → Q) → OnOk r Q
+on_ok (Ok x) P Q h f = f h
+on_ok (Err e) P Q h f = tt

@@ -4,11 +4,11 @@ use Rattle.hs_base.specs.Listing.{listing}
 use Rattle.hs_base.specs.declared.told.Fate.TheVariants.{Live}
 use Rattle.hs_journal.specs.declared.journal.Draw.TheVariants.{Got}
 use Rattle.hs_journal.specs.Books.{agent_book_of, client_book_of}
-use Rattle.hs_lawful.specs.Following.{followed}
-use Rattle.hs_lawful.specs.Samples.{chunk, turn}
-use Rattle.hs_lawful.specs.Workloads.{one_point}
-use Rattle.hs_lockstep.specs.Lockstep.{lockstep}
-use Rattle.hs_outcome.specs.Outcomes.{client_books, agent_books}
+use Rattle.hs_law_journal.specs.Following.{followed}
+use Rattle.hs_law_journal.specs.Samples.{chunk, turn}
+use Rattle.hs_law_journal.specs.Workloads.{one_point}
+use Rattle.hs_law_lockstep.specs.Lockstep.{lockstep}
+use Rattle.hs_law_outcome.specs.Outcomes.{client_books, agent_books}
 use Rattle.hs_records.specs.Plain.{PlainWorkload}
 use Rattle.hs_replay.specs.declared.books.Noted.{Noted}
 

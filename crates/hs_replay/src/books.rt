@@ -3,13 +3,13 @@
 ghost use Rattle.std.specs.Prelude.{IfOk};
 ghost use Rattle.hs_coord.specs.Kept.{Kept};
 ghost use Rattle.hs_records.specs.Plain.{PlainWorkload};
-ghost use Rattle.hs_nodes.specs.All.{AllClosed};
+ghost use Rattle.hs_replay.specs.All.{AllClosed};
 ghost use Rattle.hs_replay.specs.Noted.{AreNoted};
 
 use hs_base::{List, Memory};
 use hs_journal::{AgentBook, ClientBook};
-use hs_lockstep::laws::machines_are_whole;
-use hs_nodes::Node;
+use hs_law_lockstep::laws::machines_are_whole;
+use crate::node::Node;
 use std::alloc::Global;
 
 /// The books of all clients, in the order of node and number, and those of all agents, in the order of node.

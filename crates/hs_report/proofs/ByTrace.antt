@@ -8,7 +8,7 @@ use Rattle.std.proofs.lemmas.List.{get_or-take, get_or-drop, length-take, take-a
 use Rattle.std.proofs.lemmas.List.Elements.{filter-append}
 use Rattle.hs_base.specs.declared.ids.TraceId.{TraceId}
 use Rattle.hs_ledger.specs.declared.ledger.Entry.{Entry}
-use Rattle.hs_outcome.specs.Reports.{is_of}
+use Rattle.hs_law_outcome.specs.Reports.{is_of}
 use Rattle.hs_report.proofs.Stable.{stable_keeps}
 
 abbrev pub number_of : Entry → ℕ

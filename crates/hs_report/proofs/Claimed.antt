@@ -13,7 +13,7 @@ use Rattle.hs_lists.proofs.Bools.{or_swap}
 use Rattle.hs_base.specs.declared.ids.TraceId.{TraceId}
 use Rattle.hs_journal.specs.declared.books.AgentBook.{AgentBook}
 use Rattle.hs_journal.specs.declared.books.Claim.{Claim}
-use Rattle.hs_outcome.specs.Outcomes.{put_trace, rising_traces}
+use Rattle.hs_law_outcome.specs.Outcomes.{put_trace, rising_traces}
 use Rattle.hs_report.specs.Claims.{claimed_by, all_claimed}
 use Rattle.hs_report.proofs.Loops.{Joins}
 

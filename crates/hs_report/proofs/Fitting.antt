@@ -11,24 +11,24 @@ use Rattle.hs_base.specs.declared.ids.ClientId.{ClientId}
 use Rattle.hs_base.specs.declared.ids.TraceId.{TraceId}
 use Rattle.hs_base.specs.declared.limits.TheConstants.{MIN_SIZE, MAX_SIZE, MAX_OPERATIONS, MAX_PAYLOAD}
 use Rattle.hs_client.specs.Calls.{sheet_for, written}
-use Rattle.hs_outcome.specs.CollectedReports.{IsClientsPage, ReportedPagesAreOfClients}
-use Rattle.hs_outcome.specs.Outcomes.{outcome_of}
-use Rattle.hs_outcome.specs.Readable.{LawfulJournalsCanBeRead}
+use Rattle.hs_law_outcome.specs.CollectedReports.{IsClientsPage, ReportedPagesAreOfClients}
+use Rattle.hs_law_outcome.specs.Outcomes.{outcome_of}
+use Rattle.hs_law_outcome.specs.Readable.{LawfulJournalsCanBeRead}
 use Rattle.hs_records.specs.Records.{AreBracketed}
-use Rattle.hs_sent.specs.Laws.{PagesFit, TimedPagesAreThePages}
-use Rattle.hs_sent.specs.Timing.{TimedPage, timed_pages}
+use Rattle.hs_law_sends.specs.Laws.{PagesFit, TimedPagesAreThePages}
+use Rattle.hs_law_sends.specs.Timing.{TimedPage, timed_pages}
 use Rattle.hs_words.specs.Chunks.{used_of}
 use Rattle.hs_words.specs.Pages.{Sheet, IsPage, FitsPiece}
 use Rattle.hs_workload.specs.declared.word.Setting.TheVariants as settings
 use Rattle.hs_report.specs.Fitting.{ReportedPagesArePages, JournalsCanBeRead}
 use Rattle.hs_report.proofs.Shapes.{ends_its_traces}
-use Rattle.hs_outcome.specs.Records.{all_records, client_records}
-use Rattle.hs_outcome.proofs.ClientBooks.{length_named}
+use Rattle.hs_law_outcome.specs.Records.{all_records, client_records}
+use Rattle.hs_law_outcome.proofs.ClientBooks.{length_named}
 use Rattle.hs_records.specs.Pages.{PlainPage, first_record, pages_of}
 use Rattle.hs_records.specs.Plain.{Operation, Begin, Point, Crumb, End, Fire, Sample, PlainSettings, PlainWorkload}
 use Rattle.hs_records.specs.Records.{Record, Piece, open_behind, numbered_from, record_in, record_at, records_of, record_pieces, payload_pieces, piece_count}
 use Rattle.hs_records.specs.Laws.{CarriesRecords, CarryRecords, PagesHoldThePieces, traces_of, pieces_of_records, pieces_on}
-use Rattle.hs_sent.specs.Sending.{operations_at, place_of}
+use Rattle.hs_law_sends.specs.Sending.{operations_at, place_of}
 use Rattle.hs_text.specs.Text.{trace_digits}
 use Rattle.hs_workload.specs.LookBack.{operation_pieces}
 use Rattle.hs_workload.specs.Validity.{IsOperation, IsClient, IsValid, HasDigits, client_pieces, workload_pieces}

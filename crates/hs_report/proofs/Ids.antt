@@ -7,7 +7,7 @@ use Rattle.hs_base.specs.declared.ids.RecordId.{RecordId}
 use Rattle.hs_collect.specs.Collected.{is_same}
 use Rattle.hs_ledger.specs.declared.ledger.Entry.{Entry}
 use Rattle.hs_ledger.specs.Totals.{is_reported}
-use Rattle.hs_outcome.specs.CollectedReports.{was_reported}
+use Rattle.hs_law_outcome.specs.CollectedReports.{was_reported}
 
 or_assoc : (a b c : Bool) → (a || (b || c)) ≡ ((a || b) || c)
 or_assoc true b c = refl

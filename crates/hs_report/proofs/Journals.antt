@@ -13,16 +13,16 @@ use Rattle.hs_journal.specs.declared.books.Claim.{Claim}
 use Rattle.hs_journal.specs.declared.journal.Draw.{Draw}
 use Rattle.hs_journal.specs.declared.journal.Step.{Step}
 use Rattle.hs_journal.specs.Views.{PlainJournal}
-use Rattle.hs_lawful.specs.Following.{NodeRun, followed, log_at}
-use Rattle.hs_lawful.specs.Extending.{IsOfJournal, RunsAreOfTheJournal}
-use Rattle.hs_lawful.specs.Orders.{FollowingPlaysOut}
-use Rattle.hs_model.specs.Books.{book_of, claim_note, bytes_at}
-use Rattle.hs_model.specs.Standings.{Taken}
-use Rattle.hs_model.specs.State.{ClaimedTrace}
-use Rattle.hs_outcome.specs.Outcomes.{client_book, claimed_at, reported_at}
-use Rattle.hs_outcome.specs.Readable.{JournalsHaveTheShape}
+use Rattle.hs_law_journal.specs.Following.{NodeRun, followed, log_at}
+use Rattle.hs_law_journal.specs.Extending.{IsOfJournal, RunsAreOfTheJournal}
+use Rattle.hs_law_journal.specs.Orders.{FollowingPlaysOut}
+use Rattle.hs_law_agent.specs.Books.{book_of, claim_note, bytes_at}
+use Rattle.hs_law_agent.specs.Standings.{Taken}
+use Rattle.hs_law_agent.specs.State.{ClaimedTrace}
+use Rattle.hs_law_outcome.specs.Outcomes.{client_book, claimed_at, reported_at}
+use Rattle.hs_law_outcome.specs.Readable.{JournalsHaveTheShape}
 use Rattle.hs_records.specs.Plain.{PlainWorkload}
-use Rattle.hs_sent.specs.Sending.{draws_at}
+use Rattle.hs_law_sends.specs.Sending.{draws_at}
 use Rattle.hs_words.specs.Pages.{Sheet, page_bytes}
 use Rattle.hs_report.specs.declared.outcome.Books.{Books}
 use Rattle.hs_report.specs.Claims.{claimed_by, all_claimed}

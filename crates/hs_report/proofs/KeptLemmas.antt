@@ -15,12 +15,12 @@ use Rattle.hs_base.specs.declared.ids.RecordId.{RecordId}
 use Rattle.hs_base.specs.Ids.{same_trace, is_among}
 use Rattle.hs_collect.specs.Collected.{Placed, is_same}
 use Rattle.hs_journal.specs.Views.{PlainJournal}
-use Rattle.hs_lawful.specs.Lawful.{IsLawful}
+use Rattle.hs_law_journal.specs.Lawful.{IsLawful}
 use Rattle.hs_ledger.specs.declared.ledger.Entry.{Entry}
 use Rattle.hs_ledger.specs.Totals.{is_reported}
-use Rattle.hs_outcome.specs.CollectedReports.{CollectedRecordsAreWhole, was_reported}
-use Rattle.hs_outcome.specs.Outcomes.{outcome_of}
-use Rattle.hs_outcome.specs.Reports.{is_of}
+use Rattle.hs_law_outcome.specs.CollectedReports.{CollectedRecordsAreWhole, was_reported}
+use Rattle.hs_law_outcome.specs.Outcomes.{outcome_of}
+use Rattle.hs_law_outcome.specs.Reports.{is_of}
 use Rattle.hs_records.specs.Plain.{PlainWorkload}
 use Rattle.hs_workload.specs.Validity.{IsValid}
 use Rattle.hs_report.specs.declared.fates.Sorted.{Sorted}

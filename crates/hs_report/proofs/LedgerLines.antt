@@ -6,7 +6,7 @@ use Rattle.hs_text.specs.Text.{line_of, hex_text}
 use Rattle.hs_text.specs.Writing.{spaced, trace_word, line_of-spaced, line_written, spaced_more, spaced_one}
 use Rattle.hs_ledger.specs.declared.ledger.Entry.{Entry}
 use Rattle.hs_ledger.specs.declared.ledger.Totals.{Totals}
-use Rattle.hs_outcome.specs.OutcomeText.{fate_words, entry_line, total_line}
+use Rattle.hs_law_outcome.specs.OutcomeText.{fate_words, entry_line, total_line}
 
 -- two words, each behind a space
 pub spaced_two : (out first both a b : List ℕ) → first ≡ out ++ 32 ∷ a → both ≡ first ++ 32 ∷ b → both ≡ out ++ spaced (a ∷ b ∷ [])

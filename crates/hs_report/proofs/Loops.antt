@@ -10,8 +10,8 @@ use Rattle.hs_collect.specs.Views.{placed_of}
 use Rattle.hs_collect.specs.declared.records.TraceRecord.{TraceRecord}
 use Rattle.hs_ledger.specs.declared.ledger.Entry.{Entry}
 use Rattle.hs_ledger.specs.Totals.{is_reported}
-use Rattle.hs_outcome.specs.CollectedReports.{reported_wholes, was_reported}
-use Rattle.hs_outcome.specs.OutcomeText.{placed_line, gap_line, report_lines}
+use Rattle.hs_law_outcome.specs.CollectedReports.{reported_wholes, was_reported}
+use Rattle.hs_law_outcome.specs.OutcomeText.{placed_line, gap_line, report_lines}
 use Rattle.hs_text.specs.Text.{text_of}
 use Rattle.hs_report.specs.Sources.{report_by}
 

@@ -7,8 +7,8 @@ use Rattle.hs_collect.specs.Collected.{Placed, AreCollected, AreWholes, is_of, p
 use Rattle.hs_collect.specs.Views.{Sheets, Collection}
 use Rattle.hs_ledger.specs.declared.ledger.Entry.{Entry}
 use Rattle.hs_ledger.specs.Totals.{is_reported}
-use Rattle.hs_outcome.specs.OutcomeText.{placed_line, gap_line, report_lines}
-use Rattle.hs_outcome.specs.Reports as reports
+use Rattle.hs_law_outcome.specs.OutcomeText.{placed_line, gap_line, report_lines}
+use Rattle.hs_law_outcome.specs.Reports as reports
 use Rattle.hs_text.specs.Text.{line_of, text_of}
 use Rattle.hs_text.specs.Writing.{trace_word, line_written, spaced_one}
 use Rattle.hs_report.specs.declared.fates.Fates.{Fates}

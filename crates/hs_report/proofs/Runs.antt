@@ -14,7 +14,7 @@ use Rattle.hs_base.specs.declared.ids.TraceId.{TraceId}
 use Rattle.hs_collect.specs.Collected.{first_seen, is_by}
 use Rattle.hs_collect.specs.Views.{Sheets}
 use Rattle.hs_words.specs.Pages.{Sheet, IsPage, page_bytes}
-use Rattle.hs_outcome.proofs.Origins.{same_client}
+use Rattle.hs_law_outcome.proofs.Origins.{same_client}
 use Rattle.hs_report.specs.declared.pages.Reported.{Reported}
 use Rattle.hs_report.specs.Pages.{Traces, Note, AreReported, Reordered, bytes_of, note_of, noted}
 use Rattle.hs_report.proofs.Rising.{PutsEarlierFirst, same_place, seen_as_before}

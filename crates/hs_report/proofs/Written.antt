@@ -6,14 +6,14 @@ use Rattle.hs_base.specs.declared.ids.TraceId.{TraceId}
 use Rattle.hs_collect.specs.Collected.{Placed, AreWholes, pieces_of}
 use Rattle.hs_journal.specs.Grammar.{journal_text}
 use Rattle.hs_journal.specs.Views.{PlainJournal, journal_of}
-use Rattle.hs_lawful.specs.Lawful.{IsLawful}
+use Rattle.hs_law_journal.specs.Lawful.{IsLawful}
 use Rattle.hs_ledger.specs.declared.ledger.Entry.{Entry}
-use Rattle.hs_outcome.specs.CollectedReports.{CollectedRecordsAreWhole, reported_wholes}
-use Rattle.hs_outcome.specs.declared.form.Form.{Form}
-use Rattle.hs_outcome.specs.declared.form.Form.TheVariants.{Text}
-use Rattle.hs_outcome.specs.Outcomes.{outcome_of}
-use Rattle.hs_outcome.specs.OutcomeText.{report_lines, reports_text, ledger_text, outcome_text}
-use Rattle.hs_outcome.specs.Reports.{Report, report_of, reports_in}
+use Rattle.hs_law_outcome.specs.CollectedReports.{CollectedRecordsAreWhole, reported_wholes}
+use Rattle.hs_law_outcome.specs.declared.form.Form.{Form}
+use Rattle.hs_law_outcome.specs.declared.form.Form.TheVariants.{Text}
+use Rattle.hs_law_outcome.specs.Outcomes.{outcome_of}
+use Rattle.hs_law_outcome.specs.OutcomeText.{report_lines, reports_text, ledger_text, outcome_text}
+use Rattle.hs_law_outcome.specs.Reports.{Report, report_of, reports_in}
 use Rattle.hs_records.specs.Plain.{PlainWorkload}
 use Rattle.hs_text.specs.Text.{text_of}
 use Rattle.hs_workload.specs.Validity.{IsValid}

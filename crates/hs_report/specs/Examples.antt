@@ -15,14 +15,14 @@ use Rattle.hs_collect.specs.Views.{Collection}
 use Rattle.hs_journal.specs.declared.journal.Draw.TheVariants.{Got}
 use Rattle.hs_journal.specs.Grammar.{journal_lines}
 use Rattle.hs_journal.specs.Views.{PlainJournal}
-use Rattle.hs_lawful.specs.Journals.{of_trigger_first, of_short_of_pins}
-use Rattle.hs_lawful.specs.Lawful.{first_unlawful}
-use Rattle.hs_lawful.specs.Samples.{journal, chunk, trigger, turn, given}
-use Rattle.hs_lawful.specs.Workloads.{trigger_first, short_of_pins}
-use Rattle.hs_outcome.specs.Outcomes.{outcome_of}
-use Rattle.hs_outcome.specs.Records.{all_records}
+use Rattle.hs_law_journal.specs.Journals.{of_trigger_first, of_short_of_pins}
+use Rattle.hs_law_journal.specs.Lawful.{first_unlawful}
+use Rattle.hs_law_journal.specs.Samples.{journal, chunk, trigger, turn, given}
+use Rattle.hs_law_journal.specs.Workloads.{trigger_first, short_of_pins}
+use Rattle.hs_law_outcome.specs.Outcomes.{outcome_of}
+use Rattle.hs_law_outcome.specs.Records.{all_records}
 use Rattle.hs_records.specs.Plain.{PlainWorkload}
-use Rattle.hs_sent.specs.Samples.{settings, on_nodes, workload, fire, segment}
+use Rattle.hs_law_sends.specs.Samples.{settings, on_nodes, workload, fire, segment}
 use Rattle.hs_words.specs.Pages.{Sheet}
 use Rattle.hs_report.specs.declared.outcome.Outcome.{Outcome}
 use Rattle.hs_report.specs.Outcomes.{IsOutcome}

@@ -9,8 +9,8 @@ use Rattle.hs_base.specs.declared.told.Fate.{Fate}
 use Rattle.hs_base.specs.declared.told.Fate.TheVariants.{Null, Live, Evicted}
 use Rattle.hs_collect.specs.Collected.{is_same}
 use Rattle.hs_ledger.specs.declared.ledger.Entry.{Entry}
-use Rattle.hs_outcome.specs.CollectedReports.{was_reported}
-use Rattle.hs_outcome.specs.Reports.{is_of}
+use Rattle.hs_law_outcome.specs.CollectedReports.{was_reported}
+use Rattle.hs_law_outcome.specs.Reports.{is_of}
 use Rattle.hs_report.specs.declared.fates.Fates.{Fates}
 
 -- the entries of each trace are those of this ledger, in their order, and stand together

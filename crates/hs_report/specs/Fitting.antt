@@ -4,9 +4,9 @@ use Rattle.std.specs.Prelude.{◌<◌, ◌^◌, length}
 use Rattle.std.specs.List.{AllByRecursion}
 use Rattle.hs_journal.specs.Grammar.{Reads, journal_text}
 use Rattle.hs_journal.specs.Views.{PlainJournal}
-use Rattle.hs_lawful.specs.Lawful.{IsLawful}
-use Rattle.hs_outcome.specs.Outcomes.{outcome_of}
-use Rattle.hs_outcome.specs.Records.{all_records}
+use Rattle.hs_law_journal.specs.Lawful.{IsLawful}
+use Rattle.hs_law_outcome.specs.Outcomes.{outcome_of}
+use Rattle.hs_law_outcome.specs.Records.{all_records}
 use Rattle.hs_records.specs.Plain.{PlainWorkload}
 use Rattle.hs_words.specs.Pages.{IsPage}
 use Rattle.hs_workload.specs.Validity.{IsValid}

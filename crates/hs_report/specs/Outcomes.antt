@@ -4,10 +4,10 @@ use Rattle.std.specs.Prelude.{◌≡◌, map}
 use Rattle.hs_collect.specs.Collected.{AreCollected}
 use Rattle.hs_journal.specs.Books.{client_book_of, agent_book_of}
 use Rattle.hs_journal.specs.Views.{PlainJournal, journal_of}
-use Rattle.hs_lawful.specs.Following.{followed}
-use Rattle.hs_lawful.specs.Lawful.{IsLawful}
+use Rattle.hs_law_journal.specs.Following.{followed}
+use Rattle.hs_law_journal.specs.Lawful.{IsLawful}
 use Rattle.hs_ledger.specs.Totals.{totals_of}
-use Rattle.hs_outcome.specs.Outcomes.{client_books, agent_books, outcome_of}
+use Rattle.hs_law_outcome.specs.Outcomes.{client_books, agent_books, outcome_of}
 use Rattle.hs_records.specs.Plain.{PlainWorkload}
 use Rattle.hs_workload.specs.Validity.{IsValid}
 use Rattle.hs_report.specs.declared.outcome.Books.{Books}

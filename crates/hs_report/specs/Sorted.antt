@@ -5,8 +5,8 @@ use Rattle.hs_base.specs.declared.ids.TraceId.{TraceId}
 use Rattle.hs_collect.specs.Collected.{Placed}
 use Rattle.hs_journal.specs.Views.{PlainJournal}
 use Rattle.hs_ledger.specs.declared.ledger.Entry.{Entry}
-use Rattle.hs_outcome.specs.Outcomes.{outcome_of}
-use Rattle.hs_outcome.specs.Reports.{report_of, reports_in}
+use Rattle.hs_law_outcome.specs.Outcomes.{outcome_of}
+use Rattle.hs_law_outcome.specs.Reports.{report_of, reports_in}
 use Rattle.hs_records.specs.Plain.{PlainWorkload}
 use Rattle.hs_text.specs.Text.{line_of}
 use Rattle.hs_report.specs.declared.fates.Sorted.{Sorted}

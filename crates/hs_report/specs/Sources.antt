@@ -6,8 +6,8 @@ use Rattle.hs_collect.specs.Collected.{Placed, AreCollected, AreWholes, pieces_o
 use Rattle.hs_collect.specs.Views.{Sheets, Collection}
 use Rattle.hs_ledger.specs.declared.ledger.Entry.{Entry}
 use Rattle.hs_ledger.specs.Totals.{is_reported}
-use Rattle.hs_outcome.specs.CollectedReports.{reported_wholes}
-use Rattle.hs_outcome.specs.Reports.{Report, is_of}
+use Rattle.hs_law_outcome.specs.CollectedReports.{reported_wholes}
+use Rattle.hs_law_outcome.specs.Reports.{Report, is_of}
 use Rattle.hs_report.specs.declared.fates.Fates.{Fates}
 use Rattle.hs_report.specs.Fates.{AreFatesOf, two_traces}
 

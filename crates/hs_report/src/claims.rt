@@ -1,7 +1,7 @@
 //! The claimed traces.
 
 ghost use Rattle.std.specs.Prelude.{◌≡◌, ◌++◌, map, IfOk, OnOk};
-ghost use Rattle.hs_outcome.specs.Outcomes.{rising_traces};
+ghost use Rattle.hs_law_outcome.specs.Outcomes.{rising_traces};
 ghost use Rattle.hs_report.specs.Claims.{all_claimed};
 
 use hs_base::{List, Memory, TraceId};

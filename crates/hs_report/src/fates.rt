@@ -6,8 +6,8 @@ ghost use Rattle.hs_base.specs.declared.ids.RecordId.{RecordId};
 ghost use Rattle.hs_collect.specs.Collected.{is_same};
 ghost use Rattle.hs_ledger.specs.declared.ledger.Entry.{Entry};
 ghost use Rattle.hs_ledger.specs.Totals.{is_reported as reported_by};
-ghost use Rattle.hs_outcome.specs.CollectedReports.{was_reported};
-ghost use Rattle.hs_outcome.specs.Reports.{is_of};
+ghost use Rattle.hs_law_outcome.specs.CollectedReports.{was_reported};
+ghost use Rattle.hs_law_outcome.specs.Reports.{is_of};
 ghost use Rattle.hs_report.specs.Fates.{AreByTrace, AreFatesOf, has_entry};
 
 use hs_base::{Fate, Memory, RecordId, TraceId};

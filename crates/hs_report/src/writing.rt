@@ -3,10 +3,10 @@
 ghost use Rattle.std.specs.Prelude.{◌≡◌, [], ◌∷◌, ◌++◌, List, filter, IfOk, OnOk};
 ghost use Rattle.hs_journal.specs.Grammar.{journal_text};
 ghost use Rattle.hs_journal.specs.Views.{PlainJournal, journal_of};
-ghost use Rattle.hs_lawful.specs.Lawful.{IsLawful};
+ghost use Rattle.hs_law_journal.specs.Lawful.{IsLawful};
 ghost use Rattle.hs_ledger.specs.declared.ledger.Entry.{Entry};
-ghost use Rattle.hs_outcome.specs.OutcomeText.{ledger_text, outcome_text, total_line};
-ghost use Rattle.hs_outcome.specs.declared.form.Form.TheVariants.{Text};
+ghost use Rattle.hs_law_outcome.specs.OutcomeText.{ledger_text, outcome_text, total_line};
+ghost use Rattle.hs_law_outcome.specs.declared.form.Form.TheVariants.{Text};
 ghost use Rattle.hs_records.specs.Plain.{PlainWorkload};
 ghost use Rattle.hs_report.specs.Fates.{AreFatesOf, has_entry};
 ghost use Rattle.hs_report.specs.Outcomes.{IsOutcome};
@@ -22,7 +22,7 @@ use crate::outcome::Outcome;
 use crate::text::push_reports;
 use hs_base::{Bytes, Memory, TraceId};
 use hs_journal::write_journal;
-use hs_outcome::laws::collected_records_are_whole;
+use hs_law_outcome::laws::collected_records_are_whole;
 use hs_text::{end_line, push_spaced_number};
 use std::alloc::Global;
 

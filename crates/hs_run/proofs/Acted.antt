@@ -10,15 +10,15 @@ use Rattle.hs_link.specs.Contents.{Incoming, Outgoing}
 use Rattle.hs_live.specs.Keys.{Key}
 use Rattle.hs_live.specs.Live.{IsMate}
 use Rattle.hs_records.specs.Plain.{Operation, PlainSettings, PlainWorkload, settings_of}
-use Rattle.hs_sent.specs.Sending.{operations_at, place_of}
+use Rattle.hs_law_sends.specs.Sending.{operations_at, place_of}
 use Rattle.hs_workload.specs.declared.operation.Op.{Op}
 use Rattle.hs_workload.specs.Views.{operations_of}
-use Rattle.hs_caller.specs.Calling.{Calling}
-use Rattle.hs_caller.specs.Standing.{IsAt, Goes, IsFlushed}
-use Rattle.hs_desk.specs.Manned.{EachReceives}
-use Rattle.hs_desk.specs.Work.{Work, IsFew, with_events}
-use Rattle.hs_rounds.specs.Standing.{Site, SiteStands}
-use Rattle.hs_rounds.specs.Acting.{SiteActs}
+use Rattle.hs_run_client.specs.Calling.{Calling}
+use Rattle.hs_run_client.specs.Standing.{IsAt, Goes, IsFlushed}
+use Rattle.hs_run_agent.specs.Manned.{EachReceives}
+use Rattle.hs_run_agent.specs.Work.{Work, IsFew, with_events}
+use Rattle.hs_run_story.specs.Standing.{Site, SiteStands}
+use Rattle.hs_run_story.specs.Acting.{SiteActs}
 use Rattle.hs_run.specs.Going.{AllMayGo, AllHaveGone}
 use Rattle.hs_run.specs.Sites.{AreClients, HasPassed, HasActed}
 

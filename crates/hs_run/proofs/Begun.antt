@@ -12,16 +12,16 @@ use Rattle.hs_records.specs.Plain.{PlainWorkload}
 use Rattle.hs_ring.specs.Parts.{Drawing, Giving}
 use Rattle.hs_words.specs.Pools.{PoolName}
 use Rattle.hs_workload.specs.Validity.{IsValid}
-use Rattle.hs_caller.specs.Calling.{Calling}
-use Rattle.hs_caller.specs.Nodes as begun
-use Rattle.hs_caller.specs.Nodes.{NodeBegins, CallerBegins, receiving_of}
-use Rattle.hs_caller.specs.Standing as standing
-use Rattle.hs_desk.specs.Coordinators.{Coordinating, IsCoordinating}
-use Rattle.hs_desk.specs.Lines.{Line, linked, key_of, key_for, AreLinesFor}
-use Rattle.hs_desk.specs.Manned.{Manned, IsManned, BeginsAt}
-use Rattle.hs_desk.specs.Work.{Work, no_work}
-use Rattle.hs_rounds.specs.Standing.{Site, Moment, SiteStands, Stands}
-use Rattle.hs_retell.specs.Laws.{LinkBegins, LinksBegin, PoolOf}
+use Rattle.hs_run_client.specs.Calling.{Calling}
+use Rattle.hs_run_client.specs.Nodes as begun
+use Rattle.hs_run_client.specs.Nodes.{NodeBegins, CallerBegins, receiving_of}
+use Rattle.hs_run_client.specs.Standing as standing
+use Rattle.hs_run_agent.specs.Coordinators.{Coordinating, IsCoordinating}
+use Rattle.hs_run_agent.specs.Lines.{Line, linked, key_of, key_for, AreLinesFor}
+use Rattle.hs_run_agent.specs.Manned.{Manned, IsManned, BeginsAt}
+use Rattle.hs_run_agent.specs.Work.{Work, no_work}
+use Rattle.hs_run_story.specs.Standing.{Site, Moment, SiteStands, Stands}
+use Rattle.hs_run_story.specs.Laws.{LinkBegins, LinksBegin, PoolOf}
 use Rattle.hs_run.specs.declared.node.Node.{Node}
 use Rattle.hs_run.specs.Making.{SiteBegins, AreMade, nothing_moved, nothing_asked}
 use Rattle.hs_run.specs.Moments.{CanBegin}

@@ -1,18 +1,18 @@
 -- No agent takes more triggers than its clients sent, so no more than the workload has, behind a meeting too.
 use Rattle.std.proofs.Common.{ℕ, ◌+◌, ◌<◌, ◌≤◌, List, ◌++◌, length, ap, arith, length-append}
 use Rattle.hs_lists.proofs.Places.{get_there}
-use Rattle.hs_actors.specs.Doings.{triggers_in}
+use Rattle.hs_law_journal.specs.Doings.{triggers_in}
 use Rattle.hs_base.specs.declared.ids.ClientId.{ClientId}
 use Rattle.hs_base.specs.Ids.{client_of}
-use Rattle.hs_caller.specs.Calling.{Calling}
-use Rattle.hs_caller.specs.Standing.{IsAt, HasSentSoFar}
+use Rattle.hs_run_client.specs.Calling.{Calling}
+use Rattle.hs_run_client.specs.Standing.{IsAt, HasSentSoFar}
 use Rattle.hs_records.specs.Plain.{Operation, PlainSettings, PlainWorkload}
-use Rattle.hs_sent.specs.Sending.{operations_at, place_of}
+use Rattle.hs_law_sends.specs.Sending.{operations_at, place_of}
 use Rattle.hs_workload.specs.Validity.{IsValid, client_pieces}
-use Rattle.hs_desk.specs.Work.{Work, IsFew}
-use Rattle.hs_desk.proofs.Few.{few_of_sent}
-use Rattle.hs_rounds.specs.Standing.{Site, SiteStands}
-use Rattle.hs_rounds.specs.Meeting.{SiteMeets}
+use Rattle.hs_run_agent.specs.Work.{Work, IsFew}
+use Rattle.hs_run_agent.proofs.Few.{few_of_sent}
+use Rattle.hs_run_story.specs.Standing.{Site, SiteStands}
+use Rattle.hs_run_story.specs.Meeting.{SiteMeets}
 
 module _ (W : PlainWorkload) (valid : IsValid W) (n : ℕ) (low : n < W.settings.nodes) (work : Work) (old new : Site) (stands : SiteStands W n work old) (meets : SiteMeets W n work old new)
     (sent_so : (settings : PlainSettings) (client : ClientId) (ops : List Operation) (caller : Calling) → IsAt settings client ops caller → HasSentSoFar settings client ops caller) where

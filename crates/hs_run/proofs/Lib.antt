@@ -16,3 +16,20 @@ pub mod TallyCounting
 pub mod TallyRounds
 pub mod WatchedRounds
 pub mod WatchedEnd
+pub mod Passed
+pub mod Asking
+pub mod Closed
+pub mod Starting
+pub mod Ending
+pub mod ClientBooks
+mod Shut
+pub mod Taken
+pub mod Gathering
+pub mod Gathered
+pub mod FewShut
+pub mod ToldBehind
+pub mod Sums
+pub mod Counted
+pub mod Seeing
+pub mod AllRounds
+pub mod Noted

@@ -14,15 +14,15 @@ use Rattle.hs_live.specs.Keys.{Key}
 use Rattle.hs_live.specs.Live.{hears, is_told, IsMate, MeetAt}
 use Rattle.hs_records.specs.Plain.{PlainWorkload}
 use Rattle.hs_ring.specs.Parts.{Giving, AllBelow}
-use Rattle.hs_sent.specs.Sending.{operations_at, place_of}
+use Rattle.hs_law_sends.specs.Sending.{operations_at, place_of}
 use Rattle.hs_words.specs.Ends.{Answer, Turn, answers_in}
-use Rattle.hs_caller.specs.Calling.{Calling}
-use Rattle.hs_caller.specs.Standing.{IsAt}
-use Rattle.hs_desk.specs.Manned.{Manned}
-use Rattle.hs_desk.specs.Work.{Work}
-use Rattle.hs_rounds.specs.Standing.{Site, SiteStands}
-use Rattle.hs_rounds.specs.Meeting.{EndsMet, CallerMet, GiverMet, SiteMeets, told_of}
-use Rattle.hs_retell.proofs.Meetings.{answers_behind}
+use Rattle.hs_run_client.specs.Calling.{Calling}
+use Rattle.hs_run_client.specs.Standing.{IsAt}
+use Rattle.hs_run_agent.specs.Manned.{Manned}
+use Rattle.hs_run_agent.specs.Work.{Work}
+use Rattle.hs_run_story.specs.Standing.{Site, SiteStands}
+use Rattle.hs_run_story.specs.Meeting.{EndsMet, CallerMet, GiverMet, SiteMeets, told_of}
+use Rattle.hs_run_story.proofs.Meetings.{answers_behind}
 use Rattle.hs_run.specs.Sites.{MeetsOne, HaveMet}
 
 -- ---- one link

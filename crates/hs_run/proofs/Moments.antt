@@ -11,12 +11,12 @@ use Rattle.hs_coord.specs.Messages.{Messages}
 use Rattle.hs_records.specs.Plain.{PlainWorkload}
 use Rattle.hs_workload.specs.Views.{workload_of}
 use Rattle.hs_workload.specs.declared.operation.Workload.{Workload}
-use Rattle.hs_desk.specs.Coordinators.{Coordinating, IsCoordinating, Hears}
-use Rattle.hs_desk.specs.Work.{Work}
-use Rattle.hs_rounds.specs.Standing.{Site, Moment, SiteStands, Stands, moved_by, asked_by}
-use Rattle.hs_rounds.specs.Acting.{SiteActs}
-use Rattle.hs_rounds.specs.Meeting.{SiteMeets}
-use Rattle.hs_closing.proofs.Telling.{coordinates_same}
+use Rattle.hs_run_agent.specs.Coordinators.{Coordinating, IsCoordinating, Hears}
+use Rattle.hs_run_agent.specs.Work.{Work}
+use Rattle.hs_run_story.specs.Standing.{Site, Moment, SiteStands, Stands, moved_by, asked_by}
+use Rattle.hs_run_story.specs.Acting.{SiteActs}
+use Rattle.hs_run_story.specs.Meeting.{SiteMeets}
+use Rattle.hs_run.proofs.ToldBehind.{coordinates_same}
 use Rattle.hs_run.specs.declared.node.Node.{Node}
 use Rattle.hs_run.specs.Changing.{EachChanged}
 use Rattle.hs_run.specs.Moments.{IsHere, AreFew, ActedTo, MetTo}

@@ -8,11 +8,11 @@ use Rattle.hs_lists.proofs.Places.{get_set_cases, get_there}
 use Rattle.hs_base.proofs.Updates.{put, put_here, put_else}
 use Rattle.hs_coord.specs.declared.asks.Asks.{Asks}
 use Rattle.hs_records.specs.Plain.{PlainWorkload}
-use Rattle.hs_desk.specs.Coordinators.{Coordinating, IsCoordinating, asked_all}
-use Rattle.hs_desk.specs.Manned.{Manned}
-use Rattle.hs_desk.specs.Work.{Work}
-use Rattle.hs_rounds.specs.Standing.{Site, Moment, SiteStands, Stands, moved_by, asked_by}
-use Rattle.hs_rounds.specs.Moving.{IsSameDoing, SiteMoves}
+use Rattle.hs_run_agent.specs.Coordinators.{Coordinating, IsCoordinating, asked_all}
+use Rattle.hs_run_agent.specs.Manned.{Manned}
+use Rattle.hs_run_agent.specs.Work.{Work}
+use Rattle.hs_run_story.specs.Standing.{Site, Moment, SiteStands, Stands, moved_by, asked_by}
+use Rattle.hs_run_story.specs.Moving.{IsSameDoing, SiteMoves}
 use Rattle.hs_run.specs.declared.node.Node.{Node}
 use Rattle.hs_run.specs.Changing.{EachChanged}
 use Rattle.hs_run.specs.Moments.{IsHere, MovedTo}

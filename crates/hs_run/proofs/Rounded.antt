@@ -6,28 +6,28 @@ use Rattle.hs_lists.proofs.Places.{get_there}
 use Rattle.hs_base.specs.declared.ids.ClientId.{ClientId}
 use Rattle.hs_base.specs.declared.limits.TheConstants.{MAX_OPERATIONS}
 use Rattle.hs_records.specs.Plain.{Operation, PlainSettings, PlainWorkload}
-use Rattle.hs_sent.specs.Sending.{operations_at, place_of}
+use Rattle.hs_law_sends.specs.Sending.{operations_at, place_of}
 use Rattle.hs_workload.specs.Validity.{IsValid}
 use Rattle.hs_workload.specs.declared.word.Setting.TheVariants as settings
 use Rattle.hs_workload.proofs.Sizes.{operations_few}
-use Rattle.hs_caller.specs.Calling.{Calling}
-use Rattle.hs_caller.specs.Standing.{IsAt, HasSentSoFar}
-use Rattle.hs_closing.specs.Over.{AllDone}
-use Rattle.hs_desk.specs.Coordinators.{Coordinating}
-use Rattle.hs_desk.specs.Work.{Work, IsFew, triggered}
-use Rattle.hs_rounds.specs.Standing.{Site, Moment, Stands}
-use Rattle.hs_rounds.specs.Acting.{Acts}
-use Rattle.hs_rounds.specs.Meeting.{AllMeet}
-use Rattle.hs_rounds.specs.Moving.{Moves}
-use Rattle.hs_rounds.specs.Coming.{Came, NoRoundsCome, RoundsGoOn}
-use Rattle.hs_retell.specs.Laws.{AllBegin}
+use Rattle.hs_run_client.specs.Calling.{Calling}
+use Rattle.hs_run_client.specs.Standing.{IsAt, HasSentSoFar}
+use Rattle.hs_run.specs.Over.{AllDone}
+use Rattle.hs_run_agent.specs.Coordinators.{Coordinating}
+use Rattle.hs_run_agent.specs.Work.{Work, IsFew, triggered}
+use Rattle.hs_run_story.specs.Standing.{Site, Moment, Stands}
+use Rattle.hs_run_story.specs.Acting.{Acts}
+use Rattle.hs_run_story.specs.Meeting.{AllMeet}
+use Rattle.hs_run_story.specs.Moving.{Moves}
+use Rattle.hs_run_story.specs.Coming.{Came, NoRoundsCome, RoundsGoOn}
+use Rattle.hs_run_story.specs.Laws.{AllBegin}
 use Rattle.hs_run.specs.declared.node.Node.{Node}
 use Rattle.hs_run.specs.Moments.{IsHere, AreFew, ActedTo, MetTo, MovedTo, CanBegin, DoneIn, RoundsMade, RoundsOver}
 use Rattle.hs_run.specs.Movings.{AllStand}
 use Rattle.hs_run.specs.Nodes.{AreWhole, TellsLeft}
 use Rattle.hs_run.proofs.Few.{few_met}
 use Rattle.hs_run.proofs.Moments.{node_stands, node_low, node_there, site_there}
-use Rattle.hs_desk.proofs.Few.{few_clients}
+use Rattle.hs_run_agent.proofs.Few.{few_clients}
 use Rattle.hs_report.proofs.Fitting.{pieces_at_place}
 
 -- what callers have sent

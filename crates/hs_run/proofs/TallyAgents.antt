@@ -6,17 +6,17 @@ use Rattle.std.proofs.lemmas.List.Sums.{sum_by-cons}
 use Rattle.std.specs.List.{AllByRecursion, flat_map}
 use Rattle.std.specs.Prelude.{IsSome}
 use Rattle.hs_lists.proofs.Counts.{one_if, one_few}
-use Rattle.hs_actors.specs.Doings.{steps_of}
-use Rattle.hs_actors.specs.Facts.{HandsReady}
+use Rattle.hs_law_journal.specs.Doings.{steps_of}
+use Rattle.hs_law_journal.specs.LoopPasses.{HandsReady}
 use Rattle.hs_journal.specs.declared.journal.Step.{Step}
-use Rattle.hs_model.proofs.Counts.{passes_past}
-use Rattle.hs_model.specs.Laws.{EventsAddThis, ListsHaveTheirChunks, ListsEach, brought_by, count_of, given_places, noted_as}
-use Rattle.hs_model.specs.Standings.{Taken, is_let_go, stands}
-use Rattle.hs_model.specs.State.{AgentState, GivenPlace, start}
-use Rattle.hs_model.specs.Stepping.{Input, Chunk, Crumbed, Triggered, Asked, Turn, Given, Missed, Unread, Event, Took, Gave, after, after_event, after_from, give_back, step_of}
-use Rattle.hs_progress.specs.Progress.{is_chunk, is_given}
+use Rattle.hs_law_agent.proofs.Counts.{passes_past}
+use Rattle.hs_law_agent.specs.Laws.{EventsAddThis, ListsHaveTheirChunks, ListsEach, brought_by, count_of, given_places, noted_as}
+use Rattle.hs_law_agent.specs.Standings.{Taken, is_let_go, stands}
+use Rattle.hs_law_agent.specs.State.{AgentState, GivenPlace, start}
+use Rattle.hs_law_agent.specs.Stepping.{Input, Chunk, Crumbed, Triggered, Asked, Turn, Given, Missed, Unread, Event, Took, Gave, after, after_event, after_from, give_back, step_of}
+use Rattle.hs_run.specs.Progress.{is_chunk, is_given}
 use Rattle.hs_records.specs.Plain.{PlainSettings}
-use Rattle.hs_retell.proofs.Chunks.{sheets_taken}
+use Rattle.hs_run_story.proofs.Chunks.{sheets_taken}
 use Rattle.hs_run.proofs.TallyLists.{few_for_each}
 
 -- ---- steps

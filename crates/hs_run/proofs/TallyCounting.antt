@@ -6,11 +6,11 @@ use Rattle.std.specs.Option.{option_map}
 use Rattle.hs_lists.proofs.Numbers.{same_or_less}
 use Rattle.hs_lists.proofs.Places.{get_set, get_other}
 use Rattle.hs_base.specs.Listing.{Listing}
-use Rattle.hs_caller.specs.Calling.{Calling}
-use Rattle.hs_counts.specs.declared.client.ClientCount.{ClientCount}
-use Rattle.hs_counts.specs.Counts.{client_count}
+use Rattle.hs_run_client.specs.Calling.{Calling}
+use Rattle.hs_run.specs.declared.client.ClientCount.{ClientCount}
+use Rattle.hs_run.specs.Counts.{client_count}
 use Rattle.hs_records.specs.Plain.{Operation, PlainWorkload}
-use Rattle.hs_sent.specs.Sending.{operations_at, place_of}
+use Rattle.hs_law_sends.specs.Sending.{operations_at, place_of}
 use Rattle.hs_workload.specs.declared.operation.Op.{Op}
 use Rattle.hs_workload.specs.declared.operation.Workload.{Workload}
 use Rattle.hs_workload.specs.Views.{operation_of, operations_of, workload_of}

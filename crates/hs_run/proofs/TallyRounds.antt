@@ -7,31 +7,31 @@ use Rattle.std.proofs.lemmas.Option.{same_Some, slice_get_within as within}
 use Rattle.std.specs.List.{flat_map}
 use Rattle.hs_lists.proofs.Alls.{all_each}
 use Rattle.hs_lists.proofs.Places.{get_there}
-use Rattle.hs_actors.specs.Doings.{steps_of}
-use Rattle.hs_actors.proofs.Nodes.{own_log}
+use Rattle.hs_law_journal.specs.Doings.{steps_of}
+use Rattle.hs_law_run.proofs.Nodes.{own_log}
 use Rattle.hs_base.specs.declared.ids.ClientId.{ClientId}
 use Rattle.hs_base.specs.declared.limits.TheConstants.{MAX_OPERATIONS, MAX_NODES, MAX_CLIENTS}
 use Rattle.hs_base.specs.Ids.{client_of}
-use Rattle.hs_caller.specs.Calling.{Calling}
-use Rattle.hs_counts.specs.declared.client.ClientCount.{ClientCount}
-use Rattle.hs_counts.specs.declared.log.LogCount.{LogCount}
-use Rattle.hs_counts.specs.Counts.{AreCounts, client_count, log_count}
-use Rattle.hs_desk.proofs.Few.{few_clients}
-use Rattle.hs_desk.specs.Agents.{IsPageThere}
-use Rattle.hs_desk.specs.Coordinators.{Coordinating}
-use Rattle.hs_desk.specs.Manned.{Manned, IsManned}
-use Rattle.hs_desk.specs.Work.{Work, came_of, is_of}
-use Rattle.hs_desk.proofs.Taking.{sheet_is}
+use Rattle.hs_run_client.specs.Calling.{Calling}
+use Rattle.hs_run.specs.declared.client.ClientCount.{ClientCount}
+use Rattle.hs_run.specs.declared.log.LogCount.{LogCount}
+use Rattle.hs_run.specs.Counts.{AreCounts, client_count, log_count}
+use Rattle.hs_run_agent.proofs.Few.{few_clients}
+use Rattle.hs_run_agent.specs.Agents.{IsPageThere}
+use Rattle.hs_run_agent.specs.Coordinators.{Coordinating}
+use Rattle.hs_run_agent.specs.Manned.{Manned, IsManned}
+use Rattle.hs_run_agent.specs.Work.{Work, came_of, is_of}
+use Rattle.hs_run_agent.proofs.Taking.{sheet_is}
 use Rattle.hs_journal.specs.declared.journal.Step.{Step}
-use Rattle.hs_model.specs.Laws.{EventsAddThis, ListsHaveTheirChunks, brought_by, noted_as}
-use Rattle.hs_progress.specs.Progress.{is_point, is_chunk, is_given}
+use Rattle.hs_law_agent.specs.Laws.{EventsAddThis, ListsHaveTheirChunks, brought_by, noted_as}
+use Rattle.hs_run.specs.Progress.{is_point, is_chunk, is_given}
 use Rattle.hs_records.specs.Plain.{PlainWorkload}
-use Rattle.hs_retell.proofs.Meetings.{caller_at, done_at, here_at}
-use Rattle.hs_retell.proofs.Moments.{doing_same, round_steps, site_acts, site_meets, site_of, site_there, stands_at}
+use Rattle.hs_run_story.proofs.Meetings.{caller_at, done_at, here_at}
+use Rattle.hs_run_story.proofs.Moments.{doing_same, round_steps, site_acts, site_meets, site_of, site_there, stands_at}
 use Rattle.hs_ring.specs.Parts.{Leased}
-use Rattle.hs_rounds.specs.Meeting.{SiteMeets}
-use Rattle.hs_rounds.specs.Standing.{Site, Moment, SiteStands, Stands, IsBegun}
-use Rattle.hs_sent.specs.Sending.{operations_at, place_of}
+use Rattle.hs_run_story.specs.Meeting.{SiteMeets}
+use Rattle.hs_run_story.specs.Standing.{Site, Moment, SiteStands, Stands, IsBegun}
+use Rattle.hs_law_sends.specs.Sending.{operations_at, place_of}
 use Rattle.hs_words.specs.Buffers.{Buffer}
 use Rattle.hs_words.specs.Pages.{Sheet}
 use Rattle.hs_workload.specs.Validity.{IsValid}

@@ -7,12 +7,12 @@ use Rattle.hs_base.proofs.Updates.{put, put_here, put_else}
 use Rattle.hs_coord.specs.Messages.{Messages}
 use Rattle.hs_live.specs.Calls.{AreMates}
 use Rattle.hs_records.specs.Plain.{PlainWorkload}
-use Rattle.hs_caller.specs.Calling.{Calling}
-use Rattle.hs_desk.specs.Coordinators.{Coordinating, IsCoordinating}
-use Rattle.hs_desk.specs.Manned.{Manned, IsManned}
-use Rattle.hs_desk.specs.Work.{Work, with_moved}
-use Rattle.hs_rounds.specs.Standing.{Site, SiteStands, moved_by, asked_by}
-use Rattle.hs_closing.proofs.Telling.{coordinates_same}
+use Rattle.hs_run_client.specs.Calling.{Calling}
+use Rattle.hs_run_agent.specs.Coordinators.{Coordinating, IsCoordinating}
+use Rattle.hs_run_agent.specs.Manned.{Manned, IsManned}
+use Rattle.hs_run_agent.specs.Work.{Work, with_moved}
+use Rattle.hs_run_story.specs.Standing.{Site, SiteStands, moved_by, asked_by}
+use Rattle.hs_run.proofs.ToldBehind.{coordinates_same}
 use Rattle.hs_run.specs.Movings.{Tells, HasTold}
 
 pub on_ok_two : {T E : Type 0} (r : Result T E) (P Q R : Type 0) → OnOk r P → OnOk r Q → (P → Q → R) → OnOk r R

@@ -5,15 +5,15 @@ use Rattle.std.specs.List.{AllByRecursion}
 use Rattle.hs_lists.proofs.Alls.{all_each}
 use Rattle.hs_base.specs.Listing.{Listing}
 use Rattle.hs_board.specs.declared.progress.Progress.{Progress}
-use Rattle.hs_closing.specs.declared.place.Place.{Place}
-use Rattle.hs_closing.specs.Ended.{items_of}
-use Rattle.hs_closing.specs.Over.{RoundsOver as PlacesOver, place_site}
-use Rattle.hs_counts.specs.Seen.{IsSeen, AreSeen, ShownIsSeen}
-use Rattle.hs_desk.specs.Coordinators.{Coordinating}
+use Rattle.hs_run.specs.declared.place.Place.{Place}
+use Rattle.hs_run.specs.Ended.{items_of}
+use Rattle.hs_run.specs.Over.{RoundsOver as PlacesOver, place_site}
+use Rattle.hs_run.specs.Seen.{IsSeen, AreSeen, ShownIsSeen}
+use Rattle.hs_run_agent.specs.Coordinators.{Coordinating}
 use Rattle.hs_journal.specs.Views.{PlainJournal}
 use Rattle.hs_records.specs.Plain.{PlainWorkload}
-use Rattle.hs_retell.specs.Noting.{NotesRounds}
-use Rattle.hs_watch.specs.Watching.{Showing, IsSeenOf}
+use Rattle.hs_run_story.specs.Noting.{NotesRounds}
+use Rattle.hs_board.specs.Watching.{Showing, IsSeenOf}
 use Rattle.hs_workload.specs.Validity.{IsValid}
 use Rattle.hs_run.specs.declared.node.Node.{Node}
 use Rattle.hs_run.specs.Moments.{RoundsOver}

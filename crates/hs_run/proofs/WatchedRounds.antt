@@ -8,17 +8,17 @@ use Rattle.hs_lists.proofs.Alls.{all_each, all_append}
 use Rattle.hs_lists.proofs.Places.{get_there}
 use Rattle.hs_board.specs.declared.progress.Progress.{Progress}
 use Rattle.hs_board.specs.Shown.{first, IsLast}
-use Rattle.hs_counts.specs.Counts.{Counts, AreCounts, progress_of}
-use Rattle.hs_counts.specs.Laws.{TheseAreAllRounds}
-use Rattle.hs_counts.specs.Seen.{IsTotal, IsTotalBehind}
-use Rattle.hs_counts.proofs.Seeing.{end_of}
-use Rattle.hs_desk.specs.Coordinators.{Coordinating}
+use Rattle.hs_run.specs.Counts.{Counts, AreCounts, progress_of}
+use Rattle.hs_run.specs.CountLaws.{TheseAreAllRounds}
+use Rattle.hs_run.specs.Seen.{IsTotal, IsTotalBehind}
+use Rattle.hs_run.proofs.Seeing.{end_of}
+use Rattle.hs_run_agent.specs.Coordinators.{Coordinating}
 use Rattle.hs_records.specs.Plain.{Operation, PlainWorkload}
-use Rattle.hs_retell.specs.Laws.{AllBegin}
-use Rattle.hs_rounds.specs.Standing.{Site, Moment, IsBegun}
-use Rattle.hs_rounds.specs.Coming.{Came, NoRoundsCome, RoundsKeepWhatCame}
-use Rattle.hs_sent.specs.Sending.{operations_at, place_of}
-use Rattle.hs_watch.specs.Watching.{Totals, Showing, Stands}
+use Rattle.hs_run_story.specs.Laws.{AllBegin}
+use Rattle.hs_run_story.specs.Standing.{Site, Moment, IsBegun}
+use Rattle.hs_run_story.specs.Coming.{Came, NoRoundsCome, RoundsKeepWhatCame}
+use Rattle.hs_law_sends.specs.Sending.{operations_at, place_of}
+use Rattle.hs_board.specs.Watching.{Totals, Showing, Stands}
 use Rattle.hs_workload.specs.declared.word.Setting.TheVariants as settings
 use Rattle.hs_run.specs.declared.node.Node.{Node}
 use Rattle.hs_run.specs.Moments.{ActedTo, MetTo, MovedTo, CanBegin, DoneIn, RoundsMade}

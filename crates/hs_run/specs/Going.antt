@@ -5,8 +5,8 @@ use Rattle.hs_base.specs.declared.ids.ClientId.{ClientId}
 use Rattle.hs_records.specs.Plain.{PlainSettings}
 use Rattle.hs_workload.specs.declared.operation.Op.{Op}
 use Rattle.hs_workload.specs.Views.{operations_of}
-use Rattle.hs_caller.specs.Calling.{Calling}
-use Rattle.hs_caller.specs.Standing.{IsAt, Goes}
+use Rattle.hs_run_client.specs.Calling.{Calling}
+use Rattle.hs_run_client.specs.Standing.{IsAt, Goes}
 
 -- The caller is somewhere in the operations with its number.
 abbrev pub MayGo : PlainSettings → List (Listing Op) → ℕ → Calling → Type 0

@@ -10,3 +10,14 @@ pub mod Tallying
 pub mod TallyLayout
 pub mod TallyingNodes
 pub mod Watched
+pub mod Over
+pub mod Ended
+pub mod Noted
+pub mod Finished
+pub mod Shutting
+pub mod Counts
+pub mod Seen
+pub mod CountLaws
+pub mod Progress
+pub mod FirstPasses
+pub mod ProgressExamples

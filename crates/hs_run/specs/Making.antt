@@ -4,10 +4,10 @@ use Rattle.hs_base.specs.declared.told.Ask.{Ask}
 use Rattle.hs_base.specs.declared.told.Told.{Told}
 use Rattle.hs_records.specs.Plain.{PlainWorkload}
 use Rattle.hs_words.specs.Pools.{PoolName}
-use Rattle.hs_caller.specs.Calling.{Calling}
-use Rattle.hs_desk.specs.Work.{no_work}
-use Rattle.hs_rounds.specs.Standing.{Site, SiteStands}
-use Rattle.hs_retell.specs.Laws.{LinksBegin, PoolOf}
+use Rattle.hs_run_client.specs.Calling.{Calling}
+use Rattle.hs_run_agent.specs.Work.{no_work}
+use Rattle.hs_run_story.specs.Standing.{Site, SiteStands}
+use Rattle.hs_run_story.specs.Laws.{LinksBegin, PoolOf}
 use Rattle.hs_run.specs.declared.node.Node.{Node}
 
 abbrev pub nothing_moved : ℕ → List Told

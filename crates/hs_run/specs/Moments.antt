@@ -1,17 +1,17 @@
 -- Nodes and a coordinator that stand at a moment of a run, and how far the rounds have come.
 use Rattle.std.specs.Prelude.{◌≡◌, ℕ, ◌*◌, ◌<◌, min, List, length, slice_get, Some}
 use Rattle.hs_records.specs.Plain.{PlainWorkload}
-use Rattle.hs_sent.specs.Sending.{operations_at, place_of}
-use Rattle.hs_caller.specs.Calling.{Calling}
-use Rattle.hs_closing.specs.Over.{AllDone}
-use Rattle.hs_desk.specs.Coordinators.{Coordinating}
-use Rattle.hs_desk.specs.Work.{IsFew}
-use Rattle.hs_rounds.specs.Standing.{Site, Moment, Stands, IsBegun}
-use Rattle.hs_rounds.specs.Acting.{Acts}
-use Rattle.hs_rounds.specs.Meeting.{AllMeet}
-use Rattle.hs_rounds.specs.Moving.{Moves}
-use Rattle.hs_rounds.specs.Coming.{Came}
-use Rattle.hs_retell.specs.Laws.{AllBegin}
+use Rattle.hs_law_sends.specs.Sending.{operations_at, place_of}
+use Rattle.hs_run_client.specs.Calling.{Calling}
+use Rattle.hs_run.specs.Over.{AllDone}
+use Rattle.hs_run_agent.specs.Coordinators.{Coordinating}
+use Rattle.hs_run_agent.specs.Work.{IsFew}
+use Rattle.hs_run_story.specs.Standing.{Site, Moment, Stands, IsBegun}
+use Rattle.hs_run_story.specs.Acting.{Acts}
+use Rattle.hs_run_story.specs.Meeting.{AllMeet}
+use Rattle.hs_run_story.specs.Moving.{Moves}
+use Rattle.hs_run_story.specs.Coming.{Came}
+use Rattle.hs_run_story.specs.Laws.{AllBegin}
 use Rattle.hs_run.specs.declared.node.Node.{Node}
 use Rattle.hs_run.specs.Nodes.{sites_of}
 

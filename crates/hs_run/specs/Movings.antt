@@ -5,12 +5,12 @@ use Rattle.hs_coord.specs.Messages.{Messages}
 use Rattle.hs_coord.specs.declared.asks.Asks.{Asks}
 use Rattle.hs_records.specs.Plain.{PlainWorkload}
 use Rattle.hs_workload.specs.Validity.{IsValid}
-use Rattle.hs_desk.specs.Coordinators.{Coordinating, IsCoordinating, asked_all}
-use Rattle.hs_desk.specs.Manned.{Manned, IsManned}
-use Rattle.hs_desk.specs.Work.{Work}
-use Rattle.hs_rounds.specs.Standing.{Site, Moment, SiteStands, moved_by, asked_by}
-use Rattle.hs_rounds.specs.Meeting.{SiteMeets}
-use Rattle.hs_rounds.specs.Moving.{IsSameDoing, SiteMoves}
+use Rattle.hs_run_agent.specs.Coordinators.{Coordinating, IsCoordinating, asked_all}
+use Rattle.hs_run_agent.specs.Manned.{Manned, IsManned}
+use Rattle.hs_run_agent.specs.Work.{Work}
+use Rattle.hs_run_story.specs.Standing.{Site, Moment, SiteStands, moved_by, asked_by}
+use Rattle.hs_run_story.specs.Meeting.{SiteMeets}
+use Rattle.hs_run_story.specs.Moving.{IsSameDoing, SiteMoves}
 use Rattle.hs_run.specs.Changing.{EachChanged, FirstChanged}
 use Rattle.hs_run.specs.Sites.{StandsSomewhere}
 use Rattle.hs_run.specs.declared.node.Node.{Node}

@@ -2,15 +2,15 @@
 use Rattle.std.specs.Prelude.{◌≡◌, ℕ, ◌<◌, ◌≤◌, Bool, true, false, List, length, map, slice_get, Some}
 use Rattle.hs_coord.specs.Messages.{Messages}
 use Rattle.hs_records.specs.Plain.{PlainWorkload}
-use Rattle.hs_sent.specs.Sending.{operations_at, place_of}
+use Rattle.hs_law_sends.specs.Sending.{operations_at, place_of}
 use Rattle.hs_workload.specs.Validity.{IsValid}
 use Rattle.hs_workload.specs.Views.{workload_of}
 use Rattle.hs_workload.specs.declared.operation.Workload.{Workload}
-use Rattle.hs_caller.specs.Calling.{Calling}
-use Rattle.hs_desk.specs.Coordinators.{Coordinating, IsCoordinating, Hears}
-use Rattle.hs_desk.specs.Work.{Work, IsFew}
-use Rattle.hs_rounds.specs.Standing.{Site, SiteStands, moved_by, asked_by}
-use Rattle.hs_rounds.specs.Acting.{SiteActs}
+use Rattle.hs_run_client.specs.Calling.{Calling}
+use Rattle.hs_run_agent.specs.Coordinators.{Coordinating, IsCoordinating, Hears}
+use Rattle.hs_run_agent.specs.Work.{Work, IsFew}
+use Rattle.hs_run_story.specs.Standing.{Site, SiteStands, moved_by, asked_by}
+use Rattle.hs_run_story.specs.Acting.{SiteActs}
 use Rattle.hs_run.specs.declared.node.Node.{Node}
 
 -- ---- acting

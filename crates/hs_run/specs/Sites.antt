@@ -3,22 +3,22 @@ use Rattle.std.specs.Prelude.{◌≡◌, ℕ, ◌<◌, ◌≤◌, Bool, true, fa
 use Rattle.hs_base.specs.Listing.{Listing}
 use Rattle.hs_base.specs.declared.settings.Settings.{Settings}
 use Rattle.hs_base.specs.Ids.{client_of}
-use Rattle.hs_model.specs.Stepping.{Event}
+use Rattle.hs_law_agent.specs.Stepping.{Event}
 use Rattle.hs_records.specs.Plain.{PlainWorkload, settings_of}
 use Rattle.hs_ring.specs.Parts.{Leased}
-use Rattle.hs_sent.specs.Sending.{operations_at, place_of}
+use Rattle.hs_law_sends.specs.Sending.{operations_at, place_of}
 use Rattle.hs_words.specs.Buffers.{Buffer}
 use Rattle.hs_workload.specs.declared.operation.Op.{Op}
 use Rattle.hs_workload.specs.Validity.{IsValid}
 use Rattle.hs_workload.specs.Views.{operations_of}
-use Rattle.hs_caller.specs.Calling.{Calling}
-use Rattle.hs_desk.specs.Manned.{Manned, IsManned, Passes}
-use Rattle.hs_desk.specs.Work.{Work, IsFew}
-use Rattle.hs_rounds.specs.Standing.{Site, SiteStands}
+use Rattle.hs_run_client.specs.Calling.{Calling}
+use Rattle.hs_run_agent.specs.Manned.{Manned, IsManned, Passes}
+use Rattle.hs_run_agent.specs.Work.{Work, IsFew}
+use Rattle.hs_run_story.specs.Standing.{Site, SiteStands}
 use Rattle.hs_live.specs.Calls.{MeetsAt}
-use Rattle.hs_caller.specs.Standing.{IsAt}
-use Rattle.hs_rounds.specs.Acting.{SiteActs}
-use Rattle.hs_rounds.specs.Meeting.{CallerMet, GiverMet}
+use Rattle.hs_run_client.specs.Standing.{IsAt}
+use Rattle.hs_run_story.specs.Acting.{SiteActs}
+use Rattle.hs_run_story.specs.Meeting.{CallerMet, GiverMet}
 
 -- The settings are those of the workload, and these are the operations of the clients of a node.
 pub record AreClients (W : PlainWorkload) (node : ℕ) (settings : Settings) (lists : List (Listing Op)) : Type 0 where

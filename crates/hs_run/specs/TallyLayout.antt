@@ -1,5 +1,5 @@
 -- How a tally lies in its fields.
-use Rattle.hs_counts.specs.Counts.{Counts}
+use Rattle.hs_run.specs.Counts.{Counts}
 use Rattle.hs_run.specs.declared.tallying.Tally.TheInside.{Inside}
 
 abbrev pub tally_of : Inside → Counts

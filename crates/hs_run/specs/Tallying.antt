@@ -1,10 +1,10 @@
 -- What is counted between two rounds, when it can be counted on, and when its sums are numbers of a total.
 use Rattle.std.specs.Prelude.{ℕ, suc, ◌<◌, ◌^◌, List, sum_by}
 use Rattle.hs_records.specs.Plain.{PlainWorkload}
-use Rattle.hs_counts.specs.declared.client.ClientCount.{ClientCount}
-use Rattle.hs_counts.specs.declared.log.LogCount.{LogCount}
-use Rattle.hs_counts.specs.Counts.{Counts, AreCounts}
-use Rattle.hs_desk.specs.Coordinators.{Coordinating}
+use Rattle.hs_run.specs.declared.client.ClientCount.{ClientCount}
+use Rattle.hs_run.specs.declared.log.LogCount.{LogCount}
+use Rattle.hs_run.specs.Counts.{Counts, AreCounts}
+use Rattle.hs_run_agent.specs.Coordinators.{Coordinating}
 use Rattle.hs_run.specs.declared.node.Node.{Node}
 use Rattle.hs_run.specs.Moments.{RoundsMade}
 

@@ -1,14 +1,14 @@
 -- How counts go on behind a round, client by client and log by log.
 use Rattle.std.specs.Prelude.{◌≡◌, ℕ, ◌+◌, ◌*◌, ◌^◌, ◌<◌, ◌≤◌, List, length, take, count_by, slice_get, Some}
 use Rattle.hs_base.specs.declared.limits.TheConstants.{MAX_OPERATIONS}
-use Rattle.hs_caller.specs.Calling.{Calling}
-use Rattle.hs_counts.specs.declared.client.ClientCount.{ClientCount}
-use Rattle.hs_counts.specs.declared.log.LogCount.{LogCount}
-use Rattle.hs_counts.specs.Counts.{client_count, log_count}
+use Rattle.hs_run_client.specs.Calling.{Calling}
+use Rattle.hs_run.specs.declared.client.ClientCount.{ClientCount}
+use Rattle.hs_run.specs.declared.log.LogCount.{LogCount}
+use Rattle.hs_run.specs.Counts.{client_count, log_count}
 use Rattle.hs_journal.specs.declared.journal.Step.{Step}
-use Rattle.hs_progress.specs.Progress.{is_point, is_chunk, is_given}
+use Rattle.hs_run.specs.Progress.{is_point, is_chunk, is_given}
 use Rattle.hs_records.specs.Plain.{Operation, PlainWorkload}
-use Rattle.hs_sent.specs.Sending.{operations_at, place_of}
+use Rattle.hs_law_sends.specs.Sending.{operations_at, place_of}
 use Rattle.hs_workload.specs.Validity.{IsValid}
 use Rattle.hs_run.specs.declared.node.Node.{Node}
 

@@ -3,13 +3,13 @@ use Rattle.std.specs.Prelude.{◌≡◌, ℕ, zero, suc, ◌*◌, ◌-◌, ◌<�
 use Rattle.std.specs.List.{AllByRecursion}
 use Rattle.hs_board.specs.declared.progress.Progress.{Progress}
 use Rattle.hs_board.specs.Shown.{first, IsLast}
-use Rattle.hs_counts.specs.Counts.{Counts, AreCounts, progress_of}
-use Rattle.hs_counts.specs.Seen.{IsSeen, IsTotal}
-use Rattle.hs_desk.specs.Coordinators.{Coordinating}
+use Rattle.hs_run.specs.Counts.{Counts, AreCounts, progress_of}
+use Rattle.hs_run.specs.Seen.{IsSeen, IsTotal}
+use Rattle.hs_run_agent.specs.Coordinators.{Coordinating}
 use Rattle.hs_journal.specs.Views.{PlainJournal}
-use Rattle.hs_lawful.specs.Ends.{rounds_of}
+use Rattle.hs_law_journal.specs.Ends.{rounds_of}
 use Rattle.hs_records.specs.Plain.{Operation, PlainWorkload}
-use Rattle.hs_watch.specs.Watching.{Totals, Showing, Stands, IsLater, KnowLast, EndsAtLatest, IsSeenOf}
+use Rattle.hs_board.specs.Watching.{Totals, Showing, Stands, IsLater, KnowLast, EndsAtLatest, IsSeenOf}
 use Rattle.hs_run.specs.declared.node.Node.{Node}
 use Rattle.hs_run.specs.Moments.{RoundsMade, RoundsOver}
 use Rattle.hs_run.specs.Tallying.{FitTotals}

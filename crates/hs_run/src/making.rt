@@ -1,7 +1,7 @@
 //! All nodes and their coordinator before the first round.
 
 ghost use Rattle.std.specs.Prelude.{ℕ, ◌<◌, [], IfOk};
-ghost use Rattle.hs_desk.specs.Coordinators.{IsCoordinating};
+ghost use Rattle.hs_run_agent.specs.Coordinators.{IsCoordinating};
 ghost use Rattle.hs_workload.specs.Validity.{IsValid};
 ghost use Rattle.hs_workload.specs.Views.{workload_of};
 ghost use Rattle.hs_run.specs.Making.{SiteBegins, AreMade, nothing_moved, nothing_asked};
@@ -10,8 +10,10 @@ ghost use Rattle.hs_run.specs.Moments.{CanBegin};
 use crate::node::Node;
 use crate::site::Site;
 use hs_base::{List, Memory};
-use hs_caller::{Begun, begin_node};
-use hs_desk::{AgentActor, CoordinatorActor};
+use hs_run_client::Begun;
+use hs_run_client::begin_node;
+use hs_run_agent::AgentActor;
+use hs_run_agent::CoordinatorActor;
 use hs_workload::Workload;
 use std::alloc::Global;
 

@@ -5,10 +5,10 @@ ghost use Rattle.hs_base.specs.NodeSets.{has_node};
 ghost use Rattle.hs_base.specs.declared.limits.TheConstants.{MAX_NODES};
 ghost use Rattle.hs_coord.specs.Messages.{Messages};
 ghost use Rattle.hs_records.specs.Plain.{PlainWorkload};
-ghost use Rattle.hs_desk.specs.Agents.{IsAskable};
-ghost use Rattle.hs_desk.specs.Coordinators.{ask_for, asked_all};
-ghost use Rattle.hs_desk.specs.Work.{Work, with_asks};
-ghost use Rattle.hs_rounds.specs.Standing.{Moment, SiteStands};
+ghost use Rattle.hs_run_agent.specs.Agents.{IsAskable};
+ghost use Rattle.hs_run_agent.specs.Coordinators.{ask_for, asked_all};
+ghost use Rattle.hs_run_agent.specs.Work.{Work, with_asks};
+ghost use Rattle.hs_run_story.specs.Standing.{Moment, SiteStands};
 ghost use Rattle.hs_run.specs.Changing.{EachChanged};
 ghost use Rattle.hs_run.specs.Moments.{IsHere, MovedTo};
 ghost use Rattle.hs_run.specs.Movings.{HasMet, AllStand, MayTell, Tells, HasTold, SiteAsked, SitesStand, Moving, IsMoving, Items, NodeAsked, MayBeAsked};
@@ -17,7 +17,8 @@ use crate::node::Node;
 use crate::site::Site;
 use hs_base::{List, Memory, NodeId};
 use hs_coord::Asks;
-use hs_desk::{AgentActor, CoordinatorActor};
+use hs_run_agent::AgentActor;
+use hs_run_agent::CoordinatorActor;
 
 /// All clients meet their agents.
 pub(crate) fn meet_all(nodes: &mut List<Node>)

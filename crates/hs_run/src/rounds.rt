@@ -2,7 +2,7 @@
 
 ghost use Rattle.std.specs.Thread.{IsSync};
 ghost use Rattle.std.specs.Prelude.{◌≡◌, ◌<◌, false, length, slice_get, OnOk};
-ghost use Rattle.hs_rounds.specs.Standing.{Moment};
+ghost use Rattle.hs_run_story.specs.Standing.{Moment};
 ghost use Rattle.hs_workload.specs.Views.{workload_of};
 ghost use Rattle.hs_run.specs.Nodes.{MayActAt, HasActedAt, AllMayAct, AllHaveActed, NoneFailed, MayHear, HasHeard, IsWhole, AreWhole, TellsNodeLeft, TellsLeft};
 ghost use Rattle.hs_run.specs.Moments.{IsHere, AreFew, CanAct, ActedTo, CanBegin, RoundsOver};
@@ -11,9 +11,10 @@ use crate::meeting::{meet_all, move_all};
 use crate::node::Node;
 use crate::site::Site;
 use hs_base::{Gate, List, Memory};
-use hs_caller::callers_have_sent;
-use hs_desk::CoordinatorActor;
-use hs_rounds::laws::{no_rounds_come, rounds_go_on};
+use hs_run_client::callers_have_sent;
+use hs_run_agent::CoordinatorActor;
+use hs_run_story::laws::no_rounds_come;
+use hs_run_story::laws::rounds_go_on;
 use hs_workload::Workload;
 use std::thread;
 use std::thread::{Threads, join_mut};

@@ -2,11 +2,11 @@
 
 ghost use Rattle.std.specs.Prelude.{◌≡◌, map, IfOk};
 ghost use Rattle.hs_journal.specs.Views.{PlainJournal};
-ghost use Rattle.hs_lawful.specs.Lawful.{IsLawful};
+ghost use Rattle.hs_law_journal.specs.Lawful.{IsLawful};
 ghost use Rattle.hs_report.specs.Outcomes.{AreBooksOf, IsOutcome};
 ghost use Rattle.hs_workload.specs.Validity.{IsValid};
 ghost use Rattle.hs_workload.specs.Views.{workload_of};
-ghost use Rattle.hs_closing.specs.Over.{place_site};
+ghost use Rattle.hs_run.specs.Over.{place_site};
 ghost use Rattle.hs_run.specs.Nodes.{sites_of};
 
 use crate::making::make_all;
@@ -14,7 +14,8 @@ use crate::node::Node;
 use crate::rounds::make_rounds;
 use crate::site::Site;
 use hs_base::{Gate, List, Memory};
-use hs_closing::{Place, finish};
+use crate::place::Place;
+use crate::finishing::finish;
 use hs_report::{Books, Outcome, gather};
 use hs_workload::Workload;
 use std::alloc::Global;

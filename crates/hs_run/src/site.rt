@@ -3,15 +3,15 @@
 ghost use Rattle.std.specs.Thread.{IsSync};
 ghost use Rattle.std.specs.Prelude.{◌≡◌, ℕ, ◌<◌, length, OnOk};
 ghost use Rattle.hs_records.specs.Plain.{PlainWorkload, settings_of};
-ghost use Rattle.hs_desk.specs.Work.{Work};
-ghost use Rattle.hs_rounds.specs.Standing.{SiteStands};
-ghost use Rattle.hs_rounds.specs.Meeting.{SiteMeets};
+ghost use Rattle.hs_run_agent.specs.Work.{Work};
+ghost use Rattle.hs_run_story.specs.Standing.{SiteStands};
+ghost use Rattle.hs_run_story.specs.Meeting.{SiteMeets};
 ghost use Rattle.hs_run.specs.Going.{MayGo, HasGone, AllMayGo, AllHaveGone};
 ghost use Rattle.hs_run.specs.Sites.{MayPass, HasPassed, MayAct, HasActed, TellsSiteLeft, StandsSomewhere, MeetsOne};
 
 use hs_base::{Gate, List, Memory, Settings};
-use hs_caller::Caller;
-use hs_desk::AgentActor;
+use hs_run_client::Caller;
+use hs_run_agent::AgentActor;
 use hs_workload::Op;
 use std::marker::Model;
 use std::thread;
@@ -25,7 +25,7 @@ pub(crate) struct Site {
 }
 
 impl Model for Site {
-    ghost use Rattle.hs_rounds.specs.Standing.{Site as Stood};
+    ghost use Rattle.hs_run_story.specs.Standing.{Site as Stood};
 
     ghost Value = { Stood };
 

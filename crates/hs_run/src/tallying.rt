@@ -1,11 +1,11 @@
 //! What is counted of a run between two rounds.
 
 ghost use Rattle.std.specs.Prelude.{◌≡◌, ◌^◌, ◌<◌, length, replicate, slice_get, slice_set, sum_by, IfOk, Some};
-ghost use Rattle.hs_counts.specs.Counts.{AreCounts, client_count, log_count, progress_of};
-ghost use Rattle.hs_counts.specs.declared.client.ClientCount.{ClientCount};
-ghost use Rattle.hs_counts.specs.declared.log.LogCount.{LogCount};
-ghost use Rattle.hs_rounds.specs.Standing.{Moment, Stands, IsBegun};
-ghost use Rattle.hs_sent.specs.Sending.{operations_at};
+ghost use Rattle.hs_run.specs.Counts.{AreCounts, client_count, log_count, progress_of};
+ghost use Rattle.hs_run.specs.declared.client.ClientCount.{ClientCount};
+ghost use Rattle.hs_run.specs.declared.log.LogCount.{LogCount};
+ghost use Rattle.hs_run_story.specs.Standing.{Moment, Stands, IsBegun};
+ghost use Rattle.hs_law_sends.specs.Sending.{operations_at};
 ghost use Rattle.hs_workload.specs.Validity.{IsValid};
 ghost use Rattle.hs_workload.specs.Views.{workload_of};
 ghost use Rattle.hs_run.specs.Changing.{EachChanged};
@@ -17,9 +17,12 @@ use crate::node::Node;
 use crate::site::Site;
 use hs_base::{List, Memory};
 use hs_board::Progress;
-use hs_caller::{Caller, callers_have_sent};
-use hs_counts::{ClientCount, LogCount};
-use hs_model::laws::{events_add_this, lists_have_their_chunks};
+use hs_run_client::Caller;
+use hs_run_client::callers_have_sent;
+use crate::client::ClientCount;
+use crate::log::LogCount;
+use hs_law_agent::laws::events_add_this;
+use hs_law_agent::laws::lists_have_their_chunks;
 use hs_workload::Workload;
 use std::alloc::Global;
 use std::marker::Model;
@@ -32,7 +35,7 @@ pub(crate) struct Tally {
 }
 
 impl Model for Tally {
-    ghost use Rattle.hs_counts.specs.Counts.{Counts};
+    ghost use Rattle.hs_run.specs.Counts.{Counts};
     ghost use Rattle.hs_run.specs.TallyLayout.{tally_of};
 
     ghost Value = { Counts };

@@ -3,10 +3,10 @@
 use Rattle.std.specs.Prelude.{◌≡◌, ℕ, List, Option}
 use Rattle.hs_base.specs.Outside.{Rose, Gains}
 use Rattle.hs_journal.specs.Views.{PlainJournal}
-use Rattle.hs_lawful.specs.Lawful.{IsLawful}
-use Rattle.hs_lockstep.specs.Lockstep.{lockstep}
-use Rattle.hs_outcome.specs.OutcomeText.{outcome_text}
-use Rattle.hs_outcome.specs.declared.form.Form.TheVariants.{Text as Lines}
+use Rattle.hs_law_journal.specs.Lawful.{IsLawful}
+use Rattle.hs_law_lockstep.specs.Lockstep.{lockstep}
+use Rattle.hs_law_outcome.specs.OutcomeText.{outcome_text}
+use Rattle.hs_law_outcome.specs.declared.form.Form.TheVariants.{Text as Lines}
 use Rattle.hs_records.specs.Plain.{PlainWorkload}
 use Rattle.hs_streams.specs.Input.{ReadWhole, ReadBeyond, ReadFront}
 use Rattle.hs_streams.specs.Refusals.{IsRefused, too_long_text}

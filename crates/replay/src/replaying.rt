@@ -3,9 +3,9 @@
 ghost use Rattle.std.specs.Prelude.{◌≡◌, ◌<◌, ◌≤◌, ◌⊎◌, ℕ, List, Some, length, IfOk};
 ghost use Rattle.hs_base.specs.Outside.{Rose};
 ghost use Rattle.hs_base.specs.declared.limits.TheConstants.{MAX_INPUT};
-ghost use Rattle.hs_lockstep.specs.Lockstep.{lockstep};
-ghost use Rattle.hs_outcome.specs.OutcomeText.{outcome_text};
-ghost use Rattle.hs_outcome.specs.declared.form.Form.TheVariants.{Text};
+ghost use Rattle.hs_law_lockstep.specs.Lockstep.{lockstep};
+ghost use Rattle.hs_law_outcome.specs.OutcomeText.{outcome_text};
+ghost use Rattle.hs_law_outcome.specs.declared.form.Form.TheVariants.{Text};
 ghost use Rattle.hs_records.specs.Plain.{PlainWorkload};
 ghost use Rattle.hs_streams.specs.Input.{ReadFront};
 ghost use Rattle.hs_workload.specs.Validity.{IsValid, Reads};
@@ -13,7 +13,7 @@ ghost use Rattle.hs_workload.specs.Views.{workload_of};
 ghost use Rattle.replay.specs.Endings.{IsAnswer, Ends, Wrote, WroteFront};
 
 use hs_base::{Bytes, Memory, Sink, Source};
-use hs_lockstep::laws::schedule_is_lawful;
+use hs_law_lockstep::laws::schedule_is_lawful;
 use hs_replay::{replay, write_lines};
 use hs_streams::{Input, Status, finish, read_all, refusal_line, refuse_too_long};
 use hs_workload::{ReadError, Workload, one_workload_a_text, read_workload};

@@ -1,4 +1,4 @@
-use Rattle.fixtures.specs.Pages.{HasAdded}
+use Rattle.tests_with.specs.Pages.{HasAdded}
 use Rattle.bench.proofs.collect.collect_round.Given as goal
 
 abbrev pub invariant-loop-page : goal.invariant-loop-page

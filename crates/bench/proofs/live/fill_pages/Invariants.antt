@@ -1,5 +1,5 @@
 use Rattle.hs_base.specs.declared.limits.TheConstants.{MAX_SIZE}
-use Rattle.fixtures_live.specs.Pairs.{CanCall, HasClient}
+use Rattle.tests_with.specs.Pairs.{CanCall, HasClient}
 use Rattle.bench.proofs.live.fill_pages.Given as goal
 
 abbrev pub invariant-loop-page : goal.invariant-loop-page

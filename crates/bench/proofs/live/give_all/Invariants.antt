@@ -1,4 +1,4 @@
-use Rattle.fixtures_live.specs.Pairs.{HasClient}
+use Rattle.tests_with.specs.Pairs.{HasClient}
 use Rattle.bench.proofs.live.give_all.Given as goal
 
 abbrev pub invariant-loop : goal.invariant-loop

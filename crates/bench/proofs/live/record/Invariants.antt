@@ -1,5 +1,5 @@
 use Rattle.hs_base.specs.declared.limits.TheConstants.{MAX_SIZE}
-use Rattle.fixtures_live.specs.Pairs.{CanCall}
+use Rattle.tests_with.specs.Pairs.{CanCall}
 use Rattle.bench.proofs.live.record.Given as goal
 
 abbrev pub invariant-loop-moment : goal.invariant-loop-moment

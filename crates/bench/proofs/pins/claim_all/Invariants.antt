@@ -1,4 +1,4 @@
-use Rattle.fixtures.specs.Claims.{IsReady}
+use Rattle.tests_with.specs.Claims.{IsReady}
 use Rattle.bench.proofs.pins.claim_all.Given as goal
 
 abbrev pub invariant-loop-number : goal.invariant-loop-number

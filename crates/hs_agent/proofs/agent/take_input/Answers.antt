@@ -5,8 +5,8 @@ use Rattle.hs_base.specs.declared.told.Why.TheVariants.{Answer}
 use Rattle.hs_words.specs.Buffers.{buffer_of}
 use Rattle.hs_sched.specs.Turns.{Schedule}
 use Rattle.hs_agent.specs.declared.input.Input.TheVariants as inputs
-use Rattle.hs_model.specs.Messages.{told_of}
-use Rattle.hs_model.specs.Stepping.{take_ask}
+use Rattle.hs_law_agent.specs.Messages.{told_of}
+use Rattle.hs_law_agent.specs.Stepping.{take_ask}
 use Rattle.hs_agent.specs.Keeping.{Kept, Holds, Point, with_state}
 use Rattle.hs_agent.specs.Runs.{StandsAt, IsTakable, taken_in}
 use Rattle.hs_agent.specs.Points.{sheet_in, chunk_taken, crumb_taken, trigger_taken, claimed_for}

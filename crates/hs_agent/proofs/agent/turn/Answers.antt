@@ -4,7 +4,7 @@ use Rattle.hs_sched.specs.declared.share.Share.{Share}
 use Rattle.hs_sched.specs.Sending.{SendsEach}
 use Rattle.hs_sched.specs.Turns.{Schedule, IsSchedule, after_turn, sent_ids}
 use Rattle.hs_sched.specs.Visits.{visited}
-use Rattle.hs_model.specs.Turning as model
+use Rattle.hs_law_agent.specs.Turning as model
 use Rattle.hs_agent.specs.Keeping.{Kept, Point, Holds, with_state}
 use Rattle.hs_agent.specs.Reporting.{SendsNext, costs_of}
 use Rattle.hs_agent.specs.Runs.{StandsAt, schedule_of}

@@ -1,8 +1,8 @@
 use Rattle.std.proofs.Common.{◌≡◌, true, sym, ◌∙◌}
 use Rattle.hs_journal.specs.Views.{PlainJournal, journal_of}
-use Rattle.hs_lawful.specs.Ends.{is_followed}
-use Rattle.hs_lawful.specs.Following.{followed}
-use Rattle.hs_lawful.specs.Played.{played}
+use Rattle.hs_law_journal.specs.Ends.{is_followed}
+use Rattle.hs_law_journal.specs.Following.{followed}
+use Rattle.hs_law_journal.specs.Played.{played}
 use Rattle.hs_records.specs.Plain.{PlainWorkload}
 use Rattle.hs_workload.specs.Views.{workload_of}
 use Rattle.hs_check.specs.Asking.{of_the_journal}

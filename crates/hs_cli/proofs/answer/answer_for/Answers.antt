@@ -1,7 +1,7 @@
 use Rattle.std.proofs.Common.{◌∙◌, [], ◌∷◌, refl, ap}
 use Rattle.hs_ledger.specs.declared.ledger.Totals.{Totals}
-use Rattle.hs_lockstep.specs.Lockstep.{lockstep}
-use Rattle.hs_outcome.specs.OutcomeText.{total_line}
+use Rattle.hs_law_lockstep.specs.Lockstep.{lockstep}
+use Rattle.hs_law_outcome.specs.OutcomeText.{total_line}
 use Rattle.hs_text.specs.Text.{text_of}
 use Rattle.hs_workload.specs.Views.{workload_of}
 use Rattle.hs_cli.proofs.Answering.{done_answers}

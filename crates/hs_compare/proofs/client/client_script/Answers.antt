@@ -2,7 +2,7 @@ use Rattle.std.proofs.Common.{List, map, sym, ◌∙◌, subst, arith}
 use Rattle.std.proofs.lemmas.List.{length-map}
 use Rattle.std.proofs.lemmas.Result.{IfOk-weaker}
 use Rattle.hs_records.specs.Plain.{settings_of}
-use Rattle.hs_sent.specs.Sending.{sent_triggers}
+use Rattle.hs_law_sends.specs.Sending.{sent_triggers}
 use Rattle.hs_workload.specs.Views.{operation_of}
 use Rattle.hs_workload.proofs.Sizes.{operations_few}
 use Rattle.hs_compare.specs.Points.{IsScriptOf}

@@ -1,7 +1,7 @@
 use Rattle.std.proofs.Common.{◌≡◌, map, ap, ap₂, ◌∙◌}
 use Rattle.std.proofs.lemmas.Result.{IfOk-weaker}
-use Rattle.hs_lockstep.specs.Lockstep.{lockstep}
-use Rattle.hs_samplers.specs.Laws.{compared_by, SumsToTail}
+use Rattle.hs_law_lockstep.specs.Lockstep.{lockstep}
+use Rattle.hs_compare.specs.SamplerLaws.{compared_by, SumsToTail}
 use Rattle.hs_workload.specs.Views.{workload_of}
 use Rattle.hs_compare.specs.declared.comparison.Comparison.{Comparison}
 use Rattle.hs_compare.specs.Comparing.{comparison_by}

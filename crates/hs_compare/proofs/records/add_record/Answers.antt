@@ -1,7 +1,7 @@
 use Rattle.std.proofs.Common.{◌++◌, ◌∷◌, [], Some, None, map, sym, ap, ◌∙◌}
 use Rattle.std.proofs.lemmas.List.{append-nil}
 use Rattle.hs_lists.proofs.Options.{on_ok_map}
-use Rattle.hs_samplers.specs.Coming.{comings_of}
+use Rattle.hs_compare.specs.Coming.{comings_of}
 use Rattle.hs_workload.specs.Views.{operation_of}
 use Rattle.hs_compare.specs.Happens.{coming_of}
 use Rattle.hs_compare.proofs.Pointed.{joined_on}

@@ -2,10 +2,10 @@ use Rattle.std.proofs.Common.{◌≡◌, ◌++◌, List, length, map, ap, ◌∙
 use Rattle.std.proofs.lemmas.List.{length-map}
 use Rattle.hs_lists.proofs.Places.{row_is}
 use Rattle.hs_lists.proofs.Options.{on_ok_map}
-use Rattle.hs_outcome.specs.Outcomes.{client_at}
+use Rattle.hs_law_outcome.specs.Outcomes.{client_at}
 use Rattle.hs_records.specs.Plain.{Operation}
-use Rattle.hs_samplers.specs.Coming.{comings_of}
-use Rattle.hs_sent.specs.Sending.{operations_at}
+use Rattle.hs_compare.specs.Coming.{comings_of}
+use Rattle.hs_law_sends.specs.Sending.{operations_at}
 use Rattle.hs_workload.specs.Views.{workload_of, operation_of, operations_of}
 use Rattle.hs_workload.specs.declared.word.Setting.TheVariants.{Nodes}
 use Rattle.hs_workload.proofs.Sizes.{operations_few}

@@ -5,11 +5,11 @@ use Rattle.hs_lists.proofs.Places.{row_is}
 use Rattle.hs_base.specs.Listing.{Listing}
 use Rattle.hs_journal.specs.Views.{journal_of}
 use Rattle.hs_journal.specs.declared.journal.Draw.{Draw}
-use Rattle.hs_outcome.specs.Outcomes.{client_at}
-use Rattle.hs_player.specs.Places.{IsPlayable}
+use Rattle.hs_law_outcome.specs.Outcomes.{client_at}
+use Rattle.hs_law_sends.specs.Playable.{IsPlayable}
 use Rattle.hs_records.specs.Pages.{pages_of}
 use Rattle.hs_records.specs.Plain.{Operation}
-use Rattle.hs_sent.specs.Sending.{draws_at, operations_at}
+use Rattle.hs_law_sends.specs.Sending.{draws_at, operations_at}
 use Rattle.hs_workload.specs.Views.{workload_of, operation_of, operations_of}
 use Rattle.hs_workload.specs.declared.word.Setting.TheVariants.{Nodes}
 use Rattle.hs_compare.specs.Scripts.{IsClientScript}

@@ -4,9 +4,9 @@ use Rattle.std.proofs.lemmas.Iterator.Consumers.{YieldsList-turn, YieldsList-end
 use Rattle.std.specs.List.{range_with_len}
 use Rattle.hs_lists.proofs.Places.{item_there}
 use Rattle.hs_journal.specs.Books.{agent_book_of, client_book_of}
-use Rattle.hs_lawful.specs.Following.{NodeRun, followed}
-use Rattle.hs_model.specs.Books.{book_of}
-use Rattle.hs_outcome.specs.Outcomes.{client_book}
+use Rattle.hs_law_journal.specs.Following.{NodeRun, followed}
+use Rattle.hs_law_agent.specs.Books.{book_of}
+use Rattle.hs_law_outcome.specs.Outcomes.{client_book}
 use Rattle.hs_replay.proofs.Booked.{has_ended, clients_more, agents_more, all_clients, all_agents}
 use Rattle.hs_replay.proofs.books.books_of.Goals as goal
 

@@ -2,12 +2,12 @@ use Rattle.std.proofs.Common.{◌≡◌, ◌*◌, length, map, take}
 use Rattle.std.specs.List.{range_with_len}
 use Rattle.hs_coord.specs.Kept.{Kept}
 use Rattle.hs_journal.specs.Books.{agent_book_of, client_book_of}
-use Rattle.hs_lawful.specs.Following.{followed}
-use Rattle.hs_outcome.specs.Outcomes.{client_book}
+use Rattle.hs_law_journal.specs.Following.{followed}
+use Rattle.hs_law_outcome.specs.Outcomes.{client_book}
 use Rattle.hs_records.specs.Plain.{PlainWorkload}
-use Rattle.hs_nodes.specs.All.{AllClosed}
-use Rattle.hs_lawful.specs.Following.{NodeRun}
-use Rattle.hs_model.specs.Books.{book_of}
+use Rattle.hs_replay.specs.All.{AllClosed}
+use Rattle.hs_law_journal.specs.Following.{NodeRun}
+use Rattle.hs_law_agent.specs.Books.{book_of}
 use Rattle.hs_replay.proofs.books.books_of.Given as goal
 
 abbrev pub invariant-loop-node : goal.invariant-loop-node

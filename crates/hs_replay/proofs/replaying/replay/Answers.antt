@@ -1,6 +1,6 @@
-use Rattle.hs_lockstep.specs.Lockstep.{lockstep}
+use Rattle.hs_law_lockstep.specs.Lockstep.{lockstep}
 use Rattle.hs_workload.specs.Views.{workload_of}
-use Rattle.hs_replay.proofs.Lists.{on_ok_value}
+use Rattle.hs_replay.proofs.Values.{on_ok_value}
 use Rattle.hs_replay.proofs.replaying.replay.Goals as goal
 
 pub gather-requires : goal.gather-requires

@@ -3,8 +3,8 @@ use Rattle.hs_journal.specs.Books.{PlainClientBook, PlainAgentBook, agent_book_o
 use Rattle.hs_ledger.specs.Books.{BooksFit}
 use Rattle.hs_ledger.specs.Fates.{entries_of}
 use Rattle.hs_ledger.specs.Totals.{totals_of}
-use Rattle.hs_outcome.specs.Outcomes.{rising_traces, outcome_of, client_books}
-use Rattle.hs_outcome.specs.Records.{all_records}
+use Rattle.hs_law_outcome.specs.Outcomes.{rising_traces, outcome_of, client_books}
+use Rattle.hs_law_outcome.specs.Records.{all_records}
 use Rattle.hs_report.specs.Claims.{all_claimed}
 use Rattle.hs_report.specs.Pages.{SpellAll, all_sent}
 use Rattle.hs_report.proofs.Journals.{journal_is, claimed_are, sent_are}

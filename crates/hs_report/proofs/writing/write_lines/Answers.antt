@@ -3,8 +3,8 @@ use Rattle.std.specs.List.{flat_map}
 use Rattle.std.proofs.lemmas.Result.{IfOk-weaker}
 use Rattle.hs_journal.specs.Grammar.{journal_text}
 use Rattle.hs_journal.specs.Views.{journal_of}
-use Rattle.hs_outcome.specs.OutcomeText.{report_lines}
-use Rattle.hs_outcome.specs.declared.form.Form.TheVariants.{Text}
+use Rattle.hs_law_outcome.specs.OutcomeText.{report_lines}
+use Rattle.hs_law_outcome.specs.declared.form.Form.TheVariants.{Text}
 use Rattle.hs_report.specs.Kept.{kept_of}
 use Rattle.hs_report.specs.Sorted.{count_line, records_by}
 use Rattle.hs_report.specs.Sources.{report_by}

@@ -1,7 +1,7 @@
 use Rattle.std.proofs.Common.{◌≡◌, ℕ, length, true}
 use Rattle.hs_base.specs.NodeSets.{has_node}
-use Rattle.hs_desk.specs.Agents.{IsAskable}
-use Rattle.hs_desk.specs.Work.{Work}
+use Rattle.hs_run_agent.specs.Agents.{IsAskable}
+use Rattle.hs_run_agent.specs.Work.{Work}
 use Rattle.hs_records.specs.Plain.{PlainWorkload}
 use Rattle.hs_run.specs.Movings.{AskedFirst, SitesStand}
 use Rattle.hs_run.proofs.meeting.ask.Given as goal

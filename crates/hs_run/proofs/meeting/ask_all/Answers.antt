@@ -1,6 +1,6 @@
 use Rattle.std.proofs.Common.{◌<◌, length, refl, sym, ap, subst, ◌∙◌, arith}
-use Rattle.hs_desk.specs.Coordinators.{Coordinating, asked_all}
-use Rattle.hs_rounds.specs.Standing.{moved_by, asked_by}
+use Rattle.hs_run_agent.specs.Coordinators.{Coordinating, asked_all}
+use Rattle.hs_run_story.specs.Standing.{moved_by, asked_by}
 use Rattle.hs_workload.proofs.Sizes.{few_nodes}
 use Rattle.hs_run.specs.Movings.{Moving}
 use Rattle.hs_run.proofs.Moved.{moving_more}

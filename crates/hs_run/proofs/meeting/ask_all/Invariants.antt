@@ -1,6 +1,6 @@
 use Rattle.std.proofs.Common.{length, List}
 use Rattle.hs_records.specs.Plain.{PlainWorkload}
-use Rattle.hs_rounds.specs.Standing.{Moment}
+use Rattle.hs_run_story.specs.Standing.{Moment}
 use Rattle.hs_run.specs.declared.node.Node.{Node}
 use Rattle.hs_run.specs.Movings.{Moving}
 use Rattle.hs_run.proofs.meeting.ask_all.Given as goal

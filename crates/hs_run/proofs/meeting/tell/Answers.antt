@@ -1,7 +1,7 @@
 use Rattle.std.proofs.Common.{◌<◌, length, ap, ◌∙◌, sym, subst, arith}
 use Rattle.hs_base.proofs.Updates.{put}
-use Rattle.hs_desk.specs.Manned.{Manned}
-use Rattle.hs_rounds.specs.Standing.{moved_by, asked_by}
+use Rattle.hs_run_agent.specs.Manned.{Manned}
+use Rattle.hs_run_story.specs.Standing.{moved_by, asked_by}
 use Rattle.hs_run.specs.Movings.{HasTold}
 use Rattle.hs_run.proofs.Telling.{told_none, told_one, told_coordinates}
 use Rattle.hs_run.proofs.meeting.tell.Goals as goal

@@ -1,6 +1,6 @@
 use Rattle.std.proofs.Common.{ℕ, length}
 use Rattle.hs_coord.specs.Messages.{Messages}
-use Rattle.hs_desk.specs.Work.{Work}
+use Rattle.hs_run_agent.specs.Work.{Work}
 use Rattle.hs_records.specs.Plain.{PlainWorkload}
 use Rattle.hs_run.specs.Movings.{Tells, HasTold}
 use Rattle.hs_run.proofs.meeting.tell.Given as goal

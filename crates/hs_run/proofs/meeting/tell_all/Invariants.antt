@@ -1,5 +1,5 @@
 use Rattle.hs_records.specs.Plain.{PlainWorkload}
-use Rattle.hs_rounds.specs.Standing.{Moment}
+use Rattle.hs_run_story.specs.Standing.{Moment}
 use Rattle.hs_run.specs.Moments.{IsHere}
 use Rattle.hs_run.specs.Movings.{Telling}
 use Rattle.hs_run.proofs.meeting.tell_all.Given as goal

@@ -5,15 +5,15 @@ use Rattle.hs_lists.proofs.Places.{get_there}
 use Rattle.hs_base.specs.Listing.{Listing}
 use Rattle.hs_base.specs.declared.settings.Settings.{Settings}
 use Rattle.hs_records.specs.Plain.{PlainWorkload}
-use Rattle.hs_rounds.specs.Standing.{Site}
-use Rattle.hs_sent.specs.Sending.{operations_at, place_of}
+use Rattle.hs_run_story.specs.Standing.{Site}
+use Rattle.hs_law_sends.specs.Sending.{operations_at, place_of}
 use Rattle.hs_workload.specs.Views.{workload_of, operation_of}
 use Rattle.hs_workload.specs.declared.operation.Op.{Op}
 use Rattle.hs_workload.proofs.Sizes.{product_few, few_nodes}
 use Rattle.hs_run.specs.Nodes.{TellsNodeLeft}
 use Rattle.hs_run.specs.Sites.{AreClients, TellsSiteLeft}
 use Rattle.hs_run.proofs.Clients.{clients_are}
-use Rattle.hs_desk.proofs.Few.{few_clients}
+use Rattle.hs_run_agent.proofs.Few.{few_clients}
 use Rattle.hs_run.proofs.rounds.has_left_at.Goals as goal
 
 -- as many operations

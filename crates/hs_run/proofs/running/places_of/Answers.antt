@@ -3,9 +3,9 @@ use Rattle.std.proofs.lemmas.Iterator.Adapters.{YieldsList-from_vec}
 use Rattle.std.proofs.lemmas.Iterator.Consumers.{YieldsList-end}
 use Rattle.std.proofs.lemmas.List.{map-append}
 use Rattle.hs_lists.proofs.Parts.{map_self}
-use Rattle.hs_closing.specs.Over.{place_site}
-use Rattle.hs_closing.specs.declared.place.Place.{Place}
-use Rattle.hs_rounds.specs.Standing.{Site}
+use Rattle.hs_run.specs.Over.{place_site}
+use Rattle.hs_run.specs.declared.place.Place.{Place}
+use Rattle.hs_run_story.specs.Standing.{Site}
 use Rattle.hs_run.specs.declared.node.Node.{Node}
 use Rattle.hs_run.specs.Nodes.{sites_of}
 use Rattle.hs_run.proofs.running.places_of.Goals as goal

@@ -1,5 +1,5 @@
 use Rattle.std.proofs.Common.{◌≡◌, map}
-use Rattle.hs_closing.specs.Over.{place_site}
+use Rattle.hs_run.specs.Over.{place_site}
 use Rattle.hs_run.specs.Nodes.{sites_of}
 use Rattle.hs_run.proofs.running.places_of.Given as goal
 

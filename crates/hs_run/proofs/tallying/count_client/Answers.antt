@@ -2,11 +2,11 @@ use Rattle.std.proofs.Common.{◌≡◌, ℕ, ◌<◌, List, Some, get_or, lengt
 use Rattle.std.proofs.lemmas.List.{length-map}
 use Rattle.hs_lists.proofs.Lent.{lent_is, lent_from, indexed}
 use Rattle.hs_base.specs.Listing.{Listing}
-use Rattle.hs_caller.specs.Calling.{Calling}
-use Rattle.hs_counts.specs.declared.client.ClientCount.{ClientCount}
-use Rattle.hs_counts.specs.Counts.{client_count}
+use Rattle.hs_run_client.specs.Calling.{Calling}
+use Rattle.hs_run.specs.declared.client.ClientCount.{ClientCount}
+use Rattle.hs_run.specs.Counts.{client_count}
 use Rattle.hs_records.specs.Plain.{Operation}
-use Rattle.hs_sent.specs.Sending.{operations_at}
+use Rattle.hs_law_sends.specs.Sending.{operations_at}
 use Rattle.hs_workload.specs.declared.operation.Op.{Op}
 use Rattle.hs_workload.specs.declared.operation.Workload.{Workload}
 use Rattle.hs_workload.specs.Views.{operation_of, operations_of, workload_of}

@@ -2,7 +2,7 @@ use Rattle.std.proofs.Common.{◌+◌, get_or, sym, ap, subst, ◌∙◌, arith}
 use Rattle.std.proofs.lemmas.Option.{same_Some}
 use Rattle.hs_lists.proofs.Lent.{lent_from}
 use Rattle.hs_lists.proofs.Places.{get_there}
-use Rattle.hs_counts.specs.Counts.{log_count}
+use Rattle.hs_run.specs.Counts.{log_count}
 use Rattle.hs_run.specs.declared.node.Node.{Node}
 use Rattle.hs_run.specs.Changing.{FirstChanged}
 use Rattle.hs_run.specs.TallyingNodes.{LogCounted}

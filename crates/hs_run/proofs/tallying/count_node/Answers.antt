@@ -1,9 +1,9 @@
 use Rattle.std.proofs.Common.{◌≡◌, ℕ, length, Some, sym, ap, subst, ◌∙◌, arith, slice_get}
 use Rattle.hs_lists.proofs.Lent.{indexed}
 use Rattle.hs_lists.proofs.Places.{get_there}
-use Rattle.hs_desk.proofs.Few.{few_clients}
-use Rattle.hs_rounds.specs.Standing.{Site}
-use Rattle.hs_sent.specs.Sending.{place_of}
+use Rattle.hs_run_agent.proofs.Few.{few_clients}
+use Rattle.hs_run_story.specs.Standing.{Site}
+use Rattle.hs_law_sends.specs.Sending.{place_of}
 use Rattle.hs_workload.specs.Views.{workload_of}
 use Rattle.hs_workload.proofs.Sizes.{product_few, few_nodes, last_low}
 use Rattle.hs_run.specs.TallyingNodes.{CountedFirst}

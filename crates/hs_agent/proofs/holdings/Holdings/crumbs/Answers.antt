@@ -9,8 +9,8 @@ use Rattle.hs_base.specs.NodeSets.{has_node}
 use Rattle.hs_base.specs.NodeSetLaws.{same_nodes}
 use Rattle.hs_pins.specs.Remembered.{Claim, Remembered, claim_of, has_crumb}
 use Rattle.hs_pins.specs.PinsLayout.{Remembers}
-use Rattle.hs_model.specs.Claiming.{traces_of}
-use Rattle.hs_model.specs.Messages.{crumb_nodes}
+use Rattle.hs_law_agent.specs.Claiming.{traces_of}
+use Rattle.hs_law_agent.specs.Messages.{crumb_nodes}
 use Rattle.hs_agent.specs.Keeping.{Kept}
 use Rattle.hs_agent.proofs.CrumbSets.{crumb_in, has-crumbs_claimed}
 use Rattle.hs_agent.proofs.Indexing.{any-append}

@@ -5,9 +5,9 @@ use Rattle.hs_base.specs.declared.told.Why.TheVariants.{Late}
 use Rattle.hs_pins.specs.Remembered.{Claim, Remembered, claim_of, has_crumb, crumbed}
 use Rattle.hs_pins.specs.PinsLayout.{Remembers}
 use Rattle.hs_index.specs.Index.{leaving_of, settled, going}
-use Rattle.hs_model.specs.Evicting.{evict}
-use Rattle.hs_model.specs.Messages.{late_of}
-use Rattle.hs_model.specs.Stepping.{with_touched}
+use Rattle.hs_law_agent.specs.Evicting.{evict}
+use Rattle.hs_law_agent.specs.Messages.{late_of}
+use Rattle.hs_law_agent.specs.Stepping.{with_touched}
 use Rattle.hs_agent.specs.Keeping.{Kept, Point, Holds, with_state, plain_claim}
 use Rattle.hs_agent.specs.KeptLayout.{kept_in}
 use Rattle.hs_agent.specs.LettingGo.{let_go_all, evicted_going}

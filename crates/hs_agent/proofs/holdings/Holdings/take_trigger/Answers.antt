@@ -4,9 +4,9 @@ use Rattle.hs_base.specs.declared.told.Told.{Told}
 use Rattle.hs_base.specs.declared.told.Why.TheVariants.{Fired}
 use Rattle.hs_pins.specs.declared.claim.Admitted.TheVariants as admissions
 use Rattle.hs_pins.specs.Remembered.{answered}
-use Rattle.hs_model.specs.State.{AgentState}
-use Rattle.hs_model.specs.Messages.{told_of}
-use Rattle.hs_model.specs.Stepping.{admits, admit, note_trigger, count_admitted, group_of, claim_for}
+use Rattle.hs_law_agent.specs.State.{AgentState}
+use Rattle.hs_law_agent.specs.Messages.{told_of}
+use Rattle.hs_law_agent.specs.Stepping.{admits, admit, note_trigger, count_admitted, group_of, claim_for}
 use Rattle.hs_agent.specs.Keeping.{Kept, Holds, Point, with_state}
 use Rattle.hs_agent.specs.KeptLayout.{kept_in}
 use Rattle.hs_agent.specs.Points.{claimed_for}

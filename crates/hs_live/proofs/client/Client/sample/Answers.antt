@@ -5,7 +5,7 @@ use Rattle.hs_records.specs.Plain.{Sample}
 use Rattle.hs_auto.specs.Watching.{Watch}
 use Rattle.hs_auto.specs.declared.sampled.Sampled.TheVariants.{Quiet, Fired}
 use Rattle.hs_link.specs.Contents.{sent}
-use Rattle.hs_sent.proofs.Sampling.{rules_set}
+use Rattle.hs_law_sends.proofs.Sampling.{rules_set}
 use Rattle.hs_live.specs.declared.called.Called.TheVariants.{Done}
 use Rattle.hs_live.specs.Live.{Live}
 use Rattle.hs_live.specs.Done.{Does}

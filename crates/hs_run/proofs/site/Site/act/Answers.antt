@@ -2,8 +2,8 @@ use Rattle.std.proofs.Common.{◌≡◌, sym, subst, List}
 use Rattle.std.proofs.lemmas.Result.{on_ok_weaker}
 use Rattle.hs_lists.proofs.Lent.{lent_whole, lent_whole_is}
 use Rattle.hs_records.specs.Plain.{settings_of}
-use Rattle.hs_caller.specs.Calling.{Calling}
-use Rattle.hs_rounds.specs.Standing.{Site, SiteStands}
+use Rattle.hs_run_client.specs.Calling.{Calling}
+use Rattle.hs_run_story.specs.Standing.{Site, SiteStands}
 use Rattle.hs_run.specs.Going.{AllMayGo, AllHaveGone}
 use Rattle.hs_run.specs.Layout.{site_of}
 use Rattle.hs_run.specs.Sites.{HasActed}

@@ -3,10 +3,10 @@ use Rattle.std.proofs.lemmas.List.{append-nil}
 use Rattle.std.specs.Prelude.{if◌then◌else◌}
 use Rattle.hs_base.specs.NodeSets.{has_node}
 use Rattle.hs_base.specs.declared.told.Ask.{Ask}
-use Rattle.hs_desk.specs.Coordinators.{ask_for}
-use Rattle.hs_desk.specs.Manned.{Manned}
-use Rattle.hs_desk.specs.Work.{Work, with_ask, with_asks}
-use Rattle.hs_rounds.specs.Standing.{Site, SiteStands}
+use Rattle.hs_run_agent.specs.Coordinators.{ask_for}
+use Rattle.hs_run_agent.specs.Manned.{Manned}
+use Rattle.hs_run_agent.specs.Work.{Work, with_ask, with_asks}
+use Rattle.hs_run_story.specs.Standing.{Site, SiteStands}
 use Rattle.hs_run.specs.Layout.{site_of}
 use Rattle.hs_run.proofs.Telling.{on_ok_two, site_with}
 use Rattle.hs_run.proofs.site.Site.ask.Goals as goal

@@ -2,7 +2,7 @@ use Rattle.std.proofs.Common.{◌≡◌, ℕ, ◌<◌, ◌≤◌, length, Some}
 use Rattle.std.specs.Prelude.{slice_get}
 use Rattle.hs_base.specs.Listing.{Listing}
 use Rattle.hs_workload.specs.declared.operation.Op.{Op}
-use Rattle.hs_caller.specs.Calling.{Calling}
+use Rattle.hs_run_client.specs.Calling.{Calling}
 use Rattle.hs_run.proofs.site.Site.has_left.Given as goal
 
 abbrev pub invariant-loop-number : goal.invariant-loop-number

@@ -1,5 +1,5 @@
 use Rattle.std.proofs.Common.{◌≡◌, ℕ, ◌+◌, suc, ap, length, subst, arith}
-use Rattle.hs_rounds.specs.Standing.{Site}
+use Rattle.hs_run_story.specs.Standing.{Site}
 use Rattle.hs_run.specs.Sites.{HaveMet}
 use Rattle.hs_run.proofs.Meetings.{none_met, one_more, all_met}
 use Rattle.hs_run.proofs.site.Site.meet.Goals as goal

@@ -1,7 +1,7 @@
 use Rattle.std.proofs.Common.{ℕ}
-use Rattle.hs_desk.specs.Work.{Work}
+use Rattle.hs_run_agent.specs.Work.{Work}
 use Rattle.hs_records.specs.Plain.{PlainWorkload}
-use Rattle.hs_rounds.specs.Standing.{SiteStands}
+use Rattle.hs_run_story.specs.Standing.{SiteStands}
 use Rattle.hs_run.specs.Sites.{HaveMet}
 use Rattle.hs_run.proofs.site.Site.meet.Given as goal
 

@@ -1,6 +1,6 @@
 use Rattle.std.proofs.Common.{ap, sym, subst}
 use Rattle.std.proofs.lemmas.Result.{on_ok_weaker}
-use Rattle.hs_rounds.specs.Standing.{Site}
+use Rattle.hs_run_story.specs.Standing.{Site}
 use Rattle.hs_run.specs.Movings.{Tells, HasTold}
 use Rattle.hs_run.proofs.site.Site.tell.Goals as goal
 

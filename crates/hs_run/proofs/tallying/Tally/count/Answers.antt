@@ -1,5 +1,5 @@
 use Rattle.std.proofs.Common.{sym, subst}
-use Rattle.hs_counts.specs.Counts.{Counts}
+use Rattle.hs_run.specs.Counts.{Counts}
 use Rattle.hs_workload.specs.Views.{workload_of}
 use Rattle.hs_run.specs.Tallying.{MayCount}
 use Rattle.hs_run.specs.TallyLayout.{tally_of}

@@ -1,5 +1,0 @@
-use Rattle.hs_actors.proofs.Clauses.{are_bare}
-use Rattle.hs_actors.proofs.laws.doings_are_bare.Goals as goal
-
-pub returns : goal.returns
-returns c = are_bare c.doings_are_followed.ensures c.events_add_this.ensures

@@ -1,5 +1,0 @@
-use Rattle.hs_actors.proofs.Clauses.{are_enough}
-use Rattle.hs_actors.proofs.laws.doings_are_enough.Goals as goal
-
-pub returns : goal.returns
-returns c = are_enough

@@ -1,5 +1,0 @@
-use Rattle.hs_actors.proofs.Pools.{are_histories}
-use Rattle.hs_actors.proofs.laws.doings_are_histories.Goals as goal
-
-pub returns : goal.returns
-returns c = are_histories c.doings_are_followed.ensures c.events_add_this.ensures

@@ -1,5 +1,0 @@
-use Rattle.hs_actors.proofs.Clauses.{are_whole_passes}
-use Rattle.hs_actors.proofs.laws.doings_are_whole_passes.Goals as goal
-
-pub returns : goal.returns
-returns c = are_whole_passes

@@ -1,5 +1,0 @@
-use Rattle.hs_actors.proofs.Clauses.{have_shape}
-use Rattle.hs_actors.proofs.laws.doings_have_shape.Goals as goal
-
-pub returns : goal.returns
-returns c = have_shape

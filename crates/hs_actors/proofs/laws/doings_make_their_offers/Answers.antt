@@ -1,5 +1,0 @@
-use Rattle.hs_actors.proofs.Offers.{make_their_offers}
-use Rattle.hs_actors.proofs.laws.doings_make_their_offers.Goals as goal
-
-pub returns : goal.returns
-returns c = make_their_offers c.doings_are_followed.ensures c.events_add_this.ensures

@@ -1,0 +1,70 @@
+use Rattle.std.proofs.Common.{List, length, get_or, sym, ap, ◌∙◌, arith}
+use Rattle.std.specs.List.{list_all}
+use Rattle.std.proofs.lemmas.List.{drop_all}
+use Rattle.hs_journal.specs.Views.{journal_of}
+use Rattle.hs_law_journal.specs.Following.{NodeRun, followed}
+use Rattle.hs_law_journal.specs.Unreads.{before_unreads, may_be_unread}
+use Rattle.hs_workload.specs.declared.word.Setting.TheVariants as settings
+use Rattle.hs_workload.specs.Views.{workload_of}
+use Rattle.hs_check_clauses.specs.declared.found.FoundNode.{FoundNode}
+use Rattle.hs_check_clauses.proofs.Bared.{clients_counted}
+use Rattle.hs_check_clauses.proofs.Knowing.{known_at, found_counted, nodes_counted}
+use Rattle.hs_check_clauses.proofs.Ranges.{step_more, step_fails}
+use Rattle.hs_check.proofs.UnreadOffers.{unreads_are}
+use Rattle.hs_check.proofs.unreads.has_unreads.Goals as goal
+
+pub overflow_cast-node : goal.overflow_cast-node
+overflow_cast-node c =
+    let same = found_counted (workload_of c.args.workload.now) (journal_of c.args.journal.now) c.args.found.now c.following_plays_out.ensures c.runs_are_of_the_journal.ensures c.requires.followed c.requires.found in
+    let nodes = c.requires.valid.head settings.Nodes in
+    omega (arith, same, nodes.1, ap length c.as_slice-nodes.ensures)
+
+pub node_has_unreads-requires-clause-clients : goal.node_has_unreads-requires-clause-clients
+node_has_unreads-requires-clause-clients c =
+    let W = workload_of c.args.workload.now in
+    let J = journal_of c.args.journal.now in
+    let i = c.loop-node.node in
+    let f = c.index-nodes-node.result in
+    let k = known_at W J c.args.found.now c.following_plays_out.ensures c.runs_are_of_the_journal.ensures c.requires.followed c.requires.found i f (omega (arith, ap length c.as_slice-nodes.ensures))
+    (c.index-nodes-node.is ∙ ap (λ (l : List FoundNode). get_or l i f) c.as_slice-nodes.ensures) in
+    let clients = c.requires.valid.head settings.Clients in
+    omega (arith, clients_counted W J i f k, clients.1)
+
+pub node_has_unreads-requires-clause-stride : goal.node_has_unreads-requires-clause-stride
+node_has_unreads-requires-clause-stride c = let stride = c.requires.valid.head settings.Stride in omega (arith, stride.0)
+
+pub returns-then-not-branch : goal.returns-then-not-branch
+returns-then-not-branch c =
+    let W = workload_of c.args.workload.now in
+    let J = journal_of c.args.journal.now in
+    let i = c.loop-node.node in
+    let f = c.index-nodes-node.result in
+    let k = known_at W J c.args.found.now c.following_plays_out.ensures c.runs_are_of_the_journal.ensures c.requires.followed c.requires.found i f (omega (arith, ap length c.as_slice-nodes.ensures))
+    (c.index-nodes-node.is ∙ ap (λ (l : List FoundNode). get_or l i f) c.as_slice-nodes.ensures) in
+    let same = found_counted W J c.args.found.now c.following_plays_out.ensures c.runs_are_of_the_journal.ensures c.requires.followed c.requires.found in
+    let at = c.in_ok-node_has_unreads.ensures
+    ∙ unreads_are W J c.events_add_this.ensures c.events_go_on.ensures c.lists_have_their_chunks.ensures c.agents_come_by_events.ensures c.gives_are_noted.ensures c.following_plays_out.ensures i f k c.requires.stamps
+    (omega (arith, same, ap length c.as_slice-nodes.ensures)) in
+    step_fails (λ (run : NodeRun). list_all (may_be_unread W.settings run) (before_unreads run.state.log)) _ (followed W J).nodes i k.run k.here (sym at ∙ c.if-not-branch.true) c.loop-node.invariant
+
+pub loop-node-preserved : goal.loop-node-preserved
+loop-node-preserved c =
+    let W = workload_of c.args.workload.now in
+    let J = journal_of c.args.journal.now in
+    let i = c.loop-node.node in
+    let f = c.index-nodes-node.result in
+    let k = known_at W J c.args.found.now c.following_plays_out.ensures c.runs_are_of_the_journal.ensures c.requires.followed c.requires.found i f (omega (arith, ap length c.as_slice-nodes.ensures))
+    (c.index-nodes-node.is ∙ ap (λ (l : List FoundNode). get_or l i f) c.as_slice-nodes.ensures) in
+    let same = found_counted W J c.args.found.now c.following_plays_out.ensures c.runs_are_of_the_journal.ensures c.requires.followed c.requires.found in
+    let at = c.in_ok-node_has_unreads.ensures
+    ∙ unreads_are W J c.events_add_this.ensures c.events_go_on.ensures c.lists_have_their_chunks.ensures c.agents_come_by_events.ensures c.gives_are_noted.ensures c.following_plays_out.ensures i f k c.requires.stamps
+    (omega (arith, same, ap length c.as_slice-nodes.ensures)) in
+    step_more (λ (run : NodeRun). list_all (may_be_unread W.settings run) (before_unreads run.state.log)) _ (followed W J).nodes i k.run k.here (sym at ∙ c.if-not-branch.false) c.loop-node.invariant
+
+pub returns : goal.returns
+returns c =
+    let W = workload_of c.args.workload.now in
+    let J = journal_of c.args.journal.now in
+    let many = nodes_counted W J c.args.found.now c.following_plays_out.ensures c.runs_are_of_the_journal.ensures c.requires.followed c.requires.found in
+    let same = found_counted W J c.args.found.now c.following_plays_out.ensures c.runs_are_of_the_journal.ensures c.requires.followed c.requires.found in
+    sym (ap (list_all (λ (run : NodeRun). list_all (may_be_unread W.settings run) (before_unreads run.state.log))) (drop_all c.loop-node.node (followed W J).nodes (omega (arith, many, same, ap length c.as_slice-nodes.ensures)))) ∙ c.loop-node.invariant

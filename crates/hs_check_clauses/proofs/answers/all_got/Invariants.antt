@@ -1,0 +1,11 @@
+use Rattle.std.proofs.Common.{◌≡◌, ◌*◌, drop}
+use Rattle.std.specs.List.{list_all}
+use Rattle.hs_journal.specs.Views.{journal_of}
+use Rattle.hs_check_clauses.specs.Answering.{is_got}
+use Rattle.hs_check_clauses.specs.Happening.{draw_at, drawn_from}
+use Rattle.hs_check_clauses.proofs.answers.all_got.Given as goal
+
+abbrev pub invariant-loop-page : goal.invariant-loop-page
+invariant-loop-page l =
+    list_all (λ page. is_got (draw_at (drawn_from (journal_of l.journal) (l.node * l.each) l.clients) page)) (drop l.page-index l.page-items)
+    ≡ list_all (λ page. is_got (draw_at (drawn_from (journal_of l.journal) (l.node * l.each) l.clients) page)) l.page-items

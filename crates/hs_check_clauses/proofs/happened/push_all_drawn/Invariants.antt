@@ -1,0 +1,10 @@
+use Rattle.std.proofs.Common.{◌≡◌, ◌*◌, ◌+◌, ◌++◌, map, drop}
+use Rattle.std.specs.List.{flat_map}
+use Rattle.hs_journal.specs.Views.{journal_of}
+use Rattle.hs_check_clauses.specs.Happening.{timed_draw, drawn_from}
+use Rattle.hs_check_clauses.proofs.happened.push_all_drawn.Given as goal
+
+abbrev pub invariant-loop-number : goal.invariant-loop-number
+invariant-loop-number l =
+    l.events.items ++ flat_map (map timed_draw) (drawn_from (journal_of l.journal) (l.node * l.each + l.number) (drop l.number l.clients))
+    ≡ l.fn.events.items ++ flat_map (map timed_draw) (drawn_from (journal_of l.journal) (l.node * l.each) l.clients)

@@ -1,0 +1,14 @@
+use Rattle.std.proofs.Common.{◌≡◌, drop}
+use Rattle.std.specs.List.{list_all}
+use Rattle.hs_journal.specs.Views.{journal_of}
+use Rattle.hs_law_journal.specs.Following.{followed}
+use Rattle.hs_law_journal.specs.Passes.{has_offers, offers_end}
+use Rattle.hs_law_journal.specs.Played.{played}
+use Rattle.hs_records.specs.Plain.{settings_of}
+use Rattle.hs_workload.specs.Views.{workload_of}
+use Rattle.hs_check_clauses.proofs.offers.has_offers.Given as goal
+
+abbrev pub invariant-loop-node : goal.invariant-loop-node
+invariant-loop-node l =
+    list_all (offers_end (settings_of l.workload.settings)) (drop l.node (followed (workload_of l.workload) (journal_of l.journal)).nodes)
+    ≡ has_offers (played (workload_of l.workload) (journal_of l.journal))

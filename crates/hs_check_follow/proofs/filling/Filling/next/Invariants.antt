@@ -1,0 +1,15 @@
+use Rattle.std.proofs.Common.{◌≡◌, ℕ, ◌-◌, List, length, map}
+use Rattle.hs_base.specs.declared.ids.ClientId.{ClientId}
+use Rattle.hs_journal.specs.declared.journal.Draw.{Draw}
+use Rattle.hs_records.specs.Plain.{PlainSettings}
+use Rattle.hs_workload.specs.Views.{operation_of}
+use Rattle.hs_check_follow.specs.Fillings.{IsFilling}
+use Rattle.hs_check_follow.proofs.filling.Filling.next.Given as goal
+
+abbrev pub invariant-operations : goal.invariant-operations
+invariant-operations l =
+    (settings : PlainSettings) (client : ClientId) (draws : List Draw) (k : ℕ) → l.rules ≡ settings.autos → IsFilling settings client (map operation_of l.operations) draws k l.initial.self
+    → IsFilling settings client (map operation_of l.operations) draws k l.self
+
+abbrev pub decreases-operations : goal.decreases-operations
+decreases-operations l = length l.operations - l.self.player.done

@@ -1,0 +1,11 @@
+pub mod Scripts
+pub mod Fillings
+pub mod Gathering
+pub mod Sendings
+pub mod Beginning
+pub mod Clients
+pub mod Ends
+pub mod Nodes
+pub mod Noting
+pub mod Parting
+pub mod Whole

@@ -1,0 +1,132 @@
+//! What was taken of a client so far.
+
+ghost use Rattle.std.specs.Prelude.{◌≡◌, ◌<◌, ◌++◌, length, map, replicate, OnOk};
+ghost use Rattle.hs_workload.specs.Views.{operation_of};
+ghost use Rattle.hs_check_follow.specs.Gathering.{IsNew, WasSent, SendsOneMore, WasSentChunks, IsSentChunks, WasSentCrumbs, IsSentCrumbs, WasSentTriggers, IsSentTriggers};
+
+use crate::script::Script;
+use hs_base::{AutoRule, Crumb, List, Memory, Trigger};
+use hs_check_clauses::FoundClient;
+use hs_replay_client::Player;
+use hs_law_sends::laws::items_are_sent_in_order;
+use hs_law_sends::laws::the_first_chunks_are_sent;
+use hs_law_sends::laws::the_first_operations_send;
+use hs_law_sends::laws::timed_pages_are_the_pages;
+use hs_law_sends::laws::timed_pages_are_timely;
+use hs_workload::Op;
+use std::alloc::Global;
+use std::collections::VecDeque;
+
+/// The crumbs and triggers that a client sent with the operations that it has done, and which operations all that it sent is of.
+#[derive(Drop)]
+pub(crate) struct Gathering {
+    pub(crate) crumbs: VecDeque<Crumb>,
+    pub(crate) triggers: VecDeque<Trigger>,
+    pub(crate) found: FoundClient,
+}
+
+impl Gathering {
+    /// Nothing was sent.
+    pub(crate) fn new(alloc: Global) -> Gathering
+        ensures { IsNew result }
+    {
+        Gathering {
+            crumbs: VecDeque::new(alloc),
+            triggers: VecDeque::new(alloc),
+            found: FoundClient {
+                started: List::new(alloc),
+                chunks: List::new(alloc),
+                crumbs: List::new(alloc),
+                triggers: List::new(alloc),
+            },
+        }
+    }
+
+    /// The client does the operation of this number, and all that it sends with it joins what it sent before. Most operations send nothing.
+    pub(crate) fn go(
+        &mut self,
+        number: usize,
+        rules: &[AutoRule],
+        operations: &[Op],
+        script: &mut Script,
+        player: &mut Player,
+    ) -> Result<(), Memory>
+        requires number { number < length operations.now }
+        requires sent { WasSent rules.now (map operation_of operations.now) number script.old player.old self.old }
+        ensures { OnOk result (SendsOneMore rules.now (map operation_of operations.now) number script.old player.old self.old script.new player.new self.new) }
+    {
+        items_are_sent_in_order();
+        timed_pages_are_the_pages();
+        timed_pages_are_timely();
+        the_first_operations_send();
+        the_first_chunks_are_sent();
+        let left = script.left.len();
+        player.go_on(script, rules, operations, 1)?;
+        let started = left - script.left.len();
+        note_started(&mut self.found.started, number, started)?;
+        if player.is_bare() {
+            return Ok(());
+        }
+        count_chunks(&mut self.found.chunks, number, player)?;
+        take_crumbs(&mut self.crumbs, &mut self.found.crumbs, number, player)?;
+        take_triggers(&mut self.triggers, &mut self.found.triggers, number, player)
+    }
+}
+
+/// Notes that an operation started so many pages.
+fn note_started(started: &mut List<usize>, number: usize, count: usize) -> Result<(), Memory>
+    ensures { OnOk result (started.new.items ≡ started.old.items ++ replicate count number) }
+{
+    for noted in 0..count {
+        started.append(number)?;
+    }
+    Ok(())
+}
+
+/// Notes the chunks that the operation of this number sent, and lets them go.
+fn count_chunks(numbers: &mut List<usize>, number: usize, player: &mut Player) -> Result<(), Memory>
+    requires { WasSentChunks number player.old numbers.old.items }
+    ensures { OnOk result (IsSentChunks number player.old numbers.old.items player.new numbers.new.items) }
+{
+    items_are_sent_in_order();
+    while let Some(_held) = player.next_chunk() {
+        numbers.append(number)?;
+    }
+    Ok(())
+}
+
+/// Takes the crumbs that the operation of this number sent.
+fn take_crumbs(
+    queue: &mut VecDeque<Crumb>,
+    numbers: &mut List<usize>,
+    number: usize,
+    player: &mut Player,
+) -> Result<(), Memory>
+    requires { WasSentCrumbs number player.old queue.old.items numbers.old.items }
+    ensures { OnOk result (IsSentCrumbs number player.old queue.old.items numbers.old.items player.new queue.new.items numbers.new.items) }
+{
+    items_are_sent_in_order();
+    while let Some(crumb) = player.next_crumb() {
+        queue.push_back(crumb)?;
+        numbers.append(number)?;
+    }
+    Ok(())
+}
+
+/// Takes the triggers that the operation of this number sent.
+fn take_triggers(
+    queue: &mut VecDeque<Trigger>,
+    numbers: &mut List<usize>,
+    number: usize,
+    player: &mut Player,
+) -> Result<(), Memory>
+    requires { WasSentTriggers number player.old queue.old.items numbers.old.items }
+    ensures { OnOk result (IsSentTriggers number player.old queue.old.items numbers.old.items player.new queue.new.items numbers.new.items) }
+{
+    items_are_sent_in_order();
+    while let Some(trigger) = player.next_trigger() {
+        queue.push_back(trigger)?;
+        numbers.append(number)?;
+    }
+    Ok(())
+}

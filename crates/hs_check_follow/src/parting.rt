@@ -1,0 +1,129 @@
+//! What following a journal found, and what its clients and agents leave.
+
+ghost use Rattle.std.specs.Prelude.{◌≡◌, ◌++◌, ◌∷◌, [], true, map, IfOk};
+ghost use Rattle.std.specs.List.{flat_map};
+ghost use Rattle.hs_check_clauses.specs.Finding.{AreFound, IsFound};
+ghost use Rattle.hs_journal.specs.Views.{PlainJournal};
+ghost use Rattle.hs_law_journal.specs.Following.{followed, is_done};
+ghost use Rattle.hs_records.specs.Plain.{PlainWorkload};
+ghost use Rattle.hs_check_follow.specs.Parting.{books_left, IsFoundOf};
+ghost use Rattle.hs_check_follow.specs.Whole.{AllAt};
+
+use crate::follower::Follower;
+use crate::following::Following;
+use crate::tracked::Tracked;
+use hs_agent::Agent;
+use hs_base::{List, Memory};
+use hs_check_clauses::Found;
+use hs_check_clauses::FoundClient;
+use hs_check_clauses::FoundNode;
+use crate::sending::Sending;
+use hs_journal::ClientBook;
+use hs_law_journal::laws::runs_are_of_the_journal;
+use std::alloc::Global;
+
+/// What the clients noted, in the order of their numbers, and the agents.
+#[derive(Drop)]
+pub struct Ended {
+    pub clients: List<ClientBook>,
+    pub agents: List<Agent<()>>,
+}
+
+impl Following {
+    /// What was found where the whole journal was followed, and what is left.
+    pub fn part(self, alloc: Global) -> Result<(Found, Ended), Memory>
+        ensures found { (W : PlainWorkload) (J : PlainJournal) → AllAt W J (followed W J) self.nodes.items self.hearing → is_done (followed W J) ≡ true
+            → IfOk result (λ parts. IsFound W.settings (followed W J) parts.0) }
+        ensures clients { IfOk result (λ parts. parts.1.clients.items ≡ flat_map books_left self.nodes.items) }
+        ensures agents { IfOk result (λ parts. parts.1.agents.items ≡ map (λ t. t.follower.agent) self.nodes.items) }
+    {
+        runs_are_of_the_journal();
+        let Following { nodes, hearing } = self;
+        let mut ended = Ended {
+            clients: List::new(alloc),
+            agents: List::new(alloc),
+        };
+        let found = part_nodes(alloc, nodes, &mut ended)?;
+        let asked = hearing.asked;
+        Ok((
+            Found {
+                nodes: found,
+                asked,
+            },
+            ended,
+        ))
+    }
+}
+
+/// What was found at nodes.
+fn part_nodes(
+    alloc: Global,
+    nodes: List<Tracked>,
+    ended: &mut Ended,
+) -> Result<List<FoundNode>, Memory>
+    ensures found { IfOk result (λ found. AreFound IsFoundOf nodes.items found.items) }
+    ensures clients { IfOk result (λ found. ended.new.clients.items ≡ ended.old.clients.items ++ flat_map books_left nodes.items) }
+    ensures agents { IfOk result (λ found. ended.new.agents.items ≡ ended.old.agents.items ++ map (λ t. t.follower.agent) nodes.items) }
+{
+    let mut found = List::new(alloc);
+    for tracked in nodes.into_vec() {
+        found.append(part_node(alloc, tracked, ended)?)?;
+    }
+    Ok(found)
+}
+
+/// What was found at a node.
+fn part_node(alloc: Global, tracked: Tracked, ended: &mut Ended) -> Result<FoundNode, Memory>
+    ensures found { IfOk result (IsFoundOf tracked) }
+    ensures clients { IfOk result (λ found. ended.new.clients.items ≡ ended.old.clients.items ++ books_left tracked) }
+    ensures agents { IfOk result (λ found. ended.new.agents.items ≡ ended.old.agents.items ++ tracked.follower.agent ∷ []) }
+{
+    let Tracked {
+        follower,
+        next: _,
+        hands,
+        told,
+    } = tracked;
+    let Follower {
+        agent,
+        clients,
+        said,
+        asked: _,
+        gives,
+    } = follower;
+    let pinned = agent.pinned() as usize;
+    let clients = part_clients(alloc, clients, &mut ended.clients)?;
+    ended.agents.append(agent)?;
+    Ok(FoundNode {
+        clients,
+        gives,
+        hands,
+        said: told,
+        told: said.len(),
+        pinned,
+    })
+}
+
+/// What was found at clients.
+fn part_clients(
+    alloc: Global,
+    clients: List<Sending>,
+    books: &mut List<ClientBook>,
+) -> Result<List<FoundClient>, Memory>
+    ensures found { IfOk result (λ found. found.items ≡ map (λ s. s.found) clients.items) }
+    ensures books { IfOk result (λ found. books.new.items ≡ books.old.items ++ map (λ s. s.book) clients.items) }
+{
+    let mut found = List::new(alloc);
+    for sending in clients.into_vec() {
+        let Sending {
+            chunks: _,
+            crumbs: _,
+            triggers: _,
+            found: one,
+            book,
+        } = sending;
+        found.append(one)?;
+        books.append(book)?;
+    }
+    Ok(found)
+}

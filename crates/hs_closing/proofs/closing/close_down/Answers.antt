@@ -1,7 +1,0 @@
-use Rattle.std.proofs.Common.{ℕ}
-use Rattle.hs_closing.proofs.closing.close_down.Goals as goal
-
-pub returns-then-is_bare : goal.returns-then-is_bare
-returns-then-is_bare c = λ W rounds m sents at.
-    let now = c.passes.invariant.by W rounds m sents at in
-    record { at = now; bare = c.is_bare.ensures W sents (λ (node : ℕ). (now.posts node).work) now.stand.stands c.if-is_bare.true }

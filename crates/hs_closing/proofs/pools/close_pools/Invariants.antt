@@ -1,8 +1,0 @@
-use Rattle.std.proofs.Common.{map}
-use Rattle.hs_journal.specs.Books.{agent_book_of}
-use Rattle.hs_closing.specs.Ended.{HaveFinished}
-use Rattle.hs_closing.proofs.pools.close_pools.Given as goal
-
-abbrev pub invariant-loop-node : goal.invariant-loop-node
-invariant-loop-node l =
-    (goal.iterator-loop-node).can_next l.node-iterator × (goal.iterator-loop-node).is_finite l.node-iterator × HaveFinished (map (λ p. p.0) l.yielded) (map (λ p. p.1.items) l.yielded) (map agent_book_of l.books.items)

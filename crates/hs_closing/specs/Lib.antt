@@ -1,5 +1,0 @@
-pub mod Over
-pub mod Ended
-pub mod Noted
-pub mod Finished
-pub mod Shutting

@@ -1,4 +1,0 @@
-pub mod Sums
-pub mod Counted
-pub mod Seeing
-pub mod AllRounds

@@ -1,7 +1,0 @@
-use Rattle.std.proofs.Common.{◌≡◌, map, take, count_by}
-use Rattle.hs_progress.specs.Progress.{is_point}
-use Rattle.hs_workload.specs.Views.{operation_of}
-use Rattle.hs_counts.proofs.client.points_on.Given as goal
-
-abbrev pub invariant-loop-place : goal.invariant-loop-place
-invariant-loop-place l = l.points ≡ count_by is_point (take l.place (map operation_of l.operations))

@@ -1,9 +1,0 @@
-use Rattle.hs_journal.specs.Views.{journal_of}
-use Rattle.hs_lawful.specs.Following.{node_start}
-use Rattle.hs_workload.specs.Views.{workload_of}
-use Rattle.hs_followed.specs.Beginning.{AreFirst}
-use Rattle.hs_followed.specs.Whole.{NodeAt}
-use Rattle.hs_followed.proofs.making.begin.Given as goal
-
-abbrev pub invariant-loop-node : goal.invariant-loop-node
-invariant-loop-node l = AreFirst (λ n t. NodeAt (workload_of l.workload) (journal_of l.journal) (node_start (workload_of l.workload) (journal_of l.journal) n) t) l.node l.nodes.items

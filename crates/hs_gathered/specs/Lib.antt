@@ -1,4 +1,0 @@
-pub mod Ends
-pub mod Stories
-pub mod Laws
-pub mod UnreadExample

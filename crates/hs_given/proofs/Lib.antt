@@ -1,9 +1,0 @@
-pub mod Queues
-pub mod Taking
-pub mod Scripted
-pub mod Starts
-pub mod Drawing
-pub mod Filled
-pub mod Going
-pub mod Whole
-pub mod Beginning

@@ -1,9 +1,0 @@
-use Rattle.std.proofs.Common.{map, refl}
-use Rattle.hs_records.specs.Plain.{settings_of}
-use Rattle.hs_workload.specs.Views.{operation_of}
-use Rattle.hs_given.proofs.Beginning.{fills_so}
-use Rattle.hs_given.proofs.filling.Filling.make.Goals as goal
-
-pub returns : goal.returns
-returns c =
-    fills_so (settings_of c.args.settings.now) c.args.client (map operation_of c.args.operations.now) c.args.draws.now _ refl c.requires.each c.in_ok-script.ensures.left c.in_ok-script.ensures.size c.in_ok-player.ensures

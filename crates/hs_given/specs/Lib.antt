@@ -1,4 +1,0 @@
-pub mod Scripts
-pub mod Fillings
-pub mod Gathering
-pub mod Sendings

@@ -1,4 +1,0 @@
-pub mod Abandonment
-pub mod Asking
-pub mod Followed
-pub mod Reporting

@@ -1,3 +1,0 @@
-pub mod Abandonment
-pub mod Asking
-pub mod Headline

@@ -1,0 +1,18 @@
+use Rattle.hs_law_lockstep.proofs.laws.schedule_is_lawful.Goals as goal
+
+pub returns : goal.returns
+returns c = λ W valid.
+    let runs = c.valid_workloads_run.ensures W valid in
+    record {
+      L1 = c.schedule_has_shape.ensures W runs.laid;
+      L2 = c.schedule_has_stamps.ensures W runs.laid;
+      L3 = c.schedule_has_history.ensures W;
+      L4 = c.schedule_has_answers.ensures W;
+      L5 = c.schedule_has_passes.ensures W;
+      L6 = c.schedule_has_offers.ensures W;
+      L7 = c.schedule_has_unreads.ensures W;
+      L8 = c.schedule_is_followed.ensures W;
+      L9 = c.schedule_has_rounds.ensures W;
+      L10 = c.schedule_is_bare.ensures W runs;
+      L11 = c.schedule_has_pace.ensures W runs.laid runs.size;
+    }

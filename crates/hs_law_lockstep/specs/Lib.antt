@@ -1,0 +1,9 @@
+pub mod Lockstep
+pub mod Laws
+pub mod Clauses
+pub mod Reaching
+pub mod Parts
+pub mod Conditions
+pub mod Ending
+pub mod PartExamples
+pub mod Examples

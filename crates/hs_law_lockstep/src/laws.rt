@@ -1,0 +1,205 @@
+//! What holds of the lockstep schedule. These functions do nothing: their contracts say it.
+
+ghost use Rattle.hs_law_lockstep.specs.Laws.{VersionsHaveOneSchedule};
+ghost use Rattle.hs_law_lockstep.specs.Reaching.{MachinesAreWhole, MachinesStartSo, MachinesLeadOn};
+ghost use Rattle.hs_law_lockstep.specs.Parts.{ClientsGoSo, AgentsTakeSo, AgentsGiveSo, CoordinatorHearsSo};
+ghost use Rattle.hs_law_lockstep.specs.Conditions.{MachinesFit, MachinesTellWithin};
+ghost use Rattle.hs_law_lockstep.specs.Ending.{RoundsEnd, ClosingEnds};
+ghost use Rattle.hs_law_lockstep.specs.Clauses.{ScheduleHasShape, ScheduleHasStamps, ScheduleHasHistory, ScheduleHasAnswers, ScheduleHasPasses, ScheduleHasOffers, ScheduleIsFollowed, ScheduleHasUnreads, ScheduleHasRounds, ScheduleHasPace, ScheduleIsBare, ScheduleIsLawful, ValidWorkloadsRun};
+
+use hs_law_journal::laws::following_plays_out;
+use hs_law_journal::laws::runs_are_of_the_journal;
+use hs_law_agent::laws::crumbs_lead_below;
+use hs_records::pieces_are_counted;
+use hs_law_journal::laws::known;
+
+/// A workload has one schedule, whichever version it is written in.
+pub fn versions_have_one_schedule()
+    ensures { VersionsHaveOneSchedule }
+{}
+
+/// No offer of the schedule is unread.
+pub fn schedule_has_unreads()
+    ensures { ScheduleHasUnreads }
+{
+    following_plays_out();
+    runs_are_of_the_journal();
+}
+
+/// All agents of the schedule make equally many passes, at least as many as there are rounds.
+pub fn schedule_has_rounds()
+    ensures { ScheduleHasRounds }
+{
+    following_plays_out();
+    runs_are_of_the_journal();
+}
+
+/// Following the schedule leaves no step over.
+pub fn schedule_is_followed()
+    ensures { ScheduleIsFollowed }
+{
+    known();
+}
+
+/// The schedule has the shape of its workload.
+pub fn schedule_has_shape()
+    ensures { ScheduleHasShape }
+{
+    known();
+}
+
+/// Each log of the schedule is a list of whole passes.
+pub fn schedule_has_passes()
+    ensures { ScheduleHasPasses }
+{
+    following_plays_out();
+    runs_are_of_the_journal();
+}
+
+/// In each pass of the schedule all offers are made.
+pub fn schedule_has_offers()
+    ensures { ScheduleHasOffers }
+{
+    known();
+}
+
+/// The stamps of each node number the events of its pool.
+pub fn schedule_has_stamps()
+    ensures { ScheduleHasStamps }
+{
+    known();
+}
+
+/// The events of each node's pool are a history of it.
+pub fn schedule_has_history()
+    ensures { ScheduleHasHistory }
+{
+    known();
+}
+
+/// Each give of the schedule answers the draw of its chunk.
+pub fn schedule_has_answers()
+    ensures { ScheduleHasAnswers }
+{
+    known();
+}
+
+/// Agents and coordinator of the schedule keep pace with the clients.
+pub fn schedule_has_pace()
+    ensures { ScheduleHasPace }
+{
+    known();
+}
+
+/// Closing ends, and then nothing is left over.
+pub fn schedule_is_bare()
+    ensures { ScheduleIsBare }
+{
+    known();
+}
+
+/// Valid workloads have all that the laws of the schedule ask for.
+pub fn valid_workloads_run()
+    ensures { ValidWorkloadsRun }
+{}
+
+/// The lockstep journal of each valid workload is lawful.
+pub fn schedule_is_lawful()
+    ensures { ScheduleIsLawful }
+{
+    valid_workloads_run();
+    schedule_has_shape();
+    schedule_has_stamps();
+    schedule_has_history();
+    schedule_has_answers();
+    schedule_has_passes();
+    schedule_has_offers();
+    schedule_has_unreads();
+    schedule_is_followed();
+    schedule_has_rounds();
+    schedule_is_bare();
+    schedule_has_pace();
+}
+
+/// What a machine noted up to some part of a round is performed, and nothing of it is left over.
+pub fn machines_are_whole()
+    ensures { MachinesAreWhole }
+{
+    known();
+    valid_workloads_run();
+}
+
+/// At the start nothing was performed.
+pub fn machines_start_so()
+    ensures { MachinesStartSo }
+{
+    known();
+}
+
+/// All parts of rounds and passes lead from machine to machine.
+pub fn machines_lead_on()
+    ensures { MachinesLeadOn }
+{}
+
+/// A client's turn draws from its node's pool, and leaves all else.
+pub fn clients_go_so()
+    ensures { ClientsGoSo }
+{
+    known();
+    valid_workloads_run();
+}
+
+/// What the agents take is ready step by step.
+pub fn agents_take_so()
+    ensures { AgentsTakeSo }
+{
+    known();
+}
+
+/// What the agents give may be given, step by step.
+pub fn agents_give_so()
+    ensures { AgentsGiveSo }
+{
+    known();
+    valid_workloads_run();
+}
+
+/// The coordinator hears what the nodes told, one message after another.
+pub fn coordinator_hears_so()
+    ensures { CoordinatorHearsSo }
+{
+    known();
+}
+
+/// On the way through the schedule all that is taken, told and given fits.
+pub fn machines_fit()
+    ensures { MachinesFit }
+{
+    known();
+    valid_workloads_run();
+}
+
+/// There are as many rounds as the longest client needs.
+pub fn rounds_end()
+    ensures { RoundsEnd }
+{
+    known();
+    valid_workloads_run();
+}
+
+/// The closing ends where nothing waits any more, and no earlier.
+pub fn closing_ends()
+    ensures { ClosingEnds }
+{
+    schedule_is_bare();
+    pieces_are_counted();
+    valid_workloads_run();
+}
+
+/// What agents tell leads to nodes that there are.
+pub fn machines_tell_within()
+    ensures { MachinesTellWithin }
+{
+    following_plays_out();
+    crumbs_lead_below();
+}

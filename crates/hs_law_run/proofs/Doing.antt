@@ -1,0 +1,186 @@
+-- What a story does, as doings told pass by pass.
+use Rattle.std.proofs.Common.{◌≡◌, ℕ, suc, ◌+◌, ◌<◌, ◌≤◌, Bool, true, false, List, [], ◌∷◌, length, refl, sym, ap, subst, ◌∙◌, Option, Some, unwrap_or, arith, map, filter, slice_get, count_by, nat_lt, ltb-true, ltb-false}
+use Rattle.std.specs.List.{AllByRecursion, range_with_len}
+use Rattle.hs_lists.proofs.Ranges.{map_range_at}
+use Rattle.hs_lists.proofs.Alls.{all_each, all_by_place}
+use Rattle.hs_coord.specs.Messages.{message}
+use Rattle.hs_journal.specs.declared.journal.Draw.{Draw}
+use Rattle.hs_journal.specs.Views.{PlainJournal}
+use Rattle.hs_law_agent.specs.Laws.{sheets_of}
+use Rattle.hs_law_agent.specs.State.{AgentState, start}
+use Rattle.hs_law_agent.specs.Stepping.{Event, after}
+use Rattle.hs_records.specs.Plain.{PlainWorkload}
+use Rattle.hs_law_sends.specs.Sending.{ClientSends, client_sends, sends_of, draws_at, place_of, ops_of}
+use Rattle.hs_law_sends.specs.OneMore.{items_of}
+use Rattle.hs_words.specs.Ends.{IsTogether}
+use Rattle.hs_law_journal.specs.Following.{asks_to, is_from}
+use Rattle.hs_law_run.specs.Pools.{draw_answer}
+use Rattle.hs_workload.specs.Validity.{IsValid}
+use Rattle.hs_law_journal.specs.Doings.{NodeDoings, all_events, events_in, state_after, last_state, chunks_in, crumbs_in, triggers_in, asks_in, heard_in, all_heard, journal_of}
+use Rattle.hs_law_journal.specs.LoopPasses.{IsPass, IsOwn, HandsReady, EndsPass}
+use Rattle.hs_law_run.specs.Facts.{TookAllOf, IsPlayable, EndOffersFrom}
+use Rattle.hs_law_journal.specs.Turns.{AreTurns}
+use Rattle.hs_law_run.specs.Ends.{GoesOn}
+use Rattle.hs_law_run.specs.Stories.{NodeStory, Story, added, node_doings, doings_of, draws_of, sends_at, state_by, IsQueueStory, sent_by, TakesFrom, TalksWith, PoolsWith, IsNodeStory, IsStory}
+use Rattle.hs_law_run.specs.Stories as stories
+use Rattle.hs_law_run.proofs.PoolOf.{IsDrawnFor, IsPoolOf}
+use Rattle.hs_law_run.proofs.Grown.{mapped_long, unmapped_at, grown, grown_all, grown_beyond}
+use Rattle.hs_law_run.proofs.Workloads.{place_low}
+
+module _ (W : PlainWorkload) (s : Story) (story : IsStory W s) where
+  abbrev pub journal : PlainJournal
+  journal = journal_of W (doings_of W s)
+
+  pub heard_are : (k : ℕ) → k ≤ s.passes → heard_in (doings_of W s) k ≡ s.heard k
+  heard_are k low = grown s.heard s.passes story.begins story.grows k low
+
+  pub all_heard_are : all_heard (doings_of W s) ≡ s.heard s.passes
+  all_heard_are = grown_all s.heard s.passes story.begins story.grows
+
+  heard_beyond : (k : ℕ) → s.passes ≤ k → heard_in (doings_of W s) k ≡ s.heard s.passes
+  heard_beyond k high = grown_beyond s.heard s.passes story.begins story.grows k high
+
+  -- ---- draws
+
+  pub draws_are : (place : ℕ) → place < length W.clients → draws_at (journal_of W (doings_of W s)) place ≡ s.draws place
+  draws_are place low = ap (λ (o : Option (List Draw)). unwrap_or o []) (map_range_at s.draws (length W.clients) place low)
+
+  pub own_draws : IsValid W → (node client : ℕ) → node < W.settings.nodes → client < W.settings.clients → draws_at (journal_of W (doings_of W s)) (place_of W.settings.clients node client) ≡ draws_of W s node client
+  own_draws valid node client low few = draws_are (place_of W.settings.clients node client) (place_low W valid node client low few)
+
+  pub own_sends : IsValid W → (node client : ℕ) → node < W.settings.nodes → client < W.settings.clients → client_sends W (journal_of W (doings_of W s)) node client ≡ sends_at W s node client
+  own_sends valid node client low few = ap (sends_of W.settings (record { node = node; number = client }) (ops_of W node client)) (own_draws valid node client low few)
+
+  module _ (node : ℕ) (low : node < W.settings.nodes) where
+    abbrev pub doings : NodeDoings
+    doings = node_doings s node
+
+    own : IsNodeStory W s node
+    own = story.each node low
+
+    pub events_are : (k : ℕ) → k ≤ s.passes → events_in (node_doings s node) k ≡ (s.nodes node).events k
+    events_are k few = grown (s.nodes node).events s.passes (story.each node low).begins (story.each node low).grows k few
+
+    pub all_events_are : all_events (node_doings s node) ≡ (s.nodes node).events s.passes
+    all_events_are = grown_all (s.nodes node).events s.passes (story.each node low).begins (story.each node low).grows
+
+    pub events_beyond : (k : ℕ) → s.passes ≤ k → events_in (node_doings s node) k ≡ (s.nodes node).events s.passes
+    events_beyond k high = grown_beyond (s.nodes node).events s.passes (story.each node low).begins (story.each node low).grows k high
+
+    pub state_is : last_state W.settings (node_doings s node) ≡ state_by W s node s.passes
+    state_is = ap (after W.settings node) all_events_are
+
+    pub state_there : (k : ℕ) → k ≤ s.passes → state_after W.settings (node_doings s node) k ≡ state_by W s node k
+    state_there k few = ap (after W.settings node) (events_are k few)
+
+    pub long : length (node_doings s node).passes ≡ s.passes
+    long = mapped_long (added (s.nodes node).events) s.passes
+
+    -- ---- what may be told
+
+    said_before : (k : ℕ) → count_by (is_from (record { 0 = node })) (heard_in (doings_of W s) k) ≤ length (state_after W.settings (node_doings s node) k).said
+    said_before k = either (nat_lt s.passes k) refl
+      where
+        either : (b : Bool) → nat_lt s.passes k ≡ b → count_by (is_from (record { 0 = node })) (heard_in (doings_of W s) k) ≤ length (state_after W.settings (node_doings s node) k).said
+        either true e =
+            let high = ltb-true s.passes k e in
+            let h = ap (count_by (is_from (record { 0 = node }))) (heard_beyond k (omega (arith, high))) in
+            let t = ap (λ (events : List Event). length (after W.settings node events).said) (events_beyond k (omega (arith, high))) in
+            let all = (story.each node low).talks.said_before s.passes (omega arith) in
+            omega (arith, h, t, all)
+        either false e =
+            let few = ltb-false s.passes k e in
+            let h = ap (count_by (is_from (record { 0 = node }))) (heard_are k few) in
+            let t = ap (λ (state : AgentState). length state.said) (state_there k few) in
+            let some = (story.each node low).talks.said_before k few in
+            omega (arith, h, t, some)
+
+    asked_before : (k : ℕ) → length (asks_in (events_in (node_doings s node) (suc k))) ≤ length (asks_to node (heard_in (doings_of W s) k))
+    asked_before k = either (nat_lt k s.passes) refl
+      where
+        either : (b : Bool) → nat_lt k s.passes ≡ b → length (asks_in (events_in (node_doings s node) (suc k))) ≤ length (asks_to node (heard_in (doings_of W s) k))
+        either true e =
+            let few = ltb-true k s.passes e in
+            let h = ap (λ heard. length (asks_to node heard)) (heard_are k (omega (arith, few))) in
+            let t = ap (λ (events : List Event). length (asks_in events)) (events_are (suc k) (omega (arith, few))) in
+            let some = (story.each node low).talks.asked_before k few in
+            omega (arith, h, t, some)
+        either false e =
+            let high = ltb-false k s.passes e in
+            let h = ap (λ heard. length (asks_to node heard)) (heard_beyond k high) in
+            let t = ap (λ (events : List Event). length (asks_in events)) (events_beyond (suc k) (omega (arith, high))) in
+            let all = ap length (story.each node low).talks.asks_all in
+            omega (arith, h, t, all)
+
+    took : IsValid W → (client : ℕ) → client < W.settings.clients → TookAllOf W (journal_of W (doings_of W s)) (node_doings s node) client
+    took valid client few =
+        let t = (story.each node low).takes client few in
+        let sends = sym (own_sends valid node client low few) in
+        record {
+          chunks = ap (chunks_in client) all_events_are ∙ t.chunks_all ∙ ap (λ (c : ClientSends). items_of c.chunks) sends;
+          crumbs = ap (crumbs_in client) all_events_are ∙ t.crumbs_all ∙ ap (λ (c : ClientSends). items_of c.crumbs) sends;
+          triggers = ap (triggers_in client) all_events_are ∙ t.triggers_all ∙ ap (λ (c : ClientSends). items_of c.triggers) sends;
+        }
+
+    pub is_playable : IsValid W → IsPlayable W (doings_of W s) (node_doings s node)
+    is_playable valid =
+        record {
+          own = subst (AllByRecursion (IsOwn W)) (sym all_events_are) (story.each node low).own;
+          took = took valid;
+          asked = ap asks_in all_events_are ∙ (story.each node low).talks.asks_all ∙ ap (asks_to node) (sym all_heard_are);
+          heard = ap (filter (is_from (record { 0 = node }))) all_heard_are ∙ (story.each node low).talks.said_all ∙ ap (λ (state : AgentState). map (message (record { 0 = node })) state.said) (sym state_is);
+          hands = subst (HandsReady W.settings node (start W.settings)) (sym all_events_are) (story.each node low).hands;
+          asked_before = asked_before;
+          said_before = said_before;
+        }
+
+    -- ---- passes
+
+    pub each_pass : AllByRecursion (IsPass W) (node_doings s node).passes
+    each_pass =
+        all_by_place (IsPass W) (node_doings s node).passes
+        (λ k pass h. let at = unmapped_at (added (s.nodes node).events) s.passes k pass h in subst (IsPass W) at.is ((story.each node low).ends k at.low).is_pass)
+
+    offers_from : (place : ℕ) (passes : List (List Event)) → ((i : ℕ) (pass : List Event) → slice_get passes i ≡ Some pass → EndsPass W (state_after W.settings (node_doings s node) (suc (place + i))) pass) → EndOffersFrom W (node_doings s node) place passes
+    offers_from place [] each = tt
+    offers_from place (pass ∷ passes) each =
+        let zeroth : place + 0 ≡ place = omega arith in (
+          subst (λ m. EndsPass W (state_after W.settings (node_doings s node) (suc m)) pass) zeroth (each 0 pass refl),
+          offers_from (suc place) passes (λ i p h. let next : place + suc i ≡ suc place + i = omega arith in subst (λ m. EndsPass W (state_after W.settings (node_doings s node) (suc m)) p) next (each (suc i) p h)),
+        )
+
+    ends_offers : (k : ℕ) (pass : List Event) → slice_get (node_doings s node).passes k ≡ Some pass → EndsPass W (state_after W.settings (node_doings s node) (suc (0 + k))) pass
+    ends_offers k pass h =
+        let at = unmapped_at (added (s.nodes node).events) s.passes k pass h in
+        let zeroth : k ≡ 0 + k = omega arith in
+        let there = state_there (suc k) (let few = at.low in omega (arith, few)) in
+        subst (λ m. EndsPass W (state_after W.settings (node_doings s node) (suc m)) pass) zeroth
+        (subst (EndsPass W (state_after W.settings (node_doings s node) (suc k))) at.is (subst (λ (state : AgentState). EndsPass W state (added (s.nodes node).events k)) (sym there) ((story.each node low).ends k at.low)))
+
+    pub all_offers : EndOffersFrom W (node_doings s node) 0 (node_doings s node).passes
+    all_offers = offers_from 0 (node_doings s node).passes ends_offers
+
+    -- ---- the pool
+
+    pub pool_of : IsValid W → IsPoolOf W (journal_of W (doings_of W s)) (node_doings s node) s.rounds
+    pool_of valid =
+        let p = (story.each node low).pools in
+        let count = long in
+        let enough = story.enough in
+        record {
+          at = (s.nodes node).ends;
+          enough = omega (arith, count, enough);
+          new = p.new;
+          passes = λ k pass h. let at = unmapped_at (added (s.nodes node).events) s.passes k pass h in subst (λ pass. GoesOn pass ((s.nodes node).ends k) ((s.nodes node).ends (suc k))) at.is (p.passes k at.low);
+          meets = p.meets;
+          started = p.started;
+          done = (story.each node low).done;
+          drawn = λ client few. ap (map draw_answer) (own_draws valid node client low few) ∙ p.drawn client few;
+          lents = (s.nodes node).lents;
+          turns = λ k few. subst (λ (events : List Event). AreTurns W.settings node (s.nodes node).lents events ((s.nodes node).ends k).turns) (sym (events_are k (omega (arith, few, count)))) (p.turns k (omega (arith, few, count)));
+          sheets = p.sheets ∙ ap (λ (state : AgentState). sheets_of state.taken) (sym state_is);
+          leases = all_each (stories.IsDrawnFor W s node) (IsDrawnFor W (journal_of W (doings_of W s)) node) (s.nodes node).lents
+              (λ lent d. record { client = d.client; draw = ap (λ (list : List Draw). slice_get list lent.sheet.header.page) (own_draws valid node lent.sheet.header.client.number low d.client) ∙ d.draw }) p.leases;
+          log = (s.nodes node).log;
+          together = subst (λ m. IsTogether W.settings.buffers ((s.nodes node).ends m).turns (map ((s.nodes node).ends s.rounds).answers (range_with_len 0 W.settings.clients)) (s.nodes node).log) (sym count) p.together;
+        }

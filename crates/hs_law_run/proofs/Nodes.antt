@@ -1,0 +1,40 @@
+-- The nodes of what was done stand by their numbers, and their logs in the journal.
+use Rattle.std.proofs.Common.{◌≡◌, ℕ, ◌+◌, ◌<◌, List, [], ◌∷◌, ◌++◌, append-nil, append_assoc, refl, sym, ap, ◌∙◌, Option, Some, None, arith, map, option_map, slice_get, unwrap_or}
+use Rattle.std.proofs.lemmas.Option.{slice_get-map, same_Some}
+use Rattle.hs_lists.proofs.Ranges.{range_at}
+use Rattle.hs_journal.specs.declared.journal.Step.{Step}
+use Rattle.hs_law_agent.specs.Laws.{noted_as, EventsAddThis}
+use Rattle.hs_law_agent.specs.State.{AgentState, start}
+use Rattle.hs_law_agent.specs.Stepping.{Event, after_event, after_from, after}
+use Rattle.hs_records.specs.Plain.{PlainSettings, PlainWorkload}
+use Rattle.hs_law_journal.specs.Following.{log_at}
+use Rattle.hs_law_journal.specs.Doings.{NodeDoings, Doings, all_events, steps_of, journal_of}
+use Rattle.hs_law_run.specs.Facts.{ArePlayable}
+
+module _ (W : PlainWorkload) (d : Doings) (facts : ArePlayable W d) where
+  pub node_there : (v : ℕ) → v < W.settings.nodes → (n : NodeDoings) × (slice_get d.nodes v ≡ Some n) × (n.node ≡ v)
+  node_there v low =
+      let named : slice_get (map (λ (n : NodeDoings). n.node) d.nodes) v ≡ Some (0 + v) = ap (λ names. slice_get names v) facts.numbers ∙ range_at 0 W.settings.nodes v low in
+      let found = unmapped (slice_get d.nodes v) (0 + v) (sym (slice_get-map (λ (n : NodeDoings). n.node) d.nodes v) ∙ named) in
+      let zeroth : 0 + v ≡ v = omega arith in (found.0, found.1, found.2 ∙ zeroth)
+    where
+      unmapped : (o : Option NodeDoings) (y : ℕ) → option_map (λ (n : NodeDoings). n.node) o ≡ Some y → (n : NodeDoings) × (o ≡ Some n) × (n.node ≡ y)
+      unmapped None y h = let no : None ≡ Some y = h in absurd cc
+      unmapped (Some n) y h = (n, refl, same_Some n.node y h)
+
+  pub log_there : (v : ℕ) (n : NodeDoings) → slice_get d.nodes v ≡ Some n → log_at (journal_of W d) v ≡ steps_of (all_events n)
+  log_there v n h =
+      ap (λ (o : Option (List Step)). unwrap_or o []) (slice_get-map (λ (n : NodeDoings). steps_of (all_events n)) d.nodes v ∙ ap (option_map (λ (n : NodeDoings). steps_of (all_events n))) h)
+
+-- ---- logs
+
+-- each event is noted
+pub log_on : EventsAddThis → (settings : PlainSettings) (node : ℕ) (events : List Event) (state : AgentState) → (after_from settings node state events).log ≡ state.log ++ steps_of events
+log_on adds settings node [] state = sym (append-nil state.log)
+log_on adds settings node (event ∷ events) state =
+    log_on adds settings node events (after_event settings node state event)
+    ∙ ap (λ log. log ++ steps_of events) ((adds settings node state).log event)
+    ∙ append_assoc state.log (noted_as event ∷ []) (steps_of events)
+
+pub own_log : EventsAddThis → (settings : PlainSettings) (node : ℕ) (events : List Event) → (after settings node events).log ≡ steps_of events
+own_log adds settings node events = log_on adds settings node events (start settings)

@@ -1,0 +1,141 @@
+-- A pass that offers until its hand is empty, or until an offer is unread, makes all its offers.
+use Rattle.std.proofs.Common.{◌≡◌, ◌⊎◌, inl, inr, ℕ, zero, suc, ◌+◌, ◌-◌, true, false, ◌||◌, ◌==◌, not, List, [], ◌∷◌, ◌++◌, length, take, drop, refl, sym, ap, subst, ◌∙◌, arith, map, zip, append_assoc, eq-eqb}
+use Rattle.std.specs.List.{AllByRecursion, range_with_len, list_all, list_any}
+use Rattle.std.proofs.lemmas.Bool.{or_right, and_from}
+use Rattle.std.proofs.lemmas.List.{length-append, map-append}
+use Rattle.hs_lists.proofs.Alls.{all_append}
+use Rattle.hs_journal.specs.declared.journal.Step.{Step}
+use Rattle.hs_journal.specs.declared.journal.Step.TheVariants as steps
+use Rattle.hs_journal.specs.Views.{PlainJournal}
+use Rattle.hs_law_agent.specs.Laws.{EventsAddThis}
+use Rattle.hs_law_agent.specs.State.{AgentState}
+use Rattle.hs_law_agent.specs.Stepping.{Answered, Given, Missed, Unread, Event, step_of_answer}
+use Rattle.hs_records.specs.Plain.{PlainWorkload}
+use Rattle.hs_law_journal.specs.Following.{NodeRun, Run}
+use Rattle.hs_law_journal.specs.Passes.{queues_of, is_offer, is_unread, but_last, last_of, steps_in, pass_ends, offers_end}
+use Rattle.hs_law_journal.specs.Played.{state_behind}
+use Rattle.hs_law_journal.proofs.Logs.{IsTake}
+use Rattle.hs_law_journal.specs.Doings.{NodeDoings, steps_of, state_after, journal_of, node_at_end}
+use Rattle.hs_law_journal.specs.LoopPasses.{IsPass, IsStamped, EndsPass}
+use Rattle.hs_law_run.specs.Facts.{EndOffersFrom}
+use Rattle.hs_law_run.specs.Playing.{DoingsAreFollowed, MakeTheirOffers}
+use Rattle.hs_law_run.proofs.Behind.{log_passes, state_there}
+use Rattle.hs_law_run.proofs.Clauses.{mapped_true}
+use Rattle.hs_law_journal.proofs.Passes.{items, offers_of, all_takes}
+
+-- ---- none is unread
+
+abbrev NoUnread : List Step → Type 0
+NoUnread log = AllByRecursion (λ s. is_unread s ≡ false) log
+
+none_any : (log : List Step) → NoUnread log → list_any is_unread log ≡ false
+none_any [] all = refl
+none_any (step ∷ log) all = ap (λ b. b || list_any is_unread log) all.0 ∙ none_any log all.1
+
+none_taken : (k : ℕ) (log : List Step) → NoUnread log → NoUnread (take k log)
+none_taken zero log all = tt
+none_taken (suc k) [] all = tt
+none_taken (suc k) (step ∷ log) all = (all.0, none_taken k log all.1)
+
+no_take : (log : List Step) → AllByRecursion IsTake log → NoUnread log
+no_take [] all = tt
+no_take (step ∷ log) all = (no_offer step all.0.offer, no_take log all.1)
+  where
+    no_offer : (step : Step) → is_offer step ≡ false → is_unread step ≡ false
+    no_offer (steps.Chunk c) h = refl
+    no_offer (steps.Crumb c) h = refl
+    no_offer (steps.Trigger c) h = refl
+    no_offer steps.Ask h = refl
+    no_offer steps.Turn h = refl
+    no_offer (steps.Given stamp) h = refl
+    no_offer (steps.Missed stamp) h = refl
+    no_offer steps.Unread h = h
+
+no_stamped : (offers : List Answered) → AllByRecursion IsStamped offers → NoUnread (offers_of offers)
+no_stamped [] all = tt
+no_stamped (Given stamp ∷ offers) all = (refl, no_stamped offers all.1)
+no_stamped (Missed stamp ∷ offers) all = (refl, no_stamped offers all.1)
+no_stamped (Unread ∷ offers) all = absurd all.0
+
+-- ---- the last step
+
+but_last_is : (log : List Step) (last : Step) → but_last (log ++ last ∷ []) ≡ log
+but_last_is log last = let long = length-append log (last ∷ []) in let less : length (log ++ last ∷ []) - 1 ≡ length log = omega (arith, long) in ap (λ k. take k (log ++ last ∷ [])) less ∙ front log
+  where
+    front : (log : List Step) → take (length log) (log ++ last ∷ []) ≡ log
+    front [] = refl
+    front (step ∷ log) = ap (λ rest. step ∷ rest) (front log)
+
+last_is : (log : List Step) (last : Step) → last_of (log ++ last ∷ []) ≡ last ∷ []
+last_is log last = let long = length-append log (last ∷ []) in let less : length (log ++ last ∷ []) - 1 ≡ length log = omega (arith, long) in ap (λ k. drop k (log ++ last ∷ [])) less ∙ back log
+  where
+    back : (log : List Step) → drop (length log) (log ++ last ∷ []) ≡ last ∷ []
+    back [] = refl
+    back (step ∷ log) = back log
+
+module _ (adds : EventsAddThis) (W : PlainWorkload) (J : PlainJournal) (n : NodeDoings) where
+  all_passes : (place : ℕ) (passes : List (List Event)) → EndOffersFrom W n place passes → AllByRecursion (IsPass W) passes
+  all_passes place [] all = tt
+  all_passes place (pass ∷ passes) all = (all.0.is_pass, all_passes (suc place) passes all.1)
+
+  module _ (all : EndOffersFrom W n 0 n.passes) where
+    abbrev run : NodeRun
+    run = node_at_end W J n
+
+    abbrev cut : List (List Step)
+    cut = map steps_of n.passes
+
+    ends_at : (place : ℕ) (pass : List Event) → EndsPass W (state_after W.settings n (suc place)) pass → pass_ends W.settings run cut (suc place) (steps_of pass) ≡ true
+    ends_at place pass e = either e.ends
+      where
+        quiet : NoUnread (items W pass e.is_pass)
+        quiet = no_take (items W pass e.is_pass) (all_takes e.is_pass.counts (queues_of W))
+
+        front : NoUnread (items W pass e.is_pass ++ steps.Turn ∷ offers_of e.before)
+        front = all_append (λ s. is_unread s ≡ false) (items W pass e.is_pass) (steps.Turn ∷ offers_of e.before) quiet (refl, no_stamped e.before e.stamped)
+
+        either : ((e.is_pass.offers ≡ e.before) × ((state_after W.settings n (suc place)).hand ≡ [])) ⊎ (e.is_pass.offers ≡ e.before ++ Unread ∷ []) → pass_ends W.settings run cut (suc place) (steps_of pass) ≡ true
+        either (inl both) =
+            let is : steps_of pass ≡ items W pass e.is_pass ++ steps.Turn ∷ offers_of e.before = e.is_pass.steps_are ∙ ap (λ offers. items W pass e.is_pass ++ steps.Turn ∷ offers_of offers) both.0 in
+            let none : NoUnread (steps_of pass) = subst NoUnread (sym is) front in
+            let hand : length (state_behind W.settings run (steps_in cut (suc place))).hand ≡ 0 = ap (λ (s : AgentState). length s.hand) (state_there adds W J n (all_passes 0 n.passes all) (suc place)) ∙ ap length both.1 in
+            and_from (not (list_any is_unread (but_last (steps_of pass)))) _
+            (ap not (none_any (but_last (steps_of pass)) (none_taken (length (steps_of pass) - 1) (steps_of pass) none)))
+            (or_right (list_any is_unread (last_of (steps_of pass))) _ (eq-eqb (length (state_behind W.settings run (steps_in cut (suc place))).hand) 0 hand))
+        either (inr unread) =
+            let log = items W pass e.is_pass ++ steps.Turn ∷ offers_of e.before in
+            let is : steps_of pass ≡ log ++ steps.Unread ∷ [] =
+            e.is_pass.steps_are
+            ∙ ap (λ offers. items W pass e.is_pass ++ steps.Turn ∷ offers_of offers) unread
+            ∙ ap (λ offers. items W pass e.is_pass ++ steps.Turn ∷ offers) (map-append step_of_answer e.before (Unread ∷ []))
+            ∙ sym (append_assoc (items W pass e.is_pass) (steps.Turn ∷ offers_of e.before) (steps.Unread ∷ []))
+            in
+            and_from (not (list_any is_unread (but_last (steps_of pass)))) _
+            (ap (λ log. not (list_any is_unread (but_last log))) is ∙ ap (λ log. not (list_any is_unread log)) (but_last_is log steps.Unread) ∙ ap not (none_any log front))
+            (ap (λ found. found || (length (state_behind W.settings run (steps_in cut (suc place))).hand == 0)) (ap (λ log. list_any is_unread (last_of log)) is ∙ ap (list_any is_unread) (last_is log steps.Unread)))
+
+    ends_from : (place : ℕ) (passes : List (List Event)) → EndOffersFrom W n place passes
+        → list_all (λ (pass : ℕ × List Step). pass_ends W.settings run cut pass.0 pass.1) (zip (range_with_len (suc place) (length (map steps_of passes))) (map steps_of passes)) ≡ true
+    ends_from place [] all = refl
+    ends_from place (pass ∷ passes) all =
+        let more : suc place + 1 ≡ suc (suc place) = omega arith in
+        and_from (pass_ends W.settings run cut (suc place) (steps_of pass)) (list_all (λ (pass : ℕ × List Step). pass_ends W.settings run cut pass.0 pass.1) (zip (range_with_len (suc place + 1) (length (map steps_of passes))) (map steps_of passes)))
+        (ends_at place pass all.0)
+        (ap (λ start. list_all (λ (pass : ℕ × List Step). pass_ends W.settings run cut pass.0 pass.1) (zip (range_with_len start (length (map steps_of passes))) (map steps_of passes))) more ∙ ends_from (suc place) passes all.1)
+
+    offers_made : offers_end W.settings run ≡ true
+    offers_made =
+        ap (λ passes. list_all (λ (pass : ℕ × List Step). pass_ends W.settings run passes pass.0 pass.1) (zip (range_with_len 1 (length passes)) passes)) (log_passes adds W J n (all_passes 0 n.passes all))
+        ∙ ends_from 0 n.passes all
+
+  pub made : EndOffersFrom W n 0 n.passes → offers_end W.settings (node_at_end W J n) ≡ true
+  made all = offers_made all
+
+each_makes : EventsAddThis → (W : PlainWorkload) (J : PlainJournal) (ns : List NodeDoings) → AllByRecursion (λ (n : NodeDoings). EndOffersFrom W n 0 n.passes) ns → AllByRecursion (λ (n : NodeDoings). offers_end W.settings (node_at_end W J n) ≡ true) ns
+each_makes adds W J [] all = tt
+each_makes adds W J (n ∷ ns) all = (made adds W J n all.0, each_makes adds W J ns all.1)
+
+pub make_their_offers : DoingsAreFollowed → EventsAddThis → MakeTheirOffers
+make_their_offers follows adds W d facts offers =
+    ap (λ (run : Run). list_all (offers_end W.settings) run.nodes) (follows W d facts)
+    ∙ mapped_true (offers_end W.settings) (node_at_end W (journal_of W d)) d.nodes (each_makes adds W (journal_of W d) d.nodes offers)

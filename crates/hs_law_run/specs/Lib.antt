@@ -1,0 +1,9 @@
+pub mod Facts
+pub mod Playing
+pub mod Pools
+pub mod Examples
+pub mod Unread
+pub mod Ends
+pub mod Stories
+pub mod Laws
+pub mod UnreadExample

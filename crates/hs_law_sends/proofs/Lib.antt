@@ -1,0 +1,12 @@
+pub mod Timed
+pub mod Timely
+pub mod Fitting
+pub mod Cutting
+pub mod FirstOperations
+pub mod Within
+pub mod Handing
+pub mod OneMore
+pub mod Order
+pub mod Adding
+pub mod Sampling
+pub mod Clients

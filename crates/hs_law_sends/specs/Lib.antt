@@ -1,0 +1,13 @@
+pub mod Timing
+pub mod Drawn
+pub mod Sending
+pub mod Laws
+pub mod SoFar
+pub mod HandedOut
+pub mod Draws
+pub mod OneMore
+pub mod Order
+pub mod Samples
+pub mod TimingExamples
+pub mod SendingExamples
+pub mod Playable

@@ -1,5 +1,0 @@
-use Rattle.hs_lawful.proofs.Orders.{done_is_at_rest}
-use Rattle.hs_lawful.proofs.laws.done_is_at_rest.Goals as goal
-
-pub returns : goal.returns
-returns c = done_is_at_rest

@@ -1,5 +1,0 @@
-use Rattle.hs_lawful.proofs.Histories.{histories_are_decided}
-use Rattle.hs_lawful.proofs.laws.histories_are_decided.Goals as goal
-
-pub returns : goal.returns
-returns c = histories_are_decided

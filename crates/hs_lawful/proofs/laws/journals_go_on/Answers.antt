@@ -1,5 +1,0 @@
-use Rattle.hs_lawful.proofs.Extending.{journals_go_on}
-use Rattle.hs_lawful.proofs.laws.journals_go_on.Goals as goal
-
-pub returns : goal.returns
-returns c = journals_go_on c.following_plays_out.ensures

@@ -1,5 +1,0 @@
-use Rattle.hs_lawful.proofs.Supplied.{nothing_is_taken_unsent}
-use Rattle.hs_lawful.proofs.laws.nothing_is_taken_unsent.Goals as goal
-
-pub returns : goal.returns
-returns c = nothing_is_taken_unsent c.steps_say_what_they_tell.ensures c.events_add_this.ensures

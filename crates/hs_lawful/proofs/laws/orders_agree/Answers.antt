@@ -1,5 +1,0 @@
-use Rattle.hs_lawful.proofs.Orders.{orders_agree}
-use Rattle.hs_lawful.proofs.laws.orders_agree.Goals as goal
-
-pub returns : goal.returns
-returns c = orders_agree c.steps_say_what_they_tell.ensures

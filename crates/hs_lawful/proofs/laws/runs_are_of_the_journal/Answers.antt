@@ -1,5 +1,0 @@
-use Rattle.hs_lawful.proofs.Extending.{runs_are_of_the_journal}
-use Rattle.hs_lawful.proofs.laws.runs_are_of_the_journal.Goals as goal
-
-pub returns : goal.returns
-returns c = runs_are_of_the_journal c.events_add_this.ensures

@@ -1,5 +1,0 @@
-use Rattle.hs_lawful.proofs.Extending.{steps_are_noted}
-use Rattle.hs_lawful.proofs.laws.steps_are_noted.Goals as goal
-
-pub returns : goal.returns
-returns c = steps_are_noted c.events_add_this.ensures

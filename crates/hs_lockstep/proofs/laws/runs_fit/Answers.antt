@@ -1,5 +1,0 @@
-use Rattle.hs_lockstep.proofs.RunsFit.{runs_fit}
-use Rattle.hs_lockstep.proofs.laws.runs_fit.Goals as goal
-
-pub returns : goal.returns
-returns c = runs_fit c.known.ensures c.crumbs_lead_below.ensures

@@ -1,5 +1,0 @@
-use Rattle.hs_model.proofs.PageOrder.{clients_pages_rise}
-use Rattle.hs_model.proofs.laws.clients_pages_rise.Goals as goal
-
-pub returns : goal.returns
-returns c = clients_pages_rise

@@ -1,5 +1,0 @@
-use Rattle.hs_model.proofs.Partition.{lists_have_their_chunks}
-use Rattle.hs_model.proofs.laws.lists_have_their_chunks.Goals as goal
-
-pub returns : goal.returns
-returns c = lists_have_their_chunks

@@ -1,5 +1,0 @@
-use Rattle.hs_model.proofs.Saying.{steps_say_what_they_tell}
-use Rattle.hs_model.proofs.laws.steps_say_what_they_tell.Goals as goal
-
-pub returns : goal.returns
-returns c = steps_say_what_they_tell

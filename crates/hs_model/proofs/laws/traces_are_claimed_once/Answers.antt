@@ -1,5 +1,0 @@
-use Rattle.hs_model.proofs.Claims.{traces_are_claimed_once}
-use Rattle.hs_model.proofs.laws.traces_are_claimed_once.Goals as goal
-
-pub returns : goal.returns
-returns c = traces_are_claimed_once

@@ -1,7 +1,0 @@
-use Rattle.hs_lockstep.specs.Lockstep.{Machine}
-use Rattle.hs_workload.specs.Views.{workload_of}
-use Rattle.hs_nodes.specs.All.{NodesAt, clients_gone}
-use Rattle.hs_nodes.proofs.all.go_all.Given as goal
-
-abbrev pub invariant-loop-node : goal.invariant-loop-node
-invariant-loop-node l = (m : Machine) → NodesAt (workload_of l.workload) m l.initial.nodes.items → NodesAt (workload_of l.workload) (clients_gone (workload_of l.workload) m l.node) l.nodes.items

@@ -1,9 +1,0 @@
-use Rattle.std.proofs.Common.{ℕ, ◌<◌}
-use Rattle.hs_lockstep.specs.Lockstep.{Machine}
-use Rattle.hs_workload.specs.Views.{workload_of}
-use Rattle.hs_nodes.specs.All.{NodesAt}
-use Rattle.hs_nodes.specs.Left.{IsNodeDone}
-use Rattle.hs_nodes.proofs.all.has_left.Given as goal
-
-abbrev pub invariant-loop-node : goal.invariant-loop-node
-invariant-loop-node l = (m : Machine) → NodesAt (workload_of l.workload) m l.nodes.items → (n : ℕ) → n < l.node → IsNodeDone (workload_of l.workload) m n

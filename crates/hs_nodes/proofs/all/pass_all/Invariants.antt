@@ -1,7 +1,0 @@
-use Rattle.hs_lockstep.specs.Lockstep.{Machine, agents_take, agents_give}
-use Rattle.hs_records.specs.Plain.{PlainWorkload}
-use Rattle.hs_nodes.specs.All.{NodesAt, NodesBetween}
-use Rattle.hs_nodes.proofs.all.pass_all.Given as goal
-
-abbrev pub invariant-loop-node : goal.invariant-loop-node
-invariant-loop-node l = (W : PlainWorkload) (m : Machine) → NodesAt W m l.initial.nodes.items → NodesBetween W m (agents_give W (agents_take W m)) l.node l.nodes.items

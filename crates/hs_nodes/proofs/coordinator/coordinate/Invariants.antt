@@ -1,8 +1,0 @@
-use Rattle.hs_records.specs.Plain.{PlainWorkload}
-use Rattle.hs_lockstep.specs.Lockstep.{Machine}
-use Rattle.hs_nodes.specs.All.{AllAt}
-use Rattle.hs_nodes.specs.Hearing.{HeardUpTo}
-use Rattle.hs_nodes.proofs.coordinator.coordinate.Given as goal
-
-abbrev pub invariant-loop-node : goal.invariant-loop-node
-invariant-loop-node l = (W : PlainWorkload) (m : Machine) → AllAt W m l.initial.nodes.items l.initial.coordinator → HeardUpTo W m l.node l.nodes.items l.coordinator

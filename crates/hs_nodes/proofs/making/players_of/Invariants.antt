@@ -1,8 +1,0 @@
-use Rattle.std.proofs.Common.{◌≡◌, ◌≤◌, length}
-use Rattle.hs_records.specs.Plain.{PlainWorkload}
-use Rattle.hs_nodes.specs.Making.{IsNewNode, AreNew}
-use Rattle.hs_nodes.proofs.making.players_of.Given as goal
-
-abbrev pub invariant-loop-client : goal.invariant-loop-client
-invariant-loop-client l =
-    (length l.clients ≤ l.players.room) × (length l.players.items ≡ l.client) × ((W : PlainWorkload) → IsNewNode W l.node l.settings l.clients → AreNew W l.node l.client l.players.items)

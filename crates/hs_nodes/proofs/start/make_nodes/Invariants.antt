@@ -1,7 +1,0 @@
-use Rattle.std.proofs.Common.{◌≤◌}
-use Rattle.hs_workload.specs.Views.{workload_of}
-use Rattle.hs_nodes.specs.Making.{AreMade}
-use Rattle.hs_nodes.proofs.start.make_nodes.Given as goal
-
-abbrev pub invariant-loop-node : goal.invariant-loop-node
-invariant-loop-node l = (l.count ≤ l.nodes.room) × AreMade (workload_of l.workload) l.node l.nodes.items

@@ -1,5 +1,0 @@
-use Rattle.hs_outcome.proofs.Buffers.{empty_only_where_empty}
-use Rattle.hs_outcome.proofs.laws.empty_only_where_empty.Goals as goal
-
-pub returns : goal.returns
-returns c = empty_only_where_empty

@@ -1,6 +1,0 @@
-use Rattle.std.proofs.Common.{◌≡◌, max, drop}
-use Rattle.hs_pace.specs.Asking.{most_passes}
-use Rattle.hs_pace.proofs.asks.most_passes.Given as goal
-
-abbrev pub invariant-loop-node : goal.invariant-loop-node
-invariant-loop-node l = max l.most (most_passes (drop l.node l.nodes)) ≡ most_passes l.nodes

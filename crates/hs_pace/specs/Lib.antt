@@ -1,4 +1,0 @@
-pub mod Counting
-pub mod Pacing
-pub mod Asking
-pub mod Besides

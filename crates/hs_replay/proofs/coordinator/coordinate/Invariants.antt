@@ -1,0 +1,8 @@
+use Rattle.hs_records.specs.Plain.{PlainWorkload}
+use Rattle.hs_law_lockstep.specs.Lockstep.{Machine}
+use Rattle.hs_replay.specs.All.{AllAt}
+use Rattle.hs_replay.specs.Hearing.{HeardUpTo}
+use Rattle.hs_replay.proofs.coordinator.coordinate.Given as goal
+
+abbrev pub invariant-loop-node : goal.invariant-loop-node
+invariant-loop-node l = (W : PlainWorkload) (m : Machine) → AllAt W m l.initial.nodes.items l.initial.coordinator → HeardUpTo W m l.node l.nodes.items l.coordinator

@@ -1,0 +1,16 @@
+use Rattle.std.proofs.Common.{◌-◌, ◌≤◌}
+use Rattle.hs_law_lockstep.specs.Ending.{HasClosing, behind_rounds, passed}
+use Rattle.hs_law_lockstep.specs.Lockstep.{closing_limit}
+use Rattle.hs_workload.specs.Views.{workload_of}
+use Rattle.hs_replay.specs.All.{AllAt}
+use Rattle.hs_replay.proofs.schedule.close.Given as goal
+
+abbrev pub invariant-passes : goal.invariant-passes
+invariant-passes l =
+    record {
+      few : (closing : HasClosing (workload_of l.workload)) → l.made ≤ closing.count;
+      at : AllAt (workload_of l.workload) (passed l.made (workload_of l.workload) (behind_rounds (workload_of l.workload))) l.nodes.items l.coordinator;
+    }
+
+abbrev pub decreases-passes : goal.decreases-passes
+decreases-passes l = closing_limit (workload_of l.workload) - l.made

@@ -1,0 +1,16 @@
+use Rattle.std.proofs.Common.{◌-◌, ◌≤◌}
+use Rattle.hs_law_journal.specs.Ends.{rounds_of}
+use Rattle.hs_law_lockstep.specs.Lockstep.{machine_start, rounds}
+use Rattle.hs_workload.specs.Views.{workload_of}
+use Rattle.hs_replay.specs.All.{AllAt}
+use Rattle.hs_replay.proofs.schedule.rounds.Given as goal
+
+abbrev pub invariant-rounds : goal.invariant-rounds
+invariant-rounds l =
+    record {
+      few : l.made ≤ rounds_of (workload_of l.workload);
+      at : AllAt (workload_of l.workload) (rounds l.made (workload_of l.workload) (machine_start (workload_of l.workload))) l.nodes.items l.coordinator;
+    }
+
+abbrev pub decreases-rounds : goal.decreases-rounds
+decreases-rounds l = rounds_of (workload_of l.workload) - l.made

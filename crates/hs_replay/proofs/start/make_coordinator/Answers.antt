@@ -1,0 +1,13 @@
+use Rattle.std.proofs.Common.{arith}
+use Rattle.hs_workload.specs.Views.{workload_of}
+use Rattle.hs_replay.proofs.Others.{are_few}
+use Rattle.hs_replay.proofs.Started.{coordinator_made}
+use Rattle.hs_replay.proofs.start.make_coordinator.Goals as goal
+
+pub make-requires : goal.make-requires
+make-requires c =
+    let few = (are_few (workload_of c.args.workload.now) c.requires.valid).nodes in
+    omega (arith, few)
+
+pub returns : goal.returns
+returns c = coordinator_made c.machines_start_so.ensures (workload_of c.args.workload.now) c.args.nodes.now.items c.requires c.make.result c.make.ensures.taken c.make.ensures.nodes

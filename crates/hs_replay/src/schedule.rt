@@ -1,0 +1,57 @@
+//! The rounds of a replay, and its closing.
+
+ghost use Rattle.std.specs.Prelude.{OnOk};
+ghost use Rattle.hs_law_lockstep.specs.Ending.{behind_rounds};
+ghost use Rattle.hs_law_lockstep.specs.Lockstep.{machine_start};
+ghost use Rattle.hs_workload.specs.Views.{workload_of};
+ghost use Rattle.hs_replay.specs.All.{AllAt, AllClosed};
+
+use crate::all::{go_all, has_left, is_bare, pass};
+use crate::node::Node;
+use hs_base::{List, Memory};
+use hs_coord::Coordinator;
+use hs_law_lockstep::laws::clients_go_so;
+use hs_law_lockstep::laws::closing_ends;
+use hs_law_lockstep::laws::machines_are_whole;
+use hs_law_lockstep::laws::rounds_end;
+use hs_workload::Workload;
+
+/// All rounds, as long as operations are left: the clients' turns, the agents' passes, and the coordinator's.
+pub fn rounds(
+    coordinator: &mut Coordinator,
+    nodes: &mut List<Node>,
+    workload: &Workload,
+) -> Result<(), Memory>
+    requires { AllAt (workload_of workload.now) (machine_start (workload_of workload.now)) nodes.old.items coordinator.old }
+    ensures { OnOk result (AllAt (workload_of workload.now) (behind_rounds (workload_of workload.now)) nodes.new.items coordinator.new) }
+{
+    rounds_end();
+    clients_go_so();
+    machines_are_whole();
+    let mut made = 0u32;
+    'rounds: while has_left(nodes, workload) {
+        go_all(nodes, workload)?;
+        pass(coordinator, nodes)?;
+        made += 1;
+    }
+    Ok(())
+}
+
+/// The closing: passes, as long as anything waits.
+pub fn close(
+    coordinator: &mut Coordinator,
+    nodes: &mut List<Node>,
+    workload: &Workload,
+) -> Result<(), Memory>
+    requires { AllAt (workload_of workload.now) (behind_rounds (workload_of workload.now)) nodes.old.items coordinator.old }
+    ensures { OnOk result (AllClosed (workload_of workload.now) nodes.new.items coordinator.new) }
+{
+    rounds_end();
+    closing_ends();
+    let mut made = 0u32;
+    'passes: while !is_bare(nodes) {
+        pass(coordinator, nodes)?;
+        made += 1;
+    }
+    Ok(())
+}

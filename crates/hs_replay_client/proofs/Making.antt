@@ -1,0 +1,63 @@
+-- A player that was made has done nothing.
+use Rattle.std.proofs.Common.{◌≡◌, ◌≤◌, List, [], ◌++◌, map, reverse, refl, sym, ap, subst, arith}
+use Rattle.std.specs.List.{AllByRecursion}
+use Rattle.hs_lists.proofs.Alls.{all_everywhere}
+use Rattle.hs_base.specs.declared.ids.ClientId.{ClientId}
+use Rattle.hs_base.specs.declared.limits.TheConstants.{MIN_SIZE}
+use Rattle.hs_auto.specs.Watching.{Watch, HasSampled}
+use Rattle.hs_client.specs.Core.{Core}
+use Rattle.hs_client.specs.Calls.{with_all}
+use Rattle.hs_journal.specs.declared.journal.Draw.{Draw}
+use Rattle.hs_records.specs.Plain.{Operation, PlainSettings}
+use Rattle.hs_records.specs.Records.{segments_from, segments_of, coming}
+use Rattle.hs_replay_client.specs.Playing.{Working, Playing}
+use Rattle.hs_replay_client.specs.Writing.{Made, IsSound, new_of}
+use Rattle.hs_replay_client.specs.Doing.{Gone, HasDone}
+use Rattle.hs_law_sends.specs.Playable.{IsPlayable}
+use Rattle.hs_replay_client.specs.Places.{IsAt, made_for}
+use Rattle.hs_replay_client.proofs.Standing.{Laws, is_at}
+
+-- what is known of a client that was made
+pub record IsNew (made : Made) (works : Working) : Type 0 where
+  pub least : MIN_SIZE ≤ made.size
+  pub core : works.core ≡ new_of made
+  pub rules : map (λ (w : Watch). w.rule) works.autos ≡ made.autos
+  pub fresh : AllByRecursion (λ (w : Watch). HasSampled w []) works.autos
+  pub chunks : works.chunks ≡ []
+  pub crumbs : works.crumbs ≡ []
+  pub triggers : works.triggers ≡ []
+
+abbrev nothing : Gone
+nothing = record { chunks = []; crumbs = []; triggers = [] }
+
+new_sound : (made : Made) → MIN_SIZE ≤ made.size → IsSound (new_of made)
+new_sound made least = record { least = least; ready = λ some none. refl; closed = λ none. refl }
+
+new_done : (made : Made) (works : Working) → IsNew made works → HasDone made [] nothing works
+new_done made works is =
+    let size = made.size in
+    record {
+      writes = λ rest.
+          record {
+            steps = [];
+            comes = record { may = tt; core = is.core; number = ap (λ (c : Core (Unit {0})). c.number) is.core; chunks = is.chunks; buffers = refl };
+            gives = subst (λ (c : Core (Unit {0})). reverse (with_all (coming size c.number c.trace rest) []) ++ segments_from size c.number rest ≡ segments_of size rest) (sym is.core) refl;
+          };
+      size = ap (λ (c : Core (Unit {0})). c.size) is.core;
+      calls = ap (λ (c : Core (Unit {0})). c.calls) is.core;
+      counted = let none : works.core.counted ≡ 0 = ap (λ (c : Core (Unit {0})). c.counted) is.core in omega (arith, none);
+      trace = ap (λ (c : Core (Unit {0})). c.trace) is.core;
+      page = ap (λ (c : Core (Unit {0})). Rattle.std.specs.Prelude.is_some c.current) is.core;
+      sound = subst IsSound (sym is.core) (new_sound made is.least);
+      crumbs = is.crumbs;
+      triggers = is.triggers;
+      autos = record { rules_are = is.rules; each = λ auto watch found. all_everywhere (λ (w : Watch). HasSampled w []) works.autos is.fresh auto watch found };
+    }
+
+pub new_at : Laws → (settings : PlainSettings) (client : ClientId) (ops : List Operation) (works : Working) → IsPlayable settings ops → IsNew (made_for settings client ops) works
+    → IsAt settings client ops [] 0 0 0 0 (record { done = 0; works = works })
+new_at laws settings client ops works playable is =
+    let player : Playing = record { done = 0; works = works } in
+    let at = is_at laws settings client ops 0 0 0 0 nothing player playable (omega arith) refl (record { chunks = refl; crumbs = refl; triggers = refl }) (new_done (made_for settings client ops) works is) in
+    let none : works.core.draws ≡ [] = ap (λ (c : Core (Unit {0})). c.draws) is.core in
+    subst (λ (drawn : List Draw). IsAt settings client ops drawn 0 0 0 0 player) none at

@@ -1,0 +1,13 @@
+use Rattle.std.proofs.Common.{subst}
+use Rattle.hs_replay_client.specs.Playing.{Playing}
+use Rattle.hs_replay_client.specs.PlayerInside.{playing_in}
+use Rattle.hs_replay_client.specs.Places.{TakesTrigger}
+use Rattle.hs_replay_client.proofs.Taking.{takes_trigger}
+use Rattle.hs_replay_client.proofs.player.Player.next_trigger.Goals as goal
+
+pub returns : goal.returns
+returns c =
+    let s = c.self.inside in
+    let new : Playing = playing_in (record { doing = record { writer = s.doing.writer; autos = s.doing.autos; crumbs = s.doing.crumbs; triggers = c.pop_front.new.self }; done = s.done }) in
+    subst (λ (old : Playing). TakesTrigger old c.pop_front.result new) c.self.view_is
+    (takes_trigger (playing_in s) c.pop_front.result c.pop_front.new.self.items c.items_are_sent_in_order.ensures.triggers c.pop_front.ensures.items c.pop_front.ensures.rest)

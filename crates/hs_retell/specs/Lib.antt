@@ -1,4 +1,0 @@
-pub mod Spans
-pub mod Closing
-pub mod Laws
-pub mod Noting

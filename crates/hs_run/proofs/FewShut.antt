@@ -1,0 +1,28 @@
+-- No agent takes more triggers than its clients sent, so no more than the workload has, when the links are closed too.
+use Rattle.std.proofs.Common.{ℕ, ◌<◌, ◌≤◌, length, ap, arith, length-append}
+use Rattle.std.proofs.lemmas.List.{length-map}
+use Rattle.hs_lists.proofs.Places.{get_there}
+use Rattle.hs_law_journal.specs.Doings.{triggers_in}
+use Rattle.hs_base.specs.declared.told.Trigger.{Trigger}
+use Rattle.hs_link.specs.Contents.{Remaining}
+use Rattle.hs_live.specs.Keys.{Key}
+use Rattle.hs_records.specs.Plain.{PlainWorkload}
+use Rattle.hs_law_sends.specs.Sending.{operations_at, place_of}
+use Rattle.hs_workload.specs.Validity.{IsValid, client_pieces}
+use Rattle.hs_run_agent.specs.Lines.{closed}
+use Rattle.hs_run_agent.proofs.Few.{few_of_sent}
+use Rattle.hs_run.specs.Shutting.{AllSents, AreFew}
+
+pub few_shut : (W : PlainWorkload) → IsValid W → (sents : AllSents) → ((node client : ℕ) → node < W.settings.nodes → client < W.settings.clients → length ((sents node).triggers client) ≤ client_pieces W.settings.size (operations_at W (place_of W.settings.clients node client)))
+    → AreFew W sents
+few_shut W valid sents each node work shut low stands = few_of_sent W valid node low work stands.is.stands.works.is.within received
+  where
+    received : (client : ℕ) → client < W.settings.clients → length (triggers_in client work.events) ≤ client_pieces W.settings.size (operations_at W (place_of W.settings.clients node client))
+    received client own =
+        let count = stands.is.stands.lines_are.triggers.count in
+        let long = length-map shut.triggers (λ (r : Remaining Trigger Key). closed r) in
+        let (r, there) = get_there shut.triggers client (omega (arith, own, count, long)) in
+        let parts = ap length (stands.is.left.triggers client r there) in
+        let both = length-append (triggers_in client work.events) r.items in
+        let sent_few = each node client low own in
+        omega (arith, parts, both, sent_few)

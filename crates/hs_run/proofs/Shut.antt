@@ -1,0 +1,89 @@
+-- The clients of nodes are taken apart, and their links closed.
+use Rattle.std.proofs.Common.{◌≡◌, ℕ, zero, suc, ◌<◌, List, [], ◌∷◌, ◌++◌, length, map, get_or, Some, refl, sym, ap, ◌∙◌, subst, arith, append_assoc, slice_get}
+use Rattle.std.proofs.lemmas.List.{append-nil, length-map}
+use Rattle.std.specs.List.{AllByRecursion}
+use Rattle.hs_lists.proofs.Alls.{all_by_place}
+use Rattle.hs_lists.proofs.Places.{get_unmap}
+use Rattle.hs_base.specs.declared.told.Crumb.{Crumb}
+use Rattle.hs_base.specs.declared.told.Trigger.{Trigger}
+use Rattle.hs_base.specs.Ids.{client_of}
+use Rattle.hs_journal.specs.Books.{PlainClientBook}
+use Rattle.hs_link.specs.Contents.{Outgoing, Incoming}
+use Rattle.hs_live.specs.Keys.{Key}
+use Rattle.hs_live.specs.Live.{IsMate}
+use Rattle.hs_ring.specs.Parts.{Drawing, Leased}
+use Rattle.hs_words.specs.Buffers.{Buffer}
+use Rattle.hs_run_client.specs.Calling.{Calling}
+use Rattle.hs_run_client.specs.Standing.{IsDone}
+use Rattle.hs_run_agent.specs.Lines.{linked}
+use Rattle.hs_run_agent.specs.Shut.{Shut, AreMatesOf}
+use Rattle.hs_run_story.specs.Standing.{Site}
+use Rattle.hs_law_sends.specs.Sending.{operations_at, place_of}
+use Rattle.hs_run.specs.Ended.{IsEnded, HasShut, AreShut}
+
+-- ---- lists
+
+pub there : {A B : Type 0} (f : A → B) (xs : List A) (place : ℕ) (x : A) → (place < length xs) × (x ≡ get_or xs place x) → slice_get (map f xs) place ≡ Some (f x)
+there f [] place x h = absurd (omega (arith, h.0))
+there f (y ∷ xs) zero x h = ap (λ (z : _). Some (f z)) (sym h.1)
+there f (y ∷ xs) (suc place) x h = there f xs place x (omega (arith, h.0), h.1)
+
+-- ---- one node
+
+pub all_done : (site : Site) → IsEnded site → AllByRecursion IsDone site.callers
+all_done site is =
+    all_by_place IsDone site.callers
+    (λ number caller found.
+    record {
+      settings = is.workload.settings;
+      client = client_of is.node number;
+      ops = operations_at is.workload (place_of is.workload.settings.clients is.node number);
+      at = is.stands.callers number caller found;
+      all = is.all number caller found;
+    })
+
+mates : {T : Type 0} (f : Calling → Outgoing T Key) (site : Site) (senders : List (Outgoing T Key)) (receivers : List (Incoming T Key)) → senders ≡ map f site.callers → length receivers ≡ length site.callers
+    → ((number : ℕ) (caller : Calling) → slice_get site.callers number ≡ Some caller → IsMate number receivers (f caller)) → AreMatesOf senders receivers
+mates f site senders receivers are count each =
+    record {
+      count = ap length are ∙ length-map site.callers f ∙ sym count;
+      each = λ number s found.
+          let (caller, there, is) = get_unmap f site.callers number s (ap (λ (l : List _). slice_get l number) (sym are) ∙ found) in
+          subst (λ (o : Outgoing _ Key). IsMate number receivers o) is (each number caller there);
+    }
+
+pub chunk_mates : (site : Site) (senders : List (Outgoing (Buffer Leased) Key)) → IsEnded site → senders ≡ map (λ (c : Calling). c.client.chunks) site.callers → AreMatesOf senders site.agent.port.chunks
+chunk_mates site senders is are =
+    let lines = is.stands.agent.stands.lines_are.chunks.count in
+    let count : length site.agent.port.chunks ≡ length site.callers = sym (length-map site.agent.port.chunks (λ r. linked r)) ∙ lines ∙ sym is.stands.count in
+    mates (λ (c : Calling). c.client.chunks) site senders site.agent.port.chunks are count (λ number caller found. (is.stands.mates number caller found).chunks)
+
+pub crumb_mates : (site : Site) (senders : List (Outgoing Crumb Key)) → IsEnded site → senders ≡ map (λ (c : Calling). c.client.crumbs) site.callers → AreMatesOf senders site.agent.port.crumbs
+crumb_mates site senders is are =
+    let lines = is.stands.agent.stands.lines_are.crumbs.count in
+    let count : length site.agent.port.crumbs ≡ length site.callers = sym (length-map site.agent.port.crumbs (λ r. linked r)) ∙ lines ∙ sym is.stands.count in
+    mates (λ (c : Calling). c.client.crumbs) site senders site.agent.port.crumbs are count (λ number caller found. (is.stands.mates number caller found).crumbs)
+
+pub trigger_mates : (site : Site) (senders : List (Outgoing Trigger Key)) → IsEnded site → senders ≡ map (λ (c : Calling). c.client.triggers) site.callers → AreMatesOf senders site.agent.port.triggers
+trigger_mates site senders is are =
+    let lines = is.stands.agent.stands.lines_are.triggers.count in
+    let count : length site.agent.port.triggers ≡ length site.callers = sym (length-map site.agent.port.triggers (λ r. linked r)) ∙ lines ∙ sym is.stands.count in
+    mates (λ (c : Calling). c.client.triggers) site senders site.agent.port.triggers are count (λ number caller found. (is.stands.mates number caller found).triggers)
+
+-- ---- all nodes
+
+pub shut_more : (sites : List Site) (books : List PlainClientBook) (lists : List (List Drawing)) (shuts : List Shut) (site : Site) (noted : List PlainClientBook) (drawers : List Drawing) (shut : Shut)
+    → AreShut sites books lists shuts → HasShut site noted drawers shut → AreShut (sites ++ site ∷ []) (books ++ noted) (lists ++ drawers ∷ []) (shuts ++ shut ∷ [])
+shut_more [] books [] [] site noted drawers shut are has = (noted, [], ap (λ (l : List PlainClientBook). l ++ noted) are ∙ sym (append-nil noted), has, refl)
+shut_more [] books [] (s ∷ shuts) site noted drawers shut are has = absurd are
+shut_more [] books (d ∷ lists) shuts site noted drawers shut are has = absurd are
+shut_more (one ∷ sites) books [] shuts site noted drawers shut are has = absurd are
+shut_more (one ∷ sites) books (d ∷ lists) [] site noted drawers shut are has = absurd are
+shut_more (one ∷ sites) books (d ∷ lists) (s ∷ shuts) site noted drawers shut are has =
+    let (first, others, is, one_has, rest) = are in (
+      first,
+      others ++ noted,
+      ap (λ (l : List PlainClientBook). l ++ noted) is ∙ append_assoc first others noted,
+      one_has,
+      shut_more sites others lists shuts site noted drawers shut rest has,
+    )

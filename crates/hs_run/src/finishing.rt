@@ -1,0 +1,87 @@
+//! The books of a run whose rounds are over.
+
+ghost use Rattle.std.specs.Prelude.{◌≡◌, map, IfOk};
+ghost use Rattle.hs_coord.specs.Messages.{Messages};
+ghost use Rattle.hs_records.specs.Plain.{PlainWorkload};
+ghost use Rattle.hs_workload.specs.Views.{workload_of};
+ghost use Rattle.hs_run_agent.specs.Coordinators.{Tellings, Askings, IsCoordinating};
+ghost use Rattle.hs_run.specs.Over.{RoundsOver};
+ghost use Rattle.hs_run.specs.Finished.{AreLawfulBooks, AreBooksBehind, AreGathered};
+
+use crate::closing::close_down;
+use crate::place::Place;
+use crate::pools::close_pools;
+use crate::shutting::{Ended, shut_all};
+use hs_base::{List, Memory, NodeId};
+use hs_run_client::callers_have_sent;
+use hs_run_agent::CoordinatorActor;
+use hs_journal::{AgentBook, ClientBook};
+use hs_report::Books;
+use hs_run_story::laws::closing_begins;
+use hs_run_story::laws::journals_note_rounds;
+use hs_run_story::laws::pools_are_kept;
+use hs_run_story::laws::runs_are_lawful;
+use hs_workload::Workload;
+use std::alloc::Global;
+
+/// Ends a run whose rounds are over, and answers its books: those of a lawful journal of the workload, which notes where the rounds
+/// stood behind each of them. The one error is want of memory.
+pub fn finish(
+    alloc: Global,
+    workload: &Workload,
+    places: List<Place>,
+    coordinator: CoordinatorActor,
+) -> Result<Books, Memory>
+    requires { RoundsOver (workload_of workload.now) places.items coordinator }
+    ensures lawful { IfOk result (AreLawfulBooks (workload_of workload.now)) }
+    ensures rounds { (over : RoundsOver (workload_of workload.now) places.items coordinator) → IfOk result (AreBooksBehind (workload_of workload.now) over.rounds over.moment over.came) }
+{
+    closing_begins();
+    pools_are_kept();
+    runs_are_lawful();
+    journals_note_rounds();
+    callers_have_sent();
+    let mut coordinator = coordinator;
+    let mut ended = shut_all(alloc, places)?;
+    close_down(&mut ended.nodes, &mut coordinator)?;
+    let Ended {
+        books,
+        drawers,
+        nodes,
+    } = ended;
+    let agents = close_pools(alloc, nodes, drawers);
+    let told = told_of(alloc, &coordinator);
+    books_of(workload, books, agents, told)
+}
+
+/// The nodes whose messages the coordinator heard, in their order.
+fn told_of(alloc: Global, coordinator: &CoordinatorActor) -> Result<List<NodeId>, Memory>
+    ensures { (W : PlainWorkload) (heard : Messages) (moved : Tellings) (asked : Askings) → IsCoordinating W heard moved asked coordinator.now
+        → IfOk result (λ told. told.items ≡ map (λ m. m.node) heard) }
+{
+    let mut told = List::new(alloc);
+    told.append_slice(coordinator.log().as_slice())?;
+    Ok(told)
+}
+
+/// The books of a run, where memory was there for those of the agents and for the coordinator's.
+fn books_of(
+    workload: &Workload,
+    clients: List<ClientBook>,
+    agents: Result<List<AgentBook>, Memory>,
+    told: Result<List<NodeId>, Memory>,
+) -> Result<Books, Memory>
+    ensures { IfOk result (AreGathered workload.now clients agents told) }
+{
+    match (agents, told) {
+        (Ok(agents), Ok(told)) => Ok(Books {
+            version: workload.version,
+            nodes: workload.settings.nodes,
+            each: workload.settings.clients,
+            clients,
+            agents,
+            told,
+        }),
+        _ => Err(Memory),
+    }
+}

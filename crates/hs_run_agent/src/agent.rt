@@ -1,0 +1,127 @@
+//! An agent in the rounds: it takes what came through the links of its node's clients.
+
+ghost use Rattle.std.specs.Prelude.{◌≡◌, ◌<◌, [], ◌∷◌, ◌++◌, List, OnOk, IfOk, IfSome, IfNone};
+ghost use Rattle.hs_base.specs.declared.ids.ClientId.{ClientId};
+ghost use Rattle.hs_run_client.specs.Standing.{IsAt};
+ghost use Rattle.hs_live.specs.Calls.{AreMates, MeetsAt};
+ghost use Rattle.hs_law_agent.specs.Stepping.{Event};
+ghost use Rattle.hs_records.specs.Plain.{Operation, PlainSettings, PlainWorkload, settings_of};
+ghost use Rattle.hs_ring.specs.Parts.{Leased};
+ghost use Rattle.hs_workload.specs.Validity.{IsValid};
+ghost use Rattle.hs_words.specs.Buffers.{Buffer};
+ghost use Rattle.hs_run_agent.specs.Agents.{IsAskable, IsTellable};
+ghost use Rattle.hs_run_agent.specs.Manned.{IsManned, BeginsAt, Passes};
+ghost use Rattle.hs_run_agent.specs.Work.{Work, IsFew, no_work, with_ask, with_moved};
+
+use crate::desk::Desk;
+use crate::steps::Steps;
+use hs_agent::Agent;
+use hs_base::{Ask, Gate, Memory, NodeId, Settings, Told};
+use hs_run_client::Caller;
+use hs_journal::Step;
+use hs_live::AgentPort;
+use hs_law_agent::laws::crumbs_lead_below;
+use hs_law_agent::laws::events_add_few;
+use hs_law_agent::laws::events_go_on;
+use hs_law_agent::laws::steps_say_what_they_tell;
+use std::alloc::Global;
+use std::collections::VecDeque;
+use std::marker::Model;
+
+/// An agent with its port, the asks that wait for it, and its messages that wait to be fetched. Where a call answers that memory is
+/// wanted, it is of no more use.
+#[derive(Drop)]
+pub struct AgentActor {
+    pub(crate) desk: Desk,
+    pub(crate) port: AgentPort,
+    pub(crate) clients: u16,
+}
+
+impl Model for AgentActor {
+    ghost use Rattle.hs_run_agent.specs.Manned.{Manned};
+
+    ghost Value = { Manned };
+
+    ghost use Rattle.hs_run_agent.specs.AgentLayout.{manned_in};
+
+    ghost view = { manned_in };
+}
+
+impl AgentActor {
+    /// The agent of a node that has taken nothing, with a port of which nothing was taken. It is the actor with this number.
+    #[tactic(auto, using(crate::proofs::Stages::turns_begin))]
+    pub fn make(
+        alloc: Global,
+        actor: u32,
+        node: u16,
+        settings: &Settings,
+        port: AgentPort,
+    ) -> Result<AgentActor, Memory>
+        requires { (W : PlainWorkload) × IsValid W × (settings_of settings.now ≡ W.settings) × (node < W.settings.nodes) × BeginsAt W node port }
+        ensures { (W : PlainWorkload) → settings_of settings.now ≡ W.settings → BeginsAt W node port
+            → IfOk result (λ agent. IsManned W (no_work node port.giver.pool) agent × (agent.port ≡ port)) }
+    {
+        Ok(AgentActor {
+            desk: Desk {
+                agent: Agent::make(alloc, NodeId(node), settings)?,
+                asks: VecDeque::new(alloc),
+                said: VecDeque::new(alloc),
+                steps: Steps::of(actor),
+            },
+            port,
+            clients: settings.clients,
+        })
+    }
+
+    /// A pass: of each client's three links and then of the asks the agent takes what has come, at most 64 items each. It
+    /// makes its turn, and offers its hand to the pool until that is empty or an offer is unread.
+    pub fn pass<G: Gate>(&mut self, gate: &G) -> Result<(), Memory>
+        requires { (W : PlainWorkload) × (work : Work) × IsManned W work self.old × IsFew W work }
+        ensures { (W : PlainWorkload) (work : Work) → IsManned W work self.old → IsFew W work
+            → OnOk result ((pass : List Event) × (came : List (Buffer Leased)) × Passes W work pass came self.old self.new) }
+    {
+        self.desk.pass(&mut self.port, gate, self.clients)?;
+        Ok(())
+    }
+
+    /// Brings a client of the node, which has this number there, together with the port.
+    pub fn meet(&mut self, caller: &mut Caller, number: u16)
+        requires { AreMates number self.old.port caller.old.client }
+        ensures met { MeetsAt number self.old.port caller.old.client self.new.port caller.new.client }
+        ensures only { self.new ≡ record self.old { port = self.new.port } }
+        ensures manned { (W : PlainWorkload) (work : Work) → IsManned W work self.old → IsManned W work self.new }
+        ensures done { caller.new.done ≡ caller.old.done }
+        ensures at { (settings : PlainSettings) (client : ClientId) (ops : List Operation) → IsAt settings client ops caller.old → IsAt settings client ops caller.new }
+    {
+        caller.meet(&mut self.port, number);
+    }
+
+    /// The steps that the agent noted so far, in order.
+    pub fn log(&self) -> &[Step]
+        ensures { result.now ≡ self.now.agent.log }
+    {
+        self.desk.agent.log().as_slice()
+    }
+
+    /// The first message that waits is fetched, if there is one.
+    pub fn tell(&mut self) -> Option<Told>
+        ensures some { IfSome result (λ told. self.old ≡ record self.new { said = told ∷ self.new.said }) }
+        ensures none { IfNone result ((self.old.said ≡ []) × (self.new ≡ self.old)) }
+        ensures manned { (W : PlainWorkload) (work : Work) → IsManned W work self.old → IfSome result (λ told. IsTellable W told × IsManned W (with_moved told work) self.new) }
+    {
+        crumbs_lead_below();
+        events_add_few();
+        events_go_on();
+        steps_say_what_they_tell();
+        self.desk.said.pop_front()
+    }
+
+    /// An ask is sent, and waits behind those that were.
+    pub fn ask(&mut self, ask: Ask) -> Result<(), Memory>
+        ensures only { OnOk result (self.new ≡ record self.old { asks = self.old.asks ++ ask ∷ [] }) }
+        ensures manned { (W : PlainWorkload) (work : Work) → IsManned W work self.old → IsAskable W ask → OnOk result (IsManned W (with_ask ask work) self.new) }
+    {
+        self.desk.asks.push_back(ask)?;
+        Ok(())
+    }
+}

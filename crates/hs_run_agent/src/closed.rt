@@ -1,0 +1,158 @@
+//! An agent whose links are closed: it takes what is left of them.
+
+ghost use Rattle.std.specs.Prelude.{◌≡◌, true, false, [], ◌∷◌, ◌++◌, map, OnOk, IfOk, IfSome, IfNone};
+ghost use Rattle.hs_journal.specs.Books.{agent_book_of};
+ghost use Rattle.hs_live.specs.Live.{outgoing};
+ghost use Rattle.hs_law_agent.specs.Books.{book_of};
+ghost use Rattle.hs_records.specs.Plain.{PlainWorkload};
+ghost use Rattle.hs_ring.specs.Parts.{AreAllEnds, Closes};
+ghost use Rattle.hs_words.specs.declared.token.Tally.{Tally};
+ghost use Rattle.hs_run_agent.specs.Agents.{IsAskable, IsTellable, state_at};
+ghost use Rattle.hs_run_agent.specs.Manned.{IsManned};
+ghost use Rattle.hs_run_agent.specs.Shut.{Events, Buffers, AllSent, IsShut, IsBare, PassesShut, AreMatesOf, all_sent};
+ghost use Rattle.hs_run_agent.specs.Work.{Work, IsFew, with_ask, with_moved};
+
+use crate::agent::AgentActor;
+use crate::desk::Desk;
+use crate::rests::{Rests, rests_of};
+use hs_agent::Finished;
+use hs_base::{Ask, Crumb, List, Memory, OpenGate, Told, Trigger};
+use hs_journal::AgentBook;
+use hs_link::Sender;
+use hs_live::{ClientKey, PortParts};
+use hs_law_agent::laws::crumbs_lead_below;
+use hs_law_agent::laws::events_add_few;
+use hs_law_agent::laws::events_go_on;
+use hs_law_agent::laws::steps_say_what_they_tell;
+use hs_ring::{Drawer, Lease, close};
+use hs_words::Held;
+use std::alloc::Global;
+use std::marker::Model;
+
+/// An agent with what is left of the links of its node's clients, the giver of the pool, the asks that wait for it, and its messages
+/// that wait to be fetched. Where a call answers that memory is wanted, it is of no more use.
+#[derive(Drop)]
+pub struct ClosedNode {
+    desk: Desk,
+    rests: Rests,
+    clients: u16,
+}
+
+impl Model for ClosedNode {
+    ghost use Rattle.hs_run_agent.specs.Shut.{Shut};
+
+    ghost Value = { Shut };
+
+    ghost use Rattle.hs_run_agent.specs.ShutLayout.{shut_in};
+
+    ghost view = { shut_in };
+}
+
+impl AgentActor {
+    /// Closes the links of the node's clients, of which these are the other ends, by the number of the client.
+    pub fn close(
+        self,
+        alloc: Global,
+        chunks: List<Sender<Held<Lease>, ClientKey>>,
+        crumbs: List<Sender<Crumb, ClientKey>>,
+        triggers: List<Sender<Trigger, ClientKey>>,
+    ) -> Result<ClosedNode, Memory>
+        requires chunks { AreMatesOf (map outgoing chunks.items) self.port.chunks }
+        requires crumbs { AreMatesOf crumbs.items self.port.crumbs }
+        requires triggers { AreMatesOf triggers.items self.port.triggers }
+        ensures shut { (W : PlainWorkload) (work : Work) → IsManned W work self → IfOk result (IsShut W work (all_sent (map outgoing chunks.items) crumbs.items triggers.items)) }
+        ensures only { IfOk result (λ node. (node.agent ≡ self.agent) × (node.giver ≡ self.port.giver) × (node.asks ≡ self.asks) × (node.said ≡ self.said)) }
+    {
+        let AgentActor {
+            desk,
+            port,
+            clients,
+        } = self;
+        let PortParts {
+            giver,
+            chunks: chunk_ends,
+            crumbs: crumb_ends,
+            triggers: trigger_ends,
+        } = port.parts();
+        let rests = Rests {
+            giver,
+            chunks: rests_of(alloc, chunks, chunk_ends)?,
+            crumbs: rests_of(alloc, crumbs, crumb_ends)?,
+            triggers: rests_of(alloc, triggers, trigger_ends)?,
+        };
+        Ok(ClosedNode {
+            desk,
+            rests,
+            clients,
+        })
+    }
+}
+
+impl ClosedNode {
+    /// A pass: as in the rounds, over what is left.
+    pub fn pass(&mut self) -> Result<(), Memory>
+        requires { (W : PlainWorkload) × (work : Work) × (all : AllSent) × IsShut W work all self.old × IsFew W work }
+        ensures { (W : PlainWorkload) (work : Work) (all : AllSent) → IsShut W work all self.old → IsFew W work
+            → OnOk result ((pass : Events) × (came : Buffers) × PassesShut W work all pass came self.old self.new) }
+    {
+        self.desk.pass(&mut self.rests, &OpenGate, self.clients)?;
+        Ok(())
+    }
+
+    /// The first message that waits is fetched, if there is one.
+    pub fn tell(&mut self) -> Option<Told>
+        ensures some { IfSome result (λ told. self.old ≡ record self.new { said = told ∷ self.new.said }) }
+        ensures none { IfNone result ((self.old.said ≡ []) × (self.new ≡ self.old)) }
+        ensures shut { (W : PlainWorkload) (work : Work) (all : AllSent) → IsShut W work all self.old → IfSome result (λ told. IsTellable W told × IsShut W (with_moved told work) all self.new) }
+    {
+        crumbs_lead_below();
+        events_add_few();
+        events_go_on();
+        steps_say_what_they_tell();
+        self.desk.said.pop_front()
+    }
+
+    /// An ask is sent, and waits behind those that were.
+    pub fn ask(&mut self, ask: Ask) -> Result<(), Memory>
+        ensures only { OnOk result (self.new ≡ record self.old { asks = self.old.asks ++ ask ∷ [] }) }
+        ensures shut { (W : PlainWorkload) (work : Work) (all : AllSent) → IsShut W work all self.old → IsAskable W ask → OnOk result (IsShut W (with_ask ask work) all self.new) }
+    {
+        self.desk.asks.push_back(ask)?;
+        Ok(())
+    }
+
+    /// Whether nothing waits at the node, and nothing is pinned.
+    pub fn is_bare(&self) -> bool
+        ensures { (W : PlainWorkload) (work : Work) (all : AllSent) → IsShut W work all self.now
+            → (result ≡ true → IsBare W work self.now) × (result ≡ false → IsBare W work self.now → ⊥) }
+    {
+        if !self.rests.are_empty() {
+            return false;
+        }
+        if !self.desk.asks.is_empty() {
+            return false;
+        }
+        if !self.desk.said.is_empty() {
+            return false;
+        }
+        self.desk.agent.pinned() == 0
+    }
+
+    /// The book of the agent. The pool is closed, of which these are all drawers, in the order of their numbers. Nothing is pinned.
+    pub fn finish(self, drawers: List<Drawer>) -> Result<AgentBook, Memory>
+        requires done { (W : PlainWorkload) × (work : Work) × (all : AllSent) × IsShut W work all self × ((state_at W work).pinned ≡ []) }
+        requires ends { AreAllEnds self.giver drawers.items }
+        ensures book { (W : PlainWorkload) (work : Work) (all : AllSent) → IsShut W work all self → IfOk result (λ book. agent_book_of book ≡ book_of work.node (state_at W work)) }
+        ensures closes { IfOk result (λ _. (tally : Tally) × Closes self.giver drawers.items tally) }
+    {
+        let ClosedNode {
+            desk,
+            rests,
+            clients: _,
+        } = self;
+        let finished = desk.agent.finish()?;
+        let Finished { book, rest } = finished;
+        let _tally = close(rests.giver, drawers, rest);
+        Ok(book)
+    }
+}

@@ -1,0 +1,52 @@
+-- A caller that has done all its operations.
+use Rattle.std.proofs.Common.{◌≡◌, List, length, map, take, Option, None, IsNone, sym, ap, ◌∙◌, subst, arith}
+use Rattle.std.proofs.lemmas.List.{append-nil, take_all}
+use Rattle.std.specs.Prelude.{is_some}
+use Rattle.hs_lists.proofs.Options.{is_some_false}
+use Rattle.hs_base.specs.declared.ids.ClientId.{ClientId}
+use Rattle.hs_base.specs.declared.ids.TraceId.{TraceId}
+use Rattle.hs_client.specs.Core.{Core, all_pages}
+use Rattle.hs_client.specs.Calls.{note_of}
+use Rattle.hs_journal.specs.Books.{PlainClientBook}
+use Rattle.hs_live.specs.Live.{Live}
+use Rattle.hs_live.specs.Writing.{Made}
+use Rattle.hs_live.specs.Done.{HasDone, HasSent}
+use Rattle.hs_records.specs.Pages.{pages_of}
+use Rattle.hs_records.specs.Plain.{Operation, PlainSettings}
+use Rattle.hs_ring.specs.Parts.{Leased}
+use Rattle.hs_law_sends.specs.OneMore.{open_after}
+use Rattle.hs_law_sends.proofs.OneMore.{none_open}
+use Rattle.hs_run_client.specs.Calling.{Calling}
+use Rattle.hs_run_client.specs.Standing.{IsAt, IsDone, Notes, made_for}
+
+all_done : (settings : PlainSettings) (id : ClientId) (ops : List Operation) (caller : Calling) → IsAt settings id ops caller → caller.done ≡ length ops → HasDone (made_for settings id ops) ops caller.client
+all_done settings id ops caller a all =
+    let whole : take caller.done ops ≡ ops = take_all caller.done ops (omega (arith, all)) in
+    subst (λ (l : List Operation). HasDone (made_for settings id ops) l caller.client) whole a.inside
+
+pub is_closed : (caller : Calling) → IsDone caller → IsNone caller.client.core.trace
+is_closed caller is =
+    let has = all_done is.settings is.client is.ops caller is.at is.all in
+    ap (λ (t : Option TraceId). is_some t) has.trace ∙ none_open is.ops is.at.playable.client.bracketed
+
+-- the notes of all pages, where there is no current one
+closed_pages : (core : Core Leased) → core.current ≡ None → core.pages ≡ all_pages core
+closed_pages core none = sym (append-nil core.pages) ∙ ap (λ (c : Core Leased). all_pages c) (sym same)
+  where
+    same : core ≡ record core { current = None }
+    same = λ i. record core { current = none i }
+
+-- what the book of a client was made of
+pub record IsBookOf (client : Live) (book : PlainClientBook) : Type 0 where
+  pub owner : book.client ≡ client.core.client
+  pub draws : book.draws ≡ client.core.draws
+  pub pages : book.pages ≡ client.core.pages
+
+pub notes : ((made : Made) (ops : List Operation) (client : Live) → HasDone made ops client → HasSent made ops client) → (caller : Calling) (book : PlainClientBook) → IsBookOf caller.client book → Notes caller book
+notes sent_is caller book is = λ settings id ops a all.
+    let has = all_done settings id ops caller a all in
+    let sent = sent_is (made_for settings id ops) ops caller.client has in
+    let closed : open_after None ops ≡ None = is_some_false (open_after None ops) (none_open ops a.playable.client.bracketed) in
+    let owner : book.client ≡ id = is.owner ∙ a.is_of.owner in
+    let pages : book.pages ≡ map note_of (pages_of settings.size ops) = is.pages ∙ closed_pages caller.client.core (sent.closed closed) ∙ sent.pages in
+    λ i. record { client = owner i; draws = is.draws i; pages = pages i }

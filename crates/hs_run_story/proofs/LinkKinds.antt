@@ -1,0 +1,58 @@
+-- The three kinds of links of a client.
+use Rattle.std.proofs.Common.{ℕ, sym, ap, ◌∙◌, filter}
+use Rattle.std.proofs.lemmas.List.{length-map}
+use Rattle.hs_base.specs.declared.told.Crumb.{Crumb}
+use Rattle.hs_base.specs.declared.told.Trigger.{Trigger}
+use Rattle.hs_link.specs.Contents.{Incoming}
+use Rattle.hs_live.specs.Keys.{Key}
+use Rattle.hs_live.specs.Live.{Live, Port}
+use Rattle.hs_records.specs.Plain.{PlainWorkload}
+use Rattle.hs_ring.specs.Parts.{Leased}
+use Rattle.hs_words.specs.Buffers.{Buffer}
+use Rattle.hs_law_journal.specs.Doings.{crumbs_in, triggers_in}
+use Rattle.hs_run_agent.specs.Lines.{linked}
+use Rattle.hs_run_agent.specs.Work.{Work, is_of, came_of}
+use Rattle.hs_run_story.proofs.Links.{Kind}
+
+module _ (W : PlainWorkload) (node client : ℕ) where
+  abbrev pub chunk_links : Kind (Buffer Leased) W node client
+  chunk_links =
+      record {
+        ends = λ (p : Port). p.chunks;
+        sender = λ (c : Live). c.chunks;
+        got = came_of client;
+        received = λ work port has r end. has.chunks client r end;
+        each = λ work pass came old new passes. passes.chunks;
+        flushed = λ ops old new goes. goes.chunks;
+        met = λ port port' old new met. met.chunks;
+        long = λ work site stands. sym (length-map site.agent.port.chunks (λ (r : Incoming (Buffer Leased) Key). linked r)) ∙ stands.agent.stands.lines_are.chunks.count;
+        same = λ old new same. ap (filter (is_of client)) same.came;
+      }
+
+  abbrev pub crumb_links : Kind Crumb W node client
+  crumb_links =
+      record {
+        ends = λ (p : Port). p.crumbs;
+        sender = λ (c : Live). c.crumbs;
+        got = λ (work : Work). crumbs_in client work.events;
+        received = λ work port has r end. has.crumbs client r end;
+        each = λ work pass came old new passes. passes.crumbs;
+        flushed = λ ops old new goes. goes.crumbs;
+        met = λ port port' old new met. met.crumbs;
+        long = λ work site stands. sym (length-map site.agent.port.crumbs (λ (r : Incoming Crumb Key). linked r)) ∙ stands.agent.stands.lines_are.crumbs.count;
+        same = λ old new same. ap (crumbs_in client) same.events;
+      }
+
+  abbrev pub trigger_links : Kind Trigger W node client
+  trigger_links =
+      record {
+        ends = λ (p : Port). p.triggers;
+        sender = λ (c : Live). c.triggers;
+        got = λ (work : Work). triggers_in client work.events;
+        received = λ work port has r end. has.triggers client r end;
+        each = λ work pass came old new passes. passes.triggers;
+        flushed = λ ops old new goes. goes.triggers;
+        met = λ port port' old new met. met.triggers;
+        long = λ work site stands. sym (length-map site.agent.port.triggers (λ (r : Incoming Trigger Key). linked r)) ∙ stands.agent.stands.lines_are.triggers.count;
+        same = λ old new same. ap (triggers_in client) same.events;
+      }

@@ -1,0 +1,9 @@
+pub mod Standing
+pub mod Acting
+pub mod Meeting
+pub mod Moving
+pub mod Coming
+pub mod Spans
+pub mod Closing
+pub mod Laws
+pub mod Noting

@@ -1,0 +1,68 @@
+//! Laws of rounds, and why the journal of a run in threads is lawful. These functions do nothing: their contracts say it.
+
+ghost use Rattle.hs_run_story.specs.Coming.{NoRoundsCome, RoundsGoOn, RoundsKeepWhatCame};
+ghost use Rattle.hs_run_story.specs.Noting.{JournalsNoteRounds};
+ghost use Rattle.hs_run_story.specs.Laws.{ClosingBegins, ClosingGoesOn, DesksArePosts, PoolsAreKept, RunsAreLawful, RoundsAreNoted};
+
+use hs_run_client::callers_have_sent;
+use hs_run_client::callers_sent_all;
+use hs_law_run::laws::stories_are_lawful;
+use hs_law_agent::laws::events_add_this;
+
+/// A moment that stands at the beginning came by no round.
+pub fn no_rounds_come()
+    ensures { NoRoundsCome }
+{}
+
+/// A round more leads on to what it leads to.
+pub fn rounds_go_on()
+    ensures { RoundsGoOn }
+{}
+
+/// And the moments that led there stay the same.
+pub fn rounds_keep_what_came()
+    ensures { RoundsKeepWhatCame }
+{}
+
+/// Rounds keep the sizes of the pools and the numbers of their drawers.
+pub fn pools_are_kept()
+    ensures { PoolsAreKept }
+{}
+
+/// A desk whose messages were all fetched stands between two passes.
+pub fn desks_are_posts()
+    ensures { DesksArePosts }
+{}
+
+/// Where the rounds end no pass was made behind them.
+pub fn closing_begins()
+    ensures { ClosingBegins }
+{}
+
+/// A pass more behind the rounds leads to where it leads each node.
+pub fn closing_goes_on()
+    ensures { ClosingGoesOn }
+{}
+
+/// When all is over, some journal of the run is lawful, and all books are those of it.
+pub fn runs_are_lawful()
+    ensures { RunsAreLawful }
+{
+    callers_have_sent();
+    callers_sent_all();
+    events_add_this();
+    stories_are_lawful();
+}
+
+/// Behind each round a node's log has noted what was done by then.
+pub fn rounds_are_noted()
+    ensures { RoundsAreNoted }
+{}
+
+/// The journal of a run notes where all stood behind each round.
+pub fn journals_note_rounds()
+    ensures { JournalsNoteRounds }
+{
+    callers_have_sent();
+    rounds_are_noted();
+}

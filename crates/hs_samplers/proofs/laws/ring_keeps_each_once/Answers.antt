@@ -1,5 +1,0 @@
-use Rattle.hs_samplers.proofs.RingOnce.{ring_keeps_each_once}
-use Rattle.hs_samplers.proofs.laws.ring_keeps_each_once.Goals as goal
-
-pub returns : goal.returns
-returns c = ring_keeps_each_once

@@ -1,5 +1,0 @@
-use Rattle.hs_samplers.proofs.Summing.{tail_is_the_sum}
-use Rattle.hs_samplers.proofs.laws.tail_is_the_sum.Goals as goal
-
-pub returns : goal.returns
-returns c = tail_is_the_sum c.kept_is_parted.ensures.beside c.kept_is_parted.ensures.parted

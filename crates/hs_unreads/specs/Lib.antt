@@ -1,2 +1,0 @@
-pub mod PageDraws
-pub mod Showing

@@ -1,3 +1,0 @@
-pub mod Watching
-pub mod Layout
-pub mod WatchLayout

@@ -1,5 +1,0 @@
-use Rattle.std.specs.Prelude.{IsSome}
-use Rattle.rows_formats.proofs.words.fill.Given as goal
-
-abbrev pub invariant-loop-moment : goal.invariant-loop-moment
-invariant-loop-moment l = IsSome l.chunk.page

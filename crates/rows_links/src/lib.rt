@@ -1,5 +1,0 @@
-//! Tables over links, driven by one thread and by two.
-#![tactic(auto)]
-
-#[cfg(test)]
-mod links;

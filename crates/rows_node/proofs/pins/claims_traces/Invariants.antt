@@ -1,5 +1,0 @@
-use Rattle.fixtures.specs.Claims.{IsReady}
-use Rattle.rows_node.proofs.pins.claims_traces.Given as goal
-
-abbrev pub invariant-loop-number : goal.invariant-loop-number
-invariant-loop-number l = IsReady 0 l.pins

@@ -1,5 +1,0 @@
-//! Tables over the lock-free pool, driven by one thread and by five.
-#![tactic(auto)]
-
-#[cfg(test)]
-mod rings;

@@ -1,0 +1,386 @@
+//! Rows of a client and its port. Each pool has the client alone, so that on one thread every stamp is known.
+
+ghost use Rattle.std.specs.Prelude.{◌≡◌, IsTrue};
+ghost use Rattle.tests_with.specs.Pairs.{CanCall, KeepsClient, KeepsPort, IsOnly, HasClient};
+
+use crate::live_calls::{Call, FULL, do_calls, is_closed};
+use crate::live_sheets::{Sheet, take_sheet};
+use tests_with::CLIENT;
+use tests_with::ID;
+use tests_with::Making;
+use tests_with::client_and_port;
+use tests_with::close_all;
+use tests_with::flush;
+use tests_with::meet;
+use tests_with::next_crumb;
+use tests_with::next_trigger;
+use tests_with::nothing_comes;
+use hs_base::limits::MIN_SIZE;
+use hs_base::{Crumb, Laterals, NodeId, TraceId, Trigger};
+use hs_journal::{ClientBook, Draw, PageNote};
+use hs_live::{AgentPort, Called, Client};
+use hs_words::Tally;
+use std::alloc::Global;
+use std::test::Fail;
+
+/// Two chunks of the least size.
+const TWO: Making = Making {
+    buffers: 2,
+    size: MIN_SIZE,
+    calls: 64,
+    capacity: 16,
+};
+
+/// The same over links of one entry.
+const NARROW: Making = Making {
+    buffers: 2,
+    size: MIN_SIZE,
+    calls: 64,
+    capacity: 1,
+};
+
+const ONE_CALL: Making = Making {
+    buffers: 1,
+    size: MIN_SIZE,
+    calls: 1,
+    capacity: 1,
+};
+
+const NO_CALL: Making = Making {
+    buffers: 1,
+    size: MIN_SIZE,
+    calls: 0,
+    capacity: 1,
+};
+
+/// Without an open trace.
+const REFUSED: [(Call, Called); 6] = [
+    (Call::Empty { moment: 1 }, Called::NoTrace),
+    (Call::Full { moment: 2 }, Called::NoTrace),
+    (Call::Over { moment: 3 }, Called::NoTrace),
+    (Call::Crumb, Called::NoTrace),
+    (
+        Call::Sample {
+            moment: 4,
+            value: 9,
+        },
+        Called::NoTrace,
+    ),
+    (Call::End, Called::NoTrace),
+];
+
+/// The first record fills page 0. The second has a piece on page 1, and one on page 2, which is null, as is page 3. The
+/// last sample is greater than the two before it, of which the trace 2 is the later.
+const CALLS: [(Call, Called); 16] = [
+    (Call::Begin { trace: 1 }, Called::Done),
+    (Call::Begin { trace: 2 }, Called::AlreadyOpen),
+    (Call::Full { moment: 5 }, Called::Done),
+    (Call::Over { moment: 6 }, Called::Done),
+    (Call::Crumb, Called::Done),
+    (
+        Call::Sample {
+            moment: 7,
+            value: 1,
+        },
+        Called::Done,
+    ),
+    (Call::End, Called::Done),
+    (Call::Begin { trace: 2 }, Called::Done),
+    (Call::Empty { moment: 8 }, Called::Done),
+    (
+        Call::Sample {
+            moment: 9,
+            value: 1,
+        },
+        Called::Done,
+    ),
+    (Call::End, Called::Done),
+    (Call::Begin { trace: 3 }, Called::Done),
+    (
+        Call::Sample {
+            moment: 10,
+            value: 5,
+        },
+        Called::Done,
+    ),
+    (Call::End, Called::Done),
+    (
+        Call::Trigger {
+            moment: 11,
+            lead: 2,
+        },
+        Called::Done,
+    ),
+    (Call::End, Called::NoTrace),
+];
+
+const SHEETS: [Sheet; 2] = [
+    Sheet {
+        page: 0,
+        trace: 1,
+        first: 0,
+        points: &[(5, &FULL)],
+    },
+    Sheet {
+        page: 1,
+        trace: 1,
+        first: 1,
+        points: &[(6, &[8; 30])],
+    },
+];
+
+/// When both chunks were given back.
+const LATER: [(Call, Called); 3] = [
+    (Call::Begin { trace: 4 }, Called::Done),
+    (Call::Full { moment: 12 }, Called::Done),
+    (Call::End, Called::Done),
+];
+
+/// The buffer that was given first is got first.
+const DRAWS: [Draw; 5] = [
+    Draw::Got {
+        buffer: 0,
+        stamp: 0,
+    },
+    Draw::Got {
+        buffer: 1,
+        stamp: 1,
+    },
+    Draw::Empty { stamp: 2 },
+    Draw::Empty { stamp: 3 },
+    Draw::Got {
+        buffer: 0,
+        stamp: 8,
+    },
+];
+
+const PAGES: [PageNote; 5] = [
+    PageNote {
+        trace: TraceId(1),
+        first: 0,
+        count: 1,
+    },
+    PageNote {
+        trace: TraceId(1),
+        first: 1,
+        count: 1,
+    },
+    PageNote {
+        trace: TraceId(1),
+        first: 1,
+        count: 1,
+    },
+    PageNote {
+        trace: TraceId(2),
+        first: 2,
+        count: 1,
+    },
+    PageNote {
+        trace: TraceId(4),
+        first: 3,
+        count: 1,
+    },
+];
+
+const TALLY: Tally = Tally {
+    gots: 3,
+    empties: 2,
+    gives: 2,
+    misses: 2,
+};
+
+const NO_TALLY: Tally = Tally {
+    gots: 0,
+    empties: 0,
+    gives: 0,
+    misses: 0,
+};
+
+const CRUMB: Crumb = Crumb {
+    trace: TraceId(1),
+    node: NodeId(1),
+};
+
+/// The trigger of the one id at this moment.
+fn trigger_of(moment: u64, lead: u128, laterals: Laterals) -> Option<Trigger> {
+    Some(Trigger {
+        moment,
+        trigger: ID,
+        lead: TraceId(lead),
+        laterals,
+    })
+}
+
+/// The laterals of the one sample of `CALLS` that fires.
+fn both() -> Laterals {
+    let mut laterals = Laterals::none();
+    laterals.push(TraceId(2));
+    laterals.push(TraceId(1));
+    laterals
+}
+
+/// Whether these draws and pages are noted.
+fn has_noted(book: &ClientBook, draws: &[Draw], pages: &[PageNote]) -> bool {
+    book.draws.as_slice() == draws && book.pages.as_slice() == pages
+}
+
+/// Makes the calls that are refused. Answers how many were answered otherwise, how much waits to be sent, how many draws
+/// found nothing, and whether nothing came.
+fn refuses(client: &mut Client, port: &mut AgentPort) -> (u32, u32, u32, bool)
+    requires can { CanCall MIN_SIZE 13 client.old }
+    requires ends { IsOnly port.old client.old }
+    ensures left { CanCall MIN_SIZE 1 client.new }
+    ensures same { KeepsPort port.old port.new × KeepsClient client.old client.new }
+{
+    let others = do_calls(client, &REFUSED);
+    let waits = flush(client);
+    meet(port, client);
+    let nothing = nothing_comes(port);
+    (others, waits, client.nulls(), nothing)
+}
+
+#[test]
+fn a_refused_call_sends_nothing(rt: HostRuntime) -> Result<(), Fail> {
+    let (mut client, mut port) = client_and_port(rt.alloc(), TWO)?;
+    assert_eq!(rt; refuses(&mut client, &mut port), (0, 0, 0, true));
+    assert!(rt; is_closed(&mut client));
+    let ending = close_all(rt.alloc(), client, port)?;
+    assert!(rt; has_noted(&ending.book, &[], &[]));
+    assert_eq!(rt; (ending.chunks, ending.crumbs, ending.triggers), (0, 0, 0));
+    Ok(())
+}
+
+/// Takes the two pages, the crumb and the triggers of `CALLS`. Answers whether they are as they should be, and nothing
+/// more comes.
+fn takes_all(alloc: Global, port: &mut AgentPort) -> Result<bool, Fail>
+    requires { HasClient port.old }
+    ensures { KeepsPort port.old port.new }
+{
+    let first = take_sheet(alloc, port, &SHEETS[0])?;
+    let second = take_sheet(alloc, port, &SHEETS[1])?;
+    let crumb = next_crumb(port);
+    let sampled = next_trigger(port);
+    let fired = next_trigger(port);
+    Ok(
+        first == Some((2, 6))
+            && second == Some((0, 7))
+            && crumb == Some(CRUMB)
+            && sampled == trigger_of(10, 3, both())
+            && fired == trigger_of(11, 2, Laterals::none())
+            && nothing_comes(port),
+    )
+}
+
+/// Makes the calls of `CALLS`, takes all that came, and makes those of `LATER`. Answers how many were answered otherwise,
+/// how many draws found nothing, how much waited to be sent, and whether what came is right.
+fn calls_all(
+    alloc: Global,
+    client: &mut Client,
+    port: &mut AgentPort,
+) -> (u32, u32, u32, u32, Result<bool, Fail>)
+    requires can { CanCall MIN_SIZE 39 client.old }
+    requires ends { IsOnly port.old client.old }
+    ensures left { CanCall MIN_SIZE 1 client.new }
+    ensures same { KeepsPort port.old port.new × KeepsClient client.old client.new }
+{
+    let others = do_calls(client, &CALLS);
+    let nulls = client.nulls();
+    let waits = flush(client);
+    meet(port, client);
+    let taken = takes_all(alloc, port);
+    let later = do_calls(client, &LATER);
+    (others, later, nulls, waits, taken)
+}
+
+#[test]
+fn all_calls_on_one_thread(rt: HostRuntime) -> Result<(), Fail> {
+    let (mut client, mut port) = client_and_port(rt.alloc(), TWO)?;
+    let (others, later, nulls, waits, taken) = calls_all(rt.alloc(), &mut client, &mut port);
+    assert_eq!(rt; (others, later, nulls, waits), (0, 0, 2, 0));
+    assert!(rt; taken?);
+    assert!(rt; is_closed(&mut client));
+    let ending = close_all(rt.alloc(), client, port)?;
+    assert!(rt; has_noted(&ending.book, &DRAWS, &PAGES));
+    assert_eq!(rt; (ending.chunks, ending.crumbs, ending.triggers), (1, 0, 0));
+    assert_eq!(rt; ending.tally, TALLY);
+    Ok(())
+}
+
+/// Makes the calls of `CALLS` over links of one entry each. A chunk and a trigger wait, until what was put before is taken.
+fn flushes(alloc: Global, client: &mut Client, port: &mut AgentPort) -> Result<bool, Fail>
+    requires can { CanCall MIN_SIZE 32 client.old }
+    requires ends { HasClient port.old }
+{
+    let others = do_calls(client, &CALLS);
+    let waits = flush(client);
+    let first = take_sheet(alloc, port, &SHEETS[0])?;
+    let sampled = next_trigger(port);
+    let crumb = next_crumb(port);
+    let nothing_yet = nothing_comes(port);
+    let later = flush(client);
+    let second = take_sheet(alloc, port, &SHEETS[1])?;
+    let fired = next_trigger(port);
+    Ok(
+        (others, waits, later) == (0, 2, 0)
+            && first == Some((2, 6))
+            && sampled == trigger_of(10, 3, both())
+            && crumb == Some(CRUMB)
+            && nothing_yet
+            && second == Some((0, 7))
+            && fired == trigger_of(11, 2, Laterals::none())
+            && nothing_comes(port),
+    )
+}
+
+#[test]
+fn what_waits_is_put_once_there_is_room(rt: HostRuntime) -> Result<(), Fail> {
+    let (mut client, mut port) = client_and_port(rt.alloc(), NARROW)?;
+    assert!(rt; flushes(rt.alloc(), &mut client, &mut port)?);
+    Ok(())
+}
+
+/// Makes calls of a client that may have one counted. Those that are not counted are done still.
+fn is_spent(client: &mut Client) -> bool
+    requires { CanCall MIN_SIZE 1 client.old }
+{
+    let opened = client.begin(TraceId(1));
+    let opened_again = client.begin(TraceId(2));
+    let ended = client.end();
+    let left_crumb = client.crumb(NodeId(1));
+    opened == Called::Done
+        && opened_again == Called::Spent
+        && ended == Called::Spent
+        && left_crumb == Called::Done
+}
+
+#[test]
+fn a_spent_client_still_leaves_crumbs(rt: HostRuntime) -> Result<(), Fail> {
+    let (mut client, mut port) = client_and_port(rt.alloc(), ONE_CALL)?;
+    assert!(rt; is_spent(&mut client));
+    assert!(rt; next_crumb(&mut port) == Some(CRUMB));
+    assert!(rt; nothing_comes(&mut port));
+    Ok(())
+}
+
+/// Whether a begin is refused, since no call may be counted.
+fn begins_nothing(client: &mut Client) -> bool
+    ensures trace { IsTrue result → client.new.core.trace ≡ client.old.core.trace }
+    ensures same { KeepsClient client.old client.new }
+{
+    client.begin(TraceId(1)) == Called::Spent
+}
+
+#[test]
+fn nothing_at_all(rt: HostRuntime) -> Result<(), Fail> {
+    let (mut client, mut port) = client_and_port(rt.alloc(), NO_CALL)?;
+    assert!(rt; begins_nothing(&mut client));
+    assert_eq!(rt; flush(&mut client), 0);
+    assert_eq!(rt; client.nulls(), 0);
+    meet(&mut port, &mut client);
+    let ending = close_all(rt.alloc(), client, port)?;
+    assert!(rt; has_noted(&ending.book, &[], &[]));
+    assert_eq!(rt; ending.book.client, CLIENT);
+    assert_eq!(rt; (ending.chunks, ending.crumbs, ending.triggers), (0, 0, 0));
+    assert_eq!(rt; ending.tally, NO_TALLY);
+    Ok(())
+}

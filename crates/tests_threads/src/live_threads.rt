@@ -1,0 +1,183 @@
+//! A client in a thread of its own, and its port in another.
+
+ghost use Rattle.std.specs.Thread.{IsSync};
+ghost use Rattle.tests_with.specs.Pairs.{CanCall, KeepsClient, KeepsPort, IsOnly, HasClient};
+
+use crate::live_calls::{Call, do_calls, is_closed};
+use tests_with::Making;
+use tests_with::client_and_port;
+use tests_with::close_all;
+use tests_with::flush;
+use tests_with::give_back;
+use tests_with::meet;
+use tests_with::next_chunk;
+use tests_with::next_crumb;
+use tests_with::next_trigger;
+use hs_base::limits::MIN_SIZE;
+use hs_live::{AgentPort, Called, Client};
+use hs_ring::Lease;
+use hs_words::Held;
+use std::test::Fail;
+use std::thread;
+use std::thread::{Threads, join};
+
+/// Eight chunks, and links of eight entries.
+const EIGHT: Making = Making {
+    buffers: 8,
+    size: MIN_SIZE,
+    calls: 1401,
+    capacity: 8,
+};
+
+/// A trace with three pages, a crumb and a trigger.
+const ROUND: [(Call, Called); 7] = [
+    (Call::Begin { trace: 1 }, Called::Done),
+    (Call::Full { moment: 2 }, Called::Done),
+    (Call::Over { moment: 3 }, Called::Done),
+    (Call::Crumb, Called::Done),
+    (
+        Call::Sample {
+            moment: 4,
+            value: 1,
+        },
+        Called::Done,
+    ),
+    (Call::Trigger { moment: 5, lead: 1 }, Called::Done),
+    (Call::End, Called::Done),
+];
+
+const ROUNDS: u32 = 100;
+
+/// Makes the calls of all rounds, and flushes. Answers how many were answered otherwise.
+fn work(mut client: Client) -> (Client, u32)
+    requires { CanCall MIN_SIZE 1401 client }
+    ensures left { CanCall MIN_SIZE 1 result.0 }
+    ensures same { KeepsClient client result.0 }
+{
+    let mut others = 0u32;
+    for _round in 0..ROUNDS {
+        others = others.saturating_add(do_calls(&mut client, &ROUND));
+    }
+    flush(&mut client);
+    (client, others)
+}
+
+/// What came: how many pages, crumbs and triggers, the least number that the next page may have, and how many pages had a
+/// smaller one or were not given back.
+#[derive(Default, Drop)]
+struct Seen {
+    pages: u32,
+    crumbs: u32,
+    triggers: u32,
+    next: u32,
+    strays: u32,
+}
+
+/// Counts a chunk.
+fn see(seen: &mut Seen, held: &Held<Lease>) {
+    seen.pages = seen.pages.saturating_add(1);
+    match held.chunk.header() {
+        Some(header) if header.page >= seen.next => seen.next = header.page.saturating_add(1),
+        _ => seen.strays = seen.strays.saturating_add(1),
+    }
+}
+
+/// Takes what has come, at most eight of each kind.
+fn serve(port: &mut AgentPort, seen: &mut Seen)
+    requires { HasClient port.old }
+    ensures { KeepsPort port.old port.new }
+{
+    for _ in 0..8 {
+        if let Some(held) = next_chunk(port) {
+            see(seen, &held);
+            if give_back(port, held, 1000).is_none() {
+                seen.strays = seen.strays.saturating_add(1);
+            }
+        }
+        if next_crumb(port).is_some() {
+            seen.crumbs = seen.crumbs.saturating_add(1);
+        }
+        if next_trigger(port).is_some() {
+            seen.triggers = seen.triggers.saturating_add(1);
+        }
+    }
+}
+
+/// Takes what comes meanwhile.
+fn serve_meanwhile(mut port: AgentPort) -> (AgentPort, Seen)
+    requires { HasClient port }
+    ensures { KeepsPort port result.0 }
+{
+    let mut seen = Seen::default();
+    for _round in 0..500 {
+        serve(&mut port, &mut seen);
+        thread::yield_now();
+    }
+    (port, seen)
+}
+
+/// The client and the port, each in a thread of its own.
+fn work_and_serve<R: Threads + Sync>(
+    rt: &R,
+    client: Client,
+    port: AgentPort,
+) -> (Client, u32, AgentPort, Seen)
+    requires can { CanCall MIN_SIZE 1401 client }
+    requires ends { HasClient port }
+    ensures left { CanCall MIN_SIZE 1 result.0 }
+    ensures same { KeepsClient client result.0 × KeepsPort port result.2 }
+{
+    let (worked, served) = join(
+        rt,
+        move || -> (Client, u32)
+            requires { CanCall MIN_SIZE 1401 client }
+            ensures { CanCall MIN_SIZE 1 result.0 × KeepsClient client result.0 }
+        { work(client) },
+        move || -> (AgentPort, Seen)
+            requires { HasClient port }
+            ensures { KeepsPort port result.0 }
+        { serve_meanwhile(port) },
+    );
+    let (client, others) = worked;
+    let (port, seen) = served;
+    (client, others, port, seen)
+}
+
+/// Takes what is left, on one thread.
+fn settle(client: &mut Client, port: &mut AgentPort, seen: &mut Seen)
+    requires can { CanCall MIN_SIZE 1 client.old }
+    requires ends { IsOnly port.old client.old }
+    ensures left { CanCall MIN_SIZE 1 client.new }
+    ensures ends { IsOnly port.new client.new }
+{
+    for _round in 0..100 {
+        meet(port, client);
+        flush(client);
+        serve(port, seen);
+    }
+}
+
+#[test]
+fn a_client_in_a_thread_of_its_own(rt: HostRuntime) -> Result<(), Fail> {
+    let (client, port) = client_and_port(rt.alloc(), EIGHT)?;
+    let (mut client, others, mut port, mut seen) = work_and_serve(&rt, client, port);
+    settle(&mut client, &mut port, &mut seen);
+    let nulls = client.nulls();
+    assert!(rt; is_closed(&mut client));
+    let ending = close_all(rt.alloc(), client, port)?;
+    assert_eq!(rt; (ending.chunks, ending.crumbs, ending.triggers), (0, 0, 0));
+    assert_eq!(rt;
+        (others, seen.crumbs, seen.triggers, seen.strays),
+        (0, 100, 100, 0)
+    );
+    assert_eq!(rt;
+        (ending.book.pages.len(), ending.book.draws.len()),
+        (300, 300)
+    );
+    assert_eq!(rt; seen.pages.saturating_add(nulls), 300);
+    assert_eq!(rt;
+        (ending.tally.gots, ending.tally.empties),
+        (u64::from(seen.pages), u64::from(nulls))
+    );
+    Ok(())
+}

@@ -1,0 +1,5 @@
+pub mod ClaimLemmas
+pub mod PageLemmas
+pub mod RuleLemmas
+pub mod ShelfLemmas
+pub mod Pairs
