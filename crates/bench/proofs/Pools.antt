@@ -7,7 +7,7 @@ use lib.ListN.{get_elem?}
 use borrow.Author.Tests.{eq-eqb}
 use Rattle.hs_lists.proofs.Counts.{count_cons}
 use Rattle.hs_words.specs.Chunks.{Contents}
-use Rattle.hs_words.specs.PoolHistory.{Event, queue_after, IsHistoryBack}
+use Rattle.hs_words.specs.PoolHistory.{PoolEvent, queue_after, IsHistoryBack}
 use Rattle.hs_words.proofs.Waiting.{is, waits_once, waiting_below}
 use Rattle.hs_pool.specs.Pool.{Pool, IsAfter, IsOut, waiting, number_of}
 
@@ -19,7 +19,7 @@ none_waits b (x ∷ xs) none = step (x == b) refl (none_waits b xs (let c = coun
     step true e rest = let one : ◌≡◌ {A = ℕ} (cond (x == b) 1 0) 1 = ap (λ (c : Bool). let n : ℕ = cond c 1 0 in n) e in let c = count_cons (is b) x xs in absurd (omega arith)
     step false e rest = rest
 
-pub drawn_is_out : (history : List Event) (old new : Pool) (chunk : Contents) → IsAfter history old → old.queue ≡ chunk ∷ new.queue → new.buffers ≡ old.buffers → IsOut new chunk.number
+pub drawn_is_out : (history : List PoolEvent) (old new : Pool) (chunk : Contents) → IsAfter history old → old.queue ≡ chunk ∷ new.queue → new.buffers ≡ old.buffers → IsOut new chunk.number
 drawn_is_out history old new chunk after queue buffers =
     let b = chunk.number in
     let lawful : IsHistoryBack old.buffers (reverse history) = after.lawful in

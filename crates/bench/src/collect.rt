@@ -1,13 +1,11 @@
 //! Pages given to a collector.
 
 use anyhow::{Context, Result, bail};
-use tests_with::add_page;
-use tests_with::fill_page;
-use tests_with::no_pages;
 use hs_base::limits::{MAX_OPERATIONS, MAX_SIZE};
 use hs_words::{Chunk, Stock};
 use std::rt::Clock;
 use std::time::Instant;
+use tests_with::{add_page, fill_page, no_pages};
 
 /// The records of a page.
 const RECORDS: u32 = 64;

@@ -7,10 +7,6 @@ ghost use Rattle.hs_records.specs.Records.{piece_count};
 ghost use Rattle.tests_with.specs.Pairs.{CanCall, KeepsPort, HasClient};
 
 use anyhow::{Context, Result, ensure};
-use tests_with::Making;
-use tests_with::client_and_port;
-use tests_with::give_back;
-use tests_with::next_chunk;
 use hs_base::TraceId;
 use hs_base::limits::{HEADER_COST, MAX_OPERATIONS, MAX_SIZE, PIECE_COST};
 use hs_live::{AgentPort, Client};
@@ -21,6 +17,7 @@ use std::sync::Wait;
 use std::sync::atomic::{AtomicU64, Ordering};
 use std::thread::{Threads, join};
 use std::time::Instant;
+use tests_with::{Making, client_and_port, give_back, next_chunk};
 
 /// How many bytes all pages have together: 64 pages of 32,768.
 const BYTES: usize = 64 * MAX_SIZE as usize;

@@ -4,19 +4,13 @@ ghost use Rattle.std.specs.Prelude.{IfOk, OnOk};
 ghost use Rattle.tests_with.specs.Claims.{IsReady};
 
 use anyhow::{Context, Result, bail};
-use tests_with::arrives;
-use tests_with::claims;
-use tests_with::fresh_pins;
-use tests_with::group_of;
-use tests_with::lets_go;
-use tests_with::page_of;
-use tests_with::takes;
 use hs_base::{List, TraceId};
 use hs_pins::Pins;
 use hs_words::Held;
 use std::alloc::Global;
 use std::rt::Clock;
 use std::time::Instant;
+use tests_with::{arrives, claims, fresh_pins, group_of, lets_go, page_of, takes};
 
 /// Pins without a claim, of which no chunk may stay.
 fn no_claims(alloc: Global) -> Result<Pins<()>>

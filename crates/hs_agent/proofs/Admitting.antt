@@ -14,7 +14,7 @@ use Rattle.hs_pins.specs.Remembered as pins
 use Rattle.hs_pins.specs.PinsLayout.{Pinning, Remembers}
 use Rattle.hs_law_agent.specs.State.{AgentState}
 use Rattle.hs_law_agent.specs.Stepping.{rule_of, admits, note_trigger, count_admitted}
-use Rattle.hs_agent.specs.declared.placed.Place.{Place}
+use Rattle.hs_agent.specs.declared.placed.ArrivalPlace.{ArrivalPlace}
 use Rattle.hs_agent.specs.Keeping.{Kept, Holds, Point, RemembersAs, with_state}
 
 -- whether the bucket admitted
@@ -22,7 +22,7 @@ abbrev pub is_admitted : Admitted → Bool
 is_admitted (admissions.Admitted number) = true
 is_admitted (admissions.Limited level) = false
 
-module _ (settings : PlainSettings) (node : ℕ) (state : AgentState) (memory : Remembered Place) (same : RemembersAs settings node state memory) (trigger : Trigger) where
+module _ (settings : PlainSettings) (node : ℕ) (state : AgentState) (memory : Remembered ArrivalPlace) (same : RemembersAs settings node state memory) (trigger : Trigger) where
   abbrev level : TriggerRule → ℕ
   level rule = level_found rule.burst rule.rate (pins.moments_of trigger.trigger memory.tried) trigger.moment
 
@@ -64,7 +64,7 @@ module _ (settings : PlainSettings) (node : ℕ) (state : AgentState) (memory : 
 
 -- ---- what is kept then
 
-module _ {L : Type 0} (kept : Kept L) (pins_now : Pinning Place) (point : Point L) (h : Holds kept point) (trigger : Trigger) (remembers : Remembers pins_now (tried_at h.memory trigger.trigger trigger.moment)) where
+module _ {L : Type 0} (kept : Kept L) (pins_now : Pinning ArrivalPlace) (point : Point L) (h : Holds kept point) (trigger : Trigger) (remembers : Remembers pins_now (tried_at h.memory trigger.trigger trigger.moment)) where
   -- with as many admitted as this
   holds-tried : (admitted : ℕ) → (tried_at h.memory trigger.trigger trigger.moment).admitted ≡ admitted
       → Holds (record kept { pins = pins_now }) (with_state (record (note_trigger trigger point.state) { admitted = admitted }) point)

@@ -22,7 +22,7 @@ use Rattle.hs_law_agent.specs.State.{AgentState}
 use Rattle.hs_law_agent.specs.Standings.{Taken, ChunkStanding, is_indexed, Indexed as IsIn, Pinned, Abandoned, pinning_group, pinned_for}
 use Rattle.hs_law_agent.specs.Books.{page_standing, bytes_at}
 use Rattle.hs_law_agent.specs.Stepping.{with_taken, with_indexed, with_pinned, with_abandoned}
-use Rattle.hs_agent.specs.declared.placed.Place.{Place}
+use Rattle.hs_agent.specs.declared.placed.ArrivalPlace.{ArrivalPlace}
 use Rattle.hs_agent.specs.Placing.{Placed, Pledged, place_of, placed_at}
 use Rattle.hs_agent.specs.Keeping.{Kept, Holds, HasPage, IsKept, IsIndexed, RemembersAs, Point, with_state, pinned_place, waiting_chunks, all_held}
 use Rattle.hs_agent.specs.LettingGo.{let_go, with_fate, abandoned_fate}
@@ -33,12 +33,12 @@ use Rattle.hs_agent.proofs.Indexing.{indexed-more, indexed-arrived, count-touche
 
 -- ---- the chunks of an index where a trace was touched
 
-module _ (P : Placed → Type 0) (trace : TraceId) (noted : Noted Place) where
-  all-pushed : (ts : List (Indexed Place)) → AllByRecursion P (chunks_left ts) → AllByRecursion P noted.chunks → AllByRecursion P (chunks_left (ts ++ record { trace = trace; noted = noted } ∷ []))
+module _ (P : Placed → Type 0) (trace : TraceId) (noted : Noted ArrivalPlace) where
+  all-pushed : (ts : List (Indexed ArrivalPlace)) → AllByRecursion P (chunks_left ts) → AllByRecursion P noted.chunks → AllByRecursion P (chunks_left (ts ++ record { trace = trace; noted = noted } ∷ []))
   all-pushed [] h k = all_append P noted.chunks [] k tt
   all-pushed (t ∷ ts) h k = all_append P t.noted.chunks (chunks_left (ts ++ record { trace = trace; noted = noted } ∷ [])) (all_front P t.noted.chunks (chunks_left ts) h) (all-pushed ts (all_back P t.noted.chunks (chunks_left ts) h) k)
 
-  pub all-touched : (ts : List (Indexed Place)) → AllByRecursion P (chunks_left ts) → AllByRecursion P noted.chunks → AllByRecursion P (chunks_left (touch trace noted ts))
+  pub all-touched : (ts : List (Indexed ArrivalPlace)) → AllByRecursion P (chunks_left ts) → AllByRecursion P noted.chunks → AllByRecursion P (chunks_left (touch trace noted ts))
   all-touched ts h k = all-pushed (others trace ts) (all-others P trace ts h) k
 
 module _ {L : Type 0} (old : Kept L) (point : Point L) (h : Holds old point) (buffer : Buffer L) (sheet : Sheet)
@@ -109,18 +109,18 @@ module _ {L : Type 0} (old : Kept L) (point : Point L) (h : Holds old point) (bu
         let b = h.buffers in
         omega (arith, a, b, more)
 
-    groups_same : AllByRecursion (λ (pin : Pin Place). pinned_for all (pinned_place pin) ≡ Some pin.group) h.memory.pinned
+    groups_same : AllByRecursion (λ (pin : Pin ArrivalPlace). pinned_for all (pinned_place pin) ≡ Some pin.group) h.memory.pinned
     groups_same =
-        all_weaker (λ (pin : Pin Place). pinned_for taken (pinned_place pin) ≡ Some pin.group) (λ (pin : Pin Place). pinned_for all (pinned_place pin) ≡ Some pin.group)
+        all_weaker (λ (pin : Pin ArrivalPlace). pinned_for taken (pinned_place pin) ≡ Some pin.group) (λ (pin : Pin ArrivalPlace). pinned_for all (pinned_place pin) ≡ Some pin.group)
         (λ pin e. pinned_for-front taken (new ∷ []) (pinned_place pin) pin.group e) h.memory.pinned h.pins.groups
 
   abbrev pins_chunks : List Placed
-  pins_chunks = map (λ (pin : Pin Place). pin.chunk) h.memory.pinned
+  pins_chunks = map (λ (pin : Pin ArrivalPlace). pin.chunk) h.memory.pinned
 
   -- ---- a chunk of a trace that nobody claimed
 
   module _ (free : claim_of h.memory.claims trace ≡ None) where
-    abbrev noted_now : Noted Place
+    abbrev noted_now : Noted ArrivalPlace
     noted_now = with_chunk (noted_of trace old.index.touched) placed
 
     abbrev left_indexed : TraceId → Kept L
@@ -186,7 +186,7 @@ module _ {L : Type 0} (old : Kept L) (point : Point L) (h : Holds old point) (bu
 
   -- ---- a chunk of a claimed trace
 
-  module _ (group : Group) (pins : Pinning Place) where
+  module _ (group : Group) (pins : Pinning ArrivalPlace) where
     still_indexed : (standing : ChunkStanding) (after : AgentState) → is_indexed standing ≡ false → after.taken ≡ all standing → after.touched ≡ point.state.touched → after.crumbs ≡ point.state.crumbs
         → IsIndexed h.memory.claims after old.index.touched
     still_indexed standing after out t u cs = indexed-more h.memory.claims point.state old.index.touched (new standing) after out t u cs h.index.touched
@@ -196,7 +196,7 @@ module _ {L : Type 0} (old : Kept L) (point : Point L) (h : Holds old point) (bu
 
     waits_pinned : (P : Placed → Type 0) → AllByRecursion P (waiting_chunks old h.memory.pinned) → P placed → AllByRecursion P (waiting_chunks left_pinned (with_pin h.memory group placed).pinned)
     waits_pinned P waits new =
-        all_append P (chunks_left old.index.touched) (map (λ (pin : Pin Place). pin.chunk) (with_pin h.memory group placed).pinned)
+        all_append P (chunks_left old.index.touched) (map (λ (pin : Pin ArrivalPlace). pin.chunk) (with_pin h.memory group placed).pinned)
         (all_front P (chunks_left old.index.touched) pins_chunks waits)
         (all-pins P trace group h.memory.pinned (placed ∷ []) (all_back P (chunks_left old.index.touched) pins_chunks waits) (new, tt))
 
@@ -212,7 +212,7 @@ module _ {L : Type 0} (old : Kept L) (point : Point L) (h : Holds old point) (bu
         claims = h.pins.claims;
         pinned = map-append pinned_place h.memory.pinned (pin_for group placed ∷ []) ∙ ap (λ l. l ++ length taken ∷ []) h.pins.pinned;
         groups =
-            all_append (λ (pin : Pin Place). pinned_for (all (Pinned group)) (pinned_place pin) ≡ Some pin.group) h.memory.pinned (pin_for group placed ∷ []) (groups_same (Pinned group))
+            all_append (λ (pin : Pin ArrivalPlace). pinned_for (all (Pinned group)) (pinned_place pin) ≡ Some pin.group) h.memory.pinned (pin_for group placed ∷ []) (groups_same (Pinned group))
             (ap (option_and_then (λ (t : Taken). pinning_group t.standing)) (get_last taken (new (Pinned group))), tt);
         abandoned = h.pins.abandoned;
         tried = h.pins.tried;

@@ -13,7 +13,7 @@ use Rattle.hs_records.specs.Plain.{PlainSettings}
 use Rattle.hs_pins.specs.Remembered.{Claim, Remembered, claim_of}
 use Rattle.hs_pins.specs.PinsLayout.{Remembers}
 use Rattle.hs_pins.specs.Abandoning.{drops, relieved}
-use Rattle.hs_agent.specs.declared.placed.Place.{Place}
+use Rattle.hs_agent.specs.declared.placed.ArrivalPlace.{ArrivalPlace}
 use Rattle.hs_agent.specs.LettingGo.{let_go_all, abandoned_going}
 use Rattle.hs_agent.specs.Points.{claimed_for}
 use Rattle.hs_law_agent.specs.State.{AgentState, ClaimedTrace, is_claimed}
@@ -84,8 +84,8 @@ module _ {L : Type 0} (ask : Ask) (before middle after : Kept L) (place : ℕ) w
   ClaimsBelow = (point : Point L) → Holds before point → Holds middle (with_state (fold (claim_unclaimed ask) (claim_unclaimed ask point.state ask.group.lead) (take place ask.laterals)) point)
 
   -- all are claimed, and what is too much was abandoned
-  pub holds-claimed_for : ClaimsBelow → length ask.laterals ≤ place → ((memory : Remembered Place) → Remembers middle.pins memory → Remembers after.pins (relieved memory))
-      → ((memory : Remembered Place) → Remembers middle.pins memory → after ≡ let_go_all (record middle { pins = after.pins }) (map abandoned_going (drops memory)))
+  pub holds-claimed_for : ClaimsBelow → length ask.laterals ≤ place → ((memory : Remembered ArrivalPlace) → Remembers middle.pins memory → Remembers after.pins (relieved memory))
+      → ((memory : Remembered ArrivalPlace) → Remembers middle.pins memory → after ≡ let_go_all (record middle { pins = after.pins }) (map abandoned_going (drops memory)))
       → (point : Point L) → Holds before point → Holds after (claimed_for ask point)
   holds-claimed_for below all pins gone point h =
       let begun : AgentState = claim_unclaimed ask point.state ask.group.lead in

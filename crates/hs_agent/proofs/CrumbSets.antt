@@ -16,7 +16,7 @@ use Rattle.hs_pins.specs.Remembered.{Claim, claim_of}
 use Rattle.hs_pins.specs.Remembered as pins
 use Rattle.hs_index.specs.Index.{Indexed, noted_of}
 use Rattle.hs_law_agent.specs.Messages.{same_crumb, has_crumb, crumb_nodes}
-use Rattle.hs_agent.specs.declared.placed.Place.{Place}
+use Rattle.hs_agent.specs.declared.placed.ArrivalPlace.{ArrivalPlace}
 use Rattle.hs_agent.specs.Keeping.{crumbs_known}
 
 abbrev crumb_to : TraceId → ℕ → Crumb
@@ -98,7 +98,7 @@ pub crumb_in : (n : ℕ) (found : Option Claim) (nodes : NodeSet) → option_map
 crumb_in n None nodes e = cc
 crumb_in n (Some claim) nodes e = let same : nodes ≡ claim.crumbs = cc in ap (λ (s : NodeSet). has_node s n) same
 
-pub known-claimed : (claims : List Claim) (touched : List (Indexed Place)) (trace : TraceId) (n : ℕ) → IsSome (claim_of claims trace) → has_node (crumbs_known claims touched trace) n ≡ pins.has_crumb claims trace n
+pub known-claimed : (claims : List Claim) (touched : List (Indexed ArrivalPlace)) (trace : TraceId) (n : ℕ) → IsSome (claim_of claims trace) → has_node (crumbs_known claims touched trace) n ≡ pins.has_crumb claims trace n
 known-claimed claims touched trace n found = by (claim_of claims trace) found
   where
     by : (o : Option Claim) → IsSome o → has_node (option_map_or (λ (claim : Claim). claim.crumbs) o (noted_of trace touched).crumbs) n ≡ option_map_or (λ (claim : Claim). has_node claim.crumbs n) o false
@@ -114,7 +114,7 @@ all_alike P p q f [] h = tt
 all_alike P p q f (x ∷ xs) h = (f x h.0, all_alike P p q f xs h.1)
 
 -- where all of the traces are claimed, a message names the nodes of their claims
-pub has-crumbs_claimed : (claims : List Claim) (touched : List (Indexed Place)) (crumbs : List Crumb) (traces : List TraceId) (n : ℕ)
+pub has-crumbs_claimed : (claims : List Claim) (touched : List (Indexed ArrivalPlace)) (crumbs : List Crumb) (traces : List TraceId) (n : ℕ)
     → ((trace : TraceId) (n : ℕ) → has_crumb crumbs (crumb_to trace n) ≡ has_node (crumbs_known claims touched trace) n)
     → AllByRecursion (λ trace. IsSome (claim_of claims trace)) traces
     → has_node (crumb_nodes crumbs traces) n ≡ list_any (λ trace. pins.has_crumb claims trace n) traces

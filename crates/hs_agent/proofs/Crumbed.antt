@@ -27,7 +27,7 @@ use Rattle.hs_law_agent.specs.Messages.{has_crumb, same_crumb, with_crumb, late_
 use Rattle.hs_law_agent.specs.Stepping.{with_touched, late_crumb, tell_late, remember, take_crumb}
 use Rattle.hs_law_agent.specs.Evicting.{evict}
 use Rattle.hs_law_agent.proofs.Traces.{same_trace-true, same_trace-refl}
-use Rattle.hs_agent.specs.declared.placed.Place.{Place}
+use Rattle.hs_agent.specs.declared.placed.ArrivalPlace.{ArrivalPlace}
 use Rattle.hs_agent.specs.Placing.{Placed}
 use Rattle.hs_agent.specs.Keeping.{Kept, Holds, IsKept, HasPage, IsIndexed, Point, with_state, plain_claim, waiting_chunks, crumbs_known}
 use Rattle.hs_agent.specs.Points.{crumb_taken}
@@ -55,7 +55,7 @@ module _ {L : Type 0} (old : Kept L) (point : Point L) (h : Holds old point) (tr
 
 module _ {L : Type 0} (old : Kept L) (point : Point L) (h : Holds old point) (crumb : Crumb) (free : claim_of h.memory.claims crumb.trace ≡ None) where
   abbrev pins_chunks : List Placed
-  pins_chunks = map (λ (pin : Pin Place). pin.chunk) h.memory.pinned
+  pins_chunks = map (λ (pin : Pin ArrivalPlace). pin.chunk) h.memory.pinned
 
   abbrev pub left_touched : Kept L
   left_touched = record old { index = index.crumbed old.index crumb.trace crumb.node }
@@ -156,7 +156,7 @@ module _ (trace : TraceId) (node : NodeId) where
 
 -- ---- a crumb of a claimed trace
 
-indexed-late : (claims : List Claim) (claim : Claim) (crumb : Crumb) (touched : List (Indexed Place)) (state after : AgentState) → claim_of claims crumb.trace ≡ Some claim
+indexed-late : (claims : List Claim) (claim : Claim) (crumb : Crumb) (touched : List (Indexed ArrivalPlace)) (state after : AgentState) → claim_of claims crumb.trace ≡ Some claim
     → after.taken ≡ state.taken → after.touched ≡ state.touched → after.crumbs ≡ with_crumb state.crumbs crumb
     → IsIndexed claims state touched → IsIndexed (pins.with_crumb claims crumb.trace crumb.node) after touched
 indexed-late claims claim crumb touched state after found same_taken same_touched crumbs i =
@@ -166,7 +166,7 @@ indexed-late claims claim crumb touched state after found same_taken same_touche
       traces = same_touched ∙ i.traces;
       apart = i.apart;
       free =
-          all_weaker (λ (t : Indexed Place). claim_of claims t.trace ≡ None) (λ (t : Indexed Place). claim_of more t.trace ≡ None)
+          all_weaker (λ (t : Indexed ArrivalPlace). claim_of claims t.trace ≡ None) (λ (t : Indexed ArrivalPlace). claim_of more t.trace ≡ None)
           (λ t f. by_answer (same_trace trace t.trace)
           (λ y.
           let e = same_trace-true trace t.trace y in
@@ -216,7 +216,7 @@ module _ {L : Type 0} (old : Kept L) (point : Point L) (h : Holds old point) (cr
       (λ y. ap (λ b. (cond b point.state (tell_late crumb (plain_claim claim) point.state)).crumbs) y ∙ sym (ap (λ b. cond b point.state.crumbs (point.state.crumbs ++ crumb ∷ [])) y))
       (λ n. ap (λ b. (cond b point.state (tell_late crumb (plain_claim claim) point.state)).crumbs) n)
 
-  module _ (pins : Pinning Place) (remembers : Remembers pins (crumbed h.memory crumb.trace crumb.node)) where
+  module _ (pins : Pinning ArrivalPlace) (remembers : Remembers pins (crumbed h.memory crumb.trace crumb.node)) where
     holds_late : Holds (record old { pins = pins }) (with_state (record point.state { crumbs = late.crumbs; said = late.said }) point)
     holds_late = record {
       node_is = h.node_is;

@@ -19,7 +19,7 @@ use Rattle.hs_law_agent.specs.State.{AgentState}
 use Rattle.hs_law_agent.specs.Books.{page_standing, fate_of}
 use Rattle.hs_law_agent.specs.Evicting as model
 use Rattle.hs_law_agent.proofs.Traces.{same_trace-refl}
-use Rattle.hs_agent.specs.declared.placed.Place.{Place}
+use Rattle.hs_agent.specs.declared.placed.ArrivalPlace.{ArrivalPlace}
 use Rattle.hs_agent.specs.Placing.{Placed, place_of}
 use Rattle.hs_agent.specs.Keeping.{IsIndexed}
 use Rattle.hs_agent.specs.LettingGo.{with_fate}
@@ -29,13 +29,13 @@ use Rattle.hs_agent.proofs.Moving.{pinned_for-leaving}
 use Rattle.hs_agent.proofs.NotedFates.{fates-moved}
 
 abbrev Traced : Type 0
-Traced = Indexed Place
+Traced = Indexed ArrivalPlace
 
 abbrev traces_of : List Traced → List TraceId
 traces_of ts = map (λ (t : Traced). t.trace) ts
 
 -- the fate of a chunk that leaves is noted
-abbrev pub note_leaving : List Standing → Leaving Place → List Standing
+abbrev pub note_leaving : List Standing → Leaving ArrivalPlace → List Standing
 note_leaving standings l = with_fate (place_of l.buffer) (fates.Evicted l.chunks l.traces) standings
 
 noted_of_trace : (chunks traces : ℕ) (standings : List Standing) (buffers : List Placed)
@@ -47,7 +47,7 @@ module _ (settings : PlainSettings) (claims : List Claim) where
   abbrev stay : List Traced → List Traced
   stay ts = kept settings.threshold settings.traces ts
 
-  abbrev go : List Traced → List (Leaving Place)
+  abbrev go : List Traced → List (Leaving ArrivalPlace)
   go ts = evicted settings.threshold settings.traces ts
 
   abbrev over : List Traced → Bool
@@ -56,7 +56,7 @@ module _ (settings : PlainSettings) (claims : List Claim) where
   -- what an eviction leaves in the model, where these traces were indexed
   pub record HasEvicted (old new : AgentState) (ts : List Traced) : Type 0 where
     pub indexed : IsIndexed claims new (stay ts)
-    pub hand : new.hand ≡ old.hand ++ map (λ (l : Leaving Place). place_of l.buffer) (go ts)
+    pub hand : new.hand ≡ old.hand ++ map (λ (l : Leaving ArrivalPlace). place_of l.buffer) (go ts)
     pub noted : fold note_leaving (map page_standing old.taken) (go ts) ≡ map page_standing new.taken
     pub pages : sheets new.taken ≡ sheets old.taken
     pub pinned : (place : ℕ) (group : Group) → pinned_for old.taken place ≡ Some group → pinned_for new.taken place ≡ Some group
@@ -70,7 +70,7 @@ module _ (settings : PlainSettings) (claims : List Claim) where
   nobody : (ts : List Traced) (state : AgentState) → stay ts ≡ ts → go ts ≡ [] → IsIndexed claims state ts → HasEvicted state state ts
   nobody ts state stays none i = record {
     indexed = subst (IsIndexed claims state) (sym stays) i;
-    hand = sym (append-nil state.hand) ∙ ap (λ l. state.hand ++ map (λ (l' : Leaving Place). place_of l'.buffer) l) (sym none);
+    hand = sym (append-nil state.hand) ∙ ap (λ l. state.hand ++ map (λ (l' : Leaving ArrivalPlace). place_of l'.buffer) l) (sym none);
     noted = ap (fold note_leaving (map page_standing state.taken)) none;
     pages = refl;
     pinned = λ place group e. e;
@@ -94,12 +94,12 @@ module _ (settings : PlainSettings) (claims : List Claim) where
         indexed = subst (IsIndexed claims new) (sym stays) more.indexed;
         hand =
             more.hand
-            ∙ ap (λ l. (state.hand ++ l) ++ map (λ (l' : Leaving Place). place_of l'.buffer) (go ts)) (sym own)
-            ∙ append_assoc state.hand (map place_of t.noted.chunks) (map (λ (l' : Leaving Place). place_of l'.buffer) (go ts))
+            ∙ ap (λ l. (state.hand ++ l) ++ map (λ (l' : Leaving ArrivalPlace). place_of l'.buffer) (go ts)) (sym own)
+            ∙ append_assoc state.hand (map place_of t.noted.chunks) (map (λ (l' : Leaving ArrivalPlace). place_of l'.buffer) (go ts))
             ∙ ap (λ l. state.hand ++ l)
-            (sym (ap (map (λ (l' : Leaving Place). place_of l'.buffer)) goes
-            ∙ map-append (λ (l' : Leaving Place). place_of l'.buffer) (map (leaving n m) t.noted.chunks) (go ts)
-            ∙ ap (λ l. l ++ map (λ (l' : Leaving Place). place_of l'.buffer) (go ts)) (map-map (λ (l' : Leaving Place). place_of l'.buffer) (leaving n m) t.noted.chunks)));
+            (sym (ap (map (λ (l' : Leaving ArrivalPlace). place_of l'.buffer)) goes
+            ∙ map-append (λ (l' : Leaving ArrivalPlace). place_of l'.buffer) (map (leaving n m) t.noted.chunks) (go ts)
+            ∙ ap (λ l. l ++ map (λ (l' : Leaving ArrivalPlace). place_of l'.buffer) (go ts)) (map-map (λ (l' : Leaving ArrivalPlace). place_of l'.buffer) (leaving n m) t.noted.chunks)));
         noted =
             ap (fold note_leaving (map page_standing state.taken)) goes
             ∙ fold-append note_leaving (map page_standing state.taken) (map (leaving n m) t.noted.chunks) (go ts)
@@ -143,19 +143,19 @@ module _ (P : Placed → Type 0) (threshold most : ℕ) where
       by true rest = rest
       by false rest = h
 
-  all-leaving : (chunks traces : ℕ) (buffers : List Placed) → AllByRecursion P buffers → AllByRecursion P (map (λ (l : Leaving Place). l.buffer) (map (leaving chunks traces) buffers))
+  all-leaving : (chunks traces : ℕ) (buffers : List Placed) → AllByRecursion P buffers → AllByRecursion P (map (λ (l : Leaving ArrivalPlace). l.buffer) (map (leaving chunks traces) buffers))
   all-leaving chunks traces [] h = tt
   all-leaving chunks traces (b ∷ bs) h = (h.0, all-leaving chunks traces bs h.1)
 
-  pub all-evicted : (ts : List Traced) → AllByRecursion P (chunks_left ts) → AllByRecursion P (map (λ (l : Leaving Place). l.buffer) (evicted threshold most ts))
+  pub all-evicted : (ts : List Traced) → AllByRecursion P (chunks_left ts) → AllByRecursion P (map (λ (l : Leaving ArrivalPlace). l.buffer) (evicted threshold most ts))
   all-evicted [] h = tt
   all-evicted (t ∷ ts) h = by (is_over threshold most (t ∷ ts)) (all-evicted ts (all_back P t.noted.chunks (chunks_left ts) h))
     where
-      by : (b : Bool) → AllByRecursion P (map (λ (l : Leaving Place). l.buffer) (evicted threshold most ts))
-          → AllByRecursion P (map (λ (l : Leaving Place). l.buffer) (cond b (map (leaving (count_chunks (t ∷ ts)) (length (t ∷ ts))) t.noted.chunks ++ evicted threshold most ts) []))
+      by : (b : Bool) → AllByRecursion P (map (λ (l : Leaving ArrivalPlace). l.buffer) (evicted threshold most ts))
+          → AllByRecursion P (map (λ (l : Leaving ArrivalPlace). l.buffer) (cond b (map (leaving (count_chunks (t ∷ ts)) (length (t ∷ ts))) t.noted.chunks ++ evicted threshold most ts) []))
       by true rest =
-          subst (AllByRecursion P) (sym (map-append (λ (l : Leaving Place). l.buffer) (map (leaving (count_chunks (t ∷ ts)) (length (t ∷ ts))) t.noted.chunks) (evicted threshold most ts)))
-          (all_append P (map (λ (l : Leaving Place). l.buffer) (map (leaving (count_chunks (t ∷ ts)) (length (t ∷ ts))) t.noted.chunks)) (map (λ (l : Leaving Place). l.buffer) (evicted threshold most ts))
+          subst (AllByRecursion P) (sym (map-append (λ (l : Leaving ArrivalPlace). l.buffer) (map (leaving (count_chunks (t ∷ ts)) (length (t ∷ ts))) t.noted.chunks) (evicted threshold most ts)))
+          (all_append P (map (λ (l : Leaving ArrivalPlace). l.buffer) (map (leaving (count_chunks (t ∷ ts)) (length (t ∷ ts))) t.noted.chunks)) (map (λ (l : Leaving ArrivalPlace). l.buffer) (evicted threshold most ts))
           (all-leaving (count_chunks (t ∷ ts)) (length (t ∷ ts)) t.noted.chunks (all_front P t.noted.chunks (chunks_left ts) h)) rest)
       by false rest = tt
 

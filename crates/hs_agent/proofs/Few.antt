@@ -12,7 +12,7 @@ use Rattle.hs_law_agent.specs.Evicting.{evict}
 use Rattle.hs_law_agent.specs.Claiming.{claim_each, traces_of}
 use Rattle.hs_law_agent.specs.Abandoning.{abandon}
 use Rattle.hs_law_agent.specs.Messages.{has_crumb}
-use Rattle.hs_law_agent.specs.Stepping.{Input, Chunk, Crumbed, Triggered, Asked, Turn, Answered, Given, Missed, Unread, Event, Took, Gave, take_input, take_answer, give_back, take_chunk, take_crumb, take_trigger, pin_chunk, late_crumb, tell_late, claim_for, admits, admit, note_trigger, count_admitted, group_of, with_indexed, with_touched, with_pinned, with_abandoned, after, after_from, after_event}
+use Rattle.hs_law_agent.specs.Stepping.{Input, Chunk, Crumbed, Triggered, Asked, Turn, Answered, Given, Missed, Unread, AgentEvent, Took, Gave, take_input, take_answer, give_back, take_chunk, take_crumb, take_trigger, pin_chunk, late_crumb, tell_late, claim_for, admits, admit, note_trigger, count_admitted, group_of, with_indexed, with_touched, with_pinned, with_abandoned, after, after_from, after_event}
 use Rattle.hs_agent.specs.Calls.{FewAreAdmitted}
 use Rattle.hs_agent.proofs.Unchanged.{evict-keeps, abandon-keeps, claims-keep, visits-keep}
 
@@ -74,7 +74,7 @@ answer-count state (Given stamp) = given-count stamp state.hand state
 answer-count state (Missed stamp) = refl
 answer-count state Unread = refl
 
-from-count : (settings : PlainSettings) (node : ℕ) (state : AgentState) (events : List Event) → count (after_from settings node state events) ≤ count state + length events
+from-count : (settings : PlainSettings) (node : ℕ) (state : AgentState) (events : List AgentEvent) → count (after_from settings node state events) ≤ count state + length events
 from-count settings node state [] = omega arith
 from-count settings node state (Took input ∷ events) =
     let rest = from-count settings node (after_event settings node state (Took input)) events in

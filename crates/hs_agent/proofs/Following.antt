@@ -14,7 +14,7 @@ use Rattle.hs_law_agent.specs.Laws.{IsInOnePlace, EventsGoOn}
 use Rattle.hs_law_agent.specs.State.{AgentState}
 use Rattle.hs_law_agent.specs.Stepping.{Answered, Given, Missed, Unread, Took, Gave, note, step_of, take_input, step_of_answer, give_back, take_answer, after_gave}
 use Rattle.hs_law_agent.proofs.Bearing.{answer_shares}
-use Rattle.hs_agent.specs.Keeping.{Kept, Keeping, Holds, Point}
+use Rattle.hs_agent.specs.Keeping.{Kept, PlainAgent, Holds, Point}
 use Rattle.hs_agent.specs.Offering.{answered}
 use Rattle.hs_agent.specs.Runs.{Run, input_of, taken_in, after_input, Follows, StandsAt, point_of, state_of, after_offer, answer_of, back_in, with_back, after_answer}
 use Rattle.hs_agent.specs.declared.input.Input.{Input}
@@ -44,7 +44,7 @@ module _ {L : Type 0} where
       let within : found.0 < length kept.leases = subst (λ n. found.0 < n) (sym h.leases) (below kept point h one found.0 found.1) in
       subst (λ o. IfSome o (λ place. place < length kept.leases) × IsSome o) (sym (h.offered ∙ found.1)) (within, refl)
 
-  module _ (agent next : Keeping L) (run : Run L) (follows : Follows agent run) where
+  module _ (agent next : PlainAgent L) (run : Run L) (follows : Follows agent run) where
     pub follows-offered : next.schedule ≡ agent.schedule → next.log ≡ agent.log → next.spent ≡ agent.spent → Holds next.kept (point_of (after_offer run)) → Follows next (after_offer run)
     follows-offered schedule log spent holds = record {
       working = spent ∙ follows.working;

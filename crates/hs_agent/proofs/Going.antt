@@ -4,7 +4,7 @@ use Rattle.std.proofs.lemmas.List.{append_assoc, map-append}
 use Rattle.std.proofs.lemmas.List.Sums.{fold-append}
 use Rattle.hs_pins.specs.Remembered.{Pin}
 use Rattle.hs_pins.specs.PinsLayout.{Pinning}
-use Rattle.hs_agent.specs.declared.placed.Place.{Place}
+use Rattle.hs_agent.specs.declared.placed.ArrivalPlace.{ArrivalPlace}
 use Rattle.hs_agent.specs.Keeping.{Kept}
 use Rattle.hs_agent.specs.LettingGo.{Going, let_go, let_go_all, page_in, reported, reported_going}
 
@@ -23,7 +23,7 @@ module _ {L : Type 0} where
   pins-let_go_all kept (going ∷ goings) = pins-let_go_all (let_go kept going) goings
 
   -- the first of what was sent is reported
-  pub reported_first : (kept : Kept L) (pin : Pin Place) (rest : List (Pin Place)) (next : Kept L) → kept.sent ≡ pin ∷ rest
+  pub reported_first : (kept : Kept L) (pin : Pin ArrivalPlace) (rest : List (Pin ArrivalPlace)) (next : Kept L) → kept.sent ≡ pin ∷ rest
       → next ≡ let_go (record kept { sent = rest; pages = kept.pages ++ page_in pin ∷ [] }) (reported_going pin) → reported next ≡ reported kept
   reported_first kept pin rest next was is =
       ap reported is

@@ -37,7 +37,7 @@ use Rattle.hs_law_agent.specs.Claiming.{claim_trace}
 use Rattle.hs_law_agent.specs.Messages.{has_crumb, same_crumb, with_crumb}
 use Rattle.hs_law_agent.specs.Stepping.{with_indexed, with_touched, next_place}
 use Rattle.hs_law_agent.proofs.Traces.{same_trace-true, same_trace-refl}
-use Rattle.hs_agent.specs.declared.placed.Place.{Place}
+use Rattle.hs_agent.specs.declared.placed.ArrivalPlace.{ArrivalPlace}
 use Rattle.hs_agent.specs.Placing.{Placed, place_of}
 use Rattle.hs_agent.specs.Keeping.{AreApart, IsIndexed, crumbs_known}
 use Rattle.hs_agent.proofs.Alls.{all-passing, all-filter}
@@ -51,7 +51,7 @@ same_swap a b = by_answer (nat_eq a.0 b.0)
     (λ n. n ∙ sym (ne_eqb b.0 a.0 (λ e. absurd (true≢false (sym (eq-eqb a.0 b.0 (sym e)) ∙ n)))))
 
 abbrev Traced : Type 0
-Traced = Indexed Place
+Traced = Indexed ArrivalPlace
 
 -- ---- without a trace
 
@@ -118,14 +118,14 @@ module _ (gone : TraceId) where
       (λ y.
       let is : others gone (t ∷ ts) ≡ ts = others-cons t ts true y ∙ others-all ts (all_weaker (λ (u : Traced). same_trace t.trace u.trace ≡ false) (λ (u : Traced). same_trace gone u.trace ≡ false) (λ u n. ap (λ w. same_trace w u.trace) (same_trace-true gone t.trace y) ∙ n) ts h.0) in
       let mine : noted_of gone (t ∷ ts) ≡ t.noted = ap (λ b. option_map_or (λ (t : Traced). t.noted) (cond b (Some t) (find (is_of gone) ts)) nothing) y in
-      let own = ap (λ (n : Noted Place). length n.chunks) mine in
+      let own = ap (λ (n : Noted ArrivalPlace). length n.chunks) mine in
       let rest = ap count_chunks is in
       let whole = sum_by-cons (λ (u : Traced). chunk_count u.noted) t ts in
       omega (arith, own, rest, whole))
       (λ n.
       let is : others gone (t ∷ ts) ≡ t ∷ others gone ts = others-cons t ts false n in
       let mine : noted_of gone (t ∷ ts) ≡ noted_of gone ts = ap (λ b. option_map_or (λ (t : Traced). t.noted) (cond b (Some t) (find (is_of gone) ts)) nothing) n in
-      let own = ap (λ (n : Noted Place). length n.chunks) mine in
+      let own = ap (λ (n : Noted ArrivalPlace). length n.chunks) mine in
       let rest = ap count_chunks is in
       let whole = sum_by-cons (λ (u : Traced). chunk_count u.noted) t ts in
       let left = sum_by-cons (λ (u : Traced). chunk_count u.noted) t (others gone ts) in
@@ -141,10 +141,10 @@ module _ (gone : TraceId) where
       (λ y.
       let e = same_trace-true gone u y in
       ap (λ w. map place_of (noted_of w (others gone ts)).chunks) (sym e)
-      ∙ ap (λ (n : Noted Place). map place_of n.chunks) (noted-gone ts)
+      ∙ ap (λ (n : Noted ArrivalPlace). map place_of n.chunks) (noted-gone ts)
       ∙ sym (places-gone gone stands out taken)
       ∙ ap (indexed_places (moved (indexed_places taken gone) (λ _. stands) taken)) e)
-      (λ n. ap (λ (x : Noted Place). map place_of x.chunks) (noted-others u n ts) ∙ h u ∙ sym (places-other gone stands out taken u n))
+      (λ n. ap (λ (x : Noted ArrivalPlace). map place_of x.chunks) (noted-others u n ts) ∙ h u ∙ sym (places-other gone stands out taken u n))
 
   -- and how many these are
   pub count-without : (stands : ChunkStanding) → is_indexed stands ≡ false → (taken : List Taken) (ts : List Traced) → AreApart ts
@@ -158,7 +158,7 @@ module _ (gone : TraceId) where
 
 -- ---- a trace that is touched
 
-module _ (trace : TraceId) (noted : Noted Place) where
+module _ (trace : TraceId) (noted : Noted ArrivalPlace) where
   abbrev last : Traced
   last = record { trace = trace; noted = noted }
 
@@ -228,7 +228,7 @@ pub known-free : (claims : List Claim) (ts : List Traced) (u : TraceId) → clai
 known-free claims ts u free = ap (λ o. option_map_or (λ (claim : Claim). claim.crumbs) o (noted_of u ts).crumbs) free
 
 known-others : (claims : List Claim) (ts us : List Traced) (u : TraceId) → noted_of u us ≡ noted_of u ts → crumbs_known claims us u ≡ crumbs_known claims ts u
-known-others claims ts us u e = ap (λ (x : Noted Place). option_map_or (λ (claim : Claim). claim.crumbs) (claim_of claims u) x.crumbs) e
+known-others claims ts us u e = ap (λ (x : Noted ArrivalPlace). option_map_or (λ (claim : Claim). claim.crumbs) (claim_of claims u) x.crumbs) e
 
 -- ---- the first trace goes
 
@@ -250,7 +250,7 @@ indexed-evicted claims t ts state i =
           let e = same_trace-true t.trace u y in
           ap (λ w. has_crumb (without_crumbs t.trace state.crumbs) (crumb_to w n)) (sym e)
           ∙ crumbs-gone t.trace n state.crumbs
-          ∙ sym (ap (λ (s : NodeSet). has_node s n) (ap (crumbs_known claims ts) (sym e) ∙ known-free claims ts t.trace i.free.0 ∙ ap (λ l. (noted_of t.trace l).crumbs) (sym first) ∙ ap (λ (x : Noted Place). x.crumbs) (noted-gone t.trace (t ∷ ts))) ∙ has-no_nodes n))
+          ∙ sym (ap (λ (s : NodeSet). has_node s n) (ap (crumbs_known claims ts) (sym e) ∙ known-free claims ts t.trace i.free.0 ∙ ap (λ l. (noted_of t.trace l).crumbs) (sym first) ∙ ap (λ (x : Noted ArrivalPlace). x.crumbs) (noted-gone t.trace (t ∷ ts))) ∙ has-no_nodes n))
           (λ no. crumbs-other t.trace u no n state.crumbs
           ∙ i.crumbs u n
           ∙ sym (ap (λ (s : NodeSet). has_node s n) (known-others claims (t ∷ ts) ts u (ap (noted_of u) (sym first) ∙ noted-others t.trace u no (t ∷ ts)))));
@@ -348,7 +348,7 @@ indexed-arrived claims sheet placed ts state free at i =
           (λ y.
           let e = same_trace-true trace u y in
           ap (λ w. map place_of (noted_of w (touch trace noted ts)).chunks) (sym e)
-          ∙ ap (λ (x : Noted Place). map place_of x.chunks) (noted-touched trace noted ts)
+          ∙ ap (λ (x : Noted ArrivalPlace). map place_of x.chunks) (noted-touched trace noted ts)
           ∙ map-append place_of (noted_of trace ts).chunks (placed ∷ [])
           ∙ ap (λ l. l ++ place_of placed ∷ []) (i.places trace)
           ∙ ap (λ p. indexed_places state.taken trace ++ p ∷ []) at
@@ -356,7 +356,7 @@ indexed-arrived claims sheet placed ts state free at i =
           ∙ places-more trace state.taken new
           ∙ ap (λ b. indexed_places state.taken trace ++ cond b (length state.taken ∷ []) []) (same_trace-refl trace)))
           (λ no.
-          ap (λ (x : Noted Place). map place_of x.chunks) (noted-untouched trace noted u no ts)
+          ap (λ (x : Noted ArrivalPlace). map place_of x.chunks) (noted-untouched trace noted u no ts)
           ∙ i.places u
           ∙ sym (places-more u state.taken new
           ∙ ap (λ b. indexed_places state.taken u ++ cond b (length state.taken ∷ []) []) (same_swap u trace ∙ no)
@@ -375,7 +375,7 @@ indexed-arrived claims sheet placed ts state free at i =
           let e = same_trace-true trace u y in
           ap (crumbs_known claims ts) (sym e)
           ∙ known-free claims ts trace free
-          ∙ sym (ap (λ (x : Noted Place). x.crumbs) (noted-touched trace noted ts))
+          ∙ sym (ap (λ (x : Noted ArrivalPlace). x.crumbs) (noted-touched trace noted ts))
           ∙ sym (known-free claims (touch trace noted ts) trace free)
           ∙ ap (crumbs_known claims (touch trace noted ts)) e)
           (λ no. sym (known-others claims ts (touch trace noted ts) u (noted-untouched trace noted u no ts))));
@@ -434,10 +434,10 @@ indexed-crumbed claims crumb ts state free i =
           (λ y.
           let e = same_trace-true trace u y in
           ap (λ w. map place_of (noted_of w (touch trace noted ts)).chunks) (sym e)
-          ∙ ap (λ (x : Noted Place). map place_of x.chunks) (noted-touched trace noted ts)
+          ∙ ap (λ (x : Noted ArrivalPlace). map place_of x.chunks) (noted-touched trace noted ts)
           ∙ i.places trace
           ∙ ap (indexed_places state.taken) e)
-          (λ no. ap (λ (x : Noted Place). map place_of x.chunks) (noted-untouched trace noted u no ts) ∙ i.places u);
+          (λ no. ap (λ (x : Noted ArrivalPlace). map place_of x.chunks) (noted-untouched trace noted u no ts) ∙ i.places u);
       count =
           let was = i.count in
           let touched = count-touched trace noted ts i.apart in
@@ -452,7 +452,7 @@ indexed-crumbed claims crumb ts state free i =
           ∙ ap (λ b. has_node (crumbs_known claims ts trace) n || (b && nat_eq n crumb.node.0)) (same_trace-refl trace)
           ∙ ap (λ (s : NodeSet). has_node s n || nat_eq n crumb.node.0) (known-free claims ts trace free)
           ∙ sym (has-with_node (noted_of trace ts).crumbs crumb.node n)
-          ∙ ap (λ (s : NodeSet). has_node s n) (sym (ap (λ (x : Noted Place). x.crumbs) (noted-touched trace noted ts)) ∙ sym (known-free claims (touch trace noted ts) trace free) ∙ ap (crumbs_known claims (touch trace noted ts)) e))
+          ∙ ap (λ (s : NodeSet). has_node s n) (sym (ap (λ (x : Noted ArrivalPlace). x.crumbs) (noted-touched trace noted ts)) ∙ sym (known-free claims (touch trace noted ts) trace free) ∙ ap (crumbs_known claims (touch trace noted ts)) e))
           (λ no.
           ap (λ b. has_node (crumbs_known claims ts u) n || (b && nat_eq n crumb.node.0)) (same_swap u trace ∙ no)
           ∙ or-false (has_node (crumbs_known claims ts u) n)

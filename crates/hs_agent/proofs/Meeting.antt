@@ -6,14 +6,14 @@ use Rattle.hs_journal.specs.declared.journal.Step.{Step}
 use Rattle.hs_records.specs.Plain.{PlainSettings}
 use Rattle.hs_law_agent.specs.Laws.{EventsGoOn, StepsSayWhatTheyTell, noted_as}
 use Rattle.hs_law_agent.specs.State.{AgentState}
-use Rattle.hs_law_agent.specs.Stepping.{Event, Took, Gave, step_of, step_of_answer, told_by, after, after_from, after_event, take_input, take_answer}
+use Rattle.hs_law_agent.specs.Stepping.{AgentEvent, Took, Gave, step_of, step_of_answer, told_by, after, after_from, after_event, take_input, take_answer}
 use Rattle.hs_agent.specs.Runs.{Run, new_run, state_of}
 use Rattle.hs_agent.specs.Calls.{Call, Takes, Offers, Answers, after_call, run_after, events_in, events_of, told_at, told_from, MeetsModel}
 use Rattle.hs_agent.proofs.Following.{answer-log}
 use Rattle.hs_agent.proofs.Unchanged.{input-log}
 
 -- the log grows by a step for each event
-log-from : (settings : PlainSettings) (node : ℕ) (state : AgentState) (events : List Event) → (after_from settings node state events).log ≡ state.log ++ map noted_as events
+log-from : (settings : PlainSettings) (node : ℕ) (state : AgentState) (events : List AgentEvent) → (after_from settings node state events).log ≡ state.log ++ map noted_as events
 log-from settings node state [] = sym (append-nil state.log)
 log-from settings node state (Took input ∷ events) =
     log-from settings node (after_event settings node state (Took input)) events
@@ -26,7 +26,7 @@ log-from settings node state (Gave answer ∷ events) =
 
 module _ {L : Type 0} where
   -- a call leaves the settings and the node, and adds its events
-  pub record GoesOn (run later : Run L) (more : List Event) : Type 0 where
+  pub record GoesOn (run later : Run L) (more : List AgentEvent) : Type 0 where
     pub settings : later.settings ≡ run.settings
     pub node : later.node ≡ run.node
     pub events : later.events ≡ run.events ++ more

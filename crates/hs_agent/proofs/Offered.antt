@@ -17,7 +17,7 @@ use Rattle.hs_law_agent.specs.State.{AgentState, GivenPlace}
 use Rattle.hs_law_agent.specs.Standings.{Taken}
 use Rattle.hs_law_agent.specs.Laws.{count_of, IsInOnePlace}
 use Rattle.hs_law_agent.specs.Stepping.{Given, note, step_of_answer, give_back, after_gave}
-use Rattle.hs_agent.specs.declared.placed.Place.{Place}
+use Rattle.hs_agent.specs.declared.placed.ArrivalPlace.{ArrivalPlace}
 use Rattle.hs_agent.specs.Placing.{Placed, Pledged, place_of, placed_at, leased, HandsOut}
 use Rattle.hs_agent.specs.Keeping.{Kept, Holds, Point, IsKept, with_state, waiting_chunks, all_held}
 use Rattle.hs_agent.specs.Offering.{Offers, back_at, answered}

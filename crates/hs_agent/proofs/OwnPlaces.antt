@@ -17,7 +17,7 @@ use Rattle.hs_law_agent.specs.State.{AgentState}
 use Rattle.hs_law_agent.specs.Laws.{count_of, given_places, IsInOnePlace}
 use Rattle.hs_law_agent.proofs.Counts.{count-append}
 use Rattle.hs_law_agent.proofs.Traces.{same_trace-true, same_trace-refl}
-use Rattle.hs_agent.specs.declared.placed.Place.{Place}
+use Rattle.hs_agent.specs.declared.placed.ArrivalPlace.{ArrivalPlace}
 use Rattle.hs_agent.specs.Placing.{Placed, place_of, HaveOwnPlaces}
 use Rattle.hs_agent.specs.Keeping.{Kept, Holds, Point, AreApart, IsIndexed, pinned_place, waiting_chunks, all_held}
 use Rattle.hs_agent.proofs.Indexing.{same_swap}
@@ -54,7 +54,7 @@ count-indexed taken trace q = ap (count_of (indexed_places taken trace)) (let e 
 -- ---- the chunks of all indexed traces
 
 abbrev pub Traced : Type 0
-Traced = Indexed Place
+Traced = Indexed ArrivalPlace
 
 -- each trace has its own chunks
 each-noted : (ts : List Traced) → AreApart ts → AllByRecursion (λ (t : Traced). noted_of t.trace ts ≡ t.noted) ts
@@ -156,19 +156,19 @@ own-once (p ∷ ps) once = (
 pub have_places : {L : Type 0} (kept : Kept L) (point : Point L) → Holds kept point → AllByRecursion (HasPlaces point.state.taken) kept.index.touched
 have_places kept point h =
     all_weaker (λ (t : Traced). noted_of t.trace kept.index.touched ≡ t.noted) (HasPlaces point.state.taken)
-    (λ t e. ap (λ (n : Noted Place). map place_of n.chunks) (sym e) ∙ h.index.touched.places t.trace) kept.index.touched (each-noted kept.index.touched h.index.touched.apart)
+    (λ t e. ap (λ (n : Noted ArrivalPlace). map place_of n.chunks) (sym e) ∙ h.index.touched.places t.trace) kept.index.touched (each-noted kept.index.touched h.index.touched.apart)
 
 module _ {L : Type 0} (kept : Kept L) (point : Point L) (h : Holds kept point) (one : (place : ℕ) → IsInOnePlace point.state place) where
   -- each place stands once, the offered one too
   pub once : (q : ℕ) → count_of (map place_of (all_held kept h.memory.pinned)) q + count_of (option_to_list point.offered) q ≤ 1
   once q =
-      let pinned : List (Pin Place) = h.memory.pinned in
+      let pinned : List (Pin ArrivalPlace) = h.memory.pinned in
       let indexed : List Placed = chunks_left kept.index.touched in
-      let pins : List Placed = map (λ (pin : Pin Place). pin.chunk) pinned in
+      let pins : List Placed = map (λ (pin : Pin ArrivalPlace). pin.chunk) pinned in
       let all = ap (λ l. count_of l q) (map-append place_of (indexed ++ pins) kept.hand) ∙ count-append (map place_of (indexed ++ pins)) (map place_of kept.hand) q in
       let wait = ap (λ l. count_of l q) (map-append place_of indexed pins) ∙ count-append (map place_of indexed) (map place_of pins) q in
       let few = once_left point.state.taken kept.index.touched q h.index.touched.apart (have_places kept point h) in
-      let pin = ap (λ l. count_of l q) (map-map place_of (λ (pin : Pin Place). pin.chunk) pinned ∙ h.pins.pinned) in
+      let pin = ap (λ l. count_of l q) (map-map place_of (λ (pin : Pin ArrivalPlace). pin.chunk) pinned ∙ h.pins.pinned) in
       let hand = sym (count-append (option_to_list point.offered) (map place_of kept.hand) q) ∙ ap (λ l. count_of l q) h.hand in
       let part = one q in
       let at_most = within (stands (λ _. true) point.state.taken q) in
@@ -205,9 +205,9 @@ module _ {L : Type 0} (kept : Kept L) (point : Point L) (h : Holds kept point) (
   own_left =
       own-once (chunks_left kept.index.touched ++ kept.hand)
       (λ q.
-      let pinned : List (Pin Place) = h.memory.pinned in
+      let pinned : List (Pin ArrivalPlace) = h.memory.pinned in
       let indexed : List Placed = chunks_left kept.index.touched in
-      let pins : List Placed = map (λ (pin : Pin Place). pin.chunk) pinned in
+      let pins : List Placed = map (λ (pin : Pin ArrivalPlace). pin.chunk) pinned in
       let all = ap (λ l. count_of l q) (map-append place_of (indexed ++ pins) kept.hand) ∙ count-append (map place_of (indexed ++ pins)) (map place_of kept.hand) q in
       let wait = ap (λ l. count_of l q) (map-append place_of indexed pins) ∙ count-append (map place_of indexed) (map place_of pins) q in
       let left = ap (λ l. count_of l q) (map-append place_of indexed kept.hand) ∙ count-append (map place_of indexed) (map place_of kept.hand) q in

@@ -18,7 +18,7 @@ use Rattle.hs_law_agent.specs.Standings.{Taken}
 use Rattle.hs_law_agent.specs.Books.{page_standing, claim_note, bytes_at}
 use Rattle.hs_law_agent.specs.Messages.{has_crumb}
 use Rattle.hs_law_agent.specs.Abandoning as model
-use Rattle.hs_agent.specs.declared.placed.Place.{Place}
+use Rattle.hs_agent.specs.declared.placed.ArrivalPlace.{ArrivalPlace}
 use Rattle.hs_agent.specs.Placing.{Placed, Pledged, place_of}
 use Rattle.hs_agent.specs.Keeping.{Kept, Holds, HasPage, IsKept, IsIndexed, IsIndexOf, RemembersAs, Point, with_state, pinned_place, waiting_chunks, all_held}
 use Rattle.hs_agent.specs.LettingGo.{Going, with_fate, let_go, let_go_all, abandoned_going}
@@ -51,11 +51,11 @@ module _ {A : Type 0} {P Q : A → Type 0} (f : (x : A) → P x → Q x) where
   all-same [] h = tt
   all-same (x ∷ xs) h = (f x h.0, all-same xs h.1)
 
-abbrev pub chunk_of : Pin Place → Placed
+abbrev pub chunk_of : Pin ArrivalPlace → Placed
 chunk_of pin = pin.chunk
 
 module _ (P : Placed → Type 0) where
-  all-without : (group : Group) (pinned : List (Pin Place)) → AllByRecursion P (map chunk_of pinned) → AllByRecursion P (map chunk_of (without_group group pinned))
+  all-without : (group : Group) (pinned : List (Pin ArrivalPlace)) → AllByRecursion P (map chunk_of pinned) → AllByRecursion P (map chunk_of (without_group group pinned))
   all-without group [] h = tt
   all-without group (pin ∷ pinned) h = by (is_for group pin) (all-without group pinned h.1)
     where
@@ -63,7 +63,7 @@ module _ (P : Placed → Type 0) where
       by true rest = rest
       by false rest = (h.0, rest)
 
-  all-for : (group : Group) (pinned : List (Pin Place)) → AllByRecursion P (map chunk_of pinned) → AllByRecursion P (map chunk_of (pins_for group pinned))
+  all-for : (group : Group) (pinned : List (Pin ArrivalPlace)) → AllByRecursion P (map chunk_of pinned) → AllByRecursion P (map chunk_of (pins_for group pinned))
   all-for group [] h = tt
   all-for group (pin ∷ pinned) h = by (is_for group pin) (all-for group pinned h.1)
     where
@@ -71,11 +71,11 @@ module _ (P : Placed → Type 0) where
       by true rest = (h.0, rest)
       by false rest = rest
 
-  all-staying : (groups : List Group) (pinned : List (Pin Place)) → AllByRecursion P (map chunk_of pinned) → AllByRecursion P (map chunk_of (staying groups pinned))
+  all-staying : (groups : List Group) (pinned : List (Pin ArrivalPlace)) → AllByRecursion P (map chunk_of pinned) → AllByRecursion P (map chunk_of (staying groups pinned))
   all-staying [] pinned h = h
   all-staying (group ∷ groups) pinned h = all-staying groups (without_group group pinned) (all-without group pinned h)
 
-  all-going : (groups : List Group) (pinned : List (Pin Place)) → AllByRecursion P (map chunk_of pinned) → AllByRecursion P (map chunk_of (going groups pinned))
+  all-going : (groups : List Group) (pinned : List (Pin ArrivalPlace)) → AllByRecursion P (map chunk_of pinned) → AllByRecursion P (map chunk_of (going groups pinned))
   all-going [] pinned h = tt
   all-going (group ∷ groups) pinned h =
       subst (AllByRecursion P) (sym (map-append chunk_of (pins_for group pinned) (going groups (without_group group pinned))))
@@ -83,8 +83,8 @@ module _ (P : Placed → Type 0) where
 
 -- ---- an abandonment
 
-module _ {L : Type 0} (kept : Kept L) (pins : Pinning Place) (point : Point L) (h : Holds kept point) (remembers : Remembers pins (relieved h.memory)) where
-  abbrev pinned : List (Pin Place)
+module _ {L : Type 0} (kept : Kept L) (pins : Pinning ArrivalPlace) (point : Point L) (h : Holds kept point) (remembers : Remembers pins (relieved h.memory)) where
+  abbrev pinned : List (Pin ArrivalPlace)
   pinned = h.memory.pinned
 
   abbrev groups : List Group

@@ -12,7 +12,7 @@ use Rattle.hs_index.specs.Index.{Index, Indexed, Leaving, chunks_left, kept, evi
 use Rattle.hs_law_agent.specs.State.{AgentState}
 use Rattle.hs_law_agent.specs.Books.{page_standing, claim_note, bytes_at}
 use Rattle.hs_law_agent.specs.Evicting.{evict}
-use Rattle.hs_agent.specs.declared.placed.Place.{Place}
+use Rattle.hs_agent.specs.declared.placed.ArrivalPlace.{ArrivalPlace}
 use Rattle.hs_agent.specs.Placing.{Placed, place_of}
 use Rattle.hs_agent.specs.Keeping.{Kept, Holds, HasPage, IsKept, RemembersAs, Point, with_state, pinned_place, waiting_chunks, all_held}
 use Rattle.hs_agent.specs.LettingGo.{Going, let_go_all, evicted_going}
@@ -21,7 +21,7 @@ use Rattle.hs_agent.proofs.Moved.{length-same, pages-same, has_page-same}
 use Rattle.hs_agent.proofs.Relieving.{let_go_all-is, fold-goings, going_buffer}
 
 module _ {L : Type 0} (old : Kept L) (point : Point L) (h : Holds old point) where
-  abbrev touched : List (Indexed Place)
+  abbrev touched : List (Indexed ArrivalPlace)
   touched = old.index.touched
 
   abbrev after : AgentState
@@ -30,14 +30,14 @@ module _ {L : Type 0} (old : Kept L) (point : Point L) (h : Holds old point) whe
   gone : HasEvicted point.settings h.memory.claims point.state after touched
   gone = same_evicted point.settings h.memory.claims point.state touched h.index.touched
 
-  abbrev buffer_in : Leaving Place → Placed
+  abbrev buffer_in : Leaving ArrivalPlace → Placed
   buffer_in l = l.buffer
 
   module _ (threshold most : ℕ) where
-    abbrev stay : List (Indexed Place)
+    abbrev stay : List (Indexed ArrivalPlace)
     stay = kept threshold most touched
 
-    abbrev leave : List (Leaving Place)
+    abbrev leave : List (Leaving ArrivalPlace)
     leave = evicted threshold most touched
 
     -- what is kept then
@@ -52,7 +52,7 @@ module _ {L : Type 0} (old : Kept L) (point : Point L) (h : Holds old point) whe
     each_kept : AllByRecursion (IsKept old.leases point.buffers) (all_held left h.memory.pinned)
     each_kept =
         let P = IsKept old.leases point.buffers in
-        let pins = map (λ (pin : Pin Place). pin.chunk) h.memory.pinned in
+        let pins = map (λ (pin : Pin ArrivalPlace). pin.chunk) h.memory.pinned in
         let front = all_front P (waiting_chunks old h.memory.pinned) old.hand h.each in
         let hand = all_back P (waiting_chunks old h.memory.pinned) old.hand h.each in
         let indexed = all_front P (chunks_left touched) pins front in
@@ -64,7 +64,7 @@ module _ {L : Type 0} (old : Kept L) (point : Point L) (h : Holds old point) whe
     each_paged : AllByRecursion (HasPage point.settings after.taken) (waiting_chunks left h.memory.pinned)
     each_paged =
         let P = HasPage point.settings point.state.taken in
-        let pins = map (λ (pin : Pin Place). pin.chunk) h.memory.pinned in
+        let pins = map (λ (pin : Pin ArrivalPlace). pin.chunk) h.memory.pinned in
         all_weaker P (HasPage point.settings after.taken) (λ placed page. has_page-same point.state.taken after.taken gone.pages point.settings placed page) (chunks_left stay ++ pins)
         (all_append P (chunks_left stay) pins (all-kept P threshold most touched (all_front P (chunks_left touched) pins h.paged)) (all_back P (chunks_left touched) pins h.paged))
 
@@ -81,7 +81,7 @@ module _ {L : Type 0} (old : Kept L) (point : Point L) (h : Holds old point) whe
     most = h.pins.most;
     claims = h.pins.claims ∙ sym (ap (λ (s : AgentState). s.claims) gone.others);
     pinned = h.pins.pinned ∙ sym (ap (λ (s : AgentState). s.pinned) gone.others);
-    groups = all_weaker _ _ (λ (pin : Pin Place) e. gone.pinned (pinned_place pin) pin.group e) h.memory.pinned h.pins.groups;
+    groups = all_weaker _ _ (λ (pin : Pin ArrivalPlace) e. gone.pinned (pinned_place pin) pin.group e) h.memory.pinned h.pins.groups;
     abandoned = h.pins.abandoned ∙ sym (ap (λ (s : AgentState). s.abandoned) gone.others);
     tried = h.pins.tried ∙ sym (ap (λ (s : AgentState). s.tried) gone.others);
     admitted = h.pins.admitted ∙ sym (ap (λ (s : AgentState). s.admitted) gone.others);
@@ -90,8 +90,8 @@ module _ {L : Type 0} (old : Kept L) (point : Point L) (h : Holds old point) whe
   hand_grew : option_to_list point.offered ++ map place_of (old.hand ++ map buffer_in (leave threshold most)) ≡ after.hand
   hand_grew =
       ap (λ l. option_to_list point.offered ++ l) (map-append place_of old.hand (map buffer_in (leave threshold most)) ∙ ap (λ l. map place_of old.hand ++ l) (map-map place_of buffer_in (leave threshold most)))
-      ∙ sym (append_assoc (option_to_list point.offered) (map place_of old.hand) (map (λ (l : Leaving Place). place_of l.buffer) (leave threshold most)))
-      ∙ ap (λ l. l ++ map (λ (l : Leaving Place). place_of l.buffer) (leave threshold most)) h.hand
+      ∙ sym (append_assoc (option_to_list point.offered) (map place_of old.hand) (map (λ (l : Leaving ArrivalPlace). place_of l.buffer) (leave threshold most)))
+      ∙ ap (λ l. l ++ map (λ (l : Leaving ArrivalPlace). place_of l.buffer) (leave threshold most)) h.hand
       ∙ sym gone.hand
 
   holds_left : Holds (left threshold most) (with_state after point)

@@ -5,11 +5,11 @@ use Rattle.hs_pins.specs.Remembered.{fresh}
 use Rattle.hs_pins.specs.PinsLayout.{Pinning, Remembers}
 use Rattle.hs_index.specs.Index.{new_index}
 use Rattle.hs_law_agent.specs.State.{start}
-use Rattle.hs_agent.specs.declared.placed.Place.{Place}
+use Rattle.hs_agent.specs.declared.placed.ArrivalPlace.{ArrivalPlace}
 use Rattle.hs_agent.specs.Keeping.{Kept, Point, Holds}
 use Rattle.hs_agent.proofs.Indexing.{indexed-start}
 
-module _ {L : Type 0} (settings : PlainSettings) (node : ℕ) (pins : Pinning Place) where
+module _ {L : Type 0} (settings : PlainSettings) (node : ℕ) (pins : Pinning ArrivalPlace) where
   -- nothing was taken
   abbrev pub nothing_kept : Kept L
   nothing_kept =

@@ -16,7 +16,7 @@ use Rattle.hs_law_agent.specs.State.{AgentState, ClaimedTrace, is_abandoned}
 use Rattle.hs_law_agent.specs.Abandoning.{abandon}
 use Rattle.hs_law_agent.specs.Evicting.{evict}
 use Rattle.hs_law_agent.specs.Stepping.{with_indexed, with_pinned, with_abandoned, pin_chunk, take_chunk}
-use Rattle.hs_agent.specs.declared.placed.Place.{Place}
+use Rattle.hs_agent.specs.declared.placed.ArrivalPlace.{ArrivalPlace}
 use Rattle.hs_agent.specs.Placing.{Placed, placed_at}
 use Rattle.hs_agent.specs.Keeping.{Kept, Holds, Point, with_state, plain_claim}
 use Rattle.hs_agent.specs.LettingGo.{Going, let_go_all, abandoned_going, abandoned_fate}

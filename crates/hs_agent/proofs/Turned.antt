@@ -26,7 +26,7 @@ use Rattle.hs_law_agent.specs.Books.{page_standing, claim_note, bytes_at}
 use Rattle.hs_law_agent.specs.Turning.{visit, turn, shares_after}
 use Rattle.hs_law_agent.specs.Turning as model
 use Rattle.hs_law_agent.specs.Laws.{PlacesMatch, count_of}
-use Rattle.hs_agent.specs.declared.placed.Place.{Place}
+use Rattle.hs_agent.specs.declared.placed.ArrivalPlace.{ArrivalPlace}
 use Rattle.hs_agent.specs.Placing.{Placed, place_of}
 use Rattle.hs_agent.specs.Keeping.{Kept, Point, Holds, IsKept, HasPage, IsIndexed, RemembersAs, with_state, pinned_place, plain_claim, waiting_chunks, all_held}
 use Rattle.hs_agent.specs.LettingGo.{Going, let_go_all, reported, reported_going, page_in}
@@ -56,12 +56,12 @@ module _ {L : Type 0} (first : Kept L) (point : Point L) (h : Holds first point)
   costs-within apart id =
       let m = begins first point h apart in
       All-from_recursion (λ cost. cost ≤ point.settings.size) (costs_of first id)
-      (all_map (λ cost. cost ≤ point.settings.size) (λ (pin : Pin Place). used_bytes pin.chunk) (waiting first.pins (id_of id))
-      (all_weaker (λ (pin : Pin Place). Good first point h pin.chunk) (λ (pin : Pin Place). used_bytes pin.chunk ≤ point.settings.size)
+      (all_map (λ cost. cost ≤ point.settings.size) (λ (pin : Pin ArrivalPlace). used_bytes pin.chunk) (waiting first.pins (id_of id))
+      (all_weaker (λ (pin : Pin ArrivalPlace). Good first point h pin.chunk) (λ (pin : Pin ArrivalPlace). used_bytes pin.chunk ≤ point.settings.size)
       (λ pin good. let is : used_in pin.chunk.chunk ≡ used_of good.1.chunk.sheet = ap (λ p. option_map_or used_of p 0) good.1.page in let most = good.1.size in omega (arith, is, most))
       (waiting first.pins (id_of id))
-      (subst (AllByRecursion (λ (pin : Pin Place). Good first point h pin.chunk)) (sym (h.remembers.waits (id_of id)))
-      (all-waiting (λ (pin : Pin Place). Good first point h pin.chunk) (id_of id) h.memory.pinned (all_unmap (Good first point h) chunk_of h.memory.pinned (good_waits apart))))))
+      (subst (AllByRecursion (λ (pin : Pin ArrivalPlace). Good first point h pin.chunk)) (sym (h.remembers.waits (id_of id)))
+      (all-waiting (λ (pin : Pin ArrivalPlace). Good first point h pin.chunk) (id_of id) h.memory.pinned (all_unmap (Good first point h) chunk_of h.memory.pinned (good_waits apart))))))
     where
       good_waits : AreDistinct (map pinned_place h.memory.pinned) → AllByRecursion (Good first point h) (map chunk_of h.memory.pinned)
       good_waits apart =
@@ -100,14 +100,14 @@ module _ {L : Type 0} (first : Kept L) (point : Point L) (h : Holds first point)
     abbrev after : AgentState
     after = turn point.settings point.state
 
-    abbrev sent : List (Pin Place)
+    abbrev sent : List (Pin ArrivalPlace)
     sent = last.sent
 
     -- each chunk that was sent has its page
-    pub sent-paged : All (λ (pin : Pin Place). IsSome pin.chunk.chunk.page) last.sent
+    pub sent-paged : All (λ (pin : Pin ArrivalPlace). IsSome pin.chunk.chunk.page) last.sent
     sent-paged =
-        All-from_recursion (λ (pin : Pin Place). IsSome pin.chunk.chunk.page) last.sent
-        (all_weaker (λ (pin : Pin Place). Good first point h pin.chunk) (λ (pin : Pin Place). IsSome pin.chunk.chunk.page) (λ pin good. ap is_some good.1.page) last.sent (all_unmap (Good first point h) chunk_of last.sent m.went))
+        All-from_recursion (λ (pin : Pin ArrivalPlace). IsSome pin.chunk.chunk.page) last.sent
+        (all_weaker (λ (pin : Pin ArrivalPlace). Good first point h pin.chunk) (λ (pin : Pin ArrivalPlace). IsSome pin.chunk.chunk.page) (λ pin good. ap is_some good.1.page) last.sent (all_unmap (Good first point h) chunk_of last.sent m.went))
 
     abbrev left : Kept L
     left = record first {
@@ -132,21 +132,21 @@ module _ {L : Type 0} (first : Kept L) (point : Point L) (h : Holds first point)
 
     stands_for : RemembersAs point.settings point.node after m.memory
     stands_for = record {
-      node_is = ap (λ (x : Remembered Place). x.node) m.memory_is ∙ h.pins.node_is;
-      rules = ap (λ (x : Remembered Place). x.rules) m.memory_is ∙ h.pins.rules;
-      most = ap (λ (x : Remembered Place). x.most) m.memory_is ∙ h.pins.most;
-      claims = ap (λ (x : Remembered Place). map plain_claim x.claims) m.memory_is ∙ h.pins.claims ∙ sym (ap (λ (s : AgentState). s.claims) m.others);
+      node_is = ap (λ (x : Remembered ArrivalPlace). x.node) m.memory_is ∙ h.pins.node_is;
+      rules = ap (λ (x : Remembered ArrivalPlace). x.rules) m.memory_is ∙ h.pins.rules;
+      most = ap (λ (x : Remembered ArrivalPlace). x.most) m.memory_is ∙ h.pins.most;
+      claims = ap (λ (x : Remembered ArrivalPlace). map plain_claim x.claims) m.memory_is ∙ h.pins.claims ∙ sym (ap (λ (s : AgentState). s.claims) m.others);
       pinned = sym m.pinned;
       groups = m.groups;
-      abandoned = ap (λ (x : Remembered Place). x.abandoned) m.memory_is ∙ h.pins.abandoned ∙ sym (ap (λ (s : AgentState). s.abandoned) m.others);
-      tried = ap (λ (x : Remembered Place). x.tried) m.memory_is ∙ h.pins.tried ∙ sym (ap (λ (s : AgentState). s.tried) m.others);
-      admitted = ap (λ (x : Remembered Place). x.admitted) m.memory_is ∙ h.pins.admitted ∙ sym (ap (λ (s : AgentState). s.admitted) m.others);
+      abandoned = ap (λ (x : Remembered ArrivalPlace). x.abandoned) m.memory_is ∙ h.pins.abandoned ∙ sym (ap (λ (s : AgentState). s.abandoned) m.others);
+      tried = ap (λ (x : Remembered ArrivalPlace). x.tried) m.memory_is ∙ h.pins.tried ∙ sym (ap (λ (s : AgentState). s.tried) m.others);
+      admitted = ap (λ (x : Remembered ArrivalPlace). x.admitted) m.memory_is ∙ h.pins.admitted ∙ sym (ap (λ (s : AgentState). s.admitted) m.others);
     }
 
     still_indexed : IsIndexed m.memory.claims after first.index.touched
     still_indexed =
         let was = h.index.touched in
-        subst (λ claims. IsIndexed claims after first.index.touched) (sym (ap (λ (x : Remembered Place). x.claims) m.memory_is))
+        subst (λ claims. IsIndexed claims after first.index.touched) (sym (ap (λ (x : Remembered ArrivalPlace). x.claims) m.memory_is))
         (record {
           traces = ap (λ (s : AgentState). s.touched) m.others ∙ was.traces;
           apart = was.apart;
@@ -163,14 +163,14 @@ module _ {L : Type 0} (first : Kept L) (point : Point L) (h : Holds first point)
         ∙ ap (λ l. l ++ map pinned_place sent) h.hand
         ∙ sym m.hand
 
-    its_bytes : (pins : List (Pin Place)) → AllByRecursion (Good first point h) (map chunk_of pins) → filter_map (bytes_at after.taken) (map pinned_place pins) ≡ map page_in pins
+    its_bytes : (pins : List (Pin ArrivalPlace)) → AllByRecursion (Good first point h) (map chunk_of pins) → filter_map (bytes_at after.taken) (map pinned_place pins) ≡ map page_in pins
     its_bytes [] good = refl
     its_bytes (pin ∷ pins) good =
         let page = has_page-same point.state.taken after.taken m.pages point.settings pin.chunk good.0.1 in
         ap (λ o. cons_option (option_map (λ (chunk : Taken). page_bytes chunk.sheet) o) (filter_map (bytes_at after.taken) (map pinned_place pins))) page.at
         ∙ (λ i. sym (ap (λ p. option_map_or page_bytes p []) page.page) i ∷ its_bytes pins good.1 i)
 
-    within_all : (pins : List (Pin Place)) → AllByRecursion (Good first point h) (map chunk_of pins) → AllByRecursion (λ (place : ℕ). place < length after.taken) (map pinned_place pins)
+    within_all : (pins : List (Pin ArrivalPlace)) → AllByRecursion (Good first point h) (map chunk_of pins) → AllByRecursion (λ (place : ℕ). place < length after.taken) (map pinned_place pins)
     within_all [] good = tt
     within_all (pin ∷ pins) good =
         let page = has_page-same point.state.taken after.taken m.pages point.settings pin.chunk good.0.1 in

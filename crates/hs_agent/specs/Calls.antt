@@ -8,7 +8,7 @@ use Rattle.hs_base.specs.declared.told.Told.{Told}
 use Rattle.hs_records.specs.Plain.{PlainSettings}
 use Rattle.hs_words.specs.Buffers.{Buffer}
 use Rattle.hs_words.specs.declared.token.Given.{Given}
-use Rattle.hs_law_agent.specs.Stepping.{Input, Chunk, Turn, Answered, Event, Took, Gave, told_by, after}
+use Rattle.hs_law_agent.specs.Stepping.{Input, Chunk, Turn, Answered, AgentEvent, Took, Gave, told_by, after}
 use Rattle.hs_law_agent.specs.Laws.{noted_as}
 use Rattle.hs_agent.specs.declared.input.Input.{Input as Taken}
 use Rattle.hs_agent.specs.Points.{sheet_in}
@@ -48,12 +48,12 @@ run_after settings node calls = fold after_call (new_run settings node) calls
 
 -- ---- what the calls were
 
-abbrev pub events_in : {L : Type 0} → Call L → List Event
+abbrev pub events_in : {L : Type 0} → Call L → List AgentEvent
 events_in (Takes input came) = Took input ∷ []
 events_in Offers = []
 events_in (Answers answer back) = Gave answer ∷ []
 
-abbrev pub events_of : {L : Type 0} → List (Call L) → List Event
+abbrev pub events_of : {L : Type 0} → List (Call L) → List AgentEvent
 events_of calls = flat_map events_in calls
 
 -- what a call tells the coordinator
@@ -76,4 +76,4 @@ pub record MeetsModel {L : Type 0} (settings : PlainSettings) (node : ℕ) (call
 
 -- No more triggers are admitted than there were events.
 abbrev pub FewAreAdmitted : Type 0
-FewAreAdmitted = (settings : PlainSettings) (node : ℕ) (events : List Event) → (after settings node events).admitted ≤ length events
+FewAreAdmitted = (settings : PlainSettings) (node : ℕ) (events : List AgentEvent) → (after settings node events).admitted ≤ length events

@@ -22,16 +22,16 @@ use Rattle.hs_law_agent.specs.Standings.{Taken, indexed_places, indexed_count, p
 use Rattle.hs_law_agent.specs.State.{AgentState, ClaimedTrace}
 use Rattle.hs_law_agent.specs.Messages.{has_crumb}
 use Rattle.hs_law_agent.specs.Books.{page_standing, claim_note, bytes_at}
-use Rattle.hs_agent.specs.declared.placed.Place.{Place}
+use Rattle.hs_agent.specs.declared.placed.ArrivalPlace.{ArrivalPlace}
 use Rattle.hs_agent.specs.Placing.{Placed, Pledged, place_of, leased}
 
 -- what an agent keeps of its chunks
 pub record Kept (L : Type 0) : Type 0 where
   pub node : ℕ
-  pub index : Index Place
-  pub pins : Pinning Place
+  pub index : Index ArrivalPlace
+  pub pins : Pinning ArrivalPlace
   -- what the turn that is under way has sent
-  pub sent : List (Pin Place)
+  pub sent : List (Pin ArrivalPlace)
   pub hand : List Placed
   -- the place of the chunk that was offered and not answered
   pub offered : Option ℕ
@@ -42,7 +42,7 @@ pub record Kept (L : Type 0) : Type 0 where
   pub leases : List (Option (Pledged L))
 
 -- what an agent keeps
-pub record Keeping (L : Type 0) : Type 0 where
+pub record PlainAgent (L : Type 0) : Type 0 where
   pub kept : Kept L
   pub schedule : Schedule
   pub log : List Step
@@ -67,52 +67,52 @@ pub record HasPage (settings : PlainSettings) (taken : List Taken) (placed : Pla
 abbrev pub plain_claim : Claim → ClaimedTrace
 plain_claim claim = record { trace = claim.trace; group = claim.group; laterals = claim.laterals }
 
-abbrev pub pinned_place : Pin Place → ℕ
+abbrev pub pinned_place : Pin ArrivalPlace → ℕ
 pinned_place pin = place_of pin.chunk
 
 -- the nodes to which the known crumbs of a trace lead, claimed or not
-abbrev pub crumbs_known : List Claim → List (Indexed Place) → TraceId → NodeSet
+abbrev pub crumbs_known : List Claim → List (Indexed ArrivalPlace) → TraceId → NodeSet
 crumbs_known claims touched trace = option_map_or (λ (claim : Claim). claim.crumbs) (claim_of claims trace) (noted_of trace touched).crumbs
 
 -- the pins are those of a node that remembers what the model does
-pub record RemembersAs (settings : PlainSettings) (node : ℕ) (state : AgentState) (memory : Remembered Place) : Type 0 where
+pub record RemembersAs (settings : PlainSettings) (node : ℕ) (state : AgentState) (memory : Remembered ArrivalPlace) : Type 0 where
   pub node_is : memory.node ≡ node
   pub rules : memory.rules ≡ settings.triggers
   pub most : memory.most ≡ settings.pins
   pub claims : map plain_claim memory.claims ≡ state.claims
   pub pinned : map pinned_place memory.pinned ≡ state.pinned
-  pub groups : AllByRecursion (λ (pin : Pin Place). pinned_for state.taken (pinned_place pin) ≡ Some pin.group) memory.pinned
+  pub groups : AllByRecursion (λ (pin : Pin ArrivalPlace). pinned_for state.taken (pinned_place pin) ≡ Some pin.group) memory.pinned
   pub abandoned : memory.abandoned ≡ state.abandoned
   pub tried : memory.tried ≡ state.tried
   pub admitted : memory.admitted ≡ state.admitted
 
 -- each trace stands once
-abbrev pub AreApart : List (Indexed Place) → Type 0
+abbrev pub AreApart : List (Indexed ArrivalPlace) → Type 0
 AreApart [] = Unit {0}
-AreApart (t ∷ touched) = AllByRecursion (λ (u : Indexed Place). same_trace t.trace u.trace ≡ false) touched × AreApart touched
+AreApart (t ∷ touched) = AllByRecursion (λ (u : Indexed ArrivalPlace). same_trace t.trace u.trace ≡ false) touched × AreApart touched
 
 -- These are the model's indexed traces, where these are the claims: each stands once, and none is claimed; each has its
 -- chunks; and the known crumbs are those of the model.
-pub record IsIndexed (claims : List Claim) (state : AgentState) (touched : List (Indexed Place)) : Type 0 where
-  pub traces : state.touched ≡ map (λ (t : Indexed Place). t.trace) touched
+pub record IsIndexed (claims : List Claim) (state : AgentState) (touched : List (Indexed ArrivalPlace)) : Type 0 where
+  pub traces : state.touched ≡ map (λ (t : Indexed ArrivalPlace). t.trace) touched
   pub apart : AreApart touched
-  pub free : AllByRecursion (λ (t : Indexed Place). claim_of claims t.trace ≡ None) touched
+  pub free : AllByRecursion (λ (t : Indexed ArrivalPlace). claim_of claims t.trace ≡ None) touched
   pub places : (trace : TraceId) → map place_of (noted_of trace touched).chunks ≡ indexed_places state.taken trace
   pub count : indexed_count state.taken ≡ count_chunks touched
   pub crumbs : (trace : TraceId) (n : ℕ) → has_crumb state.crumbs (record { trace = trace; node = record { 0 = n } }) ≡ has_node (crumbs_known claims touched trace) n
 
 -- the index is that of the model
-pub record IsIndexOf (settings : PlainSettings) (claims : List Claim) (state : AgentState) (index : Index Place) : Type 0 where
+pub record IsIndexOf (settings : PlainSettings) (claims : List Claim) (state : AgentState) (index : Index ArrivalPlace) : Type 0 where
   pub threshold : index.threshold ≡ settings.threshold
   pub most : index.most ≡ settings.traces
   pub touched : IsIndexed claims state index.touched
 
 -- the chunks that are indexed or pinned
-abbrev pub waiting_chunks : {L : Type 0} → Kept L → List (Pin Place) → List Placed
-waiting_chunks kept pinned = chunks_left kept.index.touched ++ map (λ (pin : Pin Place). pin.chunk) pinned
+abbrev pub waiting_chunks : {L : Type 0} → Kept L → List (Pin ArrivalPlace) → List Placed
+waiting_chunks kept pinned = chunks_left kept.index.touched ++ map (λ (pin : Pin ArrivalPlace). pin.chunk) pinned
 
 -- all chunks that are indexed, pinned or in the hand
-abbrev pub all_held : {L : Type 0} → Kept L → List (Pin Place) → List Placed
+abbrev pub all_held : {L : Type 0} → Kept L → List (Pin ArrivalPlace) → List Placed
 all_held kept pinned = waiting_chunks kept pinned ++ kept.hand
 
 -- where a run of the model has come to: its state, the buffer of each taken chunk as it came last, and the place of the
@@ -127,7 +127,7 @@ pub record Point (L : Type 0) : Type 0 where
 -- What is kept is what the model's state says, between two steps.
 pub record Holds {L : Type 0} (kept : Kept L) (point : Point L) : Type 0 where
   pub node_is : kept.node ≡ point.node
-  pub memory : Remembered Place
+  pub memory : Remembered ArrivalPlace
   pub remembers : Remembers kept.pins memory
   pub pins : RemembersAs point.settings point.node point.state memory
   pub index : IsIndexOf point.settings memory.claims point.state kept.index

@@ -8,7 +8,7 @@ use Rattle.hs_pins.specs.PinsLayout.{KnowsThat}
 use Rattle.hs_agent.specs.declared.holdings.Holdings.TheInside.{Inside}
 use Rattle.hs_agent.specs.Keeping.{Kept}
 use Rattle.hs_agent.specs.Placing.{pledges_in}
-use Rattle.hs_agent.specs.declared.placed.Place.{Place}
+use Rattle.hs_agent.specs.declared.placed.ArrivalPlace.{ArrivalPlace}
 
 abbrev pub kept_in : {L : Type 0} {g : _} → Inside L g → Kept L
 kept_in a =
@@ -18,7 +18,7 @@ kept_in a =
       pins = a.pins;
       sent = map pin_of a.sent.items;
       hand = map buffer_of a.hand.items;
-      offered = option_map (λ (place : Place). place.0) a.offered;
+      offered = option_map (λ (place : ArrivalPlace). place.0) a.offered;
       standings = a.standings.items;
       claims = a.claims.items;
       pages = map (λ page. page.items) a.pages.items;

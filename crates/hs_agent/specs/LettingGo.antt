@@ -9,7 +9,7 @@ use Rattle.hs_journal.specs.declared.books.Standing.{Standing}
 use Rattle.hs_words.specs.Pages.{page_bytes}
 use Rattle.hs_index.specs.Index.{Leaving}
 use Rattle.hs_pins.specs.Remembered.{Pin}
-use Rattle.hs_agent.specs.declared.placed.Place.{Place}
+use Rattle.hs_agent.specs.declared.placed.ArrivalPlace.{ArrivalPlace}
 use Rattle.hs_agent.specs.Placing.{Placed, place_of}
 use Rattle.hs_agent.specs.Keeping.{Kept}
 
@@ -35,17 +35,17 @@ abandoned_fate group = fates.Abandoned group.trigger group.lead (trace_rank grou
 abbrev pub reported_fate : Group → Fate
 reported_fate group = fates.Reported group.trigger group.lead
 
-abbrev pub evicted_going : Leaving Place → Going
+abbrev pub evicted_going : Leaving ArrivalPlace → Going
 evicted_going leaving = record { buffer = leaving.buffer; fate = fates.Evicted leaving.chunks leaving.traces }
 
-abbrev pub abandoned_going : Pin Place → Going
+abbrev pub abandoned_going : Pin ArrivalPlace → Going
 abandoned_going pin = record { buffer = pin.chunk; fate = abandoned_fate pin.group }
 
-abbrev pub reported_going : Pin Place → Going
+abbrev pub reported_going : Pin ArrivalPlace → Going
 reported_going pin = record { buffer = pin.chunk; fate = reported_fate pin.group }
 
 -- the bytes of a pinned chunk's page
-abbrev pub page_in : Pin Place → List ℕ
+abbrev pub page_in : Pin ArrivalPlace → List ℕ
 page_in pin = option_map_or page_bytes pin.chunk.chunk.page []
 
 -- what the turn sent is reported: each page's bytes are kept, and each chunk is let go

@@ -3,11 +3,11 @@ use Rattle.std.specs.Prelude.{◌≡◌, ◌≢◌, ℕ, List, [], ◌∷◌, ma
 use Rattle.std.specs.List.{AllByRecursion}
 use Rattle.std.specs.Option.{option_and_then}
 use Rattle.hs_words.specs.Buffers.{Buffer}
-use Rattle.hs_agent.specs.declared.placed.Place.{Place}
+use Rattle.hs_agent.specs.declared.placed.ArrivalPlace.{ArrivalPlace}
 use Rattle.hs_agent.specs.declared.placed.Pledge.{Pledge}
 
 abbrev pub Placed : Type 0
-Placed = Buffer Place
+Placed = Buffer ArrivalPlace
 
 abbrev pub place_of : Placed → ℕ
 place_of placed = placed.lease.0

@@ -11,17 +11,17 @@ use Rattle.hs_words.specs.declared.token.Given.{Given}
 use Rattle.hs_words.specs.declared.token.Given.TheVariants as given
 use Rattle.hs_words.specs.Buffers.{Buffer, buffer_of}
 use Rattle.hs_law_agent.specs.State.{AgentState}
-use Rattle.hs_law_agent.specs.Stepping.{Event, Took, Gave, Answered, after, take_input, told_by}
+use Rattle.hs_law_agent.specs.Stepping.{AgentEvent, Took, Gave, Answered, after, take_input, told_by}
 use Rattle.hs_law_agent.specs.Stepping as model
 use Rattle.hs_agent.specs.declared.input.Input.{Input}
 use Rattle.hs_agent.specs.declared.input.Input.TheVariants as inputs
-use Rattle.hs_agent.specs.Keeping.{Kept, Keeping, Point, Holds}
+use Rattle.hs_agent.specs.Keeping.{Kept, PlainAgent, Point, Holds}
 use Rattle.hs_agent.specs.Points.{sheet_in}
 
 pub record Run (L : Type 0) : Type 0 where
   pub settings : PlainSettings
   pub node : ℕ
-  pub events : List Event
+  pub events : List AgentEvent
   pub buffers : List (Buffer L)
   -- the place of the chunk that was offered and not answered yet
   pub offered : Option ℕ
@@ -54,16 +54,16 @@ pub record StandsAt {L : Type 0} (kept : Kept L) (schedule : Schedule) (point : 
   pub nodes : point.settings.nodes ≤ MAX_NODES
 
 -- Memory never failed the agent, and what it keeps is what this run says.
-pub record Follows {L : Type 0} (agent : Keeping L) (run : Run L) : Type 0 where
+pub record Follows {L : Type 0} (agent : PlainAgent L) (run : Run L) : Type 0 where
   pub working : agent.spent ≡ false
   pub stands : StandsAt agent.kept agent.schedule (point_of run)
   pub log : agent.log ≡ (state_of run).log
 
-abbrev pub IsSpent : {L : Type 0} → Keeping L → Type 0
+abbrev pub IsSpent : {L : Type 0} → PlainAgent L → Type 0
 IsSpent agent = agent.spent ≡ true
 
 -- Memory failed the agent, or it follows some run of which this holds.
-abbrev pub Knows : {L : Type 0} → Keeping L → (Run L → Type 0) → Type 0
+abbrev pub Knows : {L : Type 0} → PlainAgent L → (Run L → Type 0) → Type 0
 Knows {L} agent fact = agent.spent ≡ false → (run : Run L) × Follows agent run × fact run
 
 -- ---- inputs

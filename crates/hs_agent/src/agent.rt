@@ -19,9 +19,7 @@ use crate::input::{Finished, Input};
 use hs_base::limits::MAX_NODES;
 use hs_base::{List, Memory, NodeId, Settings, Told, Why};
 use hs_journal::Step;
-use hs_law_agent::laws::events_go_on;
-use hs_law_agent::laws::lists_have_their_chunks;
-use hs_law_agent::laws::standings_partition;
+use hs_law_agent::laws::{events_go_on, lists_have_their_chunks, standings_partition};
 use hs_sched::Scheduler;
 use hs_words::{Given, Held, Token};
 use std::alloc::Global;
@@ -39,9 +37,9 @@ pub struct Agent<L: Token> {
 }
 
 impl<L: Token> Model for Agent<L> {
-    ghost use Rattle.hs_agent.specs.Keeping.{Keeping};
+    ghost use Rattle.hs_agent.specs.Keeping.{PlainAgent};
 
-    ghost Value = { Keeping L };
+    ghost Value = { PlainAgent L };
 
     ghost use Rattle.hs_agent.specs.AgentLayout.{keeping_in, HasLogRoom};
 

@@ -16,7 +16,7 @@ ghost use Rattle.hs_index.specs.Index.{leaving_of, chunks_left};
 ghost use Rattle.hs_law_agent.specs.Messages.{told_of, crumb_nodes};
 ghost use Rattle.hs_law_agent.specs.Claiming.{traces_of, claim_unclaimed};
 ghost use Rattle.hs_law_agent.specs.Stepping as model;
-ghost use Rattle.hs_agent.specs.declared.placed.Place.{Place};
+ghost use Rattle.hs_agent.specs.declared.placed.ArrivalPlace.{ArrivalPlace};
 ghost use Rattle.hs_journal.specs.Books.{agent_book_of};
 ghost use Rattle.hs_law_agent.specs.Books.{book_of};
 ghost use Rattle.hs_law_agent.specs.Laws.{IsInOnePlace};
@@ -28,7 +28,7 @@ ghost use Rattle.hs_agent.specs.Offering.{Offers, answered};
 ghost use Rattle.hs_agent.specs.Points.{chunk_taken, crumb_taken, trigger_taken, claimed_for, buffers_left};
 
 use crate::input::Finished;
-use crate::placed::{Place, Pledge};
+use crate::placed::{ArrivalPlace, Pledge};
 use hs_base::limits::MAX_NODES;
 use hs_base::{
     Ask, Bytes, Crumb, Fate, Group, GroupId, List, Memory, NodeId, NodeSet, Settings, Told,
@@ -49,14 +49,14 @@ use std::marker::Model;
 pub struct Holdings<L: Token> {
     alloc: Global,
     node: NodeId,
-    index: TraceIndex<Place>,
-    pins: Pins<Place>,
+    index: TraceIndex<ArrivalPlace>,
+    pins: Pins<ArrivalPlace>,
     /// What the turn that is under way has sent. There is room for all that is pinned.
-    sent: VecDeque<Dropped<Place>>,
+    sent: VecDeque<Dropped<ArrivalPlace>>,
     /// The chunks whose buffers are to be given back, the next one first, but for the one that was offered.
-    hand: VecDeque<Held<Place>>,
+    hand: VecDeque<Held<ArrivalPlace>>,
     /// The chunk that was offered to the pool and not answered yet. There is room in the hand for it to come back.
-    offered: Option<Place>,
+    offered: Option<ArrivalPlace>,
     /// Of each chunk that was taken.
     standings: List<Standing>,
     claims: List<Claim>,
@@ -116,7 +116,7 @@ impl<L: Token> Holdings<L> {
     }
 
     /// Notes a chunk that came, whose page has this header, and keeps its lease. There are 2^32 - 1 chunks at most.
-    fn note(&mut self, header: Header, held: Held<L>) -> Result<Held<Place>, Memory>
+    fn note(&mut self, header: Header, held: Held<L>) -> Result<Held<ArrivalPlace>, Memory>
         ensures noted { OnOk result (self.new ≡ noted header (buffer_of held) self.old) }
         ensures placed { IfOk result (λ placed. buffer_of placed ≡ placed_at (length self.old.standings) (buffer_of held)) }
         ensures fits { OnOk result (length self.old.standings + 1 < 2 ^ 32) }
@@ -139,12 +139,12 @@ impl<L: Token> Holdings<L> {
         self.leases.append(Some(Pledge { lease, number }))?;
         Ok(Held {
             chunk,
-            lease: Place(place),
+            lease: ArrivalPlace(place),
         })
     }
 
     /// Indexes a chunk of a trace that nobody claimed, and lets go what is too much then.
-    fn index_chunk(&mut self, held: Held<Place>) -> Result<(), Memory>
+    fn index_chunk(&mut self, held: Held<ArrivalPlace>) -> Result<(), Memory>
         requires { IsSome held.chunk.page }
         ensures { OnOk result (self.new ≡ indexed (buffer_of held) self.old) }
     {
@@ -155,9 +155,9 @@ impl<L: Token> Holdings<L> {
     }
 
     /// Pins a chunk of a trace that the group claimed, or lets it go where the group was abandoned.
-    fn pin(&mut self, held: Held<Place>, group: Group) -> Result<(), Memory>
+    fn pin(&mut self, held: Held<ArrivalPlace>, group: Group) -> Result<(), Memory>
         requires { KnowsThat self.old.pins (λ memory. (IsSome (claim_for memory.claims (buffer_of held))) × (length memory.pinned + 1 < 2 ^ 32)) }
-        ensures { (memory : Remembered Place) → Remembers self.old.pins memory → OnOk result (ArrivesAtPins memory group (buffer_of held) self.old self.new) }
+        ensures { (memory : Remembered ArrivalPlace) → Remembers self.old.pins memory → OnOk result (ArrivesAtPins memory group (buffer_of held) self.old self.new) }
     {
         let room = (self.pins.chunks() as usize).saturating_add(1);
         self.sent.reserve(room)?;
@@ -278,8 +278,8 @@ impl<L: Token> Holdings<L> {
 
     /// Abandons groups while too much is pinned.
     fn abandon(&mut self) -> Result<(), Memory>
-        ensures pins { (memory : Remembered Place) → Remembers self.old.pins memory → OnOk result (Remembers self.new.pins (relieved memory)) }
-        ensures gone { (memory : Remembered Place) → Remembers self.old.pins memory → OnOk result (self.new ≡ let_go_all (record self.old { pins = self.new.pins }) (map abandoned_going (drops memory))) }
+        ensures pins { (memory : Remembered ArrivalPlace) → Remembers self.old.pins memory → OnOk result (Remembers self.new.pins (relieved memory)) }
+        ensures gone { (memory : Remembered ArrivalPlace) → Remembers self.old.pins memory → OnOk result (self.new ≡ let_go_all (record self.old { pins = self.new.pins }) (map abandoned_going (drops memory))) }
     {
         for dropped in self.pins.abandon()?.into_vec() {
             let Dropped { held, group } = dropped;
@@ -289,7 +289,7 @@ impl<L: Token> Holdings<L> {
     }
 
     /// Lets go what the index evicted.
-    fn evict(&mut self, gone: List<Gone<Place>>) -> Result<(), Memory>
+    fn evict(&mut self, gone: List<Gone<ArrivalPlace>>) -> Result<(), Memory>
         ensures { OnOk result (self.new ≡ let_go_all self.old (map evicted_going (map leaving_of gone.items))) }
     {
         for leaving in gone.into_vec() {
@@ -304,7 +304,7 @@ impl<L: Token> Holdings<L> {
     }
 
     /// Notes a chunk's fate, and puts it last into the hand, where a place stays free for a chunk that comes back.
-    fn let_go(&mut self, held: Held<Place>, fate: Fate) -> Result<(), Memory>
+    fn let_go(&mut self, held: Held<ArrivalPlace>, fate: Fate) -> Result<(), Memory>
         ensures { OnOk result (self.new ≡ let_go self.old (record { buffer = buffer_of held; fate = fate })) }
     {
         note_fate(&mut self.standings, held.lease, fate);
@@ -364,7 +364,7 @@ impl<L: Token> Holdings<L> {
 
     /// How many chunks are pinned.
     pub fn pinned(&self) -> u32
-        ensures { (memory : Remembered Place) → Remembers self.now.pins memory → result ≡ length memory.pinned }
+        ensures { (memory : Remembered ArrivalPlace) → Remembers self.now.pins memory → result ≡ length memory.pinned }
     {
         self.pins.chunks()
     }
@@ -435,7 +435,7 @@ fn page_of(alloc: Global, chunk: &Chunk) -> Result<Bytes, Memory>
 }
 
 /// Notes a chunk's fate, where it has a standing.
-fn note_fate(standings: &mut List<Standing>, place: Place, fate: Fate)
+fn note_fate(standings: &mut List<Standing>, place: ArrivalPlace, fate: Fate)
     ensures { standings.new.items ≡ with_fate place.0 fate standings.old.items }
 {
     let standings = standings.as_mut_slice();
@@ -448,9 +448,9 @@ fn note_fate(standings: &mut List<Standing>, place: Place, fate: Fate)
 /// A chunk whose lease is kept at its place from now on.
 fn put_lease<L: Token>(
     leases: &mut List<Option<Pledge<L>>>,
-    place: Place,
+    place: ArrivalPlace,
     held: Held<L>,
-) -> Held<Place>
+) -> Held<ArrivalPlace>
     requires { place.0 < length leases.old.items }
     ensures chunk { buffer_of result ≡ placed_at place.0 (buffer_of held) }
     ensures leases { pledges_in leases.new.items ≡ slice_set (pledges_in leases.old.items) place.0
@@ -467,7 +467,7 @@ fn put_lease<L: Token>(
 }
 
 /// A chunk with the lease with which it came last, which is taken out.
-fn with_lease<L: Token>(leases: &mut List<Option<Pledge<L>>>, held: Held<Place>) -> Held<L>
+fn with_lease<L: Token>(leases: &mut List<Option<Pledge<L>>>, held: Held<ArrivalPlace>) -> Held<L>
     requires within { held.lease.0 < length leases.old.items }
     requires pledged { IsPledged (pledges_in leases.old.items) (buffer_of held) }
     ensures { HandsOut (pledges_in leases.old.items) (buffer_of held) (buffer_of result)
@@ -502,8 +502,8 @@ fn finished<L: Token>(
 /// have one place.
 fn rest_of<L: Token>(
     alloc: Global,
-    index: TraceIndex<Place>,
-    hand: VecDeque<Held<Place>>,
+    index: TraceIndex<ArrivalPlace>,
+    hand: VecDeque<Held<ArrivalPlace>>,
     leases: List<Option<Pledge<L>>>,
 ) -> Result<List<Held<L>>, Memory>
     requires apart { HaveOwnPlaces (chunks_left index.touched ++ map buffer_of hand.items) }
@@ -517,9 +517,9 @@ fn rest_of<L: Token>(
 
 /// Puts chunks before those of the hand.
 fn put_before(
-    mut chunks: List<Held<Place>>,
-    mut hand: VecDeque<Held<Place>>,
-) -> Result<VecDeque<Held<Place>>, Memory>
+    mut chunks: List<Held<ArrivalPlace>>,
+    mut hand: VecDeque<Held<ArrivalPlace>>,
+) -> Result<VecDeque<Held<ArrivalPlace>>, Memory>
     ensures { IfOk result (λ all. map buffer_of all.items ≡ map buffer_of chunks.items ++ map buffer_of hand.items) }
 {
     while let Some(held) = chunks.pop() {
@@ -532,7 +532,7 @@ fn put_before(
 fn with_leases<L: Token>(
     alloc: Global,
     mut leases: List<Option<Pledge<L>>>,
-    mut chunks: VecDeque<Held<Place>>,
+    mut chunks: VecDeque<Held<ArrivalPlace>>,
 ) -> Result<List<Held<L>>, Memory>
     requires apart { HaveOwnPlaces (map buffer_of chunks.items) }
     requires pledged { AllByRecursion (IsPledged (pledges_in leases.items)) (map buffer_of chunks.items) }

@@ -4,8 +4,7 @@ ghost use Rattle.std.specs.Prelude.{ℕ, List};
 ghost use Rattle.hs_records.specs.Plain.{PlainSettings};
 ghost use Rattle.hs_agent.specs.Calls.{Call, MeetsModel, FewAreAdmitted};
 
-use hs_law_agent::laws::events_go_on;
-use hs_law_agent::laws::steps_say_what_they_tell;
+use hs_law_agent::laws::{events_go_on, steps_say_what_they_tell};
 use hs_words::Token;
 
 /// After any inputs, offers and answers, a new agent's run has come to the state in which the model is after these inputs and

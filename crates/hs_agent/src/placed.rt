@@ -15,9 +15,9 @@ pub struct Pledge<L: Token> {
 /// A chunk's place in the order of arrival. In the index and among the pins it stands for the lease with which the chunk
 /// came, which the agent keeps; so chunks with equal pages are told apart there.
 #[derive(Clone, Copy)]
-pub struct Place(pub u32);
+pub struct ArrivalPlace(pub u32);
 
-impl Token for Place {
+impl Token for ArrivalPlace {
     ghost fits = { λ place number. true };
 
     ghost pool = { λ place. None };

@@ -53,7 +53,7 @@ pub record Showing : Type 0 where
   pub one : Watching
   pub other : Watching
 
-pub record Stands (s : Showing) : Type 0 where
+pub record WatchStands (s : Showing) : Type 0 where
   pub one : Watches s.shown s.one
   pub other : Watches s.shown s.other
 

@@ -7,14 +7,14 @@ ghost use Rattle.hs_base.specs.Listing.{Listing};
 ghost use Rattle.hs_board.specs.declared.progress.Progress.{Progress as Totalled};
 ghost use Rattle.hs_board.specs.Looking.{Looking};
 ghost use Rattle.hs_board.specs.Shown.{first, IsFront, IsLast};
-ghost use Rattle.hs_board.specs.Watching.{MayLook, HasLooked, Stands, BothMayLook, IsLater, KnowLast, EndsAtLatest, IsSeenOf};
+ghost use Rattle.hs_board.specs.Watching.{MayLook, HasLooked, WatchStands, BothMayLook, IsLater, KnowLast, EndsAtLatest, IsSeenOf};
 
-use crate::watcher::Watcher;
-use hs_base::{List, Memory};
-use crate::reader::BoardReader;
-use crate::writer::BoardWriter;
-use crate::progress::Progress;
 use crate::making::board;
+use crate::progress::Progress;
+use crate::reader::BoardReader;
+use crate::watcher::Watcher;
+use crate::writer::BoardWriter;
+use hs_base::{List, Memory};
 use std::alloc::Global;
 use std::marker::Model;
 use std::sync::Wait;
@@ -40,7 +40,7 @@ impl Watch {
     /// A new board, which shows the first totals, with two watchers that have not looked.
     pub fn make(alloc: Global) -> Result<Watch, Memory>
         ensures shown { IfOk result (λ watch. watch.shown ≡ first ∷ []) }
-        ensures stands { IfOk result (λ watch. Stands watch) }
+        ensures stands { IfOk result (λ watch. WatchStands watch) }
     {
         let (writer, mut readers) = board(alloc, 2)?;
         match (readers.pop(), readers.pop()) {
@@ -57,7 +57,7 @@ impl Watch {
     pub fn make_room(&mut self) -> Result<(), Memory>
         ensures ok { OnOk result (BothMayLook self.new) }
         ensures shown { self.new.shown ≡ self.old.shown }
-        ensures stands { Stands self.old → Stands self.new }
+        ensures stands { WatchStands self.old → WatchStands self.new }
         ensures last { KnowLast self.old → KnowLast self.new }
     {
         self.one.make_room()?;
@@ -68,7 +68,7 @@ impl Watch {
     pub fn look<R: Threads + Sync>(&mut self, rt: &R)
         requires { BothMayLook self.old }
         ensures shown { self.new.shown ≡ self.old.shown }
-        ensures stands { Stands self.old → Stands self.new }
+        ensures stands { WatchStands self.old → WatchStands self.new }
     {
         look_both(rt, &mut self.one, &mut self.other);
     }
@@ -84,7 +84,7 @@ impl Watch {
         requires room { BothMayLook self.old }
         ensures ok { OnOk result (self.new.shown ≡ self.old.shown ++ progress ∷ []) }
         ensures err { OnErr result (self.new.shown ≡ self.old.shown) }
-        ensures stands { Stands self.old → Stands self.new }
+        ensures stands { WatchStands self.old → WatchStands self.new }
     {
         publish_and_look(
             rt,
@@ -100,7 +100,7 @@ impl Watch {
         requires { IsLater progress self.old.shown }
         ensures ok { OnOk result (self.new.shown ≡ self.old.shown ++ progress ∷ []) }
         ensures err { OnErr result (self.new.shown ≡ self.old.shown) }
-        ensures stands { Stands self.old → Stands self.new }
+        ensures stands { WatchStands self.old → WatchStands self.new }
     {
         publish(rt, &mut self.writer, progress)
     }
@@ -108,7 +108,7 @@ impl Watch {
     /// Both watchers are told of what is published.
     pub fn tell(&mut self)
         ensures shown { self.new.shown ≡ self.old.shown }
-        ensures stands { Stands self.old → Stands self.new }
+        ensures stands { WatchStands self.old → WatchStands self.new }
         ensures last { KnowLast self.new }
         ensures room { BothMayLook self.old → BothMayLook self.new }
     {
@@ -120,7 +120,7 @@ impl Watch {
     pub fn look_once(&mut self)
         requires { BothMayLook self.old }
         ensures shown { self.new.shown ≡ self.old.shown }
-        ensures stands { Stands self.old → Stands self.new }
+        ensures stands { WatchStands self.old → WatchStands self.new }
         ensures last { KnowLast self.old → KnowLast self.new }
         ensures ends { EndsAtLatest self.new.one × EndsAtLatest self.new.other }
     {
@@ -131,7 +131,7 @@ impl Watch {
     /// Ends the board, at `Memory` too. Answers what each watcher noted.
     pub fn close<R: Wait>(self, rt: &R, alloc: Global) -> Result<List<List<Progress>>, Memory>
         ensures count { IfOk result (λ seen. length seen.items ≡ 2) }
-        ensures seen { Stands self → KnowLast self → EndsAtLatest self.one × EndsAtLatest self.other
+        ensures seen { WatchStands self → KnowLast self → EndsAtLatest self.one × EndsAtLatest self.other
             → IfOk result (λ seen. AllByRecursion (λ (list : Listing Totalled). IsSeenOf self.shown list.items) seen.items) }
     {
         let Watch { writer, one, other } = self;

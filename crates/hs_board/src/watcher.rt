@@ -5,10 +5,10 @@ ghost use Rattle.hs_board.specs.declared.progress.Progress.{Progress as Totalled
 ghost use Rattle.hs_board.specs.Shown.{IsLast};
 ghost use Rattle.hs_board.specs.Watching.{Totals, Watches, MayLook, HasLooked, EndsAtLatest};
 
-use hs_base::{List, Memory};
+use crate::progress::Progress;
 use crate::reader::BoardReader;
 use crate::writer::BoardWriter;
-use crate::progress::Progress;
+use hs_base::{List, Memory};
 use std::alloc::Global;
 use std::marker::Model;
 

@@ -5,8 +5,8 @@ ghost use Rattle.hs_text.specs.Text.{text_of};
 ghost use Rattle.hs_text.specs.Writing.{spaced};
 ghost use Rattle.hs_board.specs.WatchText.{seen_line, watcher_lines, watchers_from, watch_text};
 
-use hs_base::{List, Memory};
 use crate::progress::Progress;
+use hs_base::{List, Memory};
 use hs_text::{end_line, push_spaced, push_spaced_number};
 
 /// Appends what watchers saw, in the order of their numbers, and the last line. After an `Err` the text may have grown.

@@ -16,7 +16,7 @@ use Rattle.hs_journal.specs.declared.journal.Step.TheVariants as steps
 use Rattle.hs_law_agent.specs.Laws.{count_of, given_places, sheets_of, brought_by, noted_as, EventsAddThis, EventsGoOn, ListsHaveTheirChunks}
 use Rattle.hs_law_agent.specs.Standings.{Taken, is_let_go, stands}
 use Rattle.hs_law_agent.specs.State.{AgentState, GivenPlace, start}
-use Rattle.hs_law_agent.specs.Stepping.{Given, Missed, Unread, Event, Took, Gave, give_back, step_of, after_event, after_from, after}
+use Rattle.hs_law_agent.specs.Stepping.{Given, Missed, Unread, AgentEvent, Took, Gave, give_back, step_of, after_event, after_from, after}
 use Rattle.hs_records.specs.Plain.{PlainSettings}
 use Rattle.hs_law_sends.specs.Drawn.{DrawnPage}
 use Rattle.hs_words.specs.Pages.{Sheet}
@@ -58,14 +58,14 @@ grows_not : {A : Type 0} (list longer : List A) (most : ℕ) → longer ≡ list
 grows_not list longer most same = record { more = []; is = same ∙ sym (append-nil list); few = omega arith }
 
 module _ (adds : EventsAddThis) (settings : PlainSettings) (node : ℕ) where
-  log_after : (state : AgentState) (events : List Event) → (after_from settings node state events).log ≡ state.log ++ map noted_as events
+  log_after : (state : AgentState) (events : List AgentEvent) → (after_from settings node state events).log ≡ state.log ++ map noted_as events
   log_after state [] = sym (append-nil state.log)
   log_after state (event ∷ events) =
       log_after (after_event settings node state event) events
       ∙ ap (λ (l : List Step). l ++ map noted_as events) ((adds settings node state).log event)
       ∙ append_assoc state.log (noted_as event ∷ []) (map noted_as events)
 
-  sheets_after : (state : AgentState) (events : List Event) → sheets_of (after_from settings node state events).taken ≡ sheets_of state.taken ++ flat_map brought_by events
+  sheets_after : (state : AgentState) (events : List AgentEvent) → sheets_of (after_from settings node state events).taken ≡ sheets_of state.taken ++ flat_map brought_by events
   sheets_after state [] = sym (append-nil (sheets_of state.taken))
   sheets_after state (event ∷ events) =
       sheets_after (after_event settings node state event) events
@@ -76,13 +76,13 @@ module _ (adds : EventsAddThis) (settings : PlainSettings) (node : ℕ) where
   gives_one stamp [] state = grows_not state.given state.given 1 refl
   gives_one stamp (place ∷ hand) state = record { more = record { place = place; stamp = stamp } ∷ []; is = refl; few = omega arith }
 
-  given_by_one : (state : AgentState) (event : Event) → Grows state.given (after_event settings node state event).given (one_if (is_give (noted_as event)))
+  given_by_one : (state : AgentState) (event : AgentEvent) → Grows state.given (after_event settings node state event).given (one_if (is_give (noted_as event)))
   given_by_one state (Took input) = grows_not state.given (after_event settings node state (Took input)).given (one_if (is_give (step_of input))) ((adds settings node state).given input)
   given_by_one state (Gave (Given stamp)) = gives_one stamp state.hand state
   given_by_one state (Gave (Missed stamp)) = grows_not state.given state.given 0 refl
   given_by_one state (Gave Unread) = grows_not state.given state.given 0 refl
 
-  given_after : (state : AgentState) (events : List Event) → Grows state.given (after_from settings node state events).given (count_by is_give (map noted_as events))
+  given_after : (state : AgentState) (events : List AgentEvent) → Grows state.given (after_from settings node state events).given (count_by is_give (map noted_as events))
   given_after state [] = grows_not state.given state.given 0 refl
   given_after state (event ∷ events) =
       let next = after_event settings node state event in

@@ -1,7 +1,7 @@
 -- The books of agents that follow the runs of their nodes, one after another.
 use Rattle.std.proofs.Common.{◌≡◌, ℕ, ◌+◌, ◌<◌, List, [], ◌∷◌, ◌++◌, length, map, drop, get_or, None, refl, sym, ap, ◌∙◌, arith, append-nil, append_assoc}
 use Rattle.std.proofs.lemmas.List.{map-append, drop_all}
-use Rattle.hs_agent.specs.Keeping.{Keeping}
+use Rattle.hs_agent.specs.Keeping.{PlainAgent}
 use Rattle.hs_agent.specs.Runs as agents
 use Rattle.hs_check_clauses.proofs.Knowing.{found_at, found_as_many}
 use Rattle.hs_check_follow.specs.Nodes.{agent_run}
@@ -17,9 +17,9 @@ use Rattle.hs_check.specs.Leaving.{IsAgentOf, AreAgentsOf, book_at}
 abbrev pub AreBooksSo : List NodeRun → ℕ → List AgentBook → Type 0
 AreBooksSo runs count books = map agent_book_of books ++ map book_at (drop count runs) ≡ map book_at runs
 
-module _ (settings : PlainSettings) (runs : List NodeRun) (all : List (Keeping (Unit {0}))) (are : AreAgentsOf settings runs all) where
+module _ (settings : PlainSettings) (runs : List NodeRun) (all : List (PlainAgent (Unit {0}))) (are : AreAgentsOf settings runs all) where
   -- an agent may finish
-  pub may_finish : (i : ℕ) (agent : Keeping (Unit {0})) → i < length all → agent ≡ get_or all i agent → agents.Knows agent (λ run. ((agents.state_of run).pinned ≡ []) × (run.offered ≡ None))
+  pub may_finish : (i : ℕ) (agent : PlainAgent (Unit {0})) → i < length all → agent ≡ get_or all i agent → agents.Knows agent (λ run. ((agents.state_of run).pinned ≡ []) × (run.offered ≡ None))
   may_finish i agent low here =
       λ working.
       let at = found_at (IsAgentOf settings) runs all i agent are low here in
@@ -27,7 +27,7 @@ module _ (settings : PlainSettings) (runs : List NodeRun) (all : List (Keeping (
       (run, at.is.stands.follows, (ap (λ (s : AgentState). s.pinned) (sym at.is.stands.comes) ∙ at.is.pinned, refl))
 
   -- with its book there is one more
-  pub one_more : (i : ℕ) (agent : Keeping (Unit {0})) (books : List AgentBook) (book : AgentBook) → i < length all → agent ≡ get_or all i agent
+  pub one_more : (i : ℕ) (agent : PlainAgent (Unit {0})) (books : List AgentBook) (book : AgentBook) → i < length all → agent ≡ get_or all i agent
       → ((run : agents.Run (Unit {0})) → agents.Follows agent run → agent_book_of book ≡ book_of run.node (agents.state_of run))
       → AreBooksSo runs i books → AreBooksSo runs (i + 1) (books ++ book ∷ [])
   one_more i agent books book low here noted so =

@@ -12,10 +12,10 @@ use Rattle.hs_lists.proofs.Ranges.{range_append}
 use Rattle.hs_check_clauses.specs.Finding.{AreFound}
 use Rattle.hs_check_follow.specs.Parting.{books_left}
 use Rattle.hs_check_follow.specs.Whole.{AllAt}
-use Rattle.hs_check_follow.specs.declared.hearing.Hearing.{Hearing}
-use Rattle.hs_check_follow.specs.declared.parting.Ended.{Ended}
-use Rattle.hs_check_follow.specs.declared.tracked.Tracked.{Tracked}
-use Rattle.hs_check_follow.specs.declared.sending.Sending.{Sending}
+use Rattle.hs_check_follow.specs.declared.coordinator.FollowedCoordinator.{FollowedCoordinator}
+use Rattle.hs_check_follow.specs.declared.parting.FollowedParts.{FollowedParts}
+use Rattle.hs_check_follow.specs.declared.node.FollowedNode.{FollowedNode}
+use Rattle.hs_check_follow.specs.declared.client.FollowedClient.{FollowedClient}
 use Rattle.hs_journal.specs.Books.{client_book_of}
 use Rattle.hs_journal.specs.Views.{PlainJournal}
 use Rattle.hs_law_journal.specs.Ends.{is_left_bare}
@@ -64,7 +64,7 @@ rows_of {C = C} f row view each first (x ∷ xs) rows =
 
 -- ---- nodes
 
-module _ (runs : RunsAreOfTheJournal) (W : PlainWorkload) (J : PlainJournal) (nodes : List Tracked) (h : Hearing) (a : AllAt W J (followed W J) nodes h) (lawful : IsLawful W J) where
+module _ (runs : RunsAreOfTheJournal) (W : PlainWorkload) (J : PlainJournal) (nodes : List FollowedNode) (h : FollowedCoordinator) (a : AllAt W J (followed W J) nodes h) (lawful : IsLawful W J) where
   abbrev run : Run
   run = followed W J
 
@@ -83,25 +83,25 @@ module _ (runs : RunsAreOfTheJournal) (W : PlainWorkload) (J : PlainJournal) (no
       ∙ ap (λ k. Some k) (get_or-range_with_len 0 W.settings.nodes n 0 low ∙ omega arith) in
       same_Some node.node n numbered
 
-  agent_left : (n : ℕ) (node : NodeRun) (t : Tracked) → slice_get run.nodes n ≡ Some node → slice_get nodes n ≡ Some t → IsAgentOf W.settings node t.follower.agent
+  agent_left : (n : ℕ) (node : NodeRun) (t : FollowedNode) → slice_get run.nodes n ≡ Some node → slice_get nodes n ≡ Some t → IsAgentOf W.settings node t.follower.agent
   agent_left n node t at t_at =
       record {
         stands = (a.nodes_are.each n node t at t_at).stands.agent;
         pinned = nil_from_length node.state.pinned (eqb-true (length node.state.pinned) 0 (and_parts _ _ (list_all_at (is_left_bare run) run.nodes n node lawful.L10 at)).1);
       }
 
-  row_left : (n : ℕ) (node : NodeRun) (t : Tracked) → slice_get run.nodes n ≡ Some node → slice_get nodes n ≡ Some t
+  row_left : (n : ℕ) (node : NodeRun) (t : FollowedNode) → slice_get run.nodes n ≡ Some node → slice_get nodes n ≡ Some t
       → map client_book_of (books_left t) ≡ map (client_book W J) (range_with_len (n * W.settings.clients) W.settings.clients)
   row_left n node t at t_at =
       let stand = (a.nodes_are.each n node t at t_at).stands.clients in
-      row_of (client_book W J) (λ (s : Sending). s.book) client_book_of (n * W.settings.clients) t.follower.clients.items
+      row_of (client_book W J) (λ (s : FollowedClient). s.book) client_book_of (n * W.settings.clients) t.follower.clients.items
       (λ k s s_at. (stand.each k s s_at).book ∙ ap (λ m. client_book W J (m * W.settings.clients + k)) (number_at n node at))
       ∙ ap (λ m. map (client_book W J) (range_with_len (n * W.settings.clients) m)) stand.count
 
-  node_there : (n : ℕ) (t : Tracked) → slice_get nodes n ≡ Some t → (node : NodeRun) × (slice_get run.nodes n ≡ Some node)
+  node_there : (n : ℕ) (t : FollowedNode) → slice_get nodes n ≡ Some t → (node : NodeRun) × (slice_get run.nodes n ≡ Some node)
   node_there n t at = let within = slice_get_within nodes n t at in let count = a.nodes_are.count in get_there run.nodes n (omega (arith, within, count))
 
-  pub all_left : (ended : Ended) → ended.clients.items ≡ flat_map books_left nodes → ended.agents.items ≡ map (λ (t : Tracked). t.follower.agent) nodes → AreLeft W J ended
+  pub all_left : (ended : FollowedParts) → ended.clients.items ≡ flat_map books_left nodes → ended.agents.items ≡ map (λ (t : FollowedNode). t.follower.agent) nodes → AreLeft W J ended
   all_left ended clients agents =
       let each = W.settings.clients in
       let none : 0 * each ≡ 0 = omega arith in
@@ -118,5 +118,5 @@ module _ (runs : RunsAreOfTheJournal) (W : PlainWorkload) (J : PlainJournal) (no
             ∙ ap (λ s. map (client_book W J) (range_with_len s (length nodes * each))) none
             ∙ ap (λ n. map (client_book W J) (range_with_len 0 n)) (ap (λ n. n * each) a.nodes_are.many ∙ sym a.valid.count);
         agents = subst (AreAgentsOf W.settings run.nodes) (sym agents)
-            (found_over (IsAgentOf W.settings) (λ (t : Tracked). t.follower.agent) run.nodes nodes a.nodes_are.count agent_left);
+            (found_over (IsAgentOf W.settings) (λ (t : FollowedNode). t.follower.agent) run.nodes nodes a.nodes_are.count agent_left);
       }

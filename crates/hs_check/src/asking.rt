@@ -9,19 +9,14 @@ ghost use Rattle.hs_check.specs.Asking.{of_the_journal, of_the_pools, of_the_end
 ghost use Rattle.hs_check.specs.Clauses.{number_of};
 
 use crate::clause::Clause;
-use hs_base::Memory;
-use hs_check_clauses::Found;
-use hs_check_clauses::has_answers;
-use hs_check_clauses::has_history;
-use hs_check_clauses::has_offers;
-use hs_check_clauses::has_passes;
-use hs_check_clauses::has_rounds;
-use hs_check_clauses::has_shape;
-use hs_check_clauses::has_stamps;
-use hs_check_clauses::is_bare;
-use hs_journal::Journal;
 use crate::pace::has_pace;
 use crate::unreads::has_unreads;
+use hs_base::Memory;
+use hs_check_clauses::{
+    Found, has_answers, has_history, has_offers, has_passes, has_rounds, has_shape, has_stamps,
+    is_bare,
+};
+use hs_journal::Journal;
 use hs_workload::Workload;
 use std::alloc::Global;
 

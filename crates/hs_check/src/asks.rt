@@ -19,12 +19,9 @@ use crate::counts::{at, one_more, push_where};
 use crate::kinds::Kind;
 use hs_base::limits::MAX_TAKEN;
 use hs_base::{Memory, NodeId, NodeSet};
-use hs_check_clauses::Found;
-use hs_check_clauses::FoundNode;
-use hs_check_clauses::log_of;
+use hs_check_clauses::{Found, FoundNode, log_of};
 use hs_journal::{Journal, Step};
-use hs_law_journal::laws::following_plays_out;
-use hs_law_journal::laws::runs_are_of_the_journal;
+use hs_law_journal::laws::{following_plays_out, runs_are_of_the_journal};
 use hs_workload::Workload;
 use std::alloc::Global;
 

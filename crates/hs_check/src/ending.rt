@@ -9,7 +9,7 @@ ghost use Rattle.hs_check.specs.Leaving.{AreLeft, MayFinish, HaveFinished};
 
 use hs_agent::Agent;
 use hs_base::{List, Memory};
-use hs_check_follow::Ended;
+use hs_check_follow::FollowedParts;
 use hs_journal::{AgentBook, Journal};
 use hs_report::{Books, Outcome, gather};
 use hs_workload::Workload;
@@ -32,12 +32,12 @@ pub(crate) fn come_to(
     alloc: Global,
     workload: &Workload,
     journal: &Journal,
-    ended: Ended,
+    ended: FollowedParts,
 ) -> Result<Outcome, Memory>
     requires { AreLeft (workload_of workload.now) (journal_of journal.now) ended }
     ensures { IfOk result (IsOutcome (workload_of workload.now) (journal_of journal.now)) }
 {
-    let Ended { clients, agents } = ended;
+    let FollowedParts { clients, agents } = ended;
     let agents = finish_all(alloc, agents)?;
     let mut told = List::new(alloc);
     told.append_slice(journal.told.as_slice())?;

@@ -16,12 +16,7 @@ ghost use Rattle.hs_check.specs.Besides.{stands_beside, all_beside, clients_besi
 use crate::counts::at;
 use crate::kinds::Kind;
 use hs_base::Memory;
-use hs_check_clauses::FoundClient;
-use hs_check_clauses::FoundNode;
-use hs_check_clauses::drawn_of;
-use hs_check_clauses::log_of;
-use hs_check_clauses::stamp_of;
-use hs_check_clauses::step_stamp;
+use hs_check_clauses::{FoundClient, FoundNode, drawn_of, log_of, stamp_of, step_stamp};
 use hs_journal::{Draw, Journal, Step};
 use hs_workload::Workload;
 use std::alloc::Global;

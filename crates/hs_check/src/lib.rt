@@ -19,9 +19,7 @@ mod unreads;
 mod verdict;
 
 pub use clause::Clause;
-pub use input::Split;
-pub use input::split_input;
-pub use verdict::Verdict;
-pub use verdict::check;
+pub use input::{Split, split_input};
 pub use pace::has_pace;
 pub use unreads::has_unreads;
+pub use verdict::{Verdict, check};

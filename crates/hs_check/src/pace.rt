@@ -18,12 +18,9 @@ use crate::asks::asks_in_pace;
 use crate::gives::gives_in_pace;
 use crate::items::items_in_pace;
 use hs_base::Memory;
-use hs_check_clauses::Found;
-use hs_check_clauses::FoundNode;
-use hs_check_clauses::log_of;
+use hs_check_clauses::{Found, FoundNode, log_of};
 use hs_journal::Journal;
-use hs_law_journal::laws::following_plays_out;
-use hs_law_journal::laws::runs_are_of_the_journal;
+use hs_law_journal::laws::{following_plays_out, runs_are_of_the_journal};
 use hs_workload::Workload;
 use std::alloc::Global;
 

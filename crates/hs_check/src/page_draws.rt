@@ -10,9 +10,7 @@ ghost use Rattle.hs_check.specs.declared.page_draws.PageDraw.{PageDraw};
 ghost use Rattle.hs_check.specs.PageDraws.{first_stamp, page_draws, all_page_draws};
 
 use hs_base::Memory;
-use hs_check_clauses::FoundClient;
-use hs_check_clauses::drawn_of;
-use hs_check_clauses::stamp_of;
+use hs_check_clauses::{FoundClient, drawn_of, stamp_of};
 use hs_journal::{Draw, Journal};
 use std::alloc::Global;
 

@@ -22,20 +22,12 @@ ghost use Rattle.hs_check.specs.Showing.{may_be_unread};
 use crate::page_draws::{PageDraw, draws_in_order};
 use crate::shown::Shown;
 use hs_base::{Memory, Settings};
-use hs_check_clauses::Found;
-use hs_check_clauses::FoundNode;
-use hs_check_clauses::FoundPage;
-use hs_check_clauses::events_of;
-use hs_check_clauses::is_unread;
-use hs_check_clauses::log_of;
+use hs_check_clauses::{Found, FoundNode, FoundPage, events_of, is_unread, log_of};
 use hs_journal::{Journal, Step};
-use hs_law_journal::laws::agents_come_by_events;
-use hs_law_journal::laws::following_plays_out;
-use hs_law_journal::laws::gives_are_noted;
-use hs_law_journal::laws::runs_are_of_the_journal;
-use hs_law_agent::laws::events_add_this;
-use hs_law_agent::laws::events_go_on;
-use hs_law_agent::laws::lists_have_their_chunks;
+use hs_law_agent::laws::{events_add_this, events_go_on, lists_have_their_chunks};
+use hs_law_journal::laws::{
+    agents_come_by_events, following_plays_out, gives_are_noted, runs_are_of_the_journal,
+};
 use hs_workload::Workload;
 use std::alloc::Global;
 

@@ -9,11 +9,11 @@ use Rattle.std.proofs.lemmas.List.Sorted.{sum_by-IsPermutation}
 use Rattle.hs_lists.proofs.Tests.{list_any_none}
 use Rattle.hs_lists.proofs.Counts.{count_cons, one_if}
 use Rattle.hs_lists.proofs.Alls.{all_each}
-use Rattle.hs_words.specs.PoolHistory.{Event}
-use Rattle.hs_law_journal.specs.Pooled.{PoolEvent, has_buffer, is_touched}
-use Rattle.hs_check_clauses.specs.declared.happened.Happening.{Happening}
-use Rattle.hs_check_clauses.specs.declared.happened.Happening.TheVariants as happenings
-use Rattle.hs_check_clauses.specs.declared.happened.Timed.{Timed}
+use Rattle.hs_words.specs.PoolHistory.{PoolEvent}
+use Rattle.hs_law_journal.specs.Pooled.{StampedPoolEvent, has_buffer, is_touched}
+use Rattle.hs_check_clauses.specs.declared.happened.NotedEvent.{NotedEvent}
+use Rattle.hs_check_clauses.specs.declared.happened.NotedEvent.TheVariants as happenings
+use Rattle.hs_check_clauses.specs.declared.happened.StampedEvent.{StampedEvent}
 use Rattle.hs_check_clauses.specs.Happening.{event_of, pool_event}
 use Rattle.hs_check_clauses.specs.Answering.{last_at, answers_last, answers_through}
 use Rattle.hs_check_clauses.proofs.Sorting.{Sorted, sorted_from}
@@ -53,46 +53,46 @@ module _ {A : Type 0} where
 
 -- ---- rising stamps
 
-abbrev pub Rising : List Timed → Type 0
+abbrev pub Rising : List StampedEvent → Type 0
 Rising [] = Unit {0}
-Rising (t ∷ timed) = AllByRecursion (λ (u : Timed). t.stamp < u.stamp) timed × Rising timed
+Rising (t ∷ timed) = AllByRecursion (λ (u : StampedEvent). t.stamp < u.stamp) timed × Rising timed
 
-none_of : (s : ℕ) (timed : List Timed) → count_by (λ (t : Timed). eqb t.stamp s) timed ≡ 0 → AllByRecursion (λ (t : Timed). s ≤ t.stamp) timed → AllByRecursion (λ (t : Timed). s < t.stamp) timed
+none_of : (s : ℕ) (timed : List StampedEvent) → count_by (λ (t : StampedEvent). eqb t.stamp s) timed ≡ 0 → AllByRecursion (λ (t : StampedEvent). s ≤ t.stamp) timed → AllByRecursion (λ (t : StampedEvent). s < t.stamp) timed
 none_of s [] none low = tt
 none_of s (t ∷ timed) none low =
-    let count = count_cons (λ (t : Timed). eqb t.stamp s) t timed in
+    let count = count_cons (λ (t : StampedEvent). eqb t.stamp s) t timed in
     elim (cases_eq t.stamp s) [
       | inl same ↦ (let one = ap one_if (eq-eqb t.stamp s same) in absurd (omega (arith, count, none, one)))
       | inr other ↦ (let at = low.0 in (omega (arith, other, at), none_of s timed (omega (arith, count, none)) low.1))
     ]
 
 -- sorted stamps of which none comes twice rise
-pub rising_from : (timed : List Timed) → Sorted (λ (t : Timed). t.stamp) timed → ((s : ℕ) → count_by (λ (t : Timed). eqb t.stamp s) timed ≤ 1) → Rising timed
+pub rising_from : (timed : List StampedEvent) → Sorted (λ (t : StampedEvent). t.stamp) timed → ((s : ℕ) → count_by (λ (t : StampedEvent). eqb t.stamp s) timed ≤ 1) → Rising timed
 rising_from [] sorted once = tt
 rising_from (t ∷ timed) sorted once =
     let here = once t.stamp in
-    let count = count_cons (λ (u : Timed). eqb u.stamp t.stamp) t timed in
+    let count = count_cons (λ (u : StampedEvent). eqb u.stamp t.stamp) t timed in
     let one = ap one_if (eq-eqb t.stamp t.stamp refl) in (
       none_of t.stamp timed (omega (arith, here, count, one)) sorted.0,
-      rising_from timed sorted.1 (λ s. let all = once s in let c = count_cons (λ (u : Timed). eqb u.stamp s) t timed in omega (arith, all, c)),
+      rising_from timed sorted.1 (λ s. let all = once s in let c = count_cons (λ (u : StampedEvent). eqb u.stamp s) t timed in omega (arith, all, c)),
     )
 
 -- ---- the last event of a buffer
 
-abbrev pub touches : ℕ → Timed → Bool
+abbrev pub touches : ℕ → StampedEvent → Bool
 touches buffer t = has_buffer buffer (event_of t.event)
 
 -- events below a stamp, the last first
-abbrev pub Falling : List Timed → Type 0
+abbrev pub Falling : List StampedEvent → Type 0
 Falling [] = Unit {0}
-Falling (t ∷ before) = AllByRecursion (λ (u : Timed). u.stamp < t.stamp) before × Falling before
+Falling (t ∷ before) = AllByRecursion (λ (u : StampedEvent). u.stamp < t.stamp) before × Falling before
 
 -- this is the last stamp of the buffer
-record LastIs (buffer : ℕ) (before : List Timed) (last : ℕ) : Type 0 where
+record LastIs (buffer : ℕ) (before : List StampedEvent) (last : ℕ) : Type 0 where
   upper : AllByRecursion (λ t. touches buffer t ≡ true → t.stamp ≤ last) before
   there : list_any (λ t. touches buffer t && eqb t.stamp last) before ≡ true
 
-last_none : (buffer : ℕ) (before : List Timed) → last_at buffer before ≡ None → AllByRecursion (λ t. touches buffer t ≡ false) before
+last_none : (buffer : ℕ) (before : List StampedEvent) → last_at buffer before ≡ None → AllByRecursion (λ t. touches buffer t ≡ false) before
 last_none buffer [] e = tt
 last_none buffer (t ∷ before) e = at (touches buffer t) refl e (last_none buffer before)
   where
@@ -100,7 +100,7 @@ last_none buffer (t ∷ before) e = at (touches buffer t) refl e (last_none buff
     at true h e later = let no_none : Some t.stamp ≡ None = e in absurd cc
     at false h e later = (h, later e)
 
-last_some : (buffer : ℕ) (before : List Timed) (last : ℕ) → Falling before → last_at buffer before ≡ Some last → LastIs buffer before last
+last_some : (buffer : ℕ) (before : List StampedEvent) (last : ℕ) → Falling before → last_at buffer before ≡ Some last → LastIs buffer before last
 last_some buffer [] last falls e = let none : None ≡ Some last = e in absurd cc
 last_some buffer (t ∷ before) last falls e = at (touches buffer t) refl e (last_some buffer before last falls.1)
   where
@@ -108,7 +108,7 @@ last_some buffer (t ∷ before) last falls e = at (touches buffer t) refl e (las
     at true h e later =
         let same : t.stamp ≡ last = cc in
         record {
-          upper = ((λ k. omega (arith, same)), all_each (λ (u : Timed). u.stamp < t.stamp) (λ u. touches buffer u ≡ true → u.stamp ≤ last) before (λ u low k. omega (arith, low, same)) falls.0);
+          upper = ((λ k. omega (arith, same)), all_each (λ (u : StampedEvent). u.stamp < t.stamp) (λ u. touches buffer u ≡ true → u.stamp ≤ last) before (λ u low k. omega (arith, low, same)) falls.0);
           there = ap (λ b. b || list_any (λ u. touches buffer u && eqb u.stamp last) before) (and_from (touches buffer t) (eqb t.stamp last) h (eq-eqb t.stamp last same));
         }
     at false h e later =
@@ -121,16 +121,16 @@ last_some buffer (t ∷ before) last falls e = at (touches buffer t) refl e (las
 -- ---- one event
 
 -- what all events say of a test, parted before this one
-abbrev pub Parted : ((Timed → Bool) → Bool) → List Timed → List Timed → Type 0
-Parted whole before later = (p : Timed → Bool) → whole p ≡ (list_any p before || list_any p later)
+abbrev pub Parted : ((StampedEvent → Bool) → Bool) → List StampedEvent → List StampedEvent → Type 0
+Parted whole before later = (p : StampedEvent → Bool) → whole p ≡ (list_any p before || list_any p later)
 
 -- whether the event answers its draw among all
-abbrev pub answers_all : ((Timed → Bool) → Bool) → ℕ → Happening → Bool
+abbrev pub answers_all : ((StampedEvent → Bool) → Bool) → ℕ → NotedEvent → Bool
 answers_all whole given (happenings.Given buffer drawn) = ltb drawn given && not (whole (λ t. touches buffer t && ltb drawn t.stamp && ltb t.stamp given))
 answers_all whole given _ = true
 
 -- whether the draw is among all
-abbrev pub has_draw : ((Timed → Bool) → Bool) → Happening → Bool
+abbrev pub has_draw : ((StampedEvent → Bool) → Bool) → NotedEvent → Bool
 has_draw whole (happenings.Given buffer drawn) = whole (λ t. touches buffer t && eqb t.stamp drawn)
 has_draw whole _ = true
 
@@ -138,15 +138,15 @@ or_left_part : (a b : Bool) → (a || b) ≡ true → b ≡ false → a ≡ true
 or_left_part true b e none = refl
 or_left_part false b e none = absurd (true≢false (sym e ∙ none))
 
-module _ (whole : (Timed → Bool) → Bool) (before later : List Timed) (buffer drawn given : ℕ) (parted : Parted whole before later) (falls : Falling before)
-    (low : AllByRecursion (λ (t : Timed). t.stamp < given) before) (high : AllByRecursion (λ (t : Timed). given ≤ t.stamp) later) (draw : whole (λ t. touches buffer t && eqb t.stamp drawn) ≡ true) where
-  abbrev between : Timed → Bool
+module _ (whole : (StampedEvent → Bool) → Bool) (before later : List StampedEvent) (buffer drawn given : ℕ) (parted : Parted whole before later) (falls : Falling before)
+    (low : AllByRecursion (λ (t : StampedEvent). t.stamp < given) before) (high : AllByRecursion (λ (t : StampedEvent). given ≤ t.stamp) later) (draw : whole (λ t. touches buffer t && eqb t.stamp drawn) ≡ true) where
+  abbrev between : StampedEvent → Bool
   between t = touches buffer t && ltb drawn t.stamp && ltb t.stamp given
 
   none_later : list_any (λ t. touches buffer t && ltb drawn t.stamp && ltb t.stamp given) later ≡ false
   none_later =
       list_any_none (λ t. touches buffer t && ltb drawn t.stamp && ltb t.stamp given) later
-      (all_each (λ (t : Timed). given ≤ t.stamp) (λ t. (touches buffer t && ltb drawn t.stamp && ltb t.stamp given) ≡ false) later
+      (all_each (λ (t : StampedEvent). given ≤ t.stamp) (λ t. (touches buffer t && ltb drawn t.stamp && ltb t.stamp given) ≡ false) later
       (λ t h. and_right (touches buffer t && ltb drawn t.stamp) (ltb t.stamp given) (le-ltb t.stamp given h)) high)
 
   -- a draw that came before stands among the events before
@@ -154,7 +154,7 @@ module _ (whole : (Timed → Bool) → Bool) (before later : List Timed) (buffer
   draw_before less =
       or_left_part (list_any (λ t. touches buffer t && eqb t.stamp drawn) before) (list_any (λ t. touches buffer t && eqb t.stamp drawn) later) (sym (parted (λ t. touches buffer t && eqb t.stamp drawn)) ∙ draw)
       (list_any_none (λ t. touches buffer t && eqb t.stamp drawn) later
-      (all_each (λ (t : Timed). given ≤ t.stamp) (λ t. (touches buffer t && eqb t.stamp drawn) ≡ false) later
+      (all_each (λ (t : StampedEvent). given ≤ t.stamp) (λ t. (touches buffer t && eqb t.stamp drawn) ≡ false) later
       (λ t h. and_right (touches buffer t) (eqb t.stamp drawn) (ne_eqb t.stamp drawn (λ e. omega (arith, e, h, less)))) high))
 
   touched_is : whole (λ t. touches buffer t && ltb drawn t.stamp && ltb t.stamp given) ≡ list_any (λ t. touches buffer t && ltb drawn t.stamp && ltb t.stamp given) before
@@ -182,7 +182,7 @@ module _ (whole : (Timed → Bool) → Bool) (before later : List Timed) (buffer
     last_low = elim (cases_lt last given) [
       | inl less ↦ less
       | inr past ↦ absurd (true≢false (sym l.there ∙ list_any_none (λ t. touches buffer t && eqb t.stamp last) before
-          (all_each (λ (t : Timed). t.stamp < given) (λ t. (touches buffer t && eqb t.stamp last) ≡ false) before (λ t h. and_right (touches buffer t) (eqb t.stamp last) (ne_eqb t.stamp last (λ e. omega (arith, e, h, past)))) low)))
+          (all_each (λ (t : StampedEvent). t.stamp < given) (λ t. (touches buffer t && eqb t.stamp last) ≡ false) before (λ t h. and_right (touches buffer t) (eqb t.stamp last) (ne_eqb t.stamp last (λ e. omega (arith, e, h, past)))) low)))
     ]
 
     -- the last one is the draw
@@ -210,7 +210,7 @@ module _ (whole : (Timed → Bool) → Bool) (before later : List Timed) (buffer
               ] in
               let touched : whole (λ t. touches buffer t && ltb drawn t.stamp && ltb t.stamp given) ≡ true =
               touched_is ∙ any_weaker (λ t. touches buffer t && eqb t.stamp last) (λ t. touches buffer t && ltb drawn t.stamp && ltb t.stamp given) before
-              (all_each (λ (t : Timed). t.stamp < given) (λ t. (touches buffer t && eqb t.stamp last) ≡ true → (touches buffer t && ltb drawn t.stamp && ltb t.stamp given) ≡ true) before
+              (all_each (λ (t : StampedEvent). t.stamp < given) (λ t. (touches buffer t && eqb t.stamp last) ≡ true → (touches buffer t && ltb drawn t.stamp && ltb t.stamp given) ≡ true) before
               (λ t h k. let both = and_parts (touches buffer t) (eqb t.stamp last) k in let e = eqb-true t.stamp last both.1 in
               and_from (touches buffer t && ltb drawn t.stamp) (ltb t.stamp given) (and_from (touches buffer t) (ltb drawn t.stamp) both.0 (lt-ltb drawn t.stamp (omega (arith, e, below, other)))) (lt-ltb t.stamp given h)) low) l.there in
               and_right (ltb drawn given) (not (whole (λ t. touches buffer t && ltb drawn t.stamp && ltb t.stamp given))) (ap not touched))
@@ -222,8 +222,8 @@ module _ (whole : (Timed → Bool) → Bool) (before later : List Timed) (buffer
   last_answers (Some last) e =
       elim (cases_eq last drawn) [ inl same ↦ eq-eqb last drawn same ∙ sym (same_last last e same) | inr other ↦ ne_eqb last drawn other ∙ sym (other_last last e other) ]
 
-event_answers : (whole : (Timed → Bool) → Bool) (before later : List Timed) (given : ℕ) (event : Happening) → Parted whole before later → Falling before
-    → AllByRecursion (λ (t : Timed). t.stamp < given) before → AllByRecursion (λ (t : Timed). given ≤ t.stamp) later → has_draw whole event ≡ true → answers_last before event ≡ answers_all whole given event
+event_answers : (whole : (StampedEvent → Bool) → Bool) (before later : List StampedEvent) (given : ℕ) (event : NotedEvent) → Parted whole before later → Falling before
+    → AllByRecursion (λ (t : StampedEvent). t.stamp < given) before → AllByRecursion (λ (t : StampedEvent). given ≤ t.stamp) later → has_draw whole event ≡ true → answers_last before event ≡ answers_all whole given event
 event_answers whole before later given (happenings.Given buffer drawn) parted falls low high draw = last_answers whole before later buffer drawn given parted falls low high draw (last_at buffer before) refl
 event_answers whole before later given (happenings.Got buffer) parted falls low high draw = refl
 event_answers whole before later given happenings.Empty parted falls low high draw = refl
@@ -232,19 +232,19 @@ event_answers whole before later given happenings.Missed parted falls low high d
 -- ---- all events
 
 -- all of them before some
-abbrev pub Before : List Timed → List Timed → Type 0
-Before before later = AllByRecursion (λ (u : Timed). AllByRecursion (λ (t : Timed). t.stamp < u.stamp) before) later
+abbrev pub Before : List StampedEvent → List StampedEvent → Type 0
+Before before later = AllByRecursion (λ (u : StampedEvent). AllByRecursion (λ (t : StampedEvent). t.stamp < u.stamp) before) later
 
-before_more : (t : Timed) (before later : List Timed) → AllByRecursion (λ (u : Timed). t.stamp < u.stamp) later → Before before later → Before (t ∷ before) later
+before_more : (t : StampedEvent) (before later : List StampedEvent) → AllByRecursion (λ (u : StampedEvent). t.stamp < u.stamp) later → Before before later → Before (t ∷ before) later
 before_more t before [] above all = tt
 before_more t before (u ∷ later) above all = ((above.0, all.0), before_more t before later above.1 all.1)
 
-pub through_is : (whole : (Timed → Bool) → Bool) (before later : List Timed) → Parted whole before later → Falling before → Before before later → Rising later
-    → list_all (λ (t : Timed). has_draw whole t.event) later ≡ true → answers_through before later ≡ list_all (λ (t : Timed). answers_all whole t.stamp t.event) later
+pub through_is : (whole : (StampedEvent → Bool) → Bool) (before later : List StampedEvent) → Parted whole before later → Falling before → Before before later → Rising later
+    → list_all (λ (t : StampedEvent). has_draw whole t.event) later ≡ true → answers_through before later ≡ list_all (λ (t : StampedEvent). answers_all whole t.stamp t.event) later
 through_is whole before [] parted falls low rises draws = refl
 through_is whole before (t ∷ later) parted falls low rises draws =
-    let both = and_parts (has_draw whole t.event) (list_all (λ (t : Timed). has_draw whole t.event) later) draws in
-    let high : AllByRecursion (λ (u : Timed). t.stamp ≤ u.stamp) (t ∷ later) = (omega arith, all_each (λ (u : Timed). t.stamp < u.stamp) (λ (u : Timed). t.stamp ≤ u.stamp) later (λ u h. omega (arith, h)) rises.0) in
+    let both = and_parts (has_draw whole t.event) (list_all (λ (t : StampedEvent). has_draw whole t.event) later) draws in
+    let high : AllByRecursion (λ (u : StampedEvent). t.stamp ≤ u.stamp) (t ∷ later) = (omega arith, all_each (λ (u : StampedEvent). t.stamp < u.stamp) (λ (u : StampedEvent). t.stamp ≤ u.stamp) later (λ u h. omega (arith, h)) rises.0) in
     let here = event_answers whole before (t ∷ later) t.stamp t.event parted falls low.0 high both.0 in
     let rest = through_is whole (t ∷ before) later (λ p. parted p ∙ moved (p t) (list_any p before) (list_any p later)) (low.0, falls) (before_more t before later rises.0 low.1) rises.1 both.1 in
     ap (λ b. b && answers_through (t ∷ before) later) here ∙ ap (λ b. answers_all whole t.stamp t.event && b) rest

@@ -4,36 +4,36 @@ use Rattle.std.specs.Prelude.{filter, ◌&&◌}
 use Rattle.std.proofs.Math.Bool.{and-true}
 use Rattle.std.proofs.lemmas.List.{drop_more, reverse-append, append_assoc, append-nil}
 use Rattle.hs_lists.proofs.Bools.{and_assoc}
-use Rattle.hs_words.specs.PoolHistory.{Event}
-use Rattle.hs_check_clauses.specs.declared.happened.Timed.{Timed}
+use Rattle.hs_words.specs.PoolHistory.{PoolEvent}
+use Rattle.hs_check_clauses.specs.declared.happened.StampedEvent.{StampedEvent}
 use Rattle.hs_check_clauses.specs.Happening.{event_of, pool_event, events_below, may_come, earlier_with}
-use Rattle.hs_law_journal.specs.Pooled.{PoolEvent, may_follow, is_history_back, is_history}
+use Rattle.hs_law_journal.specs.Pooled.{StampedPoolEvent, may_follow, is_history_back, is_history}
 
 -- whether these events may come, one after another, behind the earlier ones, of which the last stands first
-abbrev pub history_from : ℕ → List Event → List Event → Bool
+abbrev pub history_from : ℕ → List PoolEvent → List PoolEvent → Bool
 history_from n earlier [] = true
 history_from n earlier (event ∷ later) = may_follow n earlier event && history_from n (event ∷ earlier) later
 
-back_is : (n : ℕ) (earlier later : List Event) → is_history_back n (reverse later ++ earlier) ≡ (is_history_back n earlier && history_from n earlier later)
+back_is : (n : ℕ) (earlier later : List PoolEvent) → is_history_back n (reverse later ++ earlier) ≡ (is_history_back n earlier && history_from n earlier later)
 back_is n earlier [] = sym (and-true (is_history_back n earlier))
 back_is n earlier (event ∷ later) =
-    ap (λ (l : List Event). is_history_back n (l ++ earlier)) (reverse-append (event ∷ []) later)
+    ap (λ (l : List PoolEvent). is_history_back n (l ++ earlier)) (reverse-append (event ∷ []) later)
     ∙ ap (is_history_back n) (append_assoc (reverse later) (event ∷ []) earlier)
     ∙ back_is n (event ∷ earlier) later
     ∙ and_assoc (is_history_back n earlier) (may_follow n earlier event) (history_from n (event ∷ earlier) later)
 
-pub history_is : (n : ℕ) (events : List Event) → history_from n [] events ≡ is_history n events
+pub history_is : (n : ℕ) (events : List PoolEvent) → history_from n [] events ≡ is_history n events
 history_is n events = sym (ap (is_history_back n) (sym (append-nil (reverse events))) ∙ back_is n [] events)
 
 -- ---- events below a bound
 
-module _ (n bound : ℕ) (timed : List Timed) (i : ℕ) (t : Timed) (less : i < length timed) (is : t ≡ get_or timed i t) (earlier : List Event) where
+module _ (n bound : ℕ) (timed : List StampedEvent) (i : ℕ) (t : StampedEvent) (less : i < length timed) (is : t ≡ get_or timed i t) (earlier : List PoolEvent) where
   next : history_from n earlier (events_below bound (drop i timed)) ≡ (may_come n bound earlier t && history_from n (earlier_with bound t earlier) (events_below bound (drop (i + 1) timed)))
   next =
-      ap (λ (l : List Timed). history_from n earlier (events_below bound l)) (drop_more timed i t less ∙ sym (ap (λ (x : Timed). x ∷ drop (i + 1) timed) is))
+      ap (λ (l : List StampedEvent). history_from n earlier (events_below bound l)) (drop_more timed i t less ∙ sym (ap (λ (x : StampedEvent). x ∷ drop (i + 1) timed) is))
       ∙ at (ltb t.stamp bound)
     where
-      at : (b : Bool) → history_from n earlier (map (λ (x : Timed). event_of x.event) (cond b (t ∷ filter (λ (x : Timed). ltb x.stamp bound) (drop (i + 1) timed)) (filter (λ (x : Timed). ltb x.stamp bound) (drop (i + 1) timed))))
+      at : (b : Bool) → history_from n earlier (map (λ (x : StampedEvent). event_of x.event) (cond b (t ∷ filter (λ (x : StampedEvent). ltb x.stamp bound) (drop (i + 1) timed)) (filter (λ (x : StampedEvent). ltb x.stamp bound) (drop (i + 1) timed))))
           ≡ (cond b (may_follow n earlier (event_of t.event)) true && history_from n (cond b (event_of t.event ∷ earlier) earlier) (events_below bound (drop (i + 1) timed)))
       at true = refl
       at false = refl
@@ -51,6 +51,6 @@ module _ (n bound : ℕ) (timed : List Timed) (i : ℕ) (t : Timed) (less : i < 
       at true = omega arith
       at false = omega arith
 
-pub events_of_pool : (timed : List Timed) → map (λ (e : PoolEvent). e.event) (map pool_event timed) ≡ map (λ (t : Timed). event_of t.event) timed
+pub events_of_pool : (timed : List StampedEvent) → map (λ (e : StampedPoolEvent). e.event) (map pool_event timed) ≡ map (λ (t : StampedEvent). event_of t.event) timed
 events_of_pool [] = refl
-events_of_pool (t ∷ timed) = ap (λ (l : List Event). event_of t.event ∷ l) (events_of_pool timed)
+events_of_pool (t ∷ timed) = ap (λ (l : List PoolEvent). event_of t.event ∷ l) (events_of_pool timed)

@@ -21,11 +21,11 @@ use Rattle.hs_law_sends.specs.Timing.{TimedPage}
 use Rattle.hs_words.specs.PoolHistory as events
 use Rattle.hs_law_journal.specs.Following.{NodeRun, log_at}
 use Rattle.hs_law_journal.specs.Gives.{given_stamp}
-use Rattle.hs_law_journal.specs.Pooled.{PoolEvent, drawn_event, node_pages, page_of, given_page, given_buffer, given_event, buffer_of, missed_event, pool_events}
+use Rattle.hs_law_journal.specs.Pooled.{StampedPoolEvent, drawn_event, node_pages, page_of, given_page, given_buffer, given_event, buffer_of, missed_event, pool_events}
 use Rattle.hs_check_clauses.specs.declared.found.FoundClient.{FoundClient}
 use Rattle.hs_check_clauses.specs.declared.found.FoundNode.{FoundNode}
 use Rattle.hs_check_clauses.specs.declared.found.FoundPage.{FoundPage}
-use Rattle.hs_check_clauses.specs.declared.happened.Timed.{Timed}
+use Rattle.hs_check_clauses.specs.declared.happened.StampedEvent.{StampedEvent}
 use Rattle.hs_check_clauses.specs.Finding.{AreFound, IsFoundClient, named, given_name, starts_of}
 use Rattle.hs_check_clauses.specs.Happening.{pool_event, timed_draw, timed_miss, timed_give, timed_gives, node_timed, draw_at, drawn_from}
 use Rattle.hs_check_clauses.proofs.Knowing.{KnownAt}
@@ -100,7 +100,7 @@ module _ (run : NodeRun) where
       ap (option_map (λ buffer. record { stamp = given.stamp; event = events.Given buffer })) (named_buffer (slice_get run.state.taken given.place) page e)
       ∙ sym (give_is given.stamp (draw_at (drawn_lists run.sends) page))
 
-  listed : (o : Option Timed) (rest : List Timed) → map pool_event (option_to_list o ++ rest) ≡ cons_option (option_map pool_event o) (map pool_event rest)
+  listed : (o : Option StampedEvent) (rest : List StampedEvent) → map pool_event (option_to_list o ++ rest) ≡ cons_option (option_map pool_event o) (map pool_event rest)
   listed (Some x) rest = refl
   listed None rest = refl
 
@@ -118,7 +118,7 @@ module _ (run : NodeRun) where
       listed (timed_give stamp (draw_at (drawn_lists run.sends) page)) (timed_gives (drawn_lists run.sends) log pages)
       ∙ ap (cons_option (option_map pool_event (timed_give stamp (draw_at (drawn_lists run.sends) page)))) (gives_are log given pages rest others)
       ∙ ap (λ (s : ℕ). cons_option (option_map pool_event (timed_give s (draw_at (drawn_lists run.sends) page))) (filter_map (given_event run) given)) (sym stamps)
-      ∙ ap (λ (o : Option PoolEvent). cons_option o (filter_map (given_event run) given)) (sym (given_same g page name))
+      ∙ ap (λ (o : Option StampedPoolEvent). cons_option o (filter_map (given_event run) given)) (sym (given_same g page name))
   gives_are (steps.Chunk c ∷ log) (g ∷ given) pages noted names = gives_are log (g ∷ given) pages noted names
   gives_are (steps.Chunk c ∷ log) [] pages noted names = gives_are log [] pages noted names
   gives_are (steps.Crumb c ∷ log) (g ∷ given) pages noted names = gives_are log (g ∷ given) pages noted names
@@ -144,18 +144,18 @@ module _ (run : NodeRun) where
   drawn_are [] = refl
   drawn_are (s ∷ sends) =
       map-append pool_event (map timed_draw (map (λ (d : DrawnPage). d.draw) s.drawn)) (flat_map (map timed_draw) (drawn_lists sends))
-      ∙ ap (λ (l : List PoolEvent). l ++ map pool_event (flat_map (map timed_draw) (drawn_lists sends))) (mapped s.drawn drawn_is)
-      ∙ ap (λ (l : List PoolEvent). map drawn_event s.drawn ++ l) (drawn_are sends)
+      ∙ ap (λ (l : List StampedPoolEvent). l ++ map pool_event (flat_map (map timed_draw) (drawn_lists sends))) (mapped s.drawn drawn_is)
+      ∙ ap (λ (l : List StampedPoolEvent). map drawn_event s.drawn ++ l) (drawn_are sends)
       ∙ sym (map-append drawn_event s.drawn (flat_map (λ (s : ClientSends). s.drawn) sends))
     where
       mapped : (pages : List DrawnPage) → ((draw : Draw) → pool_event (timed_draw draw) ≡ record { stamp = stamp_of draw; event = event_drawn draw })
           → map pool_event (map timed_draw (map (λ (d : DrawnPage). d.draw) pages)) ≡ map drawn_event pages
       mapped [] is = refl
-      mapped (d ∷ pages) is = ap (λ (e : PoolEvent). e ∷ map pool_event (map timed_draw (map (λ (d : DrawnPage). d.draw) pages))) (is d.draw) ∙ ap (λ (l : List PoolEvent). drawn_event d ∷ l) (mapped pages is)
+      mapped (d ∷ pages) is = ap (λ (e : StampedPoolEvent). e ∷ map pool_event (map timed_draw (map (λ (d : DrawnPage). d.draw) pages))) (is d.draw) ∙ ap (λ (l : List StampedPoolEvent). drawn_event d ∷ l) (mapped pages is)
 
   missed_are : (log : List Step) → map pool_event (filter_map timed_miss log) ≡ filter_map missed_event log
   missed_are [] = refl
-  missed_are (steps.Missed s ∷ log) = ap (λ (l : List PoolEvent). record { stamp = s; event = events.Missed } ∷ l) (missed_are log)
+  missed_are (steps.Missed s ∷ log) = ap (λ (l : List StampedPoolEvent). record { stamp = s; event = events.Missed } ∷ l) (missed_are log)
   missed_are (steps.Chunk c ∷ log) = missed_are log
   missed_are (steps.Crumb c ∷ log) = missed_are log
   missed_are (steps.Trigger c ∷ log) = missed_are log
@@ -182,7 +182,7 @@ events_are W J i f k noted =
     ap (λ (l : List (List Draw)). map pool_event (node_timed l (log_at J i) f.gives.items)) (lists_are W J i f k)
     ∙ sym (ap (λ (l : List Step). map pool_event (node_timed lists l f.gives.items)) k.log)
     ∙ map-append pool_event (flat_map (map timed_draw) lists ++ timed_gives lists log f.gives.items) (filter_map timed_miss log)
-    ∙ ap (λ (l : List PoolEvent). l ++ map pool_event (filter_map timed_miss log)) (map-append pool_event (flat_map (map timed_draw) lists) (timed_gives lists log f.gives.items))
-    ∙ ap (λ (l : List PoolEvent). map pool_event (flat_map (map timed_draw) lists) ++ map pool_event (timed_gives lists log f.gives.items) ++ l) (missed_are run log)
-    ∙ ap (λ (l : List PoolEvent). map pool_event (flat_map (map timed_draw) lists) ++ l ++ filter_map missed_event log) (gives_are run log run.state.given f.gives.items noted k.is.gives)
-    ∙ ap (λ (l : List PoolEvent). l ++ filter_map (given_event run) run.state.given ++ filter_map missed_event log) (drawn_are run run.sends)
+    ∙ ap (λ (l : List StampedPoolEvent). l ++ map pool_event (filter_map timed_miss log)) (map-append pool_event (flat_map (map timed_draw) lists) (timed_gives lists log f.gives.items))
+    ∙ ap (λ (l : List StampedPoolEvent). map pool_event (flat_map (map timed_draw) lists) ++ map pool_event (timed_gives lists log f.gives.items) ++ l) (missed_are run log)
+    ∙ ap (λ (l : List StampedPoolEvent). map pool_event (flat_map (map timed_draw) lists) ++ l ++ filter_map missed_event log) (gives_are run log run.state.given f.gives.items noted k.is.gives)
+    ∙ ap (λ (l : List StampedPoolEvent). l ++ filter_map (given_event run) run.state.given ++ filter_map missed_event log) (drawn_are run run.sends)

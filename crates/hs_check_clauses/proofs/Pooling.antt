@@ -9,9 +9,9 @@ use Rattle.hs_records.specs.Plain.{PlainWorkload}
 use Rattle.hs_law_journal.specs.Following.{NodeRun, log_at, run_start, followed}
 use Rattle.hs_law_journal.specs.Gives.{given_stamp, GivesAsNoted, GivesAreNoted}
 use Rattle.hs_law_journal.specs.Orders.{FollowingPlaysOut}
-use Rattle.hs_law_journal.specs.Pooled.{PoolEvent, by_stamp, is_history, pool_history, pool_events}
+use Rattle.hs_law_journal.specs.Pooled.{StampedPoolEvent, by_stamp, is_history, pool_history, pool_events}
 use Rattle.hs_check_clauses.specs.declared.found.FoundNode.{FoundNode}
-use Rattle.hs_check_clauses.specs.declared.happened.Timed.{Timed}
+use Rattle.hs_check_clauses.specs.declared.happened.StampedEvent.{StampedEvent}
 use Rattle.hs_check_clauses.specs.Happening.{pool_event, drawn_from, node_timed}
 use Rattle.hs_check_clauses.proofs.Knowing.{KnownAt}
 use Rattle.hs_check_clauses.proofs.NodeEvents.{events_are}
@@ -21,13 +21,13 @@ module _ (W : PlainWorkload) (J : PlainJournal) (gives : GivesAreNoted) (plays :
   noted = all_at GivesAsNoted (followed W J).nodes i k.run (gives W J (followed W J) (plays W J).leads) k.at
 
   -- what was told are the events of the pool
-  pub told_events : (timed : List Timed) → timed ≡ node_timed (drawn_from J (i * W.settings.clients) f.clients.items) (log_at J i) f.gives.items → map pool_event timed ≡ pool_events k.run
+  pub told_events : (timed : List StampedEvent) → timed ≡ node_timed (drawn_from J (i * W.settings.clients) f.clients.items) (log_at J i) f.gives.items → map pool_event timed ≡ pool_events k.run
   told_events timed told = ap (map pool_event) told ∙ events_are W J i f k noted
 
-  pub history_told : (timed : List Timed) → timed ≡ node_timed (drawn_from J (i * W.settings.clients) f.clients.items) (log_at J i) f.gives.items
-      → (result : Bool) → result ≡ is_history W.settings.buffers (map (λ (e : PoolEvent). e.event) (by_stamp (λ (e : PoolEvent). e.stamp) (length timed) (map pool_event timed)))
+  pub history_told : (timed : List StampedEvent) → timed ≡ node_timed (drawn_from J (i * W.settings.clients) f.clients.items) (log_at J i) f.gives.items
+      → (result : Bool) → result ≡ is_history W.settings.buffers (map (λ (e : StampedPoolEvent). e.event) (by_stamp (λ (e : StampedPoolEvent). e.stamp) (length timed) (map pool_event timed)))
       → result ≡ is_history W.settings.buffers (pool_history k.run)
   history_told timed told result answer =
       answer
-      ∙ sym (ap (λ n. is_history W.settings.buffers (map (λ (e : PoolEvent). e.event) (by_stamp (λ (e : PoolEvent). e.stamp) n (map pool_event timed)))) (length-map timed pool_event))
-      ∙ ap (λ (l : List PoolEvent). is_history W.settings.buffers (map (λ (e : PoolEvent). e.event) (by_stamp (λ (e : PoolEvent). e.stamp) (length l) l))) (told_events timed told)
+      ∙ sym (ap (λ n. is_history W.settings.buffers (map (λ (e : StampedPoolEvent). e.event) (by_stamp (λ (e : StampedPoolEvent). e.stamp) n (map pool_event timed)))) (length-map timed pool_event))
+      ∙ ap (λ (l : List StampedPoolEvent). is_history W.settings.buffers (map (λ (e : StampedPoolEvent). e.event) (by_stamp (λ (e : StampedPoolEvent). e.stamp) (length l) l))) (told_events timed told)

@@ -10,9 +10,9 @@ use Rattle.std.proofs.lemmas.List.Sums.{count_by-le-length}
 use Rattle.hs_lists.proofs.Counts.{one_if, count_cons}
 use Rattle.hs_lists.proofs.Ranges.{range_append}
 use Rattle.hs_lists.proofs.Alls.{all_append}
-use Rattle.hs_words.specs.PoolHistory.{Event, Got, Empty, Given, Missed, is_got, is_given, is_empty, is_missed, queue_after}
+use Rattle.hs_words.specs.PoolHistory.{PoolEvent, Got, Empty, Given, Missed, is_got, is_given, is_empty, is_missed, queue_after}
 use Rattle.hs_law_journal.specs.Pooled.{may_follow}
-use Rattle.hs_check_clauses.specs.Replaying.{Stands}
+use Rattle.hs_check_clauses.specs.Replaying.{ReplayStands}
 
 low_at : (n : ℕ) (xs : List ℕ) (i : ℕ) → AllByRecursion (λ b. b < n) xs → i < length xs → get_or xs i 0 < n
 low_at n [] i all less = absurd (omega arith)
@@ -26,7 +26,7 @@ range_low n a (suc m) few = (omega arith, range_low n (a + 1) m (omega arith))
 first_counts : (n buffer : ℕ) → buffer < n → get_or (replicate n 0) buffer 0 + count_by (is_given buffer) [] ≡ count_by (is_got buffer) []
 first_counts n buffer low = let e : get_or {A = ℕ} (replicate n 0) buffer 0 ≡ zero = get_or-replicate n buffer 0 0 low in omega (arith, e)
 
-pub stands_first : (n : ℕ) → Stands n [] (range_with_len 0 n) 0 (replicate n 0) 0
+pub stands_first : (n : ℕ) → ReplayStands n [] (range_with_len 0 n) 0 (replicate n 0) 0
 stands_first n =
     record {
       queue = refl;
@@ -38,7 +38,7 @@ stands_first n =
       missing = refl;
     }
 
-module _ (n : ℕ) (earlier : List Event) (waiting : List ℕ) (gone : ℕ) (out : List ℕ) (owed : ℕ) (stands : Stands n earlier waiting gone out owed) where
+module _ (n : ℕ) (earlier : List PoolEvent) (waiting : List ℕ) (gone : ℕ) (out : List ℕ) (owed : ℕ) (stands : ReplayStands n earlier waiting gone out owed) where
   nothing : gone ≡ length waiting → queue_after n earlier ≡ []
   nothing all = sym stands.queue ∙ drop_all gone waiting (omega arith)
 
@@ -63,7 +63,7 @@ module _ (n : ℕ) (earlier : List Event) (waiting : List ℕ) (gone : ℕ) (out
   pub got_is : (buffer : ℕ) → gone < length waiting → eqb (get_or waiting gone 0) buffer ≡ may_follow n earlier (Got buffer)
   got_is buffer less = sym (ap (λ (q : List ℕ). option_map_or (λ first. eqb first buffer) (slice_get q 0) false) (front less))
 
-  pub got : (buffer : ℕ) → gone < length waiting → get_or waiting gone 0 ≡ buffer → Stands n (Got buffer ∷ earlier) waiting (gone + 1) (set out buffer (get_or out buffer 0 + 1)) owed
+  pub got : (buffer : ℕ) → gone < length waiting → get_or waiting gone 0 ≡ buffer → ReplayStands n (Got buffer ∷ earlier) waiting (gone + 1) (set out buffer (get_or out buffer 0 + 1)) owed
   got buffer less is =
       let first = front_low less in
       record {
@@ -103,7 +103,7 @@ module _ (n : ℕ) (earlier : List Event) (waiting : List ℕ) (gone : ℕ) (out
   pub found_none : gone ≡ length waiting → true ≡ may_follow n earlier Empty
   found_none all = sym (ap (λ (q : List ℕ). eqb (length q) 0) (nothing all))
 
-  pub empty : gone ≡ length waiting → Stands n (Empty ∷ earlier) waiting gone out (owed + 1)
+  pub empty : gone ≡ length waiting → ReplayStands n (Empty ∷ earlier) waiting gone out (owed + 1)
   empty all =
       record {
         queue = stands.queue;
@@ -126,7 +126,7 @@ module _ (n : ℕ) (earlier : List Event) (waiting : List ℕ) (gone : ℕ) (out
   pub may_give : (buffer : ℕ) → buffer < n → (get_or out buffer 0 ≡ 0 → ⊥) → true ≡ may_follow n earlier (Given buffer)
   may_give buffer low some = let e = stands.counts buffer low in sym (lt-ltb (count_by (is_given buffer) earlier) (count_by (is_got buffer) earlier) (omega (arith, e, some)))
 
-  pub given : (buffer : ℕ) → buffer < n → (get_or out buffer 0 ≡ 0 → ⊥) → Stands n (Given buffer ∷ earlier) (waiting ++ buffer ∷ []) gone (set out buffer (get_or out buffer 0 - 1)) owed
+  pub given : (buffer : ℕ) → buffer < n → (get_or out buffer 0 ≡ 0 → ⊥) → ReplayStands n (Given buffer ∷ earlier) (waiting ++ buffer ∷ []) gone (set out buffer (get_or out buffer 0 - 1)) owed
   given buffer within some =
       record {
         queue = drop-append-le gone waiting (buffer ∷ []) stands.behind ∙ ap (λ (q : List ℕ). q ++ buffer ∷ []) stands.queue;
@@ -166,7 +166,7 @@ module _ (n : ℕ) (earlier : List Event) (waiting : List ℕ) (gone : ℕ) (out
   may_miss all some =
       sym (and_from (eqb (length (queue_after n earlier)) 0) (ltb (count_by is_missed earlier) (count_by is_empty earlier)) (sym (found_none all)) (lt-ltb (count_by is_missed earlier) (count_by is_empty earlier) (omega (arith, stands.missing, some))))
 
-  pub missed : gone ≡ length waiting → (owed ≡ 0 → ⊥) → Stands n (Missed ∷ earlier) waiting gone out (owed - 1)
+  pub missed : gone ≡ length waiting → (owed ≡ 0 → ⊥) → ReplayStands n (Missed ∷ earlier) waiting gone out (owed - 1)
   missed all some =
       record {
         queue = stands.queue;

@@ -7,22 +7,22 @@ use Rattle.hs_journal.specs.declared.journal.Draw.{Draw}
 use Rattle.hs_journal.specs.declared.journal.Draw.TheVariants as draws
 use Rattle.hs_law_journal.specs.Pooled.{has_buffer}
 use Rattle.hs_check_clauses.specs.declared.answers.Latest.{Latest}
-use Rattle.hs_check_clauses.specs.declared.happened.Happening.{Happening}
-use Rattle.hs_check_clauses.specs.declared.happened.Happening.TheVariants as happenings
-use Rattle.hs_check_clauses.specs.declared.happened.Timed.{Timed}
+use Rattle.hs_check_clauses.specs.declared.happened.NotedEvent.{NotedEvent}
+use Rattle.hs_check_clauses.specs.declared.happened.NotedEvent.TheVariants as happenings
+use Rattle.hs_check_clauses.specs.declared.happened.StampedEvent.{StampedEvent}
 use Rattle.hs_check_clauses.specs.Happening.{event_of}
 
 -- the stamp of the last of these events that is one of the buffer; the last event stands first
-abbrev pub last_at : ℕ → List Timed → Option ℕ
+abbrev pub last_at : ℕ → List StampedEvent → Option ℕ
 last_at buffer [] = None
 last_at buffer (timed ∷ before) = if has_buffer buffer (event_of timed.event) then Some timed.stamp else last_at buffer before
 
 -- whether an event is no give, or one that answers its draw
-abbrev pub answers_last : List Timed → Happening → Bool
+abbrev pub answers_last : List StampedEvent → NotedEvent → Bool
 answers_last before (happenings.Given buffer drawn) = option_map_or (λ stamp. stamp == drawn) (last_at buffer before) false
 answers_last before _ = true
 
-abbrev pub answers_through : List Timed → List Timed → Bool
+abbrev pub answers_through : List StampedEvent → List StampedEvent → Bool
 answers_through before [] = true
 answers_through before (timed ∷ later) = answers_last before timed.event && answers_through (timed ∷ before) later
 
@@ -32,10 +32,10 @@ is_got (Some (draws.Got buffer stamp)) = true
 is_got _ = false
 
 -- of each buffer its last event is known
-abbrev pub IsLatest : List Timed → Latest → Type 0
+abbrev pub IsLatest : List StampedEvent → Latest → Type 0
 IsLatest before latest = (buffer : ℕ) → get nat_eq latest.stamps buffer ≡ last_at buffer before
 
-abbrev at : ℕ → Happening → Timed
+abbrev at : ℕ → NotedEvent → StampedEvent
 at stamp event = record { stamp = stamp; event = event }
 
 -- the second draw of buffer 0 comes between its first and the give

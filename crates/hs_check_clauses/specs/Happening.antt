@@ -7,32 +7,32 @@ use Rattle.hs_journal.specs.declared.journal.Draw.TheVariants as draws
 use Rattle.hs_journal.specs.declared.journal.Step.{Step}
 use Rattle.hs_journal.specs.declared.journal.Step.TheVariants as steps
 use Rattle.hs_journal.specs.Views.{PlainJournal}
-use Rattle.hs_law_journal.specs.Pooled.{PoolEvent, may_follow}
+use Rattle.hs_law_journal.specs.Pooled.{StampedPoolEvent, may_follow}
 use Rattle.hs_law_sends.specs.Sending.{draws_at}
-use Rattle.hs_words.specs.PoolHistory.{Event}
+use Rattle.hs_words.specs.PoolHistory.{PoolEvent}
 use Rattle.hs_words.specs.PoolHistory as events
 use Rattle.hs_check_clauses.specs.declared.found.FoundClient.{FoundClient}
 use Rattle.hs_check_clauses.specs.declared.found.FoundPage.{FoundPage}
-use Rattle.hs_check_clauses.specs.declared.happened.Happening.{Happening}
-use Rattle.hs_check_clauses.specs.declared.happened.Happening.TheVariants as happenings
-use Rattle.hs_check_clauses.specs.declared.happened.Timed.{Timed}
+use Rattle.hs_check_clauses.specs.declared.happened.NotedEvent.{NotedEvent}
+use Rattle.hs_check_clauses.specs.declared.happened.NotedEvent.TheVariants as happenings
+use Rattle.hs_check_clauses.specs.declared.happened.StampedEvent.{StampedEvent}
 
-abbrev pub event_of : Happening → Event
+abbrev pub event_of : NotedEvent → PoolEvent
 event_of (happenings.Got buffer) = events.Got buffer
 event_of happenings.Empty = events.Empty
 event_of (happenings.Given buffer drawn) = events.Given buffer
 event_of happenings.Missed = events.Missed
 
-abbrev pub pool_event : Timed → PoolEvent
+abbrev pub pool_event : StampedEvent → StampedPoolEvent
 pool_event timed = record { stamp = timed.stamp; event = event_of timed.event }
 
 -- a draw as an event
-abbrev pub timed_draw : Draw → Timed
+abbrev pub timed_draw : Draw → StampedEvent
 timed_draw (draws.Got buffer stamp) = record { stamp = stamp; event = happenings.Got buffer }
 timed_draw (draws.Empty stamp) = record { stamp = stamp; event = happenings.Empty }
 
 -- a miss
-abbrev pub timed_miss : Step → Option Timed
+abbrev pub timed_miss : Step → Option StampedEvent
 timed_miss (steps.Missed stamp) = Some (record { stamp = stamp; event = happenings.Missed })
 timed_miss _ = None
 
@@ -46,30 +46,30 @@ drawn_from J place [] = []
 drawn_from J place (client ∷ clients) = take (length client.started.items) (draws_at J place) ∷ drawn_from J (place + 1) clients
 
 -- a give of the buffer of a page that had this draw
-abbrev pub timed_give : ℕ → Option Draw → Option Timed
+abbrev pub timed_give : ℕ → Option Draw → Option StampedEvent
 timed_give stamp (Some (draws.Got buffer drawn)) = Some (record { stamp = stamp; event = happenings.Given buffer drawn })
 timed_give stamp _ = None
 
 -- the gives of a log, whose buffers these pages were in
-abbrev pub timed_gives : List (List Draw) → List Step → List FoundPage → List Timed
+abbrev pub timed_gives : List (List Draw) → List Step → List FoundPage → List StampedEvent
 timed_gives clients [] pages = []
 timed_gives clients (steps.Given stamp ∷ log) [] = []
 timed_gives clients (steps.Given stamp ∷ log) (page ∷ pages) = option_to_list (timed_give stamp (draw_at clients page)) ++ timed_gives clients log pages
 timed_gives clients (step ∷ log) pages = timed_gives clients log pages
 
 -- all events of a node's pool
-abbrev pub node_timed : List (List Draw) → List Step → List FoundPage → List Timed
+abbrev pub node_timed : List (List Draw) → List Step → List FoundPage → List StampedEvent
 node_timed clients log pages = flat_map (map timed_draw) clients ++ timed_gives clients log pages ++ filter_map timed_miss log
 
 -- ---- below a bound
 
 -- the events with a stamp below a bound
-abbrev pub events_below : ℕ → List Timed → List Event
-events_below bound timed = map (λ (t : Timed). event_of t.event) (filter (λ (t : Timed). nat_lt t.stamp bound) timed)
+abbrev pub events_below : ℕ → List StampedEvent → List PoolEvent
+events_below bound timed = map (λ (t : StampedEvent). event_of t.event) (filter (λ (t : StampedEvent). nat_lt t.stamp bound) timed)
 
 -- whether an event may come, if its stamp is below the bound, and the events with it
-abbrev pub may_come : (n bound : ℕ) → List Event → Timed → Bool
+abbrev pub may_come : (n bound : ℕ) → List PoolEvent → StampedEvent → Bool
 may_come n bound earlier timed = if nat_lt timed.stamp bound then may_follow n earlier (event_of timed.event) else true
 
-abbrev pub earlier_with : ℕ → Timed → List Event → List Event
+abbrev pub earlier_with : ℕ → StampedEvent → List PoolEvent → List PoolEvent
 earlier_with bound timed earlier = if nat_lt timed.stamp bound then event_of timed.event ∷ earlier else earlier

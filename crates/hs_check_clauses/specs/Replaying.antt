@@ -2,12 +2,12 @@
 -- the draws that found nothing it knows what a later event asks about.
 use Rattle.std.specs.Prelude.{◌≡◌, ℕ, ◌+◌, ◌<◌, ◌≤◌, ◌^◌, List, length, drop, slice_index, count_by}
 use Rattle.std.specs.List.{AllByRecursion}
-use Rattle.hs_words.specs.PoolHistory.{Event, is_got, is_given, is_empty, is_missed, queue_after}
+use Rattle.hs_words.specs.PoolHistory.{PoolEvent, is_got, is_given, is_empty, is_missed, queue_after}
 use Rattle.hs_check_clauses.specs.declared.replay.Replay.{Replay}
 
 -- these buffers waited at some time, of which so many are gone; so often more each buffer was got than given, and so many more draws
 -- found nothing than gives missed
-pub record Stands (n : ℕ) (earlier : List Event) (waiting : List ℕ) (gone : ℕ) (out : List ℕ) (owed : ℕ) : Type 0 where
+pub record ReplayStands (n : ℕ) (earlier : List PoolEvent) (waiting : List ℕ) (gone : ℕ) (out : List ℕ) (owed : ℕ) : Type 0 where
   pub queue : drop gone waiting ≡ queue_after n earlier
   pub behind : gone ≤ length waiting
   -- only buffers of the pool ever wait
@@ -17,9 +17,9 @@ pub record Stands (n : ℕ) (earlier : List Event) (waiting : List ℕ) (gone : 
   pub never : (buffer : ℕ) → n ≤ buffer → count_by (is_got buffer) earlier ≡ 0
   pub missing : owed + count_by is_missed earlier ≡ count_by is_empty earlier
 
-abbrev pub IsReplayed : ℕ → List Event → Replay → Type 0
-IsReplayed n earlier replay = Stands n earlier replay.waiting.items replay.gone replay.out.items replay.owed
+abbrev pub IsReplayed : ℕ → List PoolEvent → Replay → Type 0
+IsReplayed n earlier replay = ReplayStands n earlier replay.waiting.items replay.gone replay.out.items replay.owed
 
 -- it stands behind some events, to which one can be added
 abbrev pub IsReplaying : Replay → Type 0
-IsReplaying replay = (n : ℕ) × (earlier : List Event) × IsReplayed n earlier replay × (length earlier + 1 < 2 ^ 64)
+IsReplaying replay = (n : ℕ) × (earlier : List PoolEvent) × IsReplayed n earlier replay × (length earlier + 1 < 2 ^ 64)

@@ -13,19 +13,17 @@ ghost use Rattle.hs_law_journal.specs.Pooled.{has_answers};
 ghost use Rattle.hs_law_journal.specs.Shape.{has_stamps};
 ghost use Rattle.hs_workload.specs.Validity.{IsValid};
 ghost use Rattle.hs_workload.specs.Views.{workload_of};
-ghost use Rattle.hs_check_clauses.specs.declared.happened.Timed.{Timed};
+ghost use Rattle.hs_check_clauses.specs.declared.happened.StampedEvent.{StampedEvent};
 ghost use Rattle.hs_check_clauses.specs.Answering.{answers_last, answers_through, is_got, IsLatest};
 ghost use Rattle.hs_check_clauses.specs.Finding.{IsFound};
 ghost use Rattle.hs_check_clauses.specs.Happening.{draw_at, drawn_from, node_timed};
 
 use crate::found::{Found, FoundNode};
-use crate::happened::{Happening, Timed, draw_of, events_of};
+use crate::happened::{NotedEvent, StampedEvent, draw_of, events_of};
 use crate::ordered::put_in_order;
 use hs_base::Memory;
 use hs_journal::{Draw, Journal};
-use hs_law_journal::laws::following_plays_out;
-use hs_law_journal::laws::gives_are_noted;
-use hs_law_journal::laws::runs_are_of_the_journal;
+use hs_law_journal::laws::{following_plays_out, gives_are_noted, runs_are_of_the_journal};
 use hs_workload::Workload;
 use std::alloc::Global;
 use std::collections::HashMap;
@@ -67,9 +65,9 @@ fn node_answers(
     found: &FoundNode,
 ) -> Result<bool, Memory>
     requires { length found.now.clients.items ≤ MAX_CLIENTS }
-    ensures { IfOk result (λ yes. (sorted : List Timed)
+    ensures { IfOk result (λ yes. (sorted : List StampedEvent)
         × IsPermutation (node_timed (drawn_from (journal_of journal.now) (node * each) found.now.clients.items) (log_at (journal_of journal.now) node) found.now.gives.items) sorted
-        × IsNonDecreasingBy (λ (t : Timed). t.stamp) sorted
+        × IsNonDecreasingBy (λ (t : StampedEvent). t.stamp) sorted
         × (yes ≡ (list_all (λ page. is_got (draw_at (drawn_from (journal_of journal.now) (node * each) found.now.clients.items) page)) found.now.gives.items
         && answers_through [] sorted))) }
 {
@@ -106,7 +104,7 @@ fn is_got(draw: Option<Draw>) -> bool
 }
 
 /// Whether of these events, one after another, each give answers its draw.
-fn answer_in_order(alloc: Global, events: &[Timed]) -> Result<bool, Memory>
+fn answer_in_order(alloc: Global, events: &[StampedEvent]) -> Result<bool, Memory>
     ensures { IfOk result (λ yes. yes ≡ answers_through [] events.now) }
 {
     let mut latest = Latest {
@@ -128,15 +126,15 @@ pub(crate) struct Latest {
 
 impl Latest {
     /// Notes the next event, unless it is a give that does not answer its draw.
-    fn note(&mut self, timed: Timed) -> Result<bool, Memory>
-        ensures { (before : List Timed) → IsLatest before self.old
+    fn note(&mut self, timed: StampedEvent) -> Result<bool, Memory>
+        ensures { (before : List StampedEvent) → IsLatest before self.old
             → IfOk result (λ yes. (yes ≡ answers_last before timed.event) × OnTrue yes (IsLatest (timed ∷ before) self.new)) }
     {
         match timed.event {
-            Happening::Got { buffer } => {
+            NotedEvent::Got { buffer } => {
                 self.stamps.insert(buffer, timed.stamp)?;
             }
-            Happening::Given { buffer, drawn } => {
+            NotedEvent::Given { buffer, drawn } => {
                 if self.stamps.get(&buffer).copied() != Some(drawn) {
                     return Ok(false);
                 }

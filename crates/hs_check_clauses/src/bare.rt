@@ -19,8 +19,7 @@ use crate::found::{Found, FoundClient, FoundNode};
 use crate::sources::Source;
 use hs_base::{NodeId, NodeSet};
 use hs_journal::{Journal, Step};
-use hs_law_journal::laws::following_plays_out;
-use hs_law_journal::laws::runs_are_of_the_journal;
+use hs_law_journal::laws::{following_plays_out, runs_are_of_the_journal};
 use hs_workload::Workload;
 
 /// Whether all that was sent, asked and said was taken, and nothing is pinned.

@@ -17,7 +17,7 @@ use std::alloc::Global;
 
 /// An event of a pool. A buffer is named by its number.
 #[derive(Clone, Copy)]
-pub enum Happening {
+pub enum NotedEvent {
     Got { buffer: u32 },
     Empty,
     /// The draw that had got the buffer had the stamp `drawn`.
@@ -27,29 +27,29 @@ pub enum Happening {
 
 /// An event with its stamp.
 #[derive(Clone, Copy)]
-pub struct Timed {
+pub struct StampedEvent {
     pub stamp: u64,
-    pub event: Happening,
+    pub event: NotedEvent,
 }
 
 /// A draw as an event.
-fn drawn(draw: Draw) -> Timed
+fn drawn(draw: Draw) -> StampedEvent
     ensures { result ≡ timed_draw draw }
 {
     match draw {
-        Draw::Got { buffer, stamp } => Timed {
+        Draw::Got { buffer, stamp } => StampedEvent {
             stamp,
-            event: Happening::Got { buffer },
+            event: NotedEvent::Got { buffer },
         },
-        Draw::Empty { stamp } => Timed {
+        Draw::Empty { stamp } => StampedEvent {
             stamp,
-            event: Happening::Empty,
+            event: NotedEvent::Empty,
         },
     }
 }
 
 /// Appends the events of the draws.
-fn push_drawn(events: &mut Vec<Timed>, draws: &[Draw]) -> Result<(), Memory>
+fn push_drawn(events: &mut Vec<StampedEvent>, draws: &[Draw]) -> Result<(), Memory>
     ensures { OnOk result (events.new.items ≡ events.old.items ++ map timed_draw draws.now) }
 {
     for draw in draws {
@@ -59,14 +59,14 @@ fn push_drawn(events: &mut Vec<Timed>, draws: &[Draw]) -> Result<(), Memory>
 }
 
 /// Appends the events of the misses among these steps.
-fn push_missed(events: &mut Vec<Timed>, log: &[Step]) -> Result<(), Memory>
+fn push_missed(events: &mut Vec<StampedEvent>, log: &[Step]) -> Result<(), Memory>
     ensures { OnOk result (events.new.items ≡ events.old.items ++ filter_map timed_miss log.now) }
 {
     for step in log {
         if let Step::Missed { stamp } = *step {
-            events.push(Timed {
+            events.push(StampedEvent {
                 stamp,
-                event: Happening::Missed,
+                event: NotedEvent::Missed,
             })?;
         }
     }
@@ -111,7 +111,7 @@ pub(crate) fn draw_of(
 }
 
 /// Appends the event of a give of the buffer that a page was in, which had this draw.
-fn push_give(events: &mut Vec<Timed>, stamp: u64, draw: Option<Draw>) -> Result<(), Memory>
+fn push_give(events: &mut Vec<StampedEvent>, stamp: u64, draw: Option<Draw>) -> Result<(), Memory>
     ensures { OnOk result (events.new.items ≡ events.old.items ++ option_to_list (timed_give stamp draw)) }
 {
     if let Some(
@@ -121,9 +121,9 @@ fn push_give(events: &mut Vec<Timed>, stamp: u64, draw: Option<Draw>) -> Result<
         },
     ) = draw
     {
-        events.push(Timed {
+        events.push(StampedEvent {
             stamp,
-            event: Happening::Given { buffer, drawn },
+            event: NotedEvent::Given { buffer, drawn },
         })?;
     }
     Ok(())
@@ -131,7 +131,7 @@ fn push_give(events: &mut Vec<Timed>, stamp: u64, draw: Option<Draw>) -> Result<
 
 /// Appends the events of the gives among these steps, each of which gives the buffer that the next of these pages was in.
 fn push_given(
-    events: &mut Vec<Timed>,
+    events: &mut Vec<StampedEvent>,
     journal: &Journal,
     each: u16,
     node: u16,
@@ -162,7 +162,7 @@ fn push_given(
 
 /// Appends the events of all draws of a node.
 fn push_all_drawn(
-    events: &mut Vec<Timed>,
+    events: &mut Vec<StampedEvent>,
     journal: &Journal,
     each: u16,
     node: u16,
@@ -188,7 +188,7 @@ pub fn events_of(
     each: u16,
     node: u16,
     found: &FoundNode,
-) -> Result<Vec<Timed>, Memory>
+) -> Result<Vec<StampedEvent>, Memory>
     requires { length found.now.clients.items ≤ MAX_CLIENTS }
     ensures { IfOk result (λ events. events.items
         ≡ node_timed (drawn_from (journal_of journal.now) (node * each) found.now.clients.items) (log_at (journal_of journal.now) node) found.now.gives.items) }

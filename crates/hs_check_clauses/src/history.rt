@@ -5,21 +5,19 @@ ghost use Rattle.hs_journal.specs.Views.{journal_of};
 ghost use Rattle.hs_law_journal.specs.Ends.{is_followed};
 ghost use Rattle.hs_law_journal.specs.Following.{followed};
 ghost use Rattle.hs_law_journal.specs.Played.{played};
-ghost use Rattle.hs_law_journal.specs.Pooled.{PoolEvent, by_stamp, has_history, is_history};
+ghost use Rattle.hs_law_journal.specs.Pooled.{StampedPoolEvent, by_stamp, has_history, is_history};
 ghost use Rattle.hs_workload.specs.Validity.{IsValid};
 ghost use Rattle.hs_workload.specs.Views.{workload_of};
 ghost use Rattle.hs_check_clauses.specs.Finding.{IsFound};
 ghost use Rattle.hs_check_clauses.specs.Happening.{pool_event, events_below};
 
 use crate::found::Found;
-use crate::happened::{Timed, events_of};
+use crate::happened::{StampedEvent, events_of};
 use crate::ordered::put_in_order;
 use crate::replay::Replay;
 use hs_base::Memory;
 use hs_journal::Journal;
-use hs_law_journal::laws::following_plays_out;
-use hs_law_journal::laws::gives_are_noted;
-use hs_law_journal::laws::runs_are_of_the_journal;
+use hs_law_journal::laws::{following_plays_out, gives_are_noted, runs_are_of_the_journal};
 use hs_workload::Workload;
 use std::alloc::Global;
 
@@ -50,9 +48,9 @@ pub fn has_history(
 }
 
 /// Whether these events are a history of a pool with so many buffers, in the order of their stamps.
-fn is_history(alloc: Global, buffers: u32, events: Vec<Timed>) -> Result<bool, Memory>
-    ensures { IfOk result (λ yes. yes ≡ is_history buffers (map (λ (e : PoolEvent). e.event)
-        (by_stamp (λ (e : PoolEvent). e.stamp) (length events.items) (map pool_event events.items)))) }
+fn is_history(alloc: Global, buffers: u32, events: Vec<StampedEvent>) -> Result<bool, Memory>
+    ensures { IfOk result (λ yes. yes ≡ is_history buffers (map (λ (e : StampedPoolEvent). e.event)
+        (by_stamp (λ (e : StampedPoolEvent). e.stamp) (length events.items) (map pool_event events.items)))) }
 {
     let mut events = events;
     put_in_order(&mut events)?;
@@ -62,7 +60,12 @@ fn is_history(alloc: Global, buffers: u32, events: Vec<Timed>) -> Result<bool, M
 }
 
 /// Whether those of these events that have a stamp below a bound may happen one after another at a pool with so many buffers.
-fn may_happen(alloc: Global, buffers: u32, bound: u64, events: &[Timed]) -> Result<bool, Memory>
+fn may_happen(
+    alloc: Global,
+    buffers: u32,
+    bound: u64,
+    events: &[StampedEvent],
+) -> Result<bool, Memory>
     ensures { IfOk result (λ yes. yes ≡ is_history buffers (events_below bound events.now)) }
 {
     let mut replay = Replay::make(alloc, buffers)?;

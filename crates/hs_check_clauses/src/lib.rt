@@ -23,7 +23,7 @@ pub use answers::has_answers;
 pub use bare::is_bare;
 pub use counting::{draws_of, log_of};
 pub use found::{Found, FoundClient, FoundNode, FoundPage};
-pub use happened::{Happening, Timed, drawn_of, events_of};
+pub use happened::{NotedEvent, StampedEvent, drawn_of, events_of};
 pub use history::has_history;
 pub use offers::{has_offers, is_last, is_unread};
 pub use passes::has_passes;

@@ -14,8 +14,7 @@ ghost use Rattle.hs_check_clauses.specs.Offering.{ends_front, ends_through, may_
 use crate::counting::log_of;
 use crate::found::Found;
 use hs_journal::{Journal, Step};
-use hs_law_journal::laws::following_plays_out;
-use hs_law_journal::laws::runs_are_of_the_journal;
+use hs_law_journal::laws::{following_plays_out, runs_are_of_the_journal};
 use hs_workload::Workload;
 
 /// Whether behind each pass the hand is empty or the last offer is unread, and no other offer is.

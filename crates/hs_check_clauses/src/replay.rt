@@ -3,11 +3,11 @@
 ghost use Rattle.std.specs.Prelude.{◌≡◌, ℕ, ◌∷◌, List, [], IfOk};
 ghost use Rattle.std.specs.Bool.{OnTrue};
 ghost use Rattle.hs_law_journal.specs.Pooled.{may_follow};
-ghost use Rattle.hs_words.specs.PoolHistory.{Event, Got, Empty, Given, Missed};
+ghost use Rattle.hs_words.specs.PoolHistory.{PoolEvent, Got, Empty, Given, Missed};
 ghost use Rattle.hs_check_clauses.specs.Happening.{event_of, may_come, earlier_with};
 ghost use Rattle.hs_check_clauses.specs.Replaying.{IsReplayed, IsReplaying};
 
-use crate::happened::{Happening, Timed};
+use crate::happened::{NotedEvent, StampedEvent};
 use hs_base::Memory;
 use std::alloc::Global;
 
@@ -44,7 +44,7 @@ impl Replay {
     /// A draw that got this buffer, if it may come.
     pub(crate) fn get(&mut self, buffer: u32) -> bool
         requires { IsReplaying self.old }
-        ensures { (n : ℕ) (earlier : List Event) → IsReplayed n earlier self.old
+        ensures { (n : ℕ) (earlier : List PoolEvent) → IsReplayed n earlier self.old
             → (result ≡ may_follow n earlier (Got buffer)) × OnTrue result (IsReplayed n (Got buffer ∷ earlier) self.new) }
     {
         if self.gone == self.waiting.len() {
@@ -61,7 +61,7 @@ impl Replay {
     /// A draw that found the queue empty, if it may come.
     pub(crate) fn find_none(&mut self) -> bool
         requires { IsReplaying self.old }
-        ensures { (n : ℕ) (earlier : List Event) → IsReplayed n earlier self.old
+        ensures { (n : ℕ) (earlier : List PoolEvent) → IsReplayed n earlier self.old
             → (result ≡ may_follow n earlier Empty) × OnTrue result (IsReplayed n (Empty ∷ earlier) self.new) }
     {
         if self.gone < self.waiting.len() {
@@ -74,7 +74,7 @@ impl Replay {
     /// A give of this buffer, if it may come.
     pub(crate) fn give(&mut self, buffer: u32) -> Result<bool, Memory>
         requires { IsReplaying self.old }
-        ensures { (n : ℕ) (earlier : List Event) → IsReplayed n earlier self.old
+        ensures { (n : ℕ) (earlier : List PoolEvent) → IsReplayed n earlier self.old
             → IfOk result (λ yes. (yes ≡ may_follow n earlier (Given buffer)) × OnTrue yes (IsReplayed n (Given buffer ∷ earlier) self.new)) }
     {
         let place = buffer as usize;
@@ -92,7 +92,7 @@ impl Replay {
     /// A give that missed, if it may come.
     pub(crate) fn miss(&mut self) -> bool
         requires { IsReplaying self.old }
-        ensures { (n : ℕ) (earlier : List Event) → IsReplayed n earlier self.old
+        ensures { (n : ℕ) (earlier : List PoolEvent) → IsReplayed n earlier self.old
             → (result ≡ may_follow n earlier Missed) × OnTrue result (IsReplayed n (Missed ∷ earlier) self.new) }
     {
         if self.gone < self.waiting.len() {
@@ -106,23 +106,23 @@ impl Replay {
     }
 
     /// An event, if it may come.
-    pub(crate) fn go(&mut self, event: Happening) -> Result<bool, Memory>
+    pub(crate) fn go(&mut self, event: NotedEvent) -> Result<bool, Memory>
         requires { IsReplaying self.old }
-        ensures { (n : ℕ) (earlier : List Event) → IsReplayed n earlier self.old
+        ensures { (n : ℕ) (earlier : List PoolEvent) → IsReplayed n earlier self.old
             → IfOk result (λ yes. (yes ≡ may_follow n earlier (event_of event)) × OnTrue yes (IsReplayed n (event_of event ∷ earlier) self.new)) }
     {
         match event {
-            Happening::Got { buffer } => Ok(self.get(buffer)),
-            Happening::Empty => Ok(self.find_none()),
-            Happening::Given { buffer, .. } => self.give(buffer),
-            Happening::Missed => Ok(self.miss()),
+            NotedEvent::Got { buffer } => Ok(self.get(buffer)),
+            NotedEvent::Empty => Ok(self.find_none()),
+            NotedEvent::Given { buffer, .. } => self.give(buffer),
+            NotedEvent::Missed => Ok(self.miss()),
         }
     }
 
     /// An event, if it may come or its stamp is not below a bound.
-    pub(crate) fn go_below(&mut self, bound: u64, event: Timed) -> Result<bool, Memory>
+    pub(crate) fn go_below(&mut self, bound: u64, event: StampedEvent) -> Result<bool, Memory>
         requires { IsReplaying self.old }
-        ensures { (n : ℕ) (earlier : List Event) → IsReplayed n earlier self.old
+        ensures { (n : ℕ) (earlier : List PoolEvent) → IsReplayed n earlier self.old
             → IfOk result (λ yes. (yes ≡ may_come n bound earlier event) × OnTrue yes (IsReplayed n (earlier_with bound event earlier) self.new)) }
     {
         if event.stamp >= bound {

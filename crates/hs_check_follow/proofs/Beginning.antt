@@ -21,17 +21,17 @@ use Rattle.hs_law_outcome.proofs.Entries.{same_length, same_many}
 use Rattle.hs_records.specs.Pages.{pages_of}
 use Rattle.hs_records.specs.Plain.{Operation, PlainWorkload}
 use Rattle.hs_law_sends.specs.Sending.{draws_at, operations_at, place_of}
-use Rattle.hs_check_follow.specs.Sendings.{IsSending}
-use Rattle.hs_check_follow.specs.declared.sending.Sending.{Sending}
-use Rattle.hs_check_follow.specs.Beginning.{AreFirst, IsNewHearing}
+use Rattle.hs_check_follow.specs.Sendings.{IsFollowedClient}
+use Rattle.hs_check_follow.specs.declared.client.FollowedClient.{FollowedClient}
+use Rattle.hs_check_follow.specs.Beginning.{AreFirst, IsNewFollowedCoordinator}
 use Rattle.hs_check_follow.specs.Clients.{ClientStands}
 use Rattle.hs_check_follow.specs.Ends.{ends_within}
-use Rattle.hs_check_follow.specs.Nodes.{Stands}
+use Rattle.hs_check_follow.specs.Nodes.{FollowedNodeStands}
 use Rattle.hs_check_follow.specs.Noting.{behind_at, hand_of, said_of}
 use Rattle.hs_check_follow.specs.Whole.{NodeAt, AllAt}
-use Rattle.hs_check_follow.specs.declared.follower.Follower.{Follower}
-use Rattle.hs_check_follow.specs.declared.hearing.Hearing.{Hearing}
-use Rattle.hs_check_follow.specs.declared.tracked.Tracked.{Tracked}
+use Rattle.hs_check_follow.specs.declared.agent.FollowedAgent.{FollowedAgent}
+use Rattle.hs_check_follow.specs.declared.coordinator.FollowedCoordinator.{FollowedCoordinator}
+use Rattle.hs_check_follow.specs.declared.node.FollowedNode.{FollowedNode}
 
 -- ---- lists
 
@@ -102,12 +102,12 @@ module _ (W : PlainWorkload) (J : PlainJournal) (may : MayBegin W J) where
       ∙ ap (λ k. let c : ClientId = record { node = (node * each + number) / each; number = k } in c) (sym (mod-mul-add node each number low))
 
   pub client_begins : (node number : ℕ) (client : ClientId) → client.node ≡ node → client.number ≡ number → node < W.settings.nodes → number < W.settings.clients → (ops : List Operation) → ops ≡ operations_at W (place_of W.settings.clients node number) → (draws : List Draw)
-      → draws ≡ draws_at J (place_of W.settings.clients node number) → (s : Sending) → IsSending W.settings client ops draws s → ClientStands W J node [] number s
+      → draws ≡ draws_at J (place_of W.settings.clients node number) → (s : FollowedClient) → IsFollowedClient W.settings client ops draws s → ClientStands W J node [] number s
   client_begins node number client node_is number_is there low ops ops_are draws draws_are s is =
       let each = W.settings.clients in
       let same : (λ (c : ClientId). c) client ≡ record { node = node; number = number } = λ i. record { node = node_is i; number = number_is i } in
-      let is' = subst (λ (c : ClientId). IsSending W.settings c (operations_at W (place_of each node number)) (draws_at J (place_of each node number)) s) same
-      (subst (λ (o : List Operation). IsSending W.settings client o (draws_at J (place_of each node number)) s) ops_are (subst (λ (d : List Draw). IsSending W.settings client ops d s) draws_are is)) in
+      let is' = subst (λ (c : ClientId). IsFollowedClient W.settings c (operations_at W (place_of each node number)) (draws_at J (place_of each node number)) s) same
+      (subst (λ (o : List Operation). IsFollowedClient W.settings client o (draws_at J (place_of each node number)) s) ops_are (subst (λ (d : List Draw). IsFollowedClient W.settings client ops d s) draws_are is)) in
       record {
         low = place_below node number there low;
         chunks = is'.chunks;
@@ -117,12 +117,12 @@ module _ (W : PlainWorkload) (J : PlainJournal) (may : MayBegin W J) where
 
   -- ---- a node
 
-  pub node_begins : (node : ℕ) (f : Follower) → AreFirst (λ number s. ClientStands W J node [] number s) W.settings.clients f.clients.items → agents.Follows f.agent (agents.new_run W.settings node) → f.said.items ≡ [] → f.asked ≡ 0 → f.gives.items ≡ []
-      → (t : Tracked) → t.follower ≡ f → t.next ≡ 0 → t.hands.items ≡ [] → t.told.items ≡ [] → NodeAt W J (node_start W J node) t
+  pub node_begins : (node : ℕ) (f : FollowedAgent) → AreFirst (λ number s. ClientStands W J node [] number s) W.settings.clients f.clients.items → agents.Follows f.agent (agents.new_run W.settings node) → f.said.items ≡ [] → f.asked ≡ 0 → f.gives.items ≡ []
+      → (t : FollowedNode) → t.follower ≡ f → t.next ≡ 0 → t.hands.items ≡ [] → t.told.items ≡ [] → NodeAt W J (node_start W J node) t
   node_begins node f clients agent said asked gives t is next hands told =
       record {
         stands =
-            subst (Stands W J (node_start W J node) []) (sym is)
+            subst (FollowedNodeStands W J (node_start W J node) []) (sym is)
             (record {
               sends = refl;
               clients = record { count = clients.many; each = clients.each };
@@ -147,7 +147,7 @@ module _ (W : PlainWorkload) (J : PlainJournal) (may : MayBegin W J) where
       let here : 0 + n ≡ n = omega arith in
       sym (get_map (node_start W J) 0 W.settings.nodes n node at) ∙ ap (node_start W J) here
 
-  pub all_begin : (nodes : List Tracked) (h : Hearing) → AreFirst (λ n t. NodeAt W J (node_start W J n) t) W.settings.nodes nodes → IsNewHearing W.settings.nodes h → AllAt W J (run_start W J) nodes h
+  pub all_begin : (nodes : List FollowedNode) (h : FollowedCoordinator) → AreFirst (λ n t. NodeAt W J (node_start W J n) t) W.settings.nodes nodes → IsNewFollowedCoordinator W.settings.nodes h → AllAt W J (run_start W J) nodes h
   all_begin nodes h first new =
       record {
         valid = may.valid;

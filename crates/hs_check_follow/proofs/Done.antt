@@ -11,8 +11,8 @@ use Rattle.hs_law_journal.specs.Extending.{RunsAreOfTheJournal}
 use Rattle.hs_law_journal.specs.Following.{log_at, NodeRun, Run, is_done}
 use Rattle.hs_records.specs.Plain.{PlainWorkload}
 use Rattle.hs_check_follow.specs.Whole.{AllAt}
-use Rattle.hs_check_follow.specs.declared.hearing.Hearing.{Hearing}
-use Rattle.hs_check_follow.specs.declared.tracked.Tracked.{Tracked}
+use Rattle.hs_check_follow.specs.declared.coordinator.FollowedCoordinator.{FollowedCoordinator}
+use Rattle.hs_check_follow.specs.declared.node.FollowedNode.{FollowedNode}
 use Rattle.hs_check_follow.proofs.Steps.{number_is, below_last}
 
 module _ {A : Type 0} where
@@ -39,17 +39,17 @@ one_left [] n node at more = let never : None ≡ Some node = at in absurd cc
 one_left (first ∷ nodes) zero node at more = ap (λ b. b && list_all is_through nodes) (ap is_through (same_Some first node at) ∙ some_long node.left more)
 one_left (first ∷ nodes) (suc n) node at more = ap (λ b. is_through first && b) (one_left nodes n node at more) ∙ and-false (is_through first)
 
-module _ (runs : RunsAreOfTheJournal) (W : PlainWorkload) (J : PlainJournal) (run : Run) (nodes : List Tracked) (h : Hearing) (a : AllAt W J run nodes h) where
-  left_is : (n : ℕ) (t : Tracked) (log : List Step) → slice_get nodes n ≡ Some t → slice_get J.logs n ≡ Some log → (node : NodeRun) → slice_get run.nodes n ≡ Some node → node.left ≡ drop t.next log
+module _ (runs : RunsAreOfTheJournal) (W : PlainWorkload) (J : PlainJournal) (run : Run) (nodes : List FollowedNode) (h : FollowedCoordinator) (a : AllAt W J run nodes h) where
+  left_is : (n : ℕ) (t : FollowedNode) (log : List Step) → slice_get nodes n ≡ Some t → slice_get J.logs n ≡ Some log → (node : NodeRun) → slice_get run.nodes n ≡ Some node → node.left ≡ drop t.next log
   left_is n t log t_at log_there node at =
       let same = number_is runs W J run a.leads n node at in
       (a.nodes_are.each n node t at t_at).left ∙ ap (λ k. drop t.next (log_at J k)) same ∙ ap (λ o. drop t.next (unwrap_or o [])) log_there
 
   -- the node's log is through
-  pub through : (n : ℕ) (t : Tracked) (log : List Step) → slice_get nodes n ≡ Some t → slice_get J.logs n ≡ Some log → length log ≤ t.next → (node : NodeRun) → slice_get run.nodes n ≡ Some node → node.left ≡ []
+  pub through : (n : ℕ) (t : FollowedNode) (log : List Step) → slice_get nodes n ≡ Some t → slice_get J.logs n ≡ Some log → length log ≤ t.next → (node : NodeRun) → slice_get run.nodes n ≡ Some node → node.left ≡ []
   through n t log t_at log_there high node at = left_is n t log t_at log_there node at ∙ drop_all t.next log high
 
-  pub through_more : (first : ℕ) (t : Tracked) (log : List Step) → slice_get nodes first ≡ Some t → slice_get J.logs first ≡ Some log → length log ≤ t.next
+  pub through_more : (first : ℕ) (t : FollowedNode) (log : List Step) → slice_get nodes first ≡ Some t → slice_get J.logs first ≡ Some log → length log ≤ t.next
       → ((n : ℕ) (node : NodeRun) → n < first → slice_get run.nodes n ≡ Some node → node.left ≡ []) → (n : ℕ) (node : NodeRun) → n < first + 1 → slice_get run.nodes n ≡ Some node → node.left ≡ []
   through_more first t log t_at log_there high before n node low at =
       elim (below_last n first low) as (λ _. node.left ≡ []) [
@@ -58,14 +58,14 @@ module _ (runs : RunsAreOfTheJournal) (W : PlainWorkload) (J : PlainJournal) (ru
       ]
 
   -- a step of the node is left
-  pub not_through : (n : ℕ) (t : Tracked) (log : List Step) → slice_get nodes n ≡ Some t → slice_get J.logs n ≡ Some log → t.next < length log → false ≡ is_done run
+  pub not_through : (n : ℕ) (t : FollowedNode) (log : List Step) → slice_get nodes n ≡ Some t → slice_get J.logs n ≡ Some log → t.next < length log → false ≡ is_done run
   not_through n t log t_at log_there low =
       let n_low = found_low n t t_at in
       let there = get_there run.nodes n (let count = a.nodes_are.count in omega (arith, n_low, count)) in
       let long = ap length (left_is n t log t_at log_there there.0 there.1) ∙ length-drop t.next log in
       sym (ap (λ b. b && nat_eq (length run.left) 0) (one_left run.nodes n there.0 there.1 (omega (arith, long, low))))
     where
-      found_low : (n : ℕ) (t : Tracked) → slice_get nodes n ≡ Some t → n < length nodes
+      found_low : (n : ℕ) (t : FollowedNode) → slice_get nodes n ≡ Some t → n < length nodes
       found_low n t at = slice_get_within nodes n t at
 
   -- all nodes are through

@@ -6,8 +6,8 @@ use Rattle.std.specs.Prelude.{slice_get}
 use Rattle.hs_lists.proofs.Places.{get_front}
 use Rattle.hs_base.specs.declared.ids.ClientId.{ClientId}
 use Rattle.hs_journal.specs.declared.journal.Draw.{Draw}
-use Rattle.hs_replay_client.specs.Places.{IsAt}
-use Rattle.hs_replay_client.specs.Playing.{Playing}
+use Rattle.hs_replay_client.specs.Places.{ReplayClientIsAt}
+use Rattle.hs_replay_client.specs.ReplayClients.{PlainReplayClient}
 use Rattle.hs_replay_client.specs.Wells.{DrawsAll}
 use Rattle.hs_records.specs.Pages.{pages_of}
 use Rattle.hs_records.specs.Plain.{Operation, PlainSettings}
@@ -95,7 +95,7 @@ module _ (settings : PlainSettings) (client : ClientId) (ops : List Operation) (
 
   -- ---- where more draws are made
 
-  module _ (paged : TimedPagesAreThePages) (more : List Draw) (script' : Script) (drew : DrawsAll script_way more script script') (n k l m : ℕ) (player : Playing) (at : IsAt settings client ops (drawn ++ more) n k l m player) where
+  module _ (paged : TimedPagesAreThePages) (more : List Draw) (script' : Script) (drew : DrawsAll script_way more script script') (n k l m : ℕ) (player : PlainReplayClient) (at : ReplayClientIsAt settings client ops (drawn ++ more) n k l m player) where
     -- as many pages are started as the client has in all, at most
     started_few : count_started settings.size ops n ≤ length draws
     started_few =
@@ -120,7 +120,7 @@ module _ (settings : PlainSettings) (client : ClientId) (ops : List Operation) (
 
   -- ---- where all operations are done
 
-  module _ (paged : TimedPagesAreThePages) (timely : TimedPagesAreTimely) (all : AllChunksAreSent) (k l m : ℕ) (player : Playing) (at : IsAt settings client ops drawn (length ops) k l m player) where
+  module _ (paged : TimedPagesAreThePages) (timely : TimedPagesAreTimely) (all : AllChunksAreSent) (k l m : ℕ) (player : PlainReplayClient) (at : ReplayClientIsAt settings client ops drawn (length ops) k l m player) where
     bracketed : AreBracketed false ops
     bracketed = at.playable.client.bracketed
 

@@ -6,8 +6,8 @@ use Rattle.hs_base.specs.declared.ids.ClientId.{ClientId}
 use Rattle.hs_base.specs.declared.told.Crumb.{Crumb}
 use Rattle.hs_base.specs.declared.told.Trigger.{Trigger}
 use Rattle.hs_journal.specs.declared.journal.Draw.{Draw}
-use Rattle.hs_replay_client.specs.Places.{IsAt, IsChunkAt, TakesCrumb, TakesTrigger, WentOn}
-use Rattle.hs_replay_client.specs.Playing.{Playing, Unleased}
+use Rattle.hs_replay_client.specs.Places.{ReplayClientIsAt, IsChunkAt, TakesCrumb, TakesTrigger, WentOn}
+use Rattle.hs_replay_client.specs.ReplayClients.{PlainReplayClient, Unleased}
 use Rattle.hs_records.specs.Plain.{Operation, PlainSettings}
 use Rattle.hs_law_sends.specs.Laws.{TimedPagesAreThePages, TimedPagesAreTimely}
 use Rattle.hs_law_sends.specs.Sending.{sends_of, sent_within}
@@ -30,24 +30,24 @@ none_left left done all tells none within = either (nat_lt done all) refl
 module _ (settings : PlainSettings) (client : ClientId) (ops : List Operation) (draws : List Draw) (k : ℕ) (f : Filling) (is : IsFilling settings client ops draws k f) where
   -- ---- one operation more
 
-  abbrev Went : Script → Playing → Type 0
+  abbrev Went : Script → PlainReplayClient → Type 0
   Went script player = WentOn script_way settings client ops is.drawn (done_behind 1 is.done ops) k is.l is.m f.script player script
 
-  module _ (script : Script) (player : Playing) (went : Went script player) where
+  module _ (script : Script) (player : PlainReplayClient) (went : Went script player) where
     abbrev drawn : List Draw
     drawn = is.drawn ++ went.more
 
     abbrev done : ℕ
     done = done_behind 1 is.done ops
 
-    abbrev At : ℕ → ℕ → Playing → Type 0
-    At l m player = IsAt settings client ops drawn done k l m player
+    abbrev At : ℕ → ℕ → PlainReplayClient → Type 0
+    At l m player = ReplayClientIsAt settings client ops drawn done k l m player
 
-    behind_crumb : (l m : ℕ) (old : Playing) (answer : Option Crumb) (new : Playing) → At l m old → TakesCrumb old answer new → (n : ℕ) × At n m new
+    behind_crumb : (l m : ℕ) (old : PlainReplayClient) (answer : Option Crumb) (new : PlainReplayClient) → At l m old → TakesCrumb old answer new → (n : ℕ) × At n m new
     behind_crumb l m old None new at takes = let h = takes settings client ops drawn done k l m at in (l, h.1)
     behind_crumb l m old (Some crumb) new at takes = let h = takes settings client ops drawn done k l m at in (l + 1, h.1)
 
-    behind_trigger : (l m : ℕ) (old : Playing) (answer : Option Trigger) (new : Playing) → At l m old → TakesTrigger old answer new → (n : ℕ) × At l n new
+    behind_trigger : (l m : ℕ) (old : PlainReplayClient) (answer : Option Trigger) (new : PlainReplayClient) → At l m old → TakesTrigger old answer new → (n : ℕ) × At l n new
     behind_trigger l m old None new at takes = let h = takes settings client ops drawn done k l m at in (m, h.1)
     behind_trigger l m old (Some trigger) new at takes = let h = takes settings client ops drawn done k l m at in (m + 1, h.1)
 
@@ -69,7 +69,7 @@ module _ (settings : PlainSettings) (client : ClientId) (ops : List Operation) (
           at = went.at;
         }
 
-    module _ (crumb : Option Crumb) (player1 : Playing) (takes : TakesCrumb player crumb player1) (trigger : Option Trigger) (player2 : Playing) (takes' : TakesTrigger player1 trigger player2) where
+    module _ (crumb : Option Crumb) (player1 : PlainReplayClient) (takes : TakesCrumb player crumb player1) (trigger : Option Trigger) (player2 : PlainReplayClient) (takes' : TakesTrigger player1 trigger player2) where
       first : (n : ℕ) × At n is.m player1
       first = behind_crumb is.l is.m player crumb player1 went.at takes
 
@@ -95,11 +95,11 @@ module _ (settings : PlainSettings) (client : ClientId) (ops : List Operation) (
 
   -- ---- where a chunk is asked for
 
-  module _ (player : Playing) where
+  module _ (player : PlainReplayClient) where
     abbrev with_player : Filling
     with_player = record { client = f.client; script = f.script; player = player }
 
-    stays : (n : ℕ) → IsAt settings client ops is.drawn is.done n is.l is.m player → IsFilling settings client ops draws n with_player
+    stays : (n : ℕ) → ReplayClientIsAt settings client ops is.drawn is.done n is.l is.m player → IsFilling settings client ops draws n with_player
     stays n at =
         record {
           client_is = is.client_is;
@@ -113,10 +113,10 @@ module _ (settings : PlainSettings) (client : ClientId) (ops : List Operation) (
           at = at;
         }
 
-    pub waits : IsAt settings client ops is.drawn is.done k is.l is.m player → IsFilling settings client ops draws k with_player
+    pub waits : ReplayClientIsAt settings client ops is.drawn is.done k is.l is.m player → IsFilling settings client ops draws k with_player
     waits at = stays k at
 
-    pub filled : (buffer : Unleased) → IsChunkAt settings client ops is.drawn is.done k buffer.chunk → IsAt settings client ops is.drawn is.done (k + 1) is.l is.m player
+    pub filled : (buffer : Unleased) → IsChunkAt settings client ops is.drawn is.done k buffer.chunk → ReplayClientIsAt settings client ops is.drawn is.done (k + 1) is.l is.m player
         → IsFilled settings client ops draws k buffer.chunk × IsFilling settings client ops draws (k + 1) with_player
     filled buffer chunk at = (
       record {
@@ -130,12 +130,12 @@ module _ (settings : PlainSettings) (client : ClientId) (ops : List Operation) (
 
     -- all operations are done
     pub filled_last : TimedPagesAreThePages → TimedPagesAreTimely → AllChunksAreSent → is.done ≡ length ops → (answer : Option Unleased)
-        → MatchOption answer ((k ≡ length (sent_within is.done (sends_of settings client ops is.drawn).chunks)) × IsAt settings client ops is.drawn is.done k is.l is.m player)
-        (λ buffer. IsChunkAt settings client ops is.drawn is.done k buffer.chunk × IsAt settings client ops is.drawn is.done (k + 1) is.l is.m player)
+        → MatchOption answer ((k ≡ length (sent_within is.done (sends_of settings client ops is.drawn).chunks)) × ReplayClientIsAt settings client ops is.drawn is.done k is.l is.m player)
+        (λ buffer. IsChunkAt settings client ops is.drawn is.done k buffer.chunk × ReplayClientIsAt settings client ops is.drawn is.done (k + 1) is.l is.m player)
         → MatchOption answer ((slice_get (sends_of settings client ops draws).chunks k ≡ None) × IsFilling settings client ops draws k with_player)
         (λ buffer. IsFilled settings client ops draws k buffer.chunk × IsFilling settings client ops draws (k + 1) with_player)
     filled_last paged timely all last (Some buffer) took = filled buffer took.0 took.1
     filled_last paged timely all last None took =
-        let at = subst (λ n. IsAt settings client ops is.drawn n k is.l is.m player) last took.1 in
+        let at = subst (λ n. ReplayClientIsAt settings client ops is.drawn n k is.l is.m player) last took.1 in
         let none = took.0 ∙ ap (λ n. length (sent_within n (sends_of settings client ops is.drawn).chunks)) last in
         (none_there settings client ops draws is.each is.drawn f.script is.kinds paged timely all k is.l is.m player at none, stays k took.1)

@@ -12,7 +12,7 @@ use Rattle.hs_check_clauses.specs.declared.found.FoundNode.{FoundNode}
 use Rattle.hs_check_clauses.specs.declared.found.FoundPage.{FoundPage}
 use Rattle.hs_base.specs.Listing.{Listing}
 use Rattle.hs_base.specs.declared.node_set.NodeSet.{NodeSet}
-use Rattle.hs_check_follow.specs.declared.sending.Sending.{Sending}
+use Rattle.hs_check_follow.specs.declared.client.FollowedClient.{FollowedClient}
 use Rattle.hs_journal.specs.Views.{PlainJournal}
 use Rattle.hs_journal.specs.declared.journal.Step.{Step}
 use Rattle.hs_law_journal.specs.Extending.{RunsAreOfTheJournal, IsOfJournal}
@@ -25,8 +25,8 @@ use Rattle.hs_check_follow.specs.Nodes.{named_at, name_of}
 use Rattle.hs_check_follow.specs.Noting.{hand_of, said_of}
 use Rattle.hs_check_follow.specs.Parting.{IsFoundOf, found_left}
 use Rattle.hs_check_follow.specs.Whole.{AllAt}
-use Rattle.hs_check_follow.specs.declared.hearing.Hearing.{Hearing}
-use Rattle.hs_check_follow.specs.declared.tracked.Tracked.{Tracked}
+use Rattle.hs_check_follow.specs.declared.coordinator.FollowedCoordinator.{FollowedCoordinator}
+use Rattle.hs_check_follow.specs.declared.node.FollowedNode.{FollowedNode}
 use Rattle.hs_check_follow.proofs.PassEnds.{all_noted}
 
 -- ---- lists
@@ -63,8 +63,8 @@ found_over P Q (a ∷ xs) (b ∷ ys) (c ∷ zs) count each are =
     (each 0 a b c refl refl are.0, found_over P Q xs ys zs (omega (arith, count)) (λ n a b c at bt p. each (suc n) a b c at bt p) are.1)
 
 -- the clients of a node
-clients_found : (f : ℕ → ClientSends) (start : ℕ) (clients : List Sending) → ((n : ℕ) (s : Sending) → slice_get clients n ≡ Some s → IsFoundClient (f (start + n)) s.found)
-    → AreFound IsFoundClient (map f (range_with_len start (length clients))) (map (λ (s : Sending). s.found) clients)
+clients_found : (f : ℕ → ClientSends) (start : ℕ) (clients : List FollowedClient) → ((n : ℕ) (s : FollowedClient) → slice_get clients n ≡ Some s → IsFoundClient (f (start + n)) s.found)
+    → AreFound IsFoundClient (map f (range_with_len start (length clients))) (map (λ (s : FollowedClient). s.found) clients)
 clients_found f start [] each = tt
 clients_found f start (s ∷ clients) each =
     let here : start + 0 ≡ start = omega arith in
@@ -99,11 +99,11 @@ drop_none (suc n) (x ∷ xs) e = let rest = drop_none n xs e in omega (arith, re
 
 -- ---- all
 
-module _ (runs : RunsAreOfTheJournal) (W : PlainWorkload) (J : PlainJournal) (run : Run) (nodes : List Tracked) (h : Hearing) (a : AllAt W J run nodes h) (done : is_done run ≡ true) where
+module _ (runs : RunsAreOfTheJournal) (W : PlainWorkload) (J : PlainJournal) (run : Run) (nodes : List FollowedNode) (h : FollowedCoordinator) (a : AllAt W J run nodes h) (done : is_done run ≡ true) where
   all_through : list_all (λ (node : NodeRun). nat_eq (length node.left) 0) run.nodes ≡ true
   all_through = (and_parts (list_all (λ (node : NodeRun). nat_eq (length node.left) 0) run.nodes) (nat_eq (length run.left) 0) done).0
 
-  node_found : (n : ℕ) (t : Tracked) (node : NodeRun) (found : FoundNode) → slice_get nodes n ≡ Some t → slice_get run.nodes n ≡ Some node → IsFoundOf t found → IsFoundNode W.settings node found
+  node_found : (n : ℕ) (t : FollowedNode) (node : NodeRun) (found : FoundNode) → slice_get nodes n ≡ Some t → slice_get run.nodes n ≡ Some node → IsFoundOf t found → IsFoundNode W.settings node found
   node_found n t node found t_at node_at is =
       let at = a.nodes_are.each n node t node_at t_at in
       let none = none_left run.nodes all_through n node node_at in

@@ -1,4 +1,4 @@
--- One operation more: where the player stands when it has gone on, and what was taken then.
+-- One operation more: where the client stands when it has gone on, and what was taken then.
 use Rattle.std.proofs.Common.{◌≡◌, ℕ, ◌+◌, ◌<◌, ◌≤◌, Bool, false, List, [], ◌++◌, length, map, take, drop, sym, ap, subst, ◌∙◌, arith, length-append}
 use Rattle.std.proofs.lemmas.List.{append-nil, length-map, length-take-le, take-append-drop}
 use Rattle.std.specs.Prelude.{IsTrue, replicate}
@@ -6,8 +6,8 @@ use Rattle.hs_base.specs.declared.ids.ClientId.{ClientId}
 use Rattle.hs_base.specs.declared.told.Crumb.{Crumb}
 use Rattle.hs_base.specs.declared.told.Trigger.{Trigger}
 use Rattle.hs_journal.specs.declared.journal.Draw.{Draw}
-use Rattle.hs_replay_client.specs.Places.{IsAt, TellsBare, WentOn}
-use Rattle.hs_replay_client.specs.Playing.{Playing}
+use Rattle.hs_replay_client.specs.Places.{ReplayClientIsAt, TellsBare, WentOn}
+use Rattle.hs_replay_client.specs.ReplayClients.{PlainReplayClient}
 use Rattle.hs_records.specs.Pages.{pages_of}
 use Rattle.hs_records.specs.Plain.{Operation, PlainSettings}
 use Rattle.hs_records.specs.Records.{AreBracketed}
@@ -36,7 +36,7 @@ pub record Sends : Type 0 where
   pub first : FirstOperationsSend
   pub chunks : FirstChunksAreSent
 
-module _ (k : Sends) (settings : PlainSettings) (client : ClientId) (ops : List Operation) (draws : List Draw) (n : ℕ) (script : Script) (player : Playing) (g : Gathering)
+module _ (k : Sends) (settings : PlainSettings) (client : ClientId) (ops : List Operation) (draws : List Draw) (n : ℕ) (script : Script) (player : PlainReplayClient) (g : Gathering)
     (s : IsSentBy settings client ops draws n script player g) (low : n < length ops) where
   abbrev size : ℕ
   size = settings.size
@@ -72,7 +72,7 @@ module _ (k : Sends) (settings : PlainSettings) (client : ClientId) (ops : List 
           ap (λ m. sent_within m (sent_chunks (drawn_pages size client ops (s.drawn ++ more)))) (sym long) ∙ ap (λ (all : List Operation). sent_within (length front) (sent_chunks (drawn_pages size client all (s.drawn ++ more)))) (sym whole)
           ∙ k.chunks size client front rest s.drawn more s.at.playable.least same_bracketed drawn_long
 
-  module _ (script' : Script) (player' : Playing)
+  module _ (script' : Script) (player' : PlainReplayClient)
       (went :
       WentOn script_way settings client ops s.drawn (done_behind 1 n ops) (count_within n (sends_of settings client ops s.drawn).chunks) (count_within n (sends_of settings client ops s.drawn).crumbs)
       (count_within n (sends_of settings client ops s.drawn).triggers) script player' script') where
@@ -83,11 +83,11 @@ module _ (k : Sends) (settings : PlainSettings) (client : ClientId) (ops : List 
     here = omega (arith, low)
 
     pub at_here :
-        IsAt settings client ops drawn (n + 1) (count_within n (sends_of settings client ops drawn).chunks) (count_within n (sends_of settings client ops drawn).crumbs)
+        ReplayClientIsAt settings client ops drawn (n + 1) (count_within n (sends_of settings client ops drawn).chunks) (count_within n (sends_of settings client ops drawn).crumbs)
         (count_within n (sends_of settings client ops drawn).triggers) player'
     at_here =
-        subst (λ c. IsAt settings client ops drawn (n + 1) c (count_within n (sends_of settings client ops drawn).crumbs) (count_within n (sends_of settings client ops drawn).triggers) player') (sym (ap length (same_chunks went.more)))
-        (subst (λ d. IsAt settings client ops drawn d (count_within n (sends_of settings client ops s.drawn).chunks) (count_within n (sends_of settings client ops drawn).crumbs) (count_within n (sends_of settings client ops drawn).triggers) player') here went.at)
+        subst (λ c. ReplayClientIsAt settings client ops drawn (n + 1) c (count_within n (sends_of settings client ops drawn).crumbs) (count_within n (sends_of settings client ops drawn).triggers) player') (sym (ap length (same_chunks went.more)))
+        (subst (λ d. ReplayClientIsAt settings client ops drawn d (count_within n (sends_of settings client ops s.drawn).chunks) (count_within n (sends_of settings client ops drawn).crumbs) (count_within n (sends_of settings client ops drawn).triggers) player') here went.at)
 
     -- ---- the three queues
 
@@ -103,11 +103,11 @@ module _ (k : Sends) (settings : PlainSettings) (client : ClientId) (ops : List 
     abbrev pub third : Where
     third = record { settings = settings; client = client; ops = ops; drawn = drawn; others = (count_within (n + 1) (sends_of settings client ops drawn).chunks, count_within (n + 1) (sends_of settings client ops drawn).crumbs) }
 
-    module _ (player1 : Playing) (numbers : List ℕ) (chunks : AreChunks first n player1 numbers) where
+    module _ (player1 : PlainReplayClient) (numbers : List ℕ) (chunks : AreChunks first n player1 numbers) where
       pub were_crumbs : WereCrumbs second n player1 g.crumbs.items g.found.crumbs.items
       were_crumbs = record { at = chunks.at; holds = s.crumbs }
 
-      module _ (player2 : Playing) (crumbs : List Crumb) (crumb_numbers : List ℕ) (took : AreCrumbs second n player2 crumbs crumb_numbers) where
+      module _ (player2 : PlainReplayClient) (crumbs : List Crumb) (crumb_numbers : List ℕ) (took : AreCrumbs second n player2 crumbs crumb_numbers) where
         pub were_triggers : WereTriggers third n player2 g.triggers.items g.found.triggers.items
         were_triggers = record { at = took.at; holds = s.triggers }
 
@@ -139,8 +139,8 @@ module _ (k : Sends) (settings : PlainSettings) (client : ClientId) (ops : List 
 
     -- ---- all of it
 
-    pub sent_by : (player1 : Playing) (g' : Gathering) → AreChunks first n player1 g'.found.chunks.items → (player2 : Playing) → AreCrumbs second n player2 g'.crumbs.items g'.found.crumbs.items
-        → (player3 : Playing) → AreTriggers third n player3 g'.triggers.items g'.found.triggers.items → g'.found.started.items ≡ starts_within (n + 1) (timed_pages size ops) → IsSentBy settings client ops draws (n + 1) script' player3 g'
+    pub sent_by : (player1 : PlainReplayClient) (g' : Gathering) → AreChunks first n player1 g'.found.chunks.items → (player2 : PlainReplayClient) → AreCrumbs second n player2 g'.crumbs.items g'.found.crumbs.items
+        → (player3 : PlainReplayClient) → AreTriggers third n player3 g'.triggers.items g'.found.triggers.items → g'.found.started.items ≡ starts_within (n + 1) (timed_pages size ops) → IsSentBy settings client ops draws (n + 1) script' player3 g'
     sent_by player1 g' chunks player2 crumbs player3 triggers starts =
         record {
           each = s.each;

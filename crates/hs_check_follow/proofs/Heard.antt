@@ -21,8 +21,8 @@ use Rattle.hs_law_journal.specs.Performing.{StepByStep}
 use Rattle.hs_law_agent.specs.Leading.{IsToldBelow}
 use Rattle.hs_records.specs.Plain.{PlainWorkload}
 use Rattle.hs_check_follow.specs.Whole.{MayHearAt, HasHeard, HasNotHeard, AreSent, sent_by}
-use Rattle.hs_check_follow.specs.declared.hearing.Hearing.{Hearing}
-use Rattle.hs_check_follow.specs.declared.tracked.Tracked.{Tracked}
+use Rattle.hs_check_follow.specs.declared.coordinator.FollowedCoordinator.{FollowedCoordinator}
+use Rattle.hs_check_follow.specs.declared.node.FollowedNode.{FollowedNode}
 use Rattle.hs_check_follow.proofs.Tracking.{drop_there, drop_past}
 
 -- the nodes that are asked, one message more
@@ -34,7 +34,7 @@ asked_more nodes before (h ∷ heard) m [] to are is = absurd are
 asked_more nodes before (h ∷ heard) m (x ∷ asked) to are is =
     (are.0, asked_more nodes (before ++ h ∷ []) heard m asked to are.1 (λ node. is node ∙ ap (λ (all : Messages). is_newly_asked all m node) (sym (append_assoc before (h ∷ []) heard))))
 
-module _ (W : PlainWorkload) (J : PlainJournal) (run : Run) (told : List NodeId) (nodes : List Tracked) (h : Hearing) (m : MayHearAt W J run told nodes h) where
+module _ (W : PlainWorkload) (J : PlainJournal) (run : Run) (told : List NodeId) (nodes : List FollowedNode) (h : FollowedCoordinator) (m : MayHearAt W J run told nodes h) where
   -- ---- where nothing is heard
 
   left_is : run.left ≡ drop h.next told
@@ -59,7 +59,7 @@ module _ (W : PlainWorkload) (J : PlainJournal) (run : Run) (told : List NodeId)
         let past = slice_get_past run.nodes node.0 (omega (arith, high, count)) in
         record { none = hears None (ap (option_and_then (λ (run' : NodeRun). option_map (message node) (slice_get run'.state.said (count_by (is_from node) run.heard)))) past); hearing = m.hearing }
 
-    module _ (t : Tracked) (t_there : slice_get nodes node.0 ≡ Some t) (count : ℕ) (count_there : slice_get h.counts.items node.0 ≡ Some count) where
+    module _ (t : FollowedNode) (t_there : slice_get nodes node.0 ≡ Some t) (count : ℕ) (count_there : slice_get h.counts.items node.0 ≡ Some count) where
       node_there : (r : NodeRun) × (slice_get run.nodes node.0 ≡ Some r)
       node_there = let low = slice_get_within nodes node.0 t t_there in let same = m.nodes_are.count in get_there run.nodes node.0 (omega (arith, low, same))
 
@@ -131,7 +131,7 @@ module _ (W : PlainWorkload) (J : PlainJournal) (run : Run) (told : List NodeId)
               let own = ap {B = ℕ} (λ b. cond b 1 0) (eq-eqb node.0 n same) in
               omega (arith, all, own)
 
-          pub heard_one : (h' : Hearing) → (kept : HasTaken h'.coordinator heard) → h'.coordinator.nodes ≡ h.coordinator.nodes → AreSent asks (length h.asks.items) h.asks.items h'.asks.items
+          pub heard_one : (h' : FollowedCoordinator) → (kept : HasTaken h'.coordinator heard) → h'.coordinator.nodes ≡ h.coordinator.nodes → AreSent asks (length h.asks.items) h.asks.items h'.asks.items
               → ChangesAt node.0 h.counts.items h'.counts.items (λ old new. new ≡ old + 1) → h'.next ≡ h.next + 1 → h'.asked.items ≡ h.asked.items ++ asks.to ∷ [] → HasHeard W J run h'
           heard_one h' kept nodes_same sent counted next asked =
               record {

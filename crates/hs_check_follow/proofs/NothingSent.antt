@@ -4,8 +4,8 @@ use Rattle.std.proofs.Common.{◌≡◌, ◌≤◌, arith, List, [], ◌∷◌, 
 use Rattle.hs_base.specs.declared.ids.ClientId.{ClientId}
 use Rattle.hs_check_clauses.specs.Finding.{numbers_of}
 use Rattle.hs_journal.specs.declared.journal.Draw.{Draw}
-use Rattle.hs_replay_client.specs.Places.{IsAt}
-use Rattle.hs_replay_client.specs.Playing.{Playing}
+use Rattle.hs_replay_client.specs.Places.{ReplayClientIsAt}
+use Rattle.hs_replay_client.specs.ReplayClients.{PlainReplayClient}
 use Rattle.hs_records.specs.Pages.{pages_of}
 use Rattle.hs_records.specs.Plain.{Operation, PlainSettings}
 use Rattle.hs_law_sends.specs.Drawn.{has_buffer}
@@ -26,8 +26,8 @@ none_started : (pages : List TimedPage) → started_within 0 pages ≡ []
 none_started [] = refl
 none_started (page ∷ pages) = let low : 0 ≤ page.started = omega arith in rw (le-ltb page.started 0 low) (none_started pages)
 
-pub begins_so : (settings : PlainSettings) (client : ClientId) (ops : List Operation) (draws : List Draw) (script : Script) (player : Playing) (g : Gathering) → length draws ≡ length (pages_of settings.size ops)
-    → script.left.items ≡ draws → script.size ≡ settings.size → IsAt settings client ops [] 0 0 0 0 player → IsNew g → IsSentBy settings client ops draws 0 script player g
+pub begins_so : (settings : PlainSettings) (client : ClientId) (ops : List Operation) (draws : List Draw) (script : Script) (player : PlainReplayClient) (g : Gathering) → length draws ≡ length (pages_of settings.size ops)
+    → script.left.items ≡ draws → script.size ≡ settings.size → ReplayClientIsAt settings client ops [] 0 0 0 0 player → IsNew g → IsSentBy settings client ops draws 0 script player g
 begins_so settings client ops draws script player g each left size at new =
     let sends = sends_of settings client ops [] in
     let chunks = none_within sends.chunks in
@@ -39,8 +39,8 @@ begins_so settings client ops draws script player g each left size at new =
       kinds = ap (map has_buffer) left;
       size_is = size;
       at =
-          subst (λ k. IsAt settings client ops [] 0 k (count_within 0 sends.crumbs) (count_within 0 sends.triggers) player) (sym (ap length chunks))
-          (subst (λ l. IsAt settings client ops [] 0 0 l (count_within 0 sends.triggers) player) (sym (ap length crumbs)) (subst (λ m. IsAt settings client ops [] 0 0 0 m player) (sym (ap length triggers)) at));
+          subst (λ k. ReplayClientIsAt settings client ops [] 0 k (count_within 0 sends.crumbs) (count_within 0 sends.triggers) player) (sym (ap length chunks))
+          (subst (λ l. ReplayClientIsAt settings client ops [] 0 0 l (count_within 0 sends.triggers) player) (sym (ap length crumbs)) (subst (λ m. ReplayClientIsAt settings client ops [] 0 0 0 m player) (sym (ap length triggers)) at));
       chunks = new.chunk_numbers ∙ sym (ap numbers_of chunks);
       crumbs = subst (λ items. HasItems items g.crumbs.items g.found.crumbs.items) (sym crumbs) (record { queue_is = new.crumbs; numbers_are = new.crumb_numbers });
       triggers = subst (λ items. HasItems items g.triggers.items g.found.triggers.items) (sym triggers) (record { queue_is = new.triggers; numbers_are = new.trigger_numbers });
@@ -48,7 +48,7 @@ begins_so settings client ops draws script player g each left size at new =
     }
 
 pub fills_so : (settings : PlainSettings) (client : ClientId) (ops : List Operation) (draws : List Draw) (f : Filling) → f.client ≡ client → length draws ≡ length (pages_of settings.size ops) → f.script.left.items ≡ draws
-    → f.script.size ≡ settings.size → IsAt settings client ops [] 0 0 0 0 f.player → IsFilling settings client ops draws 0 f
+    → f.script.size ≡ settings.size → ReplayClientIsAt settings client ops [] 0 0 0 0 f.player → IsFilling settings client ops draws 0 f
 fills_so settings client ops draws f client_is each left size at =
     record {
       client_is = client_is;

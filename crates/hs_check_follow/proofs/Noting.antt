@@ -5,7 +5,7 @@ use Rattle.hs_lists.proofs.Parts.{take_whole}
 use Rattle.hs_journal.specs.declared.journal.Step.{Step}
 use Rattle.hs_law_journal.specs.Following.{NodeRun}
 use Rattle.hs_law_agent.specs.State.{AgentState}
-use Rattle.hs_law_agent.specs.Stepping.{Event, after}
+use Rattle.hs_law_agent.specs.Stepping.{AgentEvent, after}
 use Rattle.hs_records.specs.Plain.{PlainSettings}
 use Rattle.hs_check_clauses.specs.Offering.{ends_front}
 use Rattle.hs_check_follow.specs.Ends.{ends_within}
@@ -56,16 +56,16 @@ take_front {A = A} (x ∷ xs) more (suc n) low = ap (λ (l : List A). x ∷ l) (
 
 -- ---- notes
 
-module _ (count : AgentState → ℕ) (settings : PlainSettings) (run next : NodeRun) (event : Event) (node_is : next.node ≡ run.node) (events_are : next.events ≡ run.events ++ event ∷ []) (comes : next.state ≡ after settings next.node next.events) where
+module _ (count : AgentState → ℕ) (settings : PlainSettings) (run next : NodeRun) (event : AgentEvent) (node_is : next.node ≡ run.node) (events_are : next.events ≡ run.events ++ event ∷ []) (comes : next.state ≡ after settings next.node next.events) where
   same_behind : (n : ℕ) → n ≤ length run.events → behind_at settings run count n ≡ behind_at settings next count n
   same_behind n low =
       ap (λ node. count (after settings node (take n run.events))) (sym node_is)
-      ∙ ap (λ (l : List Event). count (after settings next.node l)) (sym (take_front run.events (event ∷ []) n low) ∙ ap (take n) (sym events_are))
+      ∙ ap (λ (l : List AgentEvent). count (after settings next.node l)) (sym (take_front run.events (event ∷ []) n low) ∙ ap (take n) (sym events_are))
 
   last_behind : (n : ℕ) → n ≡ length run.events + 1 → behind_at settings next count n ≡ count next.state
   last_behind n is =
       let long = ap length events_are ∙ length-append run.events (event ∷ []) in
-      ap (λ (l : List Event). count (after settings next.node l)) (take_whole next.events n (omega (arith, is, long))) ∙ ap count (sym comes)
+      ap (λ (l : List AgentEvent). count (after settings next.node l)) (take_whole next.events n (omega (arith, is, long))) ∙ ap count (sym comes)
 
   pub noted_more : (log : List Step) (k : ℕ) → length run.events ≡ k → k < length log → (last : Bool) → last ≡ ends_front (drop k log) → (notes notes' : List ℕ) → notes ≡ map (behind_at settings run count) (ends_within 0 k log)
       → notes' ≡ notes ++ noted_if last (count next.state) → (k' : ℕ) → k' ≡ k + 1 → notes' ≡ map (behind_at settings next count) (ends_within 0 k' log)

@@ -7,7 +7,7 @@ use Rattle.std.specs.List.{AllByRecursion}
 use Rattle.std.specs.Option.{option_to_list, option_and_then, option_map_or}
 use Rattle.hs_lists.proofs.Places.{get_front, set_same}
 use Rattle.hs_lists.proofs.Alls.{all_at, all_append}
-use Rattle.hs_agent.specs.Keeping.{Keeping}
+use Rattle.hs_agent.specs.Keeping.{PlainAgent}
 use Rattle.hs_agent.specs.Points.{sheet_in}
 use Rattle.hs_agent.specs.Runs as agents
 use Rattle.hs_agent.specs.Runs.{Follows, IsTakable, Knows, after_input, after_offer, buffers_in, first_place, input_of, offered_next, point_of, state_of, told_in, with_back}
@@ -25,13 +25,13 @@ use Rattle.hs_law_journal.proofs.Logs.{taken_still}
 use Rattle.hs_law_journal.specs.Fitting.{MayTake}
 use Rattle.hs_law_agent.specs.Laws.{EventsGoOn, EventsAddThis, StepsSayWhatTheyTell, brought_by, sheets_of}
 use Rattle.hs_law_agent.specs.State.{AgentState, GivenPlace}
-use Rattle.hs_law_agent.specs.Stepping.{Answered, Given, Missed, Unread, Event, Took, Gave, after, after_event, after_gave, step_of_answer, told_by}
-use Rattle.hs_replay_client.specs.Playing.{Unleased}
+use Rattle.hs_law_agent.specs.Stepping.{Answered, Given, Missed, Unread, AgentEvent, Took, Gave, after, after_event, after_gave, step_of_answer, told_by}
+use Rattle.hs_replay_client.specs.ReplayClients.{Unleased}
 use Rattle.hs_records.specs.Plain.{PlainSettings, PlainWorkload}
 use Rattle.hs_words.specs.Pages.{Sheet}
-use Rattle.hs_check_follow.specs.declared.follower.Follower.{Follower}
+use Rattle.hs_check_follow.specs.declared.agent.FollowedAgent.{FollowedAgent}
 use Rattle.hs_check_follow.specs.Clients.{ClientsStand}
-use Rattle.hs_check_follow.specs.Nodes.{AgentStands, FitsChunk, HasPerformed, IsOffer, IsReadied, MayTakeNext, Stands, agent_run, name_of, named_at}
+use Rattle.hs_check_follow.specs.Nodes.{FollowedAgentStands, FitsChunk, HasPerformed, IsOffer, IsReadied, MayTakeNext, FollowedNodeStands, agent_run, name_of, named_at}
 use Rattle.hs_check_follow.proofs.Popping.{clients_as}
 
 -- ---- inputs
@@ -70,16 +70,16 @@ named_more (given ∷ places) (page ∷ gives) state after more same named =
     found (Some sheet) e h = ap (λ (l : List Sheet). option_map name_of (slice_get l given.place)) same ∙ ap (option_map name_of) (get_front (sheets_of state.taken) more given.place sheet e) ∙ h
 
 module _ (go_on : EventsGoOn) (adds : EventsAddThis) (says : StepsSayWhatTheyTell) (W : PlainWorkload) (J : PlainJournal) (run : NodeRun) where
-  abbrev pub next : Event → NodeRun
+  abbrev pub next : AgentEvent → NodeRun
   next event = perform W.settings [] run event
 
-  next_comes : (event : Event) → run.state ≡ after W.settings run.node run.events → (next event).state ≡ after W.settings run.node (next event).events
+  next_comes : (event : AgentEvent) → run.state ≡ after W.settings run.node run.events → (next event).state ≡ after W.settings run.node (next event).events
   next_comes event comes = ap (λ (s : AgentState). after_event W.settings run.node s event) comes ∙ sym (go_on W.settings run.node run.events (event ∷ []))
 
   -- ---- an input was taken
 
-  module _ (heard : Messages) (step : Step) {g : _} (input : Input (Unit {0}) g) (f : Follower) (r : IsReadied W J heard run step input f) where
-    abbrev event : Event
+  module _ (heard : Messages) (step : Step) {g : _} (input : Input (Unit {0}) g) (f : FollowedAgent) (r : IsReadied W J heard run step input f) where
+    abbrev event : AgentEvent
     event = Took (input_of input)
 
     abbrev pub at_run : agents.Run (Unit {0})
@@ -95,7 +95,7 @@ module _ (go_on : EventsGoOn) (adds : EventsAddThis) (says : StepsSayWhatTheyTel
     sheets_are = (adds W.settings run.node run.state).chunks event
 
     -- the agent follows on
-    pub agent_stands : (agent : Keeping (Unit {0})) → Follows agent (after_input at_run input) → AgentStands W.settings (next event) agent
+    pub agent_stands : (agent : PlainAgent (Unit {0})) → Follows agent (after_input at_run input) → FollowedAgentStands W.settings (next event) agent
     agent_stands agent follows =
         let a = r.stands.agent in
         record {
@@ -113,7 +113,7 @@ module _ (go_on : EventsGoOn) (adds : EventsAddThis) (says : StepsSayWhatTheyTel
         (says W.settings run.node run.state).inputs (input_of input)
         ∙ ap (λ (t : Option Told). run.state.said ++ option_to_list t) (sym (tells ∙ ap (λ (s : AgentState). told_by W.settings run.node s (input_of input)) (sym r.stands.agent.comes)))
 
-    pub performed : (f' : Follower) (told : Option Told) → Follows f'.agent (after_input at_run input) → told ≡ told_in at_run input → f'.said.items ≡ f.said.items ++ option_to_list told → f'.clients ≡ f.clients → f'.asked ≡ f.asked → f'.gives ≡ f.gives
+    pub performed : (f' : FollowedAgent) (told : Option Told) → Follows f'.agent (after_input at_run input) → told ≡ told_in at_run input → f'.said.items ≡ f.said.items ++ option_to_list told → f'.clients ≡ f.clients → f'.asked ≡ f.asked → f'.gives ≡ f.gives
         → HasPerformed W J heard run step f'
     performed f' told follows tells said clients asked gives =
         record {
@@ -134,7 +134,7 @@ module _ (go_on : EventsGoOn) (adds : EventsAddThis) (says : StepsSayWhatTheyTel
 
   -- ---- an offer was made
 
-  module _ (f : Follower) (s : Stands W J run run.state.log f) where
+  module _ (f : FollowedAgent) (s : FollowedNodeStands W J run run.state.log f) where
     abbrev pub before : agents.Run (Unit {0})
     before = agent_run W.settings run s.agent.buffers
 
@@ -142,10 +142,10 @@ module _ (go_on : EventsGoOn) (adds : EventsAddThis) (says : StepsSayWhatTheyTel
     hand_is = ap (λ (s : AgentState). s.hand) (sym s.agent.comes)
 
     -- nothing is offered where the hand is empty
-    pub none_offered : (agent : Keeping (Unit {0})) → Follows agent (after_offer before) → (state_of before).hand ≡ [] → (f' : Follower) → f' ≡ record f { agent = agent } → Stands W J run run.state.log f'
+    pub none_offered : (agent : PlainAgent (Unit {0})) → Follows agent (after_offer before) → (state_of before).hand ≡ [] → (f' : FollowedAgent) → f' ≡ record f { agent = agent } → FollowedNodeStands W J run run.state.log f'
     none_offered agent follows empty f' is =
         let none : first_place (state_of before) ≡ None = ap (λ (l : List ℕ). slice_get l 0) empty in
-        subst (Stands W J run run.state.log) (sym is)
+        subst (FollowedNodeStands W J run run.state.log) (sym is)
         (record {
           sends = s.sends;
           clients = s.clients;
@@ -191,7 +191,7 @@ module _ (go_on : EventsGoOn) (adds : EventsAddThis) (says : StepsSayWhatTheyTel
         go (Some place) e is = record { place = place; first = e; there = sym is }
 
     module _ (buffer : Unleased) (o : IsOffered buffer) where
-      pub was_offered : (agent : Keeping (Unit {0})) → Follows agent (after_offer before) → Knows agent (λ run. IsSome run.offered)
+      pub was_offered : (agent : PlainAgent (Unit {0})) → Follows agent (after_offer before) → Knows agent (λ run. IsSome run.offered)
       was_offered agent follows = λ working. (after_offer before, follows, subst (λ (p : Option ℕ). IsSome p) (sym (ap (λ (l : List ℕ). slice_get l 0) hand_is ∙ o.first)) refl)
 
       pub has_page : IsSome buffer.chunk.page
@@ -223,8 +223,8 @@ module _ (go_on : EventsGoOn) (adds : EventsAddThis) (says : StepsSayWhatTheyTel
       asks_none (Missed stamp) = refl
       asks_none Unread = refl
 
-      pub answered : (answer : Answered) (agent : Keeping (Unit {0})) → Follows agent (agent_run W.settings (next (Gave answer)) s.agent.buffers) → (f' : Follower) → f'.agent ≡ agent → f'.clients ≡ f.clients → f'.said ≡ f.said → f'.asked ≡ f.asked
-          → map (named_at (next (Gave answer)).state) (next (Gave answer)).state.given ≡ map (λ page. Some page) f'.gives.items → Stands W J (next (Gave answer)) (next (Gave answer)).state.log f'
+      pub answered : (answer : Answered) (agent : PlainAgent (Unit {0})) → Follows agent (agent_run W.settings (next (Gave answer)) s.agent.buffers) → (f' : FollowedAgent) → f'.agent ≡ agent → f'.clients ≡ f.clients → f'.said ≡ f.said → f'.asked ≡ f.asked
+          → map (named_at (next (Gave answer)).state) (next (Gave answer)).state.given ≡ map (λ page. Some page) f'.gives.items → FollowedNodeStands W J (next (Gave answer)) (next (Gave answer)).state.log f'
       answered answer agent follows f' agent_is clients said asked gives =
           record {
             sends = s.sends;
@@ -234,7 +234,7 @@ module _ (go_on : EventsGoOn) (adds : EventsAddThis) (says : StepsSayWhatTheyTel
             agent =
                 record {
                   buffers = s.agent.buffers;
-                  follows = subst (λ (k : Keeping (Unit {0})). Follows k (agent_run W.settings (next (Gave answer)) s.agent.buffers)) (sym agent_is) follows;
+                  follows = subst (λ (k : PlainAgent (Unit {0})). Follows k (agent_run W.settings (next (Gave answer)) s.agent.buffers)) (sym agent_is) follows;
                   comes = next_comes (Gave answer) s.agent.comes;
                   sheets = s.agent.sheets ∙ sym (sheets_stay answer);
                   paged = s.agent.paged;

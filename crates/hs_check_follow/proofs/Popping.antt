@@ -10,14 +10,14 @@ use Rattle.hs_check_clauses.specs.Finding.{IsFoundClient}
 use Rattle.hs_journal.specs.Books.{client_book_of}
 use Rattle.hs_check_follow.specs.Fillings.{IsFilled, Fills, MayFill}
 use Rattle.hs_check_follow.specs.declared.filling.Filling.{Filling}
-use Rattle.hs_check_follow.specs.declared.sending.Sending.{Sending}
+use Rattle.hs_check_follow.specs.declared.client.FollowedClient.{FollowedClient}
 use Rattle.hs_journal.specs.Views.{PlainJournal}
 use Rattle.hs_journal.specs.declared.journal.Step.{Step}
 use Rattle.hs_journal.specs.declared.journal.Step.TheVariants as steps
 use Rattle.hs_law_journal.specs.Following.{Queue, Chunks, Crumbs, Triggers, takes, taken, NodeRun, next_of}
 use Rattle.hs_law_journal.proofs.Logs.{taken_still}
-use Rattle.hs_law_agent.specs.Stepping.{Event}
-use Rattle.hs_replay_client.specs.Playing.{Unleased}
+use Rattle.hs_law_agent.specs.Stepping.{AgentEvent}
+use Rattle.hs_replay_client.specs.ReplayClients.{Unleased}
 use Rattle.hs_records.specs.Plain.{Operation, PlainWorkload}
 use Rattle.hs_law_sends.specs.OneMore.{items_of}
 use Rattle.hs_law_sends.specs.Sending.{Sent, ClientSends, client_sends, draws_at, node_sends, operations_at, place_of}
@@ -56,7 +56,7 @@ none_left items k e =
 own_is : (W : PlainWorkload) (J : PlainJournal) (node client k : ℕ) (f : Filling) → FillsAt W J node client k f → own_operations W f ≡ operations_at W (place_of W.settings.clients node client)
 own_is W J node client k f fills = ap (λ (c : ClientId). operations_at W (place_of W.settings.clients c.node c.number)) fills.client_is
 
-may_fill : (W : PlainWorkload) (J : PlainJournal) (node : ℕ) (log : List Step) (client : ℕ) (s : Sending) → ClientStands W J node log client s → MayFillNext W s
+may_fill : (W : PlainWorkload) (J : PlainJournal) (node : ℕ) (log : List Step) (client : ℕ) (s : FollowedClient) → ClientStands W J node log client s → MayFillNext W s
 may_fill W J node log client s stands =
     let place = place_of W.settings.clients node client in
     let c : ClientId = record { node = node; number = client } in
@@ -67,7 +67,7 @@ may_fill W J node log client s stands =
           (W.settings, c, draws_at J place, taken (Chunks client) log, refl, stands.chunks);
     }
 
-pub may_fill_any : (W : PlainWorkload) (J : PlainJournal) (node : ℕ) (log : List Step) (clients : List Sending) → ClientsStand W J node log clients → MayFillAny W clients
+pub may_fill_any : (W : PlainWorkload) (J : PlainJournal) (node : ℕ) (log : List Step) (clients : List FollowedClient) → ClientsStand W J node log clients → MayFillAny W clients
 may_fill_any W J node log clients stand = λ client s at. may_fill W J node log client s (stand.each client s at)
 
 -- the next chunk of a client, or that there is none
@@ -77,7 +77,7 @@ FillsThere W J node client k answer f =
     (λ buffer. IsFilled W.settings (record { node = node; number = client }) (operations_at W (place_of W.settings.clients node client)) (draws_at J (place_of W.settings.clients node client)) k buffer.chunk
     × FillsAt W J node client (k + 1) f)
 
-pub fills_there : (W : PlainWorkload) (J : PlainJournal) (node : ℕ) (log : List Step) (client : ℕ) (s : Sending) (answer : Option Unleased) (s' : Sending) → ClientStands W J node log client s → PopsChunk W s answer s'
+pub fills_there : (W : PlainWorkload) (J : PlainJournal) (node : ℕ) (log : List Step) (client : ℕ) (s : FollowedClient) (answer : Option Unleased) (s' : FollowedClient) → ClientStands W J node log client s → PopsChunk W s answer s'
     → FillsThere W J node client (taken (Chunks client) log) answer s'.chunks
 fills_there W J node log client s answer s' stands pops =
     let k = taken (Chunks client) log in
@@ -88,7 +88,7 @@ fills_there W J node log client s answer s' stands pops =
 
 module _ (W : PlainWorkload) (J : PlainJournal) (node : ℕ) (log : List Step) where
   -- a client where a step takes as much from each of its queues
-  pub client_as : (step : Step) (client : ℕ) (s : Sending) → takes (Chunks client) step ≡ false → takes (Crumbs client) step ≡ false → takes (Triggers client) step ≡ false → ClientStands W J node log client s
+  pub client_as : (step : Step) (client : ℕ) (s : FollowedClient) → takes (Chunks client) step ≡ false → takes (Crumbs client) step ≡ false → takes (Triggers client) step ≡ false → ClientStands W J node log client s
       → ClientStands W J node (log ++ step ∷ []) client s
   client_as step client s a b c stands =
       let sends = client_sends W J node client in
@@ -102,7 +102,7 @@ module _ (W : PlainWorkload) (J : PlainJournal) (node : ℕ) (log : List Step) w
       }
 
   -- all clients where a step takes from none
-  pub clients_as : (step : Step) (clients : List Sending) → ((client : ℕ) → (takes (Chunks client) step ≡ false) × (takes (Crumbs client) step ≡ false) × (takes (Triggers client) step ≡ false)) → ClientsStand W J node log clients
+  pub clients_as : (step : Step) (clients : List FollowedClient) → ((client : ℕ) → (takes (Chunks client) step ≡ false) × (takes (Crumbs client) step ≡ false) × (takes (Triggers client) step ≡ false)) → ClientsStand W J node log clients
       → ClientsStand W J node (log ++ step ∷ []) clients
   clients_as step clients none stand =
       record {
@@ -111,7 +111,7 @@ module _ (W : PlainWorkload) (J : PlainJournal) (node : ℕ) (log : List Step) w
       }
 
   -- one client moved, and a step takes from no other
-  pub one_moves : (step : Step) (client : ℕ) (clients : List Sending) (before now : Sending) → slice_get clients client ≡ Some before
+  pub one_moves : (step : Step) (client : ℕ) (clients : List FollowedClient) (before now : FollowedClient) → slice_get clients client ≡ Some before
       → ((other : ℕ) → (client ≡ other → ⊥) → (takes (Chunks other) step ≡ false) × (takes (Crumbs other) step ≡ false) × (takes (Triggers other) step ≡ false)) → ClientStands W J node (log ++ step ∷ []) client now
       → ClientsStand W J node log clients → ClientsStand W J node (log ++ step ∷ []) (set clients client now)
   one_moves step client clients before now stood others moved stand =
@@ -120,13 +120,13 @@ module _ (W : PlainWorkload) (J : PlainJournal) (node : ℕ) (log : List Step) w
         each =
             λ other s at.
             elim (get_set_cases clients client other before now s stood at) [
-              | inl h ↦ subst (λ (s : Sending). ClientStands W J node (log ++ step ∷ []) other s) h.1 (subst (λ c. ClientStands W J node (log ++ step ∷ []) c now) h.0 moved)
+              | inl h ↦ subst (λ (s : FollowedClient). ClientStands W J node (log ++ step ∷ []) other s) h.1 (subst (λ c. ClientStands W J node (log ++ step ∷ []) c now) h.0 moved)
               | inr h ↦ let same = others other h.0 in client_as step other s same.0 same.1 same.2 (stand.each other s h.1)
             ];
       }
 
   -- one client became another that has the same
-  pub one_same : (client : ℕ) (clients : List Sending) (before now : Sending) → slice_get clients client ≡ Some before → ClientStands W J node log client now → ClientsStand W J node log clients
+  pub one_same : (client : ℕ) (clients : List FollowedClient) (before now : FollowedClient) → slice_get clients client ≡ Some before → ClientStands W J node log client now → ClientsStand W J node log clients
       → ClientsStand W J node log (set clients client now)
   one_same client clients before now stood same stand =
       record {
@@ -134,12 +134,12 @@ module _ (W : PlainWorkload) (J : PlainJournal) (node : ℕ) (log : List Step) w
         each =
             λ other s at.
             elim (get_set_cases clients client other before now s stood at) [
-              | inl h ↦ subst (λ (s : Sending). ClientStands W J node log other s) h.1 (subst (λ c. ClientStands W J node log c now) h.0 same)
+              | inl h ↦ subst (λ (s : FollowedClient). ClientStands W J node log other s) h.1 (subst (λ c. ClientStands W J node log c now) h.0 same)
               | inr h ↦ stand.each other s h.1
             ];
       }
 
-  pub client_same : (client : ℕ) (s s' : Sending) → FillsAt W J node client (taken (Chunks client) log) s'.chunks → s'.crumbs.items ≡ s.crumbs.items → s'.triggers.items ≡ s.triggers.items → SameBeside s s' → ClientStands W J node log client s
+  pub client_same : (client : ℕ) (s s' : FollowedClient) → FillsAt W J node client (taken (Chunks client) log) s'.chunks → s'.crumbs.items ≡ s.crumbs.items → s'.triggers.items ≡ s.triggers.items → SameBeside s s' → ClientStands W J node log client s
       → ClientStands W J node log client s'
   client_same client s s' chunks crumbs triggers beside stands =
       let sends = client_sends W J node client in
@@ -155,7 +155,7 @@ module _ (W : PlainWorkload) (J : PlainJournal) (node : ℕ) (log : List Step) w
         book = ap client_book_of beside.book ∙ stands.book;
       }
 
-  module _ (client : ℕ) (s s' : Sending) (stands : ClientStands W J node log client s) where
+  module _ (client : ℕ) (s s' : FollowedClient) (stands : ClientStands W J node log client s) where
     own : nat_eq client client ≡ true
     own = eq-eqb client client refl
 
@@ -229,7 +229,7 @@ module _ (W : PlainWorkload) (J : PlainJournal) (run : NodeRun) (sends_are : run
   pub no_sends : (client : ℕ) → W.settings.clients ≤ client → slice_get run.sends client ≡ None
   no_sends client high = ap (λ (s : List ClientSends). slice_get s client) sends_are ∙ range_past (client_sends W J run.node) 0 W.settings.clients client high
 
-  module _ {A : Type 0} (f : A → Event) (queue : Queue) (pick : ClientSends → List (Sent A)) (client : ℕ) where
+  module _ {A : Type 0} (f : A → AgentEvent) (queue : Queue) (pick : ClientSends → List (Sent A)) (client : ℕ) where
     pub event_there : (item : Sent A) → client < W.settings.clients → slice_get (pick (client_sends W J run.node client)) (taken queue run.state.log) ≡ Some item
         → option_and_then (λ (s : ClientSends). option_map f (next_of queue run.state (pick s))) (slice_get run.sends client) ≡ Some (f item.item)
     event_there item low found =

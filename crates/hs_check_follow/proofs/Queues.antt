@@ -6,7 +6,7 @@ use Rattle.std.proofs.lemmas.Option.{same_Some}
 use Rattle.std.specs.Prelude.{slice_get, nat_lt}
 use Rattle.hs_lists.proofs.Parts.{take_length}
 use Rattle.hs_check_clauses.specs.Finding.{numbers_of}
-use Rattle.hs_replay_client.specs.Playing.{Playing}
+use Rattle.hs_replay_client.specs.ReplayClients.{PlainReplayClient}
 use Rattle.hs_replay_client.proofs.Lists.{later_none}
 use Rattle.hs_law_sends.specs.OneMore.{items_of}
 use Rattle.hs_law_sends.specs.Order.{AreInOrder}
@@ -60,13 +60,13 @@ module _ {A : Type 0} where
   -- ---- amid the items of an operation
 
   -- So many items were taken, of those that were sent by now; they have all that earlier operations sent.
-  pub record Midway (At : ℕ → Playing → Type 0) (Holds : List (Sent A) → Type 0) (items : List (Sent A)) (number : ℕ) (player : Playing) : Type 0 where
+  pub record Midway (At : ℕ → PlainReplayClient → Type 0) (Holds : List (Sent A) → Type 0) (items : List (Sent A)) (number : ℕ) (player : PlainReplayClient) : Type 0 where
     pub count : ℕ
     pub at : At count player
     pub least : count_within number items ≤ count
     pub holds : Holds (take count (sent_within (number + 1) items))
 
-  pub begins : (At : ℕ → Playing → Type 0) (Holds : List (Sent A) → Type 0) (items : List (Sent A)) (number : ℕ) (player : Playing) → AreInOrder 0 items → Was At Holds items number player
+  pub begins : (At : ℕ → PlainReplayClient → Type 0) (Holds : List (Sent A) → Type 0) (items : List (Sent A)) (number : ℕ) (player : PlainReplayClient) → AreInOrder 0 items → Was At Holds items number player
       → Midway At Holds items number player
   begins At Holds items number player order was =
       record {
@@ -76,7 +76,7 @@ module _ {A : Type 0} where
         holds = subst Holds (sym (first_within number 0 items order)) was.holds;
       }
 
-  pub goes_on : (At : ℕ → Playing → Type 0) (Holds Next : List (Sent A) → Type 0) (items : List (Sent A)) (number : ℕ) (player next : Playing) (item : Sent A) → AreInOrder 0 items
+  pub goes_on : (At : ℕ → PlainReplayClient → Type 0) (Holds Next : List (Sent A) → Type 0) (items : List (Sent A)) (number : ℕ) (player next : PlainReplayClient) (item : Sent A) → AreInOrder 0 items
       → (m : Midway At Holds items number player) → slice_get (sent_within (number + 1) items) m.count ≡ Some item → At (m.count + 1) next
       → ((front : List (Sent A)) → item.number ≡ number → Holds front → Next (front ++ item ∷ [])) → Midway At Next items number next
   goes_on At Holds Next items number player next item order m found at joins =
@@ -89,7 +89,7 @@ module _ {A : Type 0} where
             (joins (take m.count (sent_within (number + 1) items)) (at_is number 0 items m.count item order found m.least) m.holds);
       }
 
-  pub ends : (At : ℕ → Playing → Type 0) (Holds : List (Sent A) → Type 0) (items : List (Sent A)) (number : ℕ) (player next : Playing) (m : Midway At Holds items number player)
+  pub ends : (At : ℕ → PlainReplayClient → Type 0) (Holds : List (Sent A) → Type 0) (items : List (Sent A)) (number : ℕ) (player next : PlainReplayClient) (m : Midway At Holds items number player)
       → m.count ≡ count_within (number + 1) items → At m.count next → Is At Holds items number next
   ends At Holds items number player next m all at =
       record {
@@ -98,7 +98,7 @@ module _ {A : Type 0} where
       }
 
   -- the operation sends none
-  pub none_more : (At : ℕ → Playing → Type 0) (Holds : List (Sent A) → Type 0) (items : List (Sent A)) (number : ℕ) (player : Playing) → AreInOrder 0 items → Was At Holds items number player
+  pub none_more : (At : ℕ → PlainReplayClient → Type 0) (Holds : List (Sent A) → Type 0) (items : List (Sent A)) (number : ℕ) (player : PlainReplayClient) → AreInOrder 0 items → Was At Holds items number player
       → count_within number items ≡ count_within (number + 1) items → Is At Holds items number player
   none_more At Holds items number player order was all =
       record {

@@ -13,47 +13,47 @@ use Rattle.hs_base.specs.declared.told.Crumb.{Crumb}
 use Rattle.hs_base.specs.declared.told.Trigger.{Trigger}
 use Rattle.hs_coord.specs.Following.{Messages}
 use Rattle.hs_check_follow.specs.declared.filling.Filling.{Filling}
-use Rattle.hs_check_follow.specs.declared.sending.Sending.{Sending}
+use Rattle.hs_check_follow.specs.declared.client.FollowedClient.{FollowedClient}
 use Rattle.hs_journal.specs.Views.{PlainJournal}
 use Rattle.hs_journal.specs.declared.journal.Step.{Step}
 use Rattle.hs_journal.specs.declared.journal.Step.TheVariants as steps
 use Rattle.hs_law_journal.specs.Following.{Asks, Chunks, Crumbs, Triggers, takes, taken, asks_to, NodeRun}
 use Rattle.hs_law_journal.proofs.Logs.{taken_still}
 use Rattle.hs_law_agent.specs.Stepping.{Took, Chunk, Crumbed, Triggered, Asked}
-use Rattle.hs_replay_client.specs.Playing.{Unleased}
+use Rattle.hs_replay_client.specs.ReplayClients.{Unleased}
 use Rattle.hs_records.specs.Plain.{PlainWorkload}
 use Rattle.hs_law_sends.specs.Sending.{ClientSends, client_sends}
 use Rattle.hs_words.specs.Buffers.{buffer_of}
 use Rattle.hs_words.specs.Pages.{Sheet}
 use Rattle.hs_words.specs.declared.token.Held.{Held}
 use Rattle.hs_check_follow.specs.Clients.{ClientsStand, FillsAt, IsNoClient, Pops, PopsChunk, PopsCrumb, PopsTrigger}
-use Rattle.hs_check_follow.specs.Nodes.{IsNotReady, IsReadied, Stands}
-use Rattle.hs_check_follow.specs.declared.follower.Follower.{Follower}
+use Rattle.hs_check_follow.specs.Nodes.{IsNotReady, IsReadied, FollowedNodeStands}
+use Rattle.hs_check_follow.specs.declared.agent.FollowedAgent.{FollowedAgent}
 use Rattle.hs_check_follow.proofs.Counting.{taken_once}
 use Rattle.hs_check_follow.proofs.Popping.{next_item, none_left, fills_there, clients_as, one_moves, one_same, client_same, chunk_gone, crumb_gone, trigger_gone, event_there, event_none, event_past}
 
-module _ (W : PlainWorkload) (J : PlainJournal) (heard : Messages) (run : NodeRun) (f : Follower) (s : Stands W J run run.state.log f) where
+module _ (W : PlainWorkload) (J : PlainJournal) (heard : Messages) (run : NodeRun) (f : FollowedAgent) (s : FollowedNodeStands W J run run.state.log f) where
   -- the node with other queues, or with the count of one ask more
-  abbrev pub with_clients : Listing Sending → Follower
+  abbrev pub with_clients : Listing FollowedClient → FollowedAgent
   with_clients clients = record f { clients = clients }
 
-  low_client : (client : ℕ) (x : Sending) → slice_get f.clients.items client ≡ Some x → client < W.settings.clients
+  low_client : (client : ℕ) (x : FollowedClient) → slice_get f.clients.items client ≡ Some x → client < W.settings.clients
   low_client client x at = let within = slice_get_within f.clients.items client x at in let count = s.clients.count in omega (arith, within, count)
 
   -- ---- where nothing is taken
 
-  same_stands : (clients : Listing Sending) → ClientsStand W J run.node run.state.log clients.items → Stands W J run run.state.log (with_clients clients)
+  same_stands : (clients : Listing FollowedClient) → ClientsStand W J run.node run.state.log clients.items → FollowedNodeStands W J run run.state.log (with_clients clients)
   same_stands clients stand = record { sends = s.sends; clients = stand; agent = s.agent; asked = s.asked; said = s.said; gives = s.gives }
 
-  no_client : (client : ℕ) (clients : Listing Sending) → IsNoClient client f.clients.items clients.items → Stands W J run run.state.log (with_clients clients)
+  no_client : (client : ℕ) (clients : Listing FollowedClient) → IsNoClient client f.clients.items clients.items → FollowedNodeStands W J run run.state.log (with_clients clients)
   no_client client clients gap = same_stands clients (subst (ClientsStand W J run.node run.state.log) (sym gap.same) s.clients)
 
-  high_client : (client : ℕ) (clients : Listing Sending) → IsNoClient client f.clients.items clients.items → W.settings.clients ≤ client
+  high_client : (client : ℕ) (clients : Listing FollowedClient) → IsNoClient client f.clients.items clients.items → W.settings.clients ≤ client
   high_client client clients gap = let high = gap.high in let count = s.clients.count in omega (arith, high, count)
 
   -- ---- where something is
 
-  moved_stands : (step : Step) (clients : Listing Sending) → takes Asks step ≡ false → ClientsStand W J run.node (run.state.log ++ step ∷ []) clients.items → Stands W J run (run.state.log ++ step ∷ []) (with_clients clients)
+  moved_stands : (step : Step) (clients : Listing FollowedClient) → takes Asks step ≡ false → ClientsStand W J run.node (run.state.log ++ step ∷ []) clients.items → FollowedNodeStands W J run (run.state.log ++ step ∷ []) (with_clients clients)
   moved_stands step clients other stand =
       record {
         sends = s.sends;
@@ -66,7 +66,7 @@ module _ (W : PlainWorkload) (J : PlainJournal) (heard : Messages) (run : NodeRu
 
   -- ---- chunks
 
-  pub chunk_readied : {g : _} (client : ℕ) (held : Held (Unit {0}) g) (clients : Listing Sending) → Pops (PopsChunk W) client f.clients.items (Some (buffer_of held)) clients.items → IsReadied {g = g} W J heard run (steps.Chunk client) (inputs.Chunk client held) (with_clients clients)
+  pub chunk_readied : {g : _} (client : ℕ) (held : Held (Unit {0}) g) (clients : Listing FollowedClient) → Pops (PopsChunk W) client f.clients.items (Some (buffer_of held)) clients.items → IsReadied {g = g} W J heard run (steps.Chunk client) (inputs.Chunk client held) (with_clients clients)
   chunk_readied client held clients (inl gap) = let never : Some (buffer_of held) ≡ None = gap.0 in absurd cc
   chunk_readied {g = g} client held clients (inr ch) =
       let stands = s.clients.each client ch.before ch.stood in
@@ -87,7 +87,7 @@ module _ (W : PlainWorkload) (J : PlainJournal) (heard : Messages) (run : NodeRu
         chunk = (subst (λ (p : Option Sheet). IsSome p) (sym next.page) refl, next.size);
       }
 
-  pub no_chunk_readied : (client : ℕ) (clients : Listing Sending) → Pops {X = Unleased} (PopsChunk W) client f.clients.items None clients.items → IsNotReady W J heard run (steps.Chunk client) (with_clients clients)
+  pub no_chunk_readied : (client : ℕ) (clients : Listing FollowedClient) → Pops {X = Unleased} (PopsChunk W) client f.clients.items None clients.items → IsNotReady W J heard run (steps.Chunk client) (with_clients clients)
   no_chunk_readied client clients (inl gap) = record { stands = no_client client clients gap.1; none = event_past W J run s.sends (λ (sheet : Sheet). Took (Chunk client sheet)) (Chunks client) (λ (s : ClientSends). s.chunks) client (high_client client clients gap.1) }
   no_chunk_readied client clients (inr ch) =
       let stands = s.clients.each client ch.before ch.stood in
@@ -101,7 +101,7 @@ module _ (W : PlainWorkload) (J : PlainJournal) (heard : Messages) (run : NodeRu
 
   -- ---- crumbs
 
-  pub crumb_readied : {g : _} (client : ℕ) (crumb : Crumb) (clients : Listing Sending) → Pops PopsCrumb client f.clients.items (Some (crumb)) clients.items → IsReadied {g = g} W J heard run (steps.Crumb client) (inputs.Crumb client crumb) (with_clients clients)
+  pub crumb_readied : {g : _} (client : ℕ) (crumb : Crumb) (clients : Listing FollowedClient) → Pops PopsCrumb client f.clients.items (Some (crumb)) clients.items → IsReadied {g = g} W J heard run (steps.Crumb client) (inputs.Crumb client crumb) (with_clients clients)
   crumb_readied client crumb clients (inl gap) = let never : Some (crumb) ≡ None = gap.0 in absurd cc
   crumb_readied {g = g} client crumb clients (inr ch) =
       let stands = s.clients.each client ch.before ch.stood in
@@ -120,7 +120,7 @@ module _ (W : PlainWorkload) (J : PlainJournal) (heard : Messages) (run : NodeRu
         chunk = tt;
       }
 
-  pub no_crumb_readied : (client : ℕ) (clients : Listing Sending) → Pops {X = Crumb} PopsCrumb client f.clients.items None clients.items → IsNotReady W J heard run (steps.Crumb client) (with_clients clients)
+  pub no_crumb_readied : (client : ℕ) (clients : Listing FollowedClient) → Pops {X = Crumb} PopsCrumb client f.clients.items None clients.items → IsNotReady W J heard run (steps.Crumb client) (with_clients clients)
   no_crumb_readied client clients (inl gap) = record { stands = no_client client clients gap.1; none = event_past W J run s.sends (λ (crumb : Crumb). Took (Crumbed client crumb)) (Crumbs client) (λ (s : ClientSends). s.crumbs) client (high_client client clients gap.1) }
   no_crumb_readied client clients (inr ch) =
       let stands = s.clients.each client ch.before ch.stood in
@@ -135,7 +135,7 @@ module _ (W : PlainWorkload) (J : PlainJournal) (heard : Messages) (run : NodeRu
 
   -- ---- triggers
 
-  pub trigger_readied : {g : _} (client : ℕ) (trigger : Trigger) (clients : Listing Sending) → Pops PopsTrigger client f.clients.items (Some (trigger)) clients.items → IsReadied {g = g} W J heard run (steps.Trigger client) (inputs.Trigger client trigger) (with_clients clients)
+  pub trigger_readied : {g : _} (client : ℕ) (trigger : Trigger) (clients : Listing FollowedClient) → Pops PopsTrigger client f.clients.items (Some (trigger)) clients.items → IsReadied {g = g} W J heard run (steps.Trigger client) (inputs.Trigger client trigger) (with_clients clients)
   trigger_readied client trigger clients (inl gap) = let never : Some (trigger) ≡ None = gap.0 in absurd cc
   trigger_readied {g = g} client trigger clients (inr ch) =
       let stands = s.clients.each client ch.before ch.stood in
@@ -154,7 +154,7 @@ module _ (W : PlainWorkload) (J : PlainJournal) (heard : Messages) (run : NodeRu
         chunk = tt;
       }
 
-  pub no_trigger_readied : (client : ℕ) (clients : Listing Sending) → Pops {X = Trigger} PopsTrigger client f.clients.items None clients.items → IsNotReady W J heard run (steps.Trigger client) (with_clients clients)
+  pub no_trigger_readied : (client : ℕ) (clients : Listing FollowedClient) → Pops {X = Trigger} PopsTrigger client f.clients.items None clients.items → IsNotReady W J heard run (steps.Trigger client) (with_clients clients)
   no_trigger_readied client clients (inl gap) = record { stands = no_client client clients gap.1; none = event_past W J run s.sends (λ (trigger : Trigger). Took (Triggered client trigger)) (Triggers client) (λ (s : ClientSends). s.triggers) client (high_client client clients gap.1) }
   no_trigger_readied client clients (inr ch) =
       let stands = s.clients.each client ch.before ch.stood in
@@ -169,10 +169,10 @@ module _ (W : PlainWorkload) (J : PlainJournal) (heard : Messages) (run : NodeRu
 
   -- ---- by the step
 
-  pub readied_at : {g : _} {input : Input (Unit {0}) g} {f' : Follower} (step step' : Step) → step ≡ step' → IsReadied W J heard run step' input f' → IsReadied W J heard run step input f'
+  pub readied_at : {g : _} {input : Input (Unit {0}) g} {f' : FollowedAgent} (step step' : Step) → step ≡ step' → IsReadied W J heard run step' input f' → IsReadied W J heard run step input f'
   readied_at {g = g} {input = input} {f' = f'} step step' same r = subst (λ (step : Step). IsReadied W J heard run step input f') (sym same) r
 
-  pub not_ready_at : {f' : Follower} (step step' : Step) → step ≡ step' → IsNotReady W J heard run step' f' → IsNotReady W J heard run step f'
+  pub not_ready_at : {f' : FollowedAgent} (step step' : Step) → step ≡ step' → IsNotReady W J heard run step' f' → IsNotReady W J heard run step f'
   not_ready_at {f' = f'} step step' same r = subst (λ (step : Step). IsNotReady W J heard run step f') (sym same) r
 
   -- ---- asks and turns

@@ -15,9 +15,9 @@ use Rattle.hs_law_journal.specs.Orders.{Leads, Stays, Goes, Performs, IsAtRest, 
 use Rattle.hs_law_journal.specs.Fitting.{RunsFit, MayTake}
 use Rattle.hs_records.specs.Plain.{PlainSettings, PlainWorkload}
 use Rattle.hs_check_follow.specs.Whole.{NodeAt, NodesAt, AllAt, MayStepAt, HasStepped, HasNotStepped, MayHearAt, HasHeard, HasNotHeard, HearsOn, StepsOn, NodeStepped, NodeNotReady, NodeSteppedIf, NothingIsReady, SteppedAnyIf, left_of, left_steps}
-use Rattle.hs_check_follow.specs.declared.following.Following.{Following}
-use Rattle.hs_check_follow.specs.declared.hearing.Hearing.{Hearing}
-use Rattle.hs_check_follow.specs.declared.tracked.Tracked.{Tracked}
+use Rattle.hs_check_follow.specs.declared.run.FollowedRun.{FollowedRun}
+use Rattle.hs_check_follow.specs.declared.coordinator.FollowedCoordinator.{FollowedCoordinator}
+use Rattle.hs_check_follow.specs.declared.node.FollowedNode.{FollowedNode}
 use Rattle.hs_check_follow.proofs.Tracking.{steps_fall, steps_stay}
 
 -- ---- runs
@@ -36,16 +36,16 @@ number_is runs W J run leads n node at =
     let is = range_found 0 W.settings.nodes n node.node found in
     omega (arith, is)
 
-module _ (fit : RunsFit) (runs : RunsAreOfTheJournal) (W : PlainWorkload) (J : PlainJournal) (run : Run) (nodes : List Tracked) (h : Hearing) (a : AllAt W J run nodes h) where
+module _ (fit : RunsFit) (runs : RunsAreOfTheJournal) (W : PlainWorkload) (J : PlainJournal) (run : Run) (nodes : List FollowedNode) (h : FollowedCoordinator) (a : AllAt W J run nodes h) where
   number : (n : ℕ) (node : NodeRun) → slice_get run.nodes n ≡ Some node → node.node ≡ n
   number = number_is runs W J run a.leads
 
-  node_there : (n : ℕ) (t : Tracked) → slice_get nodes n ≡ Some t → (node : NodeRun) × (slice_get run.nodes n ≡ Some node)
+  node_there : (n : ℕ) (t : FollowedNode) → slice_get nodes n ≡ Some t → (node : NodeRun) × (slice_get run.nodes n ≡ Some node)
   node_there n t at = let low = slice_get_within nodes n t at in let count = a.nodes_are.count in get_there run.nodes n (omega (arith, low, count))
 
   -- ---- what a node's next step needs
 
-  pub may_step : (n : ℕ) (t : Tracked) → slice_get nodes n ≡ Some t → (log : List Step) → slice_get J.logs n ≡ Some log → (list : Listing Ask) → slice_get h.asks.items n ≡ Some list
+  pub may_step : (n : ℕ) (t : FollowedNode) → slice_get nodes n ≡ Some t → (log : List Step) → slice_get J.logs n ≡ Some log → (list : Listing Ask) → slice_get h.asks.items n ≡ Some list
       → (node : NodeRun) × (slice_get run.nodes n ≡ Some node) × MayStepAt W J run.heard node log list.items t
   may_step n t at log log_there list list_there =
       let found = node_there n t at in
@@ -66,8 +66,8 @@ module _ (fit : RunsFit) (runs : RunsAreOfTheJournal) (W : PlainWorkload) (J : P
 
   -- ---- a node went on
 
-  module _ (n : ℕ) (t t' : Tracked) (at : slice_get nodes n ≡ Some t) (node : NodeRun) (there : slice_get run.nodes n ≡ Some node) where
-    nodes_set : (run' : Run) (nodes' : List Tracked) (next : NodeRun) → run'.nodes ≡ set run.nodes n next → nodes' ≡ set nodes n t' → NodeAt W J next t' → NodesAt W J run' nodes'
+  module _ (n : ℕ) (t t' : FollowedNode) (at : slice_get nodes n ≡ Some t) (node : NodeRun) (there : slice_get run.nodes n ≡ Some node) where
+    nodes_set : (run' : Run) (nodes' : List FollowedNode) (next : NodeRun) → run'.nodes ≡ set run.nodes n next → nodes' ≡ set nodes n t' → NodeAt W J next t' → NodesAt W J run' nodes'
     nodes_set run' nodes' next runs_are nodes_are now =
         record {
           count =
@@ -78,7 +78,7 @@ module _ (fit : RunsFit) (runs : RunsAreOfTheJournal) (W : PlainWorkload) (J : P
           many = ap length nodes_are ∙ length-set nodes n t' ∙ a.nodes_are.many;
           each =
               λ i r u r_at u_at.
-              elim (get_set_cases nodes n i t t' u at (ap (λ (l : List Tracked). slice_get l i) (sym nodes_are) ∙ u_at)) as (λ _. NodeAt W J r u) [
+              elim (get_set_cases nodes n i t t' u at (ap (λ (l : List FollowedNode). slice_get l i) (sym nodes_are) ∙ u_at)) as (λ _. NodeAt W J r u) [
                 | inl mine ↦
                     elim (get_set_cases run.nodes n i node next r there (ap (λ (l : List NodeRun). slice_get l i) (sym runs_are) ∙ r_at)) as (λ _. NodeAt W J r u) [
                       | inl same ↦ subst (λ (r : NodeRun). NodeAt W J r u) same.1 (subst (NodeAt W J next) mine.1 now)
@@ -92,7 +92,7 @@ module _ (fit : RunsFit) (runs : RunsAreOfTheJournal) (W : PlainWorkload) (J : P
               ];
         }
 
-    pub node_went : (nodes' : List Tracked) → nodes' ≡ set nodes n t' → (s : HasStepped W J run.heard node t') → (next : Run) × Performs W.settings run next × AllAt W J next nodes' h
+    pub node_went : (nodes' : List FollowedNode) → nodes' ≡ set nodes n t' → (s : HasStepped W J run.heard node t') → (next : Run) × Performs W.settings run next × AllAt W J next nodes' h
     node_went nodes' nodes_are s =
         let next = with_node run n s.next in
         let performs : Performs W.settings run next = inl (record { place = n; node = node; stepped = s.next; stands = there; ready = s.ready; result = refl }) in (
@@ -107,7 +107,7 @@ module _ (fit : RunsFit) (runs : RunsAreOfTheJournal) (W : PlainWorkload) (J : P
           },
         )
 
-    pub node_stayed : (nodes' : List Tracked) → nodes' ≡ set nodes n t' → HasNotStepped W J run.heard node t' → AllAt W J run nodes' h
+    pub node_stayed : (nodes' : List FollowedNode) → nodes' ≡ set nodes n t' → HasNotStepped W J run.heard node t' → AllAt W J run nodes' h
     node_stayed nodes' nodes_are s =
         record {
           valid = a.valid;
@@ -134,7 +134,7 @@ module _ (fit : RunsFit) (runs : RunsAreOfTheJournal) (W : PlainWorkload) (J : P
         below = λ n node at. (fit W a.valid J run a.leads n node at).told;
       }
 
-  pub heard_more : (h' : Hearing) → HasHeard W J run h' → (next : Run) × Performs W.settings run next × AllAt W J next nodes h'
+  pub heard_more : (h' : FollowedCoordinator) → HasHeard W J run h' → (next : Run) × Performs W.settings run next × AllAt W J next nodes h'
   heard_more h' s =
       let performs : Performs W.settings run s.next = inr s.ready in (
         s.next,
@@ -153,7 +153,7 @@ module _ (fit : RunsFit) (runs : RunsAreOfTheJournal) (W : PlainWorkload) (J : P
         },
       )
 
-  pub heard_nothing : (h' : Hearing) → HasNotHeard W J run h' → ((n : ℕ) (node : NodeRun) → slice_get run.nodes n ≡ Some node → step_node W.settings run.heard node ≡ None) → AllAt W J run nodes h' × IsAtRest W.settings run
+  pub heard_nothing : (h' : FollowedCoordinator) → HasNotHeard W J run h' → ((n : ℕ) (node : NodeRun) → slice_get run.nodes n ≡ Some node → step_node W.settings run.heard node ≡ None) → AllAt W J run nodes h' × IsAtRest W.settings run
   heard_nothing h' s none = (
     record { valid = a.valid; logs = a.logs; leads = a.leads; nodes_are = a.nodes_are; hearing = s.hearing },
     λ next p.
@@ -165,36 +165,36 @@ module _ (fit : RunsFit) (runs : RunsAreOfTheJournal) (W : PlainWorkload) (J : P
 
 -- ---- the whole
 
-module _ (fit : RunsFit) (runs : RunsAreOfTheJournal) (W : PlainWorkload) (J : PlainJournal) (run : Run) (old : Following) (a : AllAt W J run old.nodes.items old.hearing) where
-  pub node_done : (n : ℕ) (t t' : Tracked) → slice_get old.nodes.items n ≡ Some t → (log : List Step) → slice_get J.logs n ≡ Some log → (list : Listing Ask) → slice_get old.hearing.asks.items n ≡ Some list → (done : Bool)
-      → StepsOn W log list.items t t' done → (f : Following) → f.nodes.items ≡ set old.nodes.items n t' → f.hearing ≡ old.hearing → NodeSteppedIf W J run n old f done
+module _ (fit : RunsFit) (runs : RunsAreOfTheJournal) (W : PlainWorkload) (J : PlainJournal) (run : Run) (old : FollowedRun) (a : AllAt W J run old.nodes.items old.hearing) where
+  pub node_done : (n : ℕ) (t t' : FollowedNode) → slice_get old.nodes.items n ≡ Some t → (log : List Step) → slice_get J.logs n ≡ Some log → (list : Listing Ask) → slice_get old.hearing.asks.items n ≡ Some list → (done : Bool)
+      → StepsOn W log list.items t t' done → (f : FollowedRun) → f.nodes.items ≡ set old.nodes.items n t' → f.hearing ≡ old.hearing → NodeSteppedIf W J run n old f done
   node_done n t t' at log log_there list list_there true on f nodes hearing =
       let m = may_step fit runs W J run old.nodes.items old.hearing a n t at log log_there list list_there in
       let s = on.1 J run.heard m.0 m.2 in
       let w = node_went fit runs W J run old.nodes.items old.hearing a n t t' at m.0 m.1 f.nodes.items nodes s in
       let less = steps_fall old.nodes.items J.logs n t t' log at log_there on.0.0 on.0.1 in
-      let left = ap (λ (l : List Tracked). left_steps l J.logs) nodes in
-      let told = ap (λ (h : Hearing). length J.told - h.next) hearing in
+      let left = ap (λ (l : List FollowedNode). left_steps l J.logs) nodes in
+      let told = ap (λ (h : FollowedCoordinator). length J.told - h.next) hearing in
       record { next = w.0; performs = w.1; at = subst (AllAt W J w.0 f.nodes.items) (sym hearing) w.2; falls = omega (arith, less, left, told) }
   node_done n t t' at log log_there list list_there false on f nodes hearing =
       let m = may_step fit runs W J run old.nodes.items old.hearing a n t at log log_there list list_there in
       let s = on.1 J run.heard m.0 m.2 in
       record {
         at = subst (AllAt W J run f.nodes.items) (sym hearing) (node_stayed fit runs W J run old.nodes.items old.hearing a n t t' at m.0 m.1 f.nodes.items nodes s);
-        stays = ap (λ (l : List Tracked). left_steps l J.logs + (length J.told - f.hearing.next)) nodes ∙ ap (λ (h : Hearing). left_steps (set old.nodes.items n t') J.logs + (length J.told - h.next)) hearing
+        stays = ap (λ (l : List FollowedNode). left_steps l J.logs + (length J.told - f.hearing.next)) nodes ∙ ap (λ (h : FollowedCoordinator). left_steps (set old.nodes.items n t') J.logs + (length J.told - h.next)) hearing
             ∙ ap (λ k. k + (length J.told - old.hearing.next)) (steps_stay old.nodes.items J.logs n t t' at on.0);
         count = ap length nodes ∙ length-set old.nodes.items n t';
         none = λ node there. ap (step_node W.settings run.heard) (same_Some node m.0 (sym there ∙ m.1)) ∙ s.none;
       }
 
 -- the first so many nodes were tried, and none was ready
-pub record Tried (W : PlainWorkload) (J : PlainJournal) (run : Run) (first : ℕ) (old f : Following) : Type 0 where
+pub record Tried (W : PlainWorkload) (J : PlainJournal) (run : Run) (first : ℕ) (old f : FollowedRun) : Type 0 where
   pub at : AllAt W J run f.nodes.items f.hearing
   pub none : (n : ℕ) (node : NodeRun) → n < first → slice_get run.nodes n ≡ Some node → step_node W.settings run.heard node ≡ None
   pub stays : left_of J f ≡ left_of J old
   pub count : length f.nodes.items ≡ length old.nodes.items
 
-pub tried_none : (W : PlainWorkload) (J : PlainJournal) (run : Run) (f : Following) → AllAt W J run f.nodes.items f.hearing → Tried W J run 0 f f
+pub tried_none : (W : PlainWorkload) (J : PlainJournal) (run : Run) (f : FollowedRun) → AllAt W J run f.nodes.items f.hearing → Tried W J run 0 f f
 tried_none W J run f at = record { at = at; none = λ n node low there. absurd (omega (arith, low)); stays = refl; count = refl }
 
 pub below_last : (n first : ℕ) → n < first + 1 → (n < first) ⊎ (n ≡ first)
@@ -203,7 +203,7 @@ below_last zero (suc first) low = inl (omega arith)
 below_last (suc n) zero low = absurd (omega (arith, low))
 below_last (suc n) (suc first) low = elim (below_last n first (omega (arith, low))) as (λ _. (suc n < suc first) ⊎ (suc n ≡ suc first)) [ inl less ↦ inl (omega (arith, less)) | inr same ↦ inr (ap suc same) ]
 
-pub tried_more : (W : PlainWorkload) (J : PlainJournal) (run : Run) (first : ℕ) (old middle f : Following) → Tried W J run first old middle → NodeNotReady W J run first middle f → Tried W J run (first + 1) old f
+pub tried_more : (W : PlainWorkload) (J : PlainJournal) (run : Run) (first : ℕ) (old middle f : FollowedRun) → Tried W J run first old middle → NodeNotReady W J run first middle f → Tried W J run (first + 1) old f
 tried_more W J run first old middle f tried new =
     record {
       at = new.at;
@@ -217,24 +217,24 @@ tried_more W J run first old middle f tried new =
       count = new.count ∙ tried.count;
     }
 
-pub stepped_behind : (W : PlainWorkload) (J : PlainJournal) (run : Run) (old middle f : Following) → left_of J middle ≡ left_of J old → NodeStepped W J run middle f → NodeStepped W J run old f
+pub stepped_behind : (W : PlainWorkload) (J : PlainJournal) (run : Run) (old middle f : FollowedRun) → left_of J middle ≡ left_of J old → NodeStepped W J run middle f → NodeStepped W J run old f
 stepped_behind W J run old middle f same s = let less = s.falls in record { next = s.next; performs = s.performs; at = s.at; falls = omega (arith, same, less) }
 
 -- all nodes were tried, and then the coordinator heard, or did not
-pub heard_done : RunsFit → RunsAreOfTheJournal → (W : PlainWorkload) (J : PlainJournal) (run : Run) (old middle : Following) → Tried W J run (length old.nodes.items) old middle → (told : List NodeId) → told ≡ J.told → (h' : Hearing) (done : Bool)
-    → HearsOn told middle.nodes.items middle.hearing h' done → (f : Following) → f.nodes ≡ middle.nodes → f.hearing ≡ h' → SteppedAnyIf W J run old f done
+pub heard_done : RunsFit → RunsAreOfTheJournal → (W : PlainWorkload) (J : PlainJournal) (run : Run) (old middle : FollowedRun) → Tried W J run (length old.nodes.items) old middle → (told : List NodeId) → told ≡ J.told → (h' : FollowedCoordinator) (done : Bool)
+    → HearsOn told middle.nodes.items middle.hearing h' done → (f : FollowedRun) → f.nodes ≡ middle.nodes → f.hearing ≡ h' → SteppedAnyIf W J run old f done
 heard_done fit runs W J run old middle tried told same h' true on f nodes hearing =
     let s = on.1 W J run (may_hear fit runs W J run middle.nodes.items middle.hearing tried.at told same) in
     let w = heard_more fit runs W J run middle.nodes.items middle.hearing tried.at h' s in
     let went = on.0 in
     let long = ap length same in
-    let left = ap (λ (l : Listing Tracked). left_steps l.items J.logs) nodes in
-    let now = ap (λ (h : Hearing). h.next) hearing in
+    let left = ap (λ (l : Listing FollowedNode). left_steps l.items J.logs) nodes in
+    let now = ap (λ (h : FollowedCoordinator). h.next) hearing in
     let before = tried.stays in
     record {
       next = w.0;
       performs = w.1;
-      at = subst (λ (l : Listing Tracked). AllAt W J w.0 l.items f.hearing) (sym nodes) (subst (AllAt W J w.0 middle.nodes.items) (sym hearing) w.2);
+      at = subst (λ (l : Listing FollowedNode). AllAt W J w.0 l.items f.hearing) (sym nodes) (subst (AllAt W J w.0 middle.nodes.items) (sym hearing) w.2);
       falls = omega (arith, went.0, went.1, long, left, now, before);
     }
 heard_done fit runs W J run old middle tried told same h' false on f nodes hearing =
@@ -242,8 +242,8 @@ heard_done fit runs W J run old middle tried told same h' false on f nodes heari
     let long = tried.count in
     let each = tried.at.nodes_are.count in
     let w = heard_nothing fit runs W J run middle.nodes.items middle.hearing tried.at h' s (λ n node there. let low = slice_get_within run.nodes n node there in tried.none n node (omega (arith, low, long, each)) there) in
-    record { at = subst (λ (l : Listing Tracked). AllAt W J run l.items f.hearing) (sym nodes) (subst (AllAt W J run middle.nodes.items) (sym hearing) w.0); rests = w.1 }
+    record { at = subst (λ (l : Listing FollowedNode). AllAt W J run l.items f.hearing) (sym nodes) (subst (AllAt W J run middle.nodes.items) (sym hearing) w.0); rests = w.1 }
 
 -- at rest all stand where following leads
-pub rests_there : OrdersAgree → (W : PlainWorkload) (J : PlainJournal) (run : Run) (f : Following) → NothingIsReady W J run f → AllAt W J (followed W J) f.nodes.items f.hearing
+pub rests_there : OrdersAgree → (W : PlainWorkload) (J : PlainJournal) (run : Run) (f : FollowedRun) → NothingIsReady W J run f → AllAt W J (followed W J) f.nodes.items f.hearing
 rests_there agree W J run f n = subst (λ (r : Run). AllAt W J r f.nodes.items f.hearing) (agree W J run (record { leads = n.at.leads; rests = n.rests })) n.at

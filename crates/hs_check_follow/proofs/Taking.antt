@@ -1,7 +1,7 @@
 -- Each item that is taken leaves one less waiting.
 use Rattle.std.proofs.Common.{ℕ, ◌+◌, ◌<◌, List, length, ap, ◌∙◌, arith, length-drop}
 use Rattle.hs_replay_client.specs.Places.{Waits}
-use Rattle.hs_replay_client.specs.Playing.{Playing}
+use Rattle.hs_replay_client.specs.ReplayClients.{PlainReplayClient}
 use Rattle.hs_law_sends.specs.Order.{AreInOrder, ChunksAreInOrder}
 use Rattle.hs_check_follow.specs.Gathering.{Where, AtChunk, AtCrumb, AtTrigger, WereChunks, chunks_at}
 
@@ -12,14 +12,14 @@ fewer sent waiting waiting' k was is =
     let most = is.0 in
     omega (arith, before, after, most)
 
-pub chunks_fewer : (w : Where) (number k : ℕ) (player next : Playing) → AtChunk w number k player → AtChunk w number (k + 1) next → length next.works.chunks < length player.works.chunks
+pub chunks_fewer : (w : Where) (number k : ℕ) (player next : PlainReplayClient) → AtChunk w number k player → AtChunk w number (k + 1) next → length next.works.chunks < length player.works.chunks
 chunks_fewer w number k player next at after = fewer _ player.works.chunks next.works.chunks k at.chunks after.chunks
 
-pub crumbs_fewer : (w : Where) (number k : ℕ) (player next : Playing) → AtCrumb w number k player → AtCrumb w number (k + 1) next → length next.works.crumbs < length player.works.crumbs
+pub crumbs_fewer : (w : Where) (number k : ℕ) (player next : PlainReplayClient) → AtCrumb w number k player → AtCrumb w number (k + 1) next → length next.works.crumbs < length player.works.crumbs
 crumbs_fewer w number k player next at after = fewer _ player.works.crumbs next.works.crumbs k at.crumbs after.crumbs
 
-pub triggers_fewer : (w : Where) (number k : ℕ) (player next : Playing) → AtTrigger w number k player → AtTrigger w number (k + 1) next → length next.works.triggers < length player.works.triggers
+pub triggers_fewer : (w : Where) (number k : ℕ) (player next : PlainReplayClient) → AtTrigger w number k player → AtTrigger w number (k + 1) next → length next.works.triggers < length player.works.triggers
 triggers_fewer w number k player next at after = fewer _ player.works.triggers next.works.triggers k at.triggers after.triggers
 
-pub chunks_ordered : ChunksAreInOrder → (w : Where) (number : ℕ) (player : Playing) {numbers : List ℕ} → WereChunks w number player numbers → AreInOrder 0 (chunks_at w)
+pub chunks_ordered : ChunksAreInOrder → (w : Where) (number : ℕ) (player : PlainReplayClient) {numbers : List ℕ} → WereChunks w number player numbers → AreInOrder 0 (chunks_at w)
 chunks_ordered order w number player was = order w.settings.size w.client w.ops w.drawn was.at.playable.least was.at.playable.client.bracketed

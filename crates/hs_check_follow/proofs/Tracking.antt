@@ -7,17 +7,17 @@ use Rattle.hs_coord.specs.Following.{Messages}
 use Rattle.hs_journal.specs.Views.{PlainJournal}
 use Rattle.hs_journal.specs.declared.journal.Step.{Step}
 use Rattle.hs_law_journal.specs.Following.{log_at, NodeRun, event_of, perform, step_of, step_node}
-use Rattle.hs_law_agent.specs.Stepping.{Event}
+use Rattle.hs_law_agent.specs.Stepping.{AgentEvent}
 use Rattle.hs_records.specs.Plain.{PlainWorkload}
-use Rattle.hs_check_follow.specs.Nodes.{HasPerformed, IsNotReady, Stands}
+use Rattle.hs_check_follow.specs.Nodes.{HasPerformed, IsNotReady, FollowedNodeStands}
 use Rattle.hs_check_follow.specs.Whole.{MayStepAt, HasStepped, HasNotStepped, left_steps}
 use Rattle.hs_base.specs.Listing.{Listing}
 use Rattle.hs_check_clauses.specs.Offering.{ends_front}
 use Rattle.hs_check_follow.specs.Ends.{ends_within}
 use Rattle.hs_check_follow.specs.Noting.{Notes, hand_of, said_of, behind_at}
 use Rattle.hs_check_follow.proofs.Noting.{noted_more}
-use Rattle.hs_check_follow.specs.declared.follower.Follower.{Follower}
-use Rattle.hs_check_follow.specs.declared.tracked.Tracked.{Tracked}
+use Rattle.hs_check_follow.specs.declared.agent.FollowedAgent.{FollowedAgent}
+use Rattle.hs_check_follow.specs.declared.node.FollowedNode.{FollowedNode}
 
 pub drop_there : {A : Type 0} (xs : List A) (k : ℕ) (x : A) → slice_get xs k ≡ Some x → drop k xs ≡ x ∷ drop (k + 1) xs
 drop_there {A = A} xs k x at = let same : k + 1 ≡ suc k = omega arith in go xs k at ∙ ap (λ n. x ∷ drop n xs) (sym same)
@@ -33,7 +33,7 @@ drop_past [] (suc k) high = refl
 drop_past (x ∷ xs) zero high = absurd (omega (arith, high))
 drop_past (x ∷ xs) (suc k) high = drop_past xs k (omega (arith, high))
 
-module _ (W : PlainWorkload) (J : PlainJournal) (heard : Messages) (run : NodeRun) (log : List Step) (asks : List Ask) (t : Tracked) (m : MayStepAt W J heard run log asks t) where
+module _ (W : PlainWorkload) (J : PlainJournal) (heard : Messages) (run : NodeRun) (log : List Step) (asks : List Ask) (t : FollowedNode) (m : MayStepAt W J heard run log asks t) where
   left_is : run.left ≡ drop t.next log
   left_is = m.at.left ∙ ap (drop t.next) (sym m.log_is)
 
@@ -44,11 +44,11 @@ module _ (W : PlainWorkload) (J : PlainJournal) (heard : Messages) (run : NodeRu
     next_left : run.left ≡ step ∷ drop (t.next + 1) log
     next_left = left_is ∙ drop_there log t.next step there
 
-    node_steps : (o : Option Event) → event_of run heard step ≡ o → step_node W.settings heard run ≡ option_map (perform W.settings (drop (t.next + 1) log) run) o
+    node_steps : (o : Option AgentEvent) → event_of run heard step ≡ o → step_node W.settings heard run ≡ option_map (perform W.settings (drop (t.next + 1) log) run) o
     node_steps o e = ap (step_of W.settings heard run) next_left ∙ ap (option_map (perform W.settings (drop (t.next + 1) log) run)) e
 
-    pub stepped : (f : Follower) → HasPerformed W J heard run step f → t.next < length log → (last : Bool) → last ≡ ends_front (drop t.next log) → (noted : Tracked) → Notes last (record { follower = f; next = t.next; hands = t.hands; told = t.told }) noted
-        → (t' : Tracked) → t'.follower ≡ noted.follower → t'.hands ≡ noted.hands → t'.told ≡ noted.told → t'.next ≡ t.next + 1 → HasStepped W J heard run t'
+    pub stepped : (f : FollowedAgent) → HasPerformed W J heard run step f → t.next < length log → (last : Bool) → last ≡ ends_front (drop t.next log) → (noted : FollowedNode) → Notes last (record { follower = f; next = t.next; hands = t.hands; told = t.told }) noted
+        → (t' : FollowedNode) → t'.follower ≡ noted.follower → t'.hands ≡ noted.hands → t'.told ≡ noted.told → t'.next ≡ t.next + 1 → HasStepped W J heard run t'
     stepped f p low last last_is noted n t' follower hands told next =
         let log_low : t.next < length (log_at J run.node) = (let long = ap length m.log_is in omega (arith, low, long)) in
         let front = last_is ∙ ap (λ (l : List Step). ends_front (drop t.next l)) m.log_is in
@@ -61,7 +61,7 @@ module _ (W : PlainWorkload) (J : PlainJournal) (heard : Messages) (run : NodeRu
           at =
               record {
                 stands =
-                    subst (Stands W J after after.state.log) (sym (follower ∙ n.follower))
+                    subst (FollowedNodeStands W J after after.state.log) (sym (follower ∙ n.follower))
                     (record { sends = p.stands.sends; clients = p.stands.clients; agent = record { buffers = p.stands.agent.buffers; follows = p.stands.agent.follows; comes = p.stands.agent.comes; sheets = p.stands.agent.sheets; paged = p.stands.agent.paged }; asked = p.stands.asked; said = p.stands.said; gives = p.stands.gives });
                 left = ap (λ (l : List Step). drop (t.next + 1) l) m.log_is ∙ ap (λ k. drop k (log_at J run.node)) (sym next);
                 notes =
@@ -75,13 +75,13 @@ module _ (W : PlainWorkload) (J : PlainJournal) (heard : Messages) (run : NodeRu
               };
         }
 
-    pub not_stepped : (f : Follower) → IsNotReady W J heard run step f → (t' : Tracked) → t'.follower ≡ f → t'.next ≡ t.next → t'.hands ≡ t.hands → t'.told ≡ t.told → HasNotStepped W J heard run t'
+    pub not_stepped : (f : FollowedAgent) → IsNotReady W J heard run step f → (t' : FollowedNode) → t'.follower ≡ f → t'.next ≡ t.next → t'.hands ≡ t.hands → t'.told ≡ t.told → HasNotStepped W J heard run t'
     not_stepped f p t' follower next hands told =
         let before = m.at.notes in
         record {
           none = node_steps None p.none;
           at = record {
-            stands = subst (Stands W J run run.state.log) (sym follower) p.stands;
+            stands = subst (FollowedNodeStands W J run run.state.log) (sym follower) p.stands;
             left = m.at.left ∙ ap (λ k. drop k (log_at J run.node)) (sym next);
             notes = record {
               count = before.count ∙ sym next;
@@ -94,20 +94,20 @@ module _ (W : PlainWorkload) (J : PlainJournal) (heard : Messages) (run : NodeRu
 -- ---- how many steps are left
 
 -- one node went on
-pub steps_fall : (nodes : List Tracked) (logs : List (List Step)) (n : ℕ) (old new : Tracked) (log : List Step) → slice_get nodes n ≡ Some old → slice_get logs n ≡ Some log → old.next < length log → new.next ≡ old.next + 1
+pub steps_fall : (nodes : List FollowedNode) (logs : List (List Step)) (n : ℕ) (old new : FollowedNode) (log : List Step) → slice_get nodes n ≡ Some old → slice_get logs n ≡ Some log → old.next < length log → new.next ≡ old.next + 1
     → left_steps (set nodes n new) logs < left_steps nodes logs
 steps_fall [] logs n old new log there log_there low went = let no_item : None ≡ Some old = there in absurd cc
 steps_fall (t ∷ nodes) [] n old new log there log_there low went = let no_item : None ≡ Some log = log_there in absurd cc
 steps_fall (t ∷ nodes) (l ∷ logs) zero old new log there log_there low went =
-    let same = ap (λ (t : Tracked). t.next) (same_Some t old there) in
+    let same = ap (λ (t : FollowedNode). t.next) (same_Some t old there) in
     let long = ap length (same_Some l log log_there) in
     omega (arith, same, long, low, went)
 steps_fall (t ∷ nodes) (l ∷ logs) (suc n) old new log there log_there low went =
     let rest = steps_fall nodes logs n old new log there log_there low went in omega (arith, rest)
 
-pub steps_stay : (nodes : List Tracked) (logs : List (List Step)) (n : ℕ) (old new : Tracked) → slice_get nodes n ≡ Some old → new.next ≡ old.next → left_steps (set nodes n new) logs ≡ left_steps nodes logs
+pub steps_stay : (nodes : List FollowedNode) (logs : List (List Step)) (n : ℕ) (old new : FollowedNode) → slice_get nodes n ≡ Some old → new.next ≡ old.next → left_steps (set nodes n new) logs ≡ left_steps nodes logs
 steps_stay [] logs n old new there same = refl
 steps_stay (t ∷ nodes) [] zero old new there same = refl
 steps_stay (t ∷ nodes) [] (suc n) old new there same = steps_stay nodes [] n old new there same
-steps_stay (t ∷ nodes) (l ∷ logs) zero old new there same = ap (λ k. (length l - k) + left_steps nodes logs) (same ∙ sym (ap (λ (t : Tracked). t.next) (same_Some t old there)))
+steps_stay (t ∷ nodes) (l ∷ logs) zero old new there same = ap (λ k. (length l - k) + left_steps nodes logs) (same ∙ sym (ap (λ (t : FollowedNode). t.next) (same_Some t old there)))
 steps_stay (t ∷ nodes) (l ∷ logs) (suc n) old new there same = ap (λ k. (length l - t.next) + k) (steps_stay nodes logs n old new there same)

@@ -3,7 +3,7 @@ use Rattle.std.proofs.Common.{◌≡◌, ℕ, ◌+◌, List, [], ◌∷◌, leng
 use Rattle.hs_base.specs.declared.ids.ClientId.{ClientId}
 use Rattle.hs_check_clauses.specs.Finding.{IsFoundClient, numbers_of, starts_of}
 use Rattle.hs_journal.specs.declared.journal.Draw.{Draw}
-use Rattle.hs_replay_client.specs.Playing.{Playing}
+use Rattle.hs_replay_client.specs.ReplayClients.{PlainReplayClient}
 use Rattle.hs_records.specs.Plain.{Operation, PlainSettings}
 use Rattle.hs_law_sends.specs.Drawn.{drawn_from}
 use Rattle.hs_law_sends.specs.Laws.{IsTimely, TimedPagesAreThePages, TimedPagesAreTimely}
@@ -28,7 +28,7 @@ pub record Ends : Type 0 where
   pub crumbs : AllCrumbsAreSent
   pub triggers : AllTriggersAreSent
 
-module _ (k : Ends) (settings : PlainSettings) (client : ClientId) (ops : List Operation) (draws : List Draw) (script : Script) (player : Playing) (g : Gathering)
+module _ (k : Ends) (settings : PlainSettings) (client : ClientId) (ops : List Operation) (draws : List Draw) (script : Script) (player : PlainReplayClient) (g : Gathering)
     (s : IsSentBy settings client ops draws (length ops) script player g) where
   timely : IsTimely 0 (length ops) (timed_pages settings.size ops)
   timely = in_time settings client ops draws s.each s.drawn script s.kinds k.paged k.timely k.chunks _ _ _ player s.at

@@ -3,7 +3,7 @@ use Rattle.std.specs.Prelude.{◌≡◌, ℕ, List, [], length, slice_get, Some}
 use Rattle.hs_base.specs.Listing.{Listing}
 use Rattle.hs_base.specs.declared.told.Ask.{Ask}
 use Rattle.hs_coord.specs.Kept.{HasTaken}
-use Rattle.hs_check_follow.specs.declared.hearing.Hearing.{Hearing}
+use Rattle.hs_check_follow.specs.declared.coordinator.FollowedCoordinator.{FollowedCoordinator}
 
 -- There are so many items, and each is what its place says.
 pub record AreFirst {A : Type 0} (Is : ℕ → A → Type 0) (count : ℕ) (items : List A) : Type 0 where
@@ -11,7 +11,7 @@ pub record AreFirst {A : Type 0} (Is : ℕ → A → Type 0) (count : ℕ) (item
   pub each : (n : ℕ) (item : A) → slice_get items n ≡ Some item → Is n item
 
 -- The coordinator has heard nothing of so many nodes, and asked nothing.
-pub record IsNewHearing (nodes : ℕ) (h : Hearing) : Type 0 where
+pub record IsNewFollowedCoordinator (nodes : ℕ) (h : FollowedCoordinator) : Type 0 where
   pub taken : HasTaken h.coordinator []
   pub nodes_are : h.coordinator.nodes ≡ nodes
   pub asks : AreFirst (λ (n : ℕ) (list : Listing Ask). list.items ≡ []) nodes h.asks.items

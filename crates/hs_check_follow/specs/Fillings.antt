@@ -4,8 +4,8 @@ use Rattle.std.specs.Prelude.{◌≡◌, ℕ, ◌+◌, List, ◌++◌, length, m
 use Rattle.hs_base.specs.declared.ids.ClientId.{ClientId}
 use Rattle.hs_base.specs.declared.settings.AutoRule.{AutoRule}
 use Rattle.hs_journal.specs.declared.journal.Draw.{Draw}
-use Rattle.hs_replay_client.specs.Places.{IsAt}
-use Rattle.hs_replay_client.specs.Playing.{Unleased}
+use Rattle.hs_replay_client.specs.Places.{ReplayClientIsAt}
+use Rattle.hs_replay_client.specs.ReplayClients.{Unleased}
 use Rattle.hs_records.specs.Pages.{pages_of}
 use Rattle.hs_records.specs.Plain.{Operation, PlainSettings}
 use Rattle.hs_law_sends.specs.Drawn.{has_buffer}
@@ -24,7 +24,7 @@ pub record IsFilling (settings : PlainSettings) (client : ClientId) (ops : List 
   pub done : ℕ
   pub l : ℕ
   pub m : ℕ
-  pub at : IsAt settings client ops drawn done k l m f.player
+  pub at : ReplayClientIsAt settings client ops drawn done k l m f.player
 
 -- Where these are the rules of the settings' autotriggers.
 abbrev pub MayFill : List AutoRule → List Operation → Filling → Type 0

@@ -7,8 +7,8 @@ use Rattle.hs_base.specs.declared.told.Crumb.{Crumb}
 use Rattle.hs_base.specs.declared.told.Trigger.{Trigger}
 use Rattle.hs_check_clauses.specs.Finding.{numbers_of}
 use Rattle.hs_journal.specs.declared.journal.Draw.{Draw}
-use Rattle.hs_replay_client.specs.Places.{IsAt}
-use Rattle.hs_replay_client.specs.Playing.{Playing}
+use Rattle.hs_replay_client.specs.Places.{ReplayClientIsAt}
+use Rattle.hs_replay_client.specs.ReplayClients.{PlainReplayClient}
 use Rattle.hs_records.specs.Pages.{pages_of}
 use Rattle.hs_records.specs.Plain.{Operation, PlainSettings}
 use Rattle.hs_law_sends.specs.Drawn.{has_buffer}
@@ -38,13 +38,13 @@ abbrev pub starts_within : ℕ → List TimedPage → List ℕ
 starts_within n pages = map (λ (page : TimedPage). page.started) (started_within n pages)
 
 -- The first n operations are done, at draws that get a buffer where the given ones do. All that they sent was taken.
-pub record IsSentBy (settings : PlainSettings) (client : ClientId) (ops : List Operation) (draws : List Draw) (n : ℕ) (script : Script) (player : Playing) (g : Gathering) : Type 0 where
+pub record IsSentBy (settings : PlainSettings) (client : ClientId) (ops : List Operation) (draws : List Draw) (n : ℕ) (script : Script) (player : PlainReplayClient) (g : Gathering) : Type 0 where
   pub each : length draws ≡ length (pages_of settings.size ops)
   pub drawn : List Draw
   pub kinds : map has_buffer drawn ++ map has_buffer script.left.items ≡ map has_buffer draws
   pub size_is : script.size ≡ settings.size
   pub at :
-      IsAt settings client ops drawn n (count_within n (sends_of settings client ops drawn).chunks) (count_within n (sends_of settings client ops drawn).crumbs)
+      ReplayClientIsAt settings client ops drawn n (count_within n (sends_of settings client ops drawn).chunks) (count_within n (sends_of settings client ops drawn).crumbs)
       (count_within n (sends_of settings client ops drawn).triggers) player
   pub chunks : AreNumbers (sent_within n (sends_of settings client ops drawn).chunks) g.found.chunks.items
   pub crumbs : HasItems (sent_within n (sends_of settings client ops drawn).crumbs) g.crumbs.items g.found.crumbs.items
@@ -52,11 +52,11 @@ pub record IsSentBy (settings : PlainSettings) (client : ClientId) (ops : List O
   pub started : g.found.started.items ≡ starts_within n (timed_pages settings.size ops)
 
 -- Where these are the rules of the settings' autotriggers.
-abbrev pub WasSent : List AutoRule → List Operation → ℕ → Script → Playing → Gathering → Type 0
+abbrev pub WasSent : List AutoRule → List Operation → ℕ → Script → PlainReplayClient → Gathering → Type 0
 WasSent rules ops n script player g = (settings : PlainSettings) × (client : ClientId) × (draws : List Draw) × (rules ≡ settings.autos) × IsSentBy settings client ops draws n script player g
 
 -- one operation more was done
-abbrev pub SendsOneMore : List AutoRule → List Operation → ℕ → Script → Playing → Gathering → Script → Playing → Gathering → Type 0
+abbrev pub SendsOneMore : List AutoRule → List Operation → ℕ → Script → PlainReplayClient → Gathering → Script → PlainReplayClient → Gathering → Type 0
 SendsOneMore rules ops n script player g script' player' g' =
     (settings : PlainSettings) (client : ClientId) (draws : List Draw) → rules ≡ settings.autos → IsSentBy settings client ops draws n script player g → IsSentBy settings client ops draws (n + 1) script' player' g'
 
@@ -70,16 +70,16 @@ pub record IsNew (g : Gathering) : Type 0 where
 
 -- ---- one queue
 
--- Behind the operation of this number the player is somewhere. What earlier operations sent was taken.
-pub record Was {A : Type 0} (At : ℕ → Playing → Type 0) (Holds : List (Sent A) → Type 0) (items : List (Sent A)) (number : ℕ) (player : Playing) : Type 0 where
+-- Behind the operation of this number the client is somewhere. What earlier operations sent was taken.
+pub record Was {A : Type 0} (At : ℕ → PlainReplayClient → Type 0) (Holds : List (Sent A) → Type 0) (items : List (Sent A)) (number : ℕ) (player : PlainReplayClient) : Type 0 where
   pub at : At (count_within number items) player
   pub holds : Holds (sent_within number items)
 
 -- And what that operation sent was taken too.
-abbrev pub Is : {A : Type 0} → (ℕ → Playing → Type 0) → (List (Sent A) → Type 0) → List (Sent A) → ℕ → Playing → Type 0
+abbrev pub Is : {A : Type 0} → (ℕ → PlainReplayClient → Type 0) → (List (Sent A) → Type 0) → List (Sent A) → ℕ → PlainReplayClient → Type 0
 Is At Holds items number player = Was At Holds items (number + 1) player
 
--- where a player's client, its operations and draws are
+-- where a client, its operations and draws are
 pub record Where : Type 0 where
   pub settings : PlainSettings
   pub client : ClientId
@@ -97,53 +97,53 @@ crumbs_at w = (sends_of w.settings w.client w.ops w.drawn).crumbs
 abbrev pub triggers_at : Where → List (Sent Trigger)
 triggers_at w = (sends_of w.settings w.client w.ops w.drawn).triggers
 
-abbrev pub AtChunk : Where → ℕ → ℕ → Playing → Type 0
-AtChunk w number k player = IsAt w.settings w.client w.ops w.drawn (number + 1) k w.others.0 w.others.1 player
+abbrev pub AtChunk : Where → ℕ → ℕ → PlainReplayClient → Type 0
+AtChunk w number k player = ReplayClientIsAt w.settings w.client w.ops w.drawn (number + 1) k w.others.0 w.others.1 player
 
-abbrev pub AtCrumb : Where → ℕ → ℕ → Playing → Type 0
-AtCrumb w number l player = IsAt w.settings w.client w.ops w.drawn (number + 1) w.others.0 l w.others.1 player
+abbrev pub AtCrumb : Where → ℕ → ℕ → PlainReplayClient → Type 0
+AtCrumb w number l player = ReplayClientIsAt w.settings w.client w.ops w.drawn (number + 1) w.others.0 l w.others.1 player
 
-abbrev pub AtTrigger : Where → ℕ → ℕ → Playing → Type 0
-AtTrigger w number m player = IsAt w.settings w.client w.ops w.drawn (number + 1) w.others.0 w.others.1 m player
+abbrev pub AtTrigger : Where → ℕ → ℕ → PlainReplayClient → Type 0
+AtTrigger w number m player = ReplayClientIsAt w.settings w.client w.ops w.drawn (number + 1) w.others.0 w.others.1 m player
 
 -- ---- chunks
 
-abbrev pub WereChunks : Where → ℕ → Playing → List ℕ → Type 0
+abbrev pub WereChunks : Where → ℕ → PlainReplayClient → List ℕ → Type 0
 WereChunks w number player numbers = Was (AtChunk w number) (λ items. AreNumbers items numbers) (chunks_at w) number player
 
-abbrev pub AreChunks : Where → ℕ → Playing → List ℕ → Type 0
+abbrev pub AreChunks : Where → ℕ → PlainReplayClient → List ℕ → Type 0
 AreChunks w number player numbers = Is (AtChunk w number) (λ items. AreNumbers items numbers) (chunks_at w) number player
 
-abbrev pub WasSentChunks : ℕ → Playing → List ℕ → Type 0
+abbrev pub WasSentChunks : ℕ → PlainReplayClient → List ℕ → Type 0
 WasSentChunks number player numbers = (w : Where) × WereChunks w number player numbers
 
-abbrev pub IsSentChunks : ℕ → Playing → List ℕ → Playing → List ℕ → Type 0
+abbrev pub IsSentChunks : ℕ → PlainReplayClient → List ℕ → PlainReplayClient → List ℕ → Type 0
 IsSentChunks number player numbers player' numbers' = (w : Where) → WereChunks w number player numbers → AreChunks w number player' numbers'
 
 -- ---- crumbs
 
-abbrev pub WereCrumbs : Where → ℕ → Playing → List Crumb → List ℕ → Type 0
+abbrev pub WereCrumbs : Where → ℕ → PlainReplayClient → List Crumb → List ℕ → Type 0
 WereCrumbs w number player queue numbers = Was (AtCrumb w number) (λ items. HasItems items queue numbers) (crumbs_at w) number player
 
-abbrev pub AreCrumbs : Where → ℕ → Playing → List Crumb → List ℕ → Type 0
+abbrev pub AreCrumbs : Where → ℕ → PlainReplayClient → List Crumb → List ℕ → Type 0
 AreCrumbs w number player queue numbers = Is (AtCrumb w number) (λ items. HasItems items queue numbers) (crumbs_at w) number player
 
-abbrev pub WasSentCrumbs : ℕ → Playing → List Crumb → List ℕ → Type 0
+abbrev pub WasSentCrumbs : ℕ → PlainReplayClient → List Crumb → List ℕ → Type 0
 WasSentCrumbs number player queue numbers = (w : Where) × WereCrumbs w number player queue numbers
 
-abbrev pub IsSentCrumbs : ℕ → Playing → List Crumb → List ℕ → Playing → List Crumb → List ℕ → Type 0
+abbrev pub IsSentCrumbs : ℕ → PlainReplayClient → List Crumb → List ℕ → PlainReplayClient → List Crumb → List ℕ → Type 0
 IsSentCrumbs number player queue numbers player' queue' numbers' = (w : Where) → WereCrumbs w number player queue numbers → AreCrumbs w number player' queue' numbers'
 
 -- ---- triggers
 
-abbrev pub WereTriggers : Where → ℕ → Playing → List Trigger → List ℕ → Type 0
+abbrev pub WereTriggers : Where → ℕ → PlainReplayClient → List Trigger → List ℕ → Type 0
 WereTriggers w number player queue numbers = Was (AtTrigger w number) (λ items. HasItems items queue numbers) (triggers_at w) number player
 
-abbrev pub AreTriggers : Where → ℕ → Playing → List Trigger → List ℕ → Type 0
+abbrev pub AreTriggers : Where → ℕ → PlainReplayClient → List Trigger → List ℕ → Type 0
 AreTriggers w number player queue numbers = Is (AtTrigger w number) (λ items. HasItems items queue numbers) (triggers_at w) number player
 
-abbrev pub WasSentTriggers : ℕ → Playing → List Trigger → List ℕ → Type 0
+abbrev pub WasSentTriggers : ℕ → PlainReplayClient → List Trigger → List ℕ → Type 0
 WasSentTriggers number player queue numbers = (w : Where) × WereTriggers w number player queue numbers
 
-abbrev pub IsSentTriggers : ℕ → Playing → List Trigger → List ℕ → Playing → List Trigger → List ℕ → Type 0
+abbrev pub IsSentTriggers : ℕ → PlainReplayClient → List Trigger → List ℕ → PlainReplayClient → List Trigger → List ℕ → Type 0
 IsSentTriggers number player queue numbers player' queue' numbers' = (w : Where) → WereTriggers w number player queue numbers → AreTriggers w number player' queue' numbers'

@@ -7,8 +7,8 @@ use Rattle.hs_law_journal.specs.Played.{state_behind}
 use Rattle.hs_law_agent.specs.State.{AgentState}
 use Rattle.hs_records.specs.Plain.{PlainSettings, PlainWorkload}
 use Rattle.hs_check_follow.specs.Ends.{ends_within}
-use Rattle.hs_check_follow.specs.Nodes.{Stands}
-use Rattle.hs_check_follow.specs.declared.tracked.Tracked.{Tracked}
+use Rattle.hs_check_follow.specs.Nodes.{FollowedNodeStands}
+use Rattle.hs_check_follow.specs.declared.node.FollowedNode.{FollowedNode}
 
 abbrev pub hand_of : AgentState → ℕ
 hand_of state = length state.hand
@@ -21,7 +21,7 @@ abbrev pub behind_at : PlainSettings → NodeRun → (AgentState → ℕ) → �
 behind_at settings run count n = count (state_behind settings run n)
 
 -- What was noted behind the passes that ended within the steps which were performed of this log.
-pub record HasNotes (settings : PlainSettings) (run : NodeRun) (log : List Step) (t : Tracked) : Type 0 where
+pub record HasNotes (settings : PlainSettings) (run : NodeRun) (log : List Step) (t : FollowedNode) : Type 0 where
   pub count : length run.events ≡ t.next
   pub hands : t.hands.items ≡ map (behind_at settings run hand_of) (ends_within 0 t.next log)
   pub told : t.told.items ≡ map (behind_at settings run said_of) (ends_within 0 t.next log)
@@ -31,8 +31,8 @@ noted_if true count = count ∷ []
 noted_if false count = []
 
 -- Where a pass ended, what is behind it was noted.
-pub record Notes (last : Bool) (old new : Tracked) : Type 0 where
+pub record Notes (last : Bool) (old new : FollowedNode) : Type 0 where
   pub follower : new.follower ≡ old.follower
   pub next : new.next ≡ old.next
-  pub hands : (W : PlainWorkload) (J : PlainJournal) (run : NodeRun) (log : List Step) → Stands W J run log old.follower → new.hands.items ≡ old.hands.items ++ noted_if last (hand_of run.state)
-  pub told : (W : PlainWorkload) (J : PlainJournal) (run : NodeRun) (log : List Step) → Stands W J run log old.follower → new.told.items ≡ old.told.items ++ noted_if last (said_of run.state)
+  pub hands : (W : PlainWorkload) (J : PlainJournal) (run : NodeRun) (log : List Step) → FollowedNodeStands W J run log old.follower → new.hands.items ≡ old.hands.items ++ noted_if last (hand_of run.state)
+  pub told : (W : PlainWorkload) (J : PlainJournal) (run : NodeRun) (log : List Step) → FollowedNodeStands W J run log old.follower → new.told.items ≡ old.told.items ++ noted_if last (said_of run.state)

@@ -3,19 +3,19 @@ use Rattle.std.specs.Prelude.{◌≡◌, List, length, map}
 use Rattle.hs_agent.specs.Runs as agents
 use Rattle.hs_check_clauses.specs.declared.found.FoundClient.{FoundClient}
 use Rattle.hs_check_clauses.specs.declared.found.FoundNode.{FoundNode}
-use Rattle.hs_check_follow.specs.declared.sending.Sending.{Sending}
+use Rattle.hs_check_follow.specs.declared.client.FollowedClient.{FollowedClient}
 use Rattle.hs_journal.specs.declared.books.ClientBook.{ClientBook}
-use Rattle.hs_check_follow.specs.declared.tracked.Tracked.{Tracked}
+use Rattle.hs_check_follow.specs.declared.node.FollowedNode.{FollowedNode}
 
 -- what its clients noted
-abbrev pub books_left : Tracked → List ClientBook
-books_left t = map (λ (s : Sending). s.book) t.follower.clients.items
+abbrev pub books_left : FollowedNode → List ClientBook
+books_left t = map (λ (s : FollowedClient). s.book) t.follower.clients.items
 
-abbrev pub found_left : Tracked → List FoundClient
-found_left t = map (λ (s : Sending). s.found) t.follower.clients.items
+abbrev pub found_left : FollowedNode → List FoundClient
+found_left t = map (λ (s : FollowedClient). s.found) t.follower.clients.items
 
 -- This was found at the node.
-pub record IsFoundOf (t : Tracked) (found : FoundNode) : Type 0 where
+pub record IsFoundOf (t : FollowedNode) (found : FoundNode) : Type 0 where
   pub clients : found.clients.items ≡ found_left t
   pub gives : found.gives ≡ t.follower.gives
   pub hands : found.hands ≡ t.hands

@@ -11,9 +11,9 @@ use Rattle.hs_records.specs.Plain.{Operation, PlainSettings}
 use Rattle.hs_law_sends.specs.OneMore.{items_of}
 use Rattle.hs_law_sends.specs.Sending.{sends_of}
 use Rattle.hs_check_follow.specs.Fillings.{IsFilling}
-use Rattle.hs_check_follow.specs.declared.sending.Sending.{Sending}
+use Rattle.hs_check_follow.specs.declared.client.FollowedClient.{FollowedClient}
 
-pub record IsSending (settings : PlainSettings) (client : ClientId) (ops : List Operation) (draws : List Draw) (s : Sending) : Type 0 where
+pub record IsFollowedClient (settings : PlainSettings) (client : ClientId) (ops : List Operation) (draws : List Draw) (s : FollowedClient) : Type 0 where
   pub chunks : IsFilling settings client ops draws 0 s.chunks
   pub crumbs : s.crumbs.items ≡ items_of (sends_of settings client ops draws).crumbs
   pub triggers : s.triggers.items ≡ items_of (sends_of settings client ops draws).triggers

@@ -6,8 +6,8 @@ ghost use Rattle.hs_words.specs.Buffers.{buffer_in};
 ghost use Rattle.hs_workload.specs.Views.{operation_of, workload_of};
 ghost use Rattle.hs_check_follow.specs.Clients.{MayFillNext, MayFillAny, Pops, PopsChunk, PopsCrumb, PopsTrigger};
 
+use crate::client::FollowedClient;
 use hs_base::{ClientId, Crumb, List, Memory, Trigger};
-use crate::sending::Sending;
 use hs_words::Held;
 use hs_workload::{Op, Workload};
 
@@ -22,7 +22,7 @@ pub(crate) fn operations_of(workload: &Workload, client: ClientId) -> &[Op]
 }
 
 /// Fills the next chunk of a client, where one is left.
-fn fill_next(sending: &mut Sending, workload: &Workload) -> Result<Option<Held<()>>, Memory>
+fn fill_next(sending: &mut FollowedClient, workload: &Workload) -> Result<Option<Held<()>>, Memory>
     requires { MayFillNext (workload_of workload.now) sending.old }
     ensures { IfOk result (λ held. PopsChunk (workload_of workload.now) sending.old (buffer_in held) sending.new) }
 {
@@ -34,7 +34,7 @@ fn fill_next(sending: &mut Sending, workload: &Workload) -> Result<Option<Held<(
 
 /// Fills the next chunk of a client, where there is such a client and one is left.
 pub(crate) fn next_chunk(
-    clients: &mut List<Sending>,
+    clients: &mut List<FollowedClient>,
     workload: &Workload,
     client: u16,
 ) -> Result<Option<Held<()>>, Memory>
@@ -49,7 +49,7 @@ pub(crate) fn next_chunk(
 }
 
 /// Takes out the next crumb of a client, where there is such a client and one is left.
-pub(crate) fn next_crumb(clients: &mut List<Sending>, client: u16) -> Option<Crumb>
+pub(crate) fn next_crumb(clients: &mut List<FollowedClient>, client: u16) -> Option<Crumb>
     ensures { Pops PopsCrumb client clients.old.items result clients.new.items }
 {
     if client as usize >= clients.len() {
@@ -59,7 +59,7 @@ pub(crate) fn next_crumb(clients: &mut List<Sending>, client: u16) -> Option<Cru
 }
 
 /// Takes out the next trigger of a client, where there is such a client and one is left.
-pub(crate) fn next_trigger(clients: &mut List<Sending>, client: u16) -> Option<Trigger>
+pub(crate) fn next_trigger(clients: &mut List<FollowedClient>, client: u16) -> Option<Trigger>
     ensures { Pops PopsTrigger client clients.old.items result clients.new.items }
 {
     if client as usize >= clients.len() {

@@ -11,10 +11,10 @@ ghost use Rattle.hs_check_follow.specs.Fillings.{IsFilling, MayFill, FillsOn, Fi
 use crate::script::Script;
 use hs_base::{AutoRule, ClientId, Memory, Settings};
 use hs_journal::Draw;
-use hs_replay_client::Player;
-use hs_law_sends::laws::all_is_sent_in_the_end;
-use hs_law_sends::laws::timed_pages_are_the_pages;
-use hs_law_sends::laws::timed_pages_are_timely;
+use hs_law_sends::laws::{
+    all_is_sent_in_the_end, timed_pages_are_the_pages, timed_pages_are_timely,
+};
+use hs_replay_client::ReplayClient;
 use hs_words::Held;
 use hs_workload::Op;
 use std::alloc::Global;
@@ -25,7 +25,7 @@ use std::alloc::Global;
 pub struct Filling {
     pub(crate) client: ClientId,
     pub(crate) script: Script,
-    pub(crate) player: Player,
+    pub(crate) player: ReplayClient,
 }
 
 impl Filling {
@@ -42,7 +42,7 @@ impl Filling {
         ensures { IfOk result (IsFilling (settings_of settings.now) client (map operation_of operations.now) draws.now 0) }
     {
         let script = Script::make(alloc, settings.size, draws)?;
-        let player = Player::make(alloc, client, settings, operations)?;
+        let player = ReplayClient::make(alloc, client, settings, operations)?;
         Ok(Filling {
             client,
             script,

@@ -7,12 +7,11 @@ ghost use Rattle.hs_check_follow.specs.Gathering.{IsNew, WasSent, SendsOneMore, 
 use crate::script::Script;
 use hs_base::{AutoRule, Crumb, List, Memory, Trigger};
 use hs_check_clauses::FoundClient;
-use hs_replay_client::Player;
-use hs_law_sends::laws::items_are_sent_in_order;
-use hs_law_sends::laws::the_first_chunks_are_sent;
-use hs_law_sends::laws::the_first_operations_send;
-use hs_law_sends::laws::timed_pages_are_the_pages;
-use hs_law_sends::laws::timed_pages_are_timely;
+use hs_law_sends::laws::{
+    items_are_sent_in_order, the_first_chunks_are_sent, the_first_operations_send,
+    timed_pages_are_the_pages, timed_pages_are_timely,
+};
+use hs_replay_client::ReplayClient;
 use hs_workload::Op;
 use std::alloc::Global;
 use std::collections::VecDeque;
@@ -49,7 +48,7 @@ impl Gathering {
         rules: &[AutoRule],
         operations: &[Op],
         script: &mut Script,
-        player: &mut Player,
+        player: &mut ReplayClient,
     ) -> Result<(), Memory>
         requires number { number < length operations.now }
         requires sent { WasSent rules.now (map operation_of operations.now) number script.old player.old self.old }
@@ -84,7 +83,11 @@ fn note_started(started: &mut List<usize>, number: usize, count: usize) -> Resul
 }
 
 /// Notes the chunks that the operation of this number sent, and lets them go.
-fn count_chunks(numbers: &mut List<usize>, number: usize, player: &mut Player) -> Result<(), Memory>
+fn count_chunks(
+    numbers: &mut List<usize>,
+    number: usize,
+    player: &mut ReplayClient,
+) -> Result<(), Memory>
     requires { WasSentChunks number player.old numbers.old.items }
     ensures { OnOk result (IsSentChunks number player.old numbers.old.items player.new numbers.new.items) }
 {
@@ -100,7 +103,7 @@ fn take_crumbs(
     queue: &mut VecDeque<Crumb>,
     numbers: &mut List<usize>,
     number: usize,
-    player: &mut Player,
+    player: &mut ReplayClient,
 ) -> Result<(), Memory>
     requires { WasSentCrumbs number player.old queue.old.items numbers.old.items }
     ensures { OnOk result (IsSentCrumbs number player.old queue.old.items numbers.old.items player.new queue.new.items numbers.new.items) }
@@ -118,7 +121,7 @@ fn take_triggers(
     queue: &mut VecDeque<Trigger>,
     numbers: &mut List<usize>,
     number: usize,
-    player: &mut Player,
+    player: &mut ReplayClient,
 ) -> Result<(), Memory>
     requires { WasSentTriggers number player.old queue.old.items numbers.old.items }
     ensures { OnOk result (IsSentTriggers number player.old queue.old.items numbers.old.items player.new queue.new.items numbers.new.items) }

@@ -3,24 +3,23 @@
 //! (`docs/RULES.md`, "The lawful journal").
 #![tactic(auto)]
 
+mod agent;
+mod client;
 mod clients;
+mod coordinator;
 mod filling;
-mod follower;
-mod following;
 mod gathering;
-mod hearing;
 mod making;
+mod node;
 mod parting;
+mod run;
 mod script;
-mod sending;
-mod tracked;
 
+pub use agent::FollowedAgent;
+pub use client::{FollowedClient, send};
+pub use coordinator::FollowedCoordinator;
 pub use filling::Filling;
-pub use sending::Sending;
-pub use sending::send;
-pub use follower::Follower;
-pub use following::Following;
-pub use hearing::Hearing;
 pub use making::follow;
-pub use parting::Ended;
-pub use tracked::Tracked;
+pub use node::FollowedNode;
+pub use parting::FollowedParts;
+pub use run::FollowedRun;

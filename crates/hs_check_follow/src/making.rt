@@ -6,27 +6,26 @@ ghost use Rattle.hs_journal.specs.Views.{journal_of};
 ghost use Rattle.hs_law_journal.specs.Following.{followed, node_start, run_start};
 ghost use Rattle.hs_workload.specs.Views.{workload_of};
 ghost use Rattle.hs_check_clauses.specs.Beginning.{MayBegin};
-ghost use Rattle.hs_check_follow.specs.Beginning.{IsNewHearing};
+ghost use Rattle.hs_check_follow.specs.Beginning.{IsNewFollowedCoordinator};
 ghost use Rattle.hs_check_follow.specs.Clients.{ClientStands};
 ghost use Rattle.hs_check_follow.specs.Whole.{NodeAt, AllAt};
 
+use crate::agent::FollowedAgent;
+use crate::client::{FollowedClient, send};
 use crate::clients::operations_of;
-use crate::follower::Follower;
-use crate::following::Following;
-use crate::hearing::Hearing;
-use crate::tracked::Tracked;
+use crate::coordinator::FollowedCoordinator;
+use crate::node::FollowedNode;
+use crate::run::FollowedRun;
 use hs_agent::Agent;
 use hs_base::{ClientId, List, Memory, NodeId};
 use hs_coord::Coordinator;
-use crate::sending::Sending;
-use crate::sending::send;
 use hs_journal::Journal;
 use hs_law_sends::laws::valid_clients_may_be_played;
 use hs_workload::Workload;
 use std::alloc::Global;
 
 /// Follows a journal of the workload's shape as far as that is possible.
-pub fn follow(alloc: Global, workload: &Workload, journal: &Journal) -> Result<Following, Memory>
+pub fn follow(alloc: Global, workload: &Workload, journal: &Journal) -> Result<FollowedRun, Memory>
     requires { MayBegin (workload_of workload.now) (journal_of journal.now) }
     ensures { IfOk result (λ f. AllAt (workload_of workload.now) (journal_of journal.now) (followed (workload_of workload.now) (journal_of journal.now)) f.nodes.items f.hearing) }
 {
@@ -36,7 +35,7 @@ pub fn follow(alloc: Global, workload: &Workload, journal: &Journal) -> Result<F
 }
 
 /// All nodes and the coordinator.
-fn begin(alloc: Global, workload: &Workload, journal: &Journal) -> Result<Following, Memory>
+fn begin(alloc: Global, workload: &Workload, journal: &Journal) -> Result<FollowedRun, Memory>
     requires { MayBegin (workload_of workload.now) (journal_of journal.now) }
     ensures { IfOk result (λ f. AllAt (workload_of workload.now) (journal_of journal.now) (run_start (workload_of workload.now) (journal_of journal.now)) f.nodes.items f.hearing) }
 {
@@ -46,7 +45,7 @@ fn begin(alloc: Global, workload: &Workload, journal: &Journal) -> Result<Follow
         nodes.append(make_node(alloc, node, workload, journal)?)?;
     }
     let hearing = make_hearing(alloc, count)?;
-    Ok(Following { nodes, hearing })
+    Ok(FollowedRun { nodes, hearing })
 }
 
 /// A node, with what its clients send.
@@ -55,7 +54,7 @@ fn make_node(
     node: u16,
     workload: &Workload,
     journal: &Journal,
-) -> Result<Tracked, Memory>
+) -> Result<FollowedNode, Memory>
     requires may { MayBegin (workload_of workload.now) (journal_of journal.now) }
     requires node { node < workload.now.settings.nodes }
     ensures { IfOk result (NodeAt (workload_of workload.now) (journal_of journal.now) (node_start (workload_of workload.now) (journal_of journal.now) node)) }
@@ -67,8 +66,8 @@ fn make_node(
         clients.append(make_client(alloc, client, workload, journal)?)?;
     }
     let agent = Agent::make(alloc, NodeId(node), settings)?;
-    Ok(Tracked {
-        follower: Follower {
+    Ok(FollowedNode {
+        follower: FollowedAgent {
             agent,
             clients,
             said: List::new(alloc),
@@ -87,7 +86,7 @@ fn make_client(
     client: ClientId,
     workload: &Workload,
     journal: &Journal,
-) -> Result<Sending, Memory>
+) -> Result<FollowedClient, Memory>
     requires may { MayBegin (workload_of workload.now) (journal_of journal.now) }
     requires node { client.node < workload.now.settings.nodes }
     requires number { client.number < workload.now.settings.clients }
@@ -103,9 +102,9 @@ fn make_client(
 }
 
 /// The coordinator, which has heard nothing.
-fn make_hearing(alloc: Global, nodes: u16) -> Result<Hearing, Memory>
+fn make_hearing(alloc: Global, nodes: u16) -> Result<FollowedCoordinator, Memory>
     requires { nodes ≤ MAX_NODES }
-    ensures { IfOk result (IsNewHearing nodes) }
+    ensures { IfOk result (IsNewFollowedCoordinator nodes) }
 {
     let coordinator = Coordinator::make(alloc, nodes)?;
     let mut asks = List::new(alloc);
@@ -114,7 +113,7 @@ fn make_hearing(alloc: Global, nodes: u16) -> Result<Hearing, Memory>
         asks.append(List::new(alloc))?;
         counts.append(0)?;
     }
-    Ok(Hearing {
+    Ok(FollowedCoordinator {
         coordinator,
         asks,
         counts,

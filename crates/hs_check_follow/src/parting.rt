@@ -9,37 +9,35 @@ ghost use Rattle.hs_records.specs.Plain.{PlainWorkload};
 ghost use Rattle.hs_check_follow.specs.Parting.{books_left, IsFoundOf};
 ghost use Rattle.hs_check_follow.specs.Whole.{AllAt};
 
-use crate::follower::Follower;
-use crate::following::Following;
-use crate::tracked::Tracked;
+use crate::agent::FollowedAgent;
+use crate::client::FollowedClient;
+use crate::node::FollowedNode;
+use crate::run::FollowedRun;
 use hs_agent::Agent;
 use hs_base::{List, Memory};
-use hs_check_clauses::Found;
-use hs_check_clauses::FoundClient;
-use hs_check_clauses::FoundNode;
-use crate::sending::Sending;
+use hs_check_clauses::{Found, FoundClient, FoundNode};
 use hs_journal::ClientBook;
 use hs_law_journal::laws::runs_are_of_the_journal;
 use std::alloc::Global;
 
 /// What the clients noted, in the order of their numbers, and the agents.
 #[derive(Drop)]
-pub struct Ended {
+pub struct FollowedParts {
     pub clients: List<ClientBook>,
     pub agents: List<Agent<()>>,
 }
 
-impl Following {
+impl FollowedRun {
     /// What was found where the whole journal was followed, and what is left.
-    pub fn part(self, alloc: Global) -> Result<(Found, Ended), Memory>
+    pub fn part(self, alloc: Global) -> Result<(Found, FollowedParts), Memory>
         ensures found { (W : PlainWorkload) (J : PlainJournal) → AllAt W J (followed W J) self.nodes.items self.hearing → is_done (followed W J) ≡ true
             → IfOk result (λ parts. IsFound W.settings (followed W J) parts.0) }
         ensures clients { IfOk result (λ parts. parts.1.clients.items ≡ flat_map books_left self.nodes.items) }
         ensures agents { IfOk result (λ parts. parts.1.agents.items ≡ map (λ t. t.follower.agent) self.nodes.items) }
     {
         runs_are_of_the_journal();
-        let Following { nodes, hearing } = self;
-        let mut ended = Ended {
+        let FollowedRun { nodes, hearing } = self;
+        let mut ended = FollowedParts {
             clients: List::new(alloc),
             agents: List::new(alloc),
         };
@@ -58,8 +56,8 @@ impl Following {
 /// What was found at nodes.
 fn part_nodes(
     alloc: Global,
-    nodes: List<Tracked>,
-    ended: &mut Ended,
+    nodes: List<FollowedNode>,
+    ended: &mut FollowedParts,
 ) -> Result<List<FoundNode>, Memory>
     ensures found { IfOk result (λ found. AreFound IsFoundOf nodes.items found.items) }
     ensures clients { IfOk result (λ found. ended.new.clients.items ≡ ended.old.clients.items ++ flat_map books_left nodes.items) }
@@ -73,18 +71,22 @@ fn part_nodes(
 }
 
 /// What was found at a node.
-fn part_node(alloc: Global, tracked: Tracked, ended: &mut Ended) -> Result<FoundNode, Memory>
+fn part_node(
+    alloc: Global,
+    tracked: FollowedNode,
+    ended: &mut FollowedParts,
+) -> Result<FoundNode, Memory>
     ensures found { IfOk result (IsFoundOf tracked) }
     ensures clients { IfOk result (λ found. ended.new.clients.items ≡ ended.old.clients.items ++ books_left tracked) }
     ensures agents { IfOk result (λ found. ended.new.agents.items ≡ ended.old.agents.items ++ tracked.follower.agent ∷ []) }
 {
-    let Tracked {
+    let FollowedNode {
         follower,
         next: _,
         hands,
         told,
     } = tracked;
-    let Follower {
+    let FollowedAgent {
         agent,
         clients,
         said,
@@ -107,7 +109,7 @@ fn part_node(alloc: Global, tracked: Tracked, ended: &mut Ended) -> Result<Found
 /// What was found at clients.
 fn part_clients(
     alloc: Global,
-    clients: List<Sending>,
+    clients: List<FollowedClient>,
     books: &mut List<ClientBook>,
 ) -> Result<List<FoundClient>, Memory>
     ensures found { IfOk result (λ found. found.items ≡ map (λ s. s.found) clients.items) }
@@ -115,7 +117,7 @@ fn part_clients(
 {
     let mut found = List::new(alloc);
     for sending in clients.into_vec() {
-        let Sending {
+        let FollowedClient {
             chunks: _,
             crumbs: _,
             triggers: _,

@@ -19,7 +19,7 @@ use hs_law_lockstep::laws::schedule_is_lawful;
 use hs_make::make_workload;
 use hs_replay::{into_outcome, replay, write_total};
 use hs_run::run;
-use hs_streams::{Input, Status, read_all, refusal_line};
+use hs_streams::{ReadInput, Status, read_all, refusal_line};
 use hs_workload::{ReadError, Workload, read_workload, versions_are_exchanged, write_workload};
 use std::alloc::Global;
 use std::marker::Sync;
@@ -75,10 +75,10 @@ fn read<S: Source>(alloc: Global, command: Command, source: &mut S) -> Subject
     ensures { IsSubject command (S.left source.old) (S.left source.new) (S.faults source.old) (S.faults source.new) result }
 {
     match read_all(alloc, source) {
-        Input::Whole(input) => found_in(alloc, command, &input),
-        Input::TooLong => Subject::TooLong,
-        Input::Fault => Subject::Fault,
-        Input::NoMemory => Subject::NoMemory,
+        ReadInput::Whole(input) => found_in(alloc, command, &input),
+        ReadInput::TooLong => Subject::TooLong,
+        ReadInput::Fault => Subject::Fault,
+        ReadInput::NoMemory => Subject::NoMemory,
     }
 }
 

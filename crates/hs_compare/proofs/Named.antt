@@ -19,8 +19,8 @@ use Rattle.hs_compare.specs.Coming as samplers
 use Rattle.hs_compare.specs.Happens.{name_at, names_at, names_by, comes_at, points_by}
 use Rattle.hs_compare.specs.Scripts.{sent_names, names_of, event_of}
 use Rattle.hs_compare.specs.Walking.{AreInTurn, events_in, events_of, both_of}
-use Rattle.hs_compare.specs.declared.happening.Event.TheVariants.{Names}
-use Rattle.hs_compare.specs.declared.happening.Happening.{Happening}
+use Rattle.hs_compare.specs.declared.happening.ScriptEvent.TheVariants.{Names}
+use Rattle.hs_compare.specs.declared.happening.NumberedEvent.{NumberedEvent}
 
 pub laterals_more : (number : ℕ) (laterals : List TraceId) (place : ℕ) (trace : TraceId) → Some trace ≡ slice_get laterals place
     → map (name_at number) (take (place + 1) laterals) ≡ map (name_at number) (take place laterals) ++ name_at number trace ∷ []
@@ -37,11 +37,11 @@ pub names_are : (triggers : List (Sent Trigger)) → names_by (numbers_of trigge
 names_are [] = refl
 names_are (t ∷ triggers) = ap (λ ns. names_at t.number t.item ++ ns) (names_are triggers)
 
-turn_from : (a b : ℕ) (hs : List Happening) → a ≤ b → AreInTurn b hs → AreInTurn a hs
+turn_from : (a b : ℕ) (hs : List NumberedEvent) → a ≤ b → AreInTurn b hs → AreInTurn a hs
 turn_from a b [] le turn = tt
 turn_from a b (h ∷ hs) le turn = (omega (arith, turn.0, le), turn.1)
 
-turn_behind : (k n : ℕ) (traces : List TraceId) (more : List Happening) → k ≤ n → AreInTurn n more → AreInTurn k (map (name_at n) traces ++ more)
+turn_behind : (k n : ℕ) (traces : List TraceId) (more : List NumberedEvent) → k ≤ n → AreInTurn n more → AreInTurn k (map (name_at n) traces ++ more)
 turn_behind k n [] more le turn = turn_from k n more le turn
 turn_behind k n (t ∷ traces) more le turn = (le, turn_behind n n traces more (omega arith) turn)
 
@@ -53,16 +53,16 @@ names_turn k (t ∷ triggers) order = turn_behind k t.number (names_in t.item) (
 none_of : (n m : ℕ) (traces : List TraceId) → (m == n) ≡ false → events_of (map (name_at m) traces) n ≡ []
 none_of n m [] apart = refl
 none_of n m (t ∷ traces) apart =
-    ap (λ b. events_in (cond b (name_at m t ∷ filter (λ (h : Happening). h.number == n) (map (name_at m) traces)) (filter (λ (h : Happening). h.number == n) (map (name_at m) traces)))) apart ∙ none_of n m traces apart
+    ap (λ b. events_in (cond b (name_at m t ∷ filter (λ (h : NumberedEvent). h.number == n) (map (name_at m) traces)) (filter (λ (h : NumberedEvent). h.number == n) (map (name_at m) traces)))) apart ∙ none_of n m traces apart
 
 all_of : (n m : ℕ) (traces : List TraceId) → (m == n) ≡ true → events_of (map (name_at m) traces) n ≡ map Names traces
 all_of n m [] same = refl
 all_of n m (t ∷ traces) same =
-    ap (λ b. events_in (cond b (name_at m t ∷ filter (λ (h : Happening). h.number == n) (map (name_at m) traces)) (filter (λ (h : Happening). h.number == n) (map (name_at m) traces)))) same
+    ap (λ b. events_in (cond b (name_at m t ∷ filter (λ (h : NumberedEvent). h.number == n) (map (name_at m) traces)) (filter (λ (h : NumberedEvent). h.number == n) (map (name_at m) traces)))) same
     ∙ ap (λ es. Names t ∷ es) (all_of n m traces same)
 
-pub events-both : (xs ys : List Happening) (n : ℕ) → events_of (xs ++ ys) n ≡ events_of xs n ++ events_of ys n
-events-both xs ys n = ap events_in (filter-append (λ (h : Happening). h.number == n) xs ys) ∙ map-append (λ (h : Happening). h.event) (filter (λ (h : Happening). h.number == n) xs) (filter (λ (h : Happening). h.number == n) ys)
+pub events-both : (xs ys : List NumberedEvent) (n : ℕ) → events_of (xs ++ ys) n ≡ events_of xs n ++ events_of ys n
+events-both xs ys n = ap events_in (filter-append (λ (h : NumberedEvent). h.number == n) xs ys) ∙ map-append (λ (h : NumberedEvent). h.event) (filter (λ (h : NumberedEvent). h.number == n) xs) (filter (λ (h : NumberedEvent). h.number == n) ys)
 
 pub names_at_one : (triggers : List (Sent Trigger)) (n : ℕ) → events_of (sent_names triggers) n ≡ map Names (flat_map names_in (items_at n triggers))
 names_at_one [] n = refl
@@ -86,7 +86,7 @@ points_at_one [] n = refl
 points_at_one (s ∷ sent) n = by (s.number == n) (points_at_one sent n)
   where
     by : (b : Bool) → events_of (map comes_at sent) n ≡ map event_of (map samplers.Comes (items_at n sent))
-        → events_in (cond b (comes_at s ∷ filter (λ (h : Happening). h.number == n) (map comes_at sent)) (filter (λ (h : Happening). h.number == n) (map comes_at sent)))
+        → events_in (cond b (comes_at s ∷ filter (λ (h : NumberedEvent). h.number == n) (map comes_at sent)) (filter (λ (h : NumberedEvent). h.number == n) (map comes_at sent)))
         ≡ map event_of (map samplers.Comes (map (λ (s : Sent samplers.Coming). s.item) (cond b (s ∷ filter (λ (s : Sent samplers.Coming). s.number == n) sent) (filter (λ (s : Sent samplers.Coming). s.number == n) sent))))
     by true ih = ap (λ es. event_of (samplers.Comes s.item) ∷ es) ih
     by false ih = ih

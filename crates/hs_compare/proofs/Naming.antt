@@ -5,7 +5,7 @@ use Rattle.hs_lists.proofs.Places.{IsIn}
 use Rattle.hs_base.specs.declared.ids.TraceId.{TraceId}
 use Rattle.hs_base.specs.Ids.{is_among}
 use Rattle.hs_law_outcome.proofs.Among.{to_any}
-use Rattle.hs_compare.specs.Coming.{Event, Comes, Names, named_by}
+use Rattle.hs_compare.specs.Coming.{SamplerEvent, Comes, Names, named_by}
 
 -- the trace is one of these
 abbrev pub Among : List TraceId → TraceId → Type 0
@@ -28,11 +28,11 @@ pub among_in : (traces : List TraceId) (trace : TraceId) → IsIn traces trace �
 among_in traces trace h = to_any (λ (other : TraceId). eqb other.0 trace.0) traces trace h (eq-eqb trace.0 trace.0 refl)
 
 -- the traces that events name have what all named ones have
-abbrev pub NamesOnly : (TraceId → Type 0) → Event → Type 0
+abbrev pub NamesOnly : (TraceId → Type 0) → SamplerEvent → Type 0
 NamesOnly P (Comes coming) = Unit {0}
 NamesOnly P (Names trace) = P trace
 
-pub all_named : (P : TraceId → Type 0) (events : List Event) → AllByRecursion P (flat_map named_by events) → AllByRecursion (NamesOnly P) events
+pub all_named : (P : TraceId → Type 0) (events : List SamplerEvent) → AllByRecursion P (flat_map named_by events) → AllByRecursion (NamesOnly P) events
 all_named P [] all = tt
 all_named P (Comes coming ∷ events) all = (tt, all_named P events all)
 all_named P (Names trace ∷ events) all = (all.0, all_named P events all.1)

@@ -20,7 +20,7 @@ use Rattle.hs_law_sends.specs.SoFar.{AllTriggersAreSent}
 use Rattle.hs_law_sends.specs.Timing.{point_numbers}
 use Rattle.hs_law_journal.specs.Ends.{rounds_for, rounds_of}
 use Rattle.hs_law_outcome.specs.Outcomes.{client_at}
-use Rattle.hs_compare.specs.Coming.{Coming, Event, Comes, Names, comings_of, sent_comings, items_at, names_in, events_at, events_of, events_in_order, all_comings, named_by, named_in}
+use Rattle.hs_compare.specs.Coming.{Coming, SamplerEvent, Comes, Names, comings_of, sent_comings, items_at, names_in, events_at, events_of, events_in_order, all_comings, named_by, named_in}
 use Rattle.hs_compare.specs.SamplerLaws.{brought_by, all_names, TheOrderHasAll}
 use Rattle.hs_compare.proofs.Lists.{in_map}
 use Rattle.hs_compare.proofs.Same.{Same, Joins, same_from, turned_round, both, flat_same, flat_pairs, flat_none, by_columns, to_permutation}
@@ -97,7 +97,7 @@ flat_flat : {X Y Z : Type 0} (g : Y → List Z) (f : X → List Y) (xs : List X)
 flat_flat g f [] = refl
 flat_flat g f (x ∷ xs) = flat_map-append g (f x) (flat_map f xs) ∙ ap (λ rest. flat_map g (f x) ++ rest) (flat_flat g f xs)
 
-module _ {Y : Type 0} (W : PlainWorkload) (g : Event → List Y) (h : ℕ → ℕ → List Y)
+module _ {Y : Type 0} (W : PlainWorkload) (g : SamplerEvent → List Y) (h : ℕ → ℕ → List Y)
     (is : (place n : ℕ) → flat_map g (events_at W.settings.autos (client_at W.settings.clients place) (operations_at W place) n) ≡ h place n)
   where
     abbrev places : List ℕ

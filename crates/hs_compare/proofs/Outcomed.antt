@@ -16,7 +16,7 @@ use Rattle.hs_report.specs.Outcomes.{IsOutcome}
 use Rattle.hs_compare.specs.Coming.{all_comings, events_in_order, named_by, named_in}
 use Rattle.hs_compare.specs.SamplerLaws.{CanBeCompared, EntriesStandByTheRecords, TailIsTheSum, SumsToTail, name_of_coming, compared_by}
 use Rattle.hs_compare.specs.Lines.{PlainComparison, comparison_of}
-use Rattle.hs_compare.specs.Samplers.{Ring, ring_step, empty_ring}
+use Rattle.hs_compare.specs.Samplers.{SamplerRing, ring_step, empty_ring}
 use Rattle.hs_workload.specs.Validity.{IsValid}
 use Rattle.hs_workload.specs.declared.word.Setting.TheVariants as settings
 use Rattle.hs_workload.proofs.Sizes.{bracketed}
@@ -62,7 +62,7 @@ outcome_beside beside W J outcome is valid lawful all are =
 
 -- ---- the ring
 
-abbrev pub after_all : ℕ → PlainWorkload → Ring
+abbrev pub after_all : ℕ → PlainWorkload → SamplerRing
 after_all room W = fold (ring_step room) empty_ring (events_in_order W)
 
 -- a new ring, after all scripts

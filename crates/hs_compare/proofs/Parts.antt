@@ -11,7 +11,7 @@ use Rattle.hs_records.specs.Plain.{Operation}
 use Rattle.hs_records.specs.Records.{NumberedOperation, numbered_from, open_behind}
 use Rattle.hs_law_sends.specs.Sending.{Sent, trigger_in, triggers_behind}
 use Rattle.hs_compare.specs.Coming.{names_in}
-use Rattle.hs_compare.specs.declared.happening.Happening.{Happening}
+use Rattle.hs_compare.specs.declared.happening.NumberedEvent.{NumberedEvent}
 use Rattle.hs_compare.specs.declared.script.Script.{Script}
 use Rattle.hs_compare.specs.Happens.{name_at, points_by}
 use Rattle.hs_compare.specs.Scripts.{sent_names, names_of, IsClientScript}
@@ -20,14 +20,14 @@ use Rattle.hs_compare.specs.Rounds.{IsSound, events_before, part_of}
 use Rattle.hs_compare.proofs.Walked.{events-append}
 
 -- past the last operation nothing happens
-pub none_past : (n : ℕ) (hs : List Happening) (k : ℕ) → AreOf k hs → k ≤ n → events_of hs n ≡ []
+pub none_past : (n : ℕ) (hs : List NumberedEvent) (k : ℕ) → AreOf k hs → k ≤ n → events_of hs n ≡ []
 none_past n [] k low le = refl
 none_past n (h ∷ hs) k low le =
     let first = low.0 in
     let apart : (h.number == n) ≡ false = ne_eqb h.number n (λ same. omega (arith, same, first, le)) in
-    ap (λ b. events_in (cond b (h ∷ filter (λ (h : Happening). h.number == n) hs) (filter (λ (h : Happening). h.number == n) hs))) apart ∙ none_past n hs k low.1 le
+    ap (λ b. events_in (cond b (h ∷ filter (λ (h : NumberedEvent). h.number == n) hs) (filter (λ (h : NumberedEvent). h.number == n) hs))) apart ∙ none_past n hs k low.1 le
 
-module _ (points names : List Happening) (operations : ℕ) (low : AreOf operations points) (low' : AreOf operations names) where
+module _ (points names : List NumberedEvent) (operations : ℕ) (low : AreOf operations points) (low' : AreOf operations names) where
   pub quiet : (from count : ℕ) → operations ≤ from → events_from points names from count ≡ []
   quiet from zero past = refl
   quiet from (suc count) past =
@@ -88,11 +88,11 @@ module _ (points names : List Happening) (operations : ℕ) (low : AreOf operati
 
 -- ---- names are of operations
 
-low_from : (a b : ℕ) (hs : List Happening) → a ≤ b → AreOf a hs → AreOf b hs
+low_from : (a b : ℕ) (hs : List NumberedEvent) → a ≤ b → AreOf a hs → AreOf b hs
 low_from a b [] le low = tt
 low_from a b (h ∷ hs) le low = let first = low.0 in (omega (arith, first, le), low_from a b hs le low.1)
 
-low_behind : (n number : ℕ) (traces : List TraceId) (more : List Happening) → number < n → AreOf n more → AreOf n (map (name_at number) traces ++ more)
+low_behind : (n number : ℕ) (traces : List TraceId) (more : List NumberedEvent) → number < n → AreOf n more → AreOf n (map (name_at number) traces ++ more)
 low_behind n number [] more less low = low
 low_behind n number (t ∷ traces) more less low = (less, low_behind n number traces more less low)
 

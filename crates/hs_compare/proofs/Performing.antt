@@ -16,7 +16,7 @@ use Rattle.hs_coord.specs.Following.{Message, Messages, message, is_of, first_of
 use Rattle.hs_journal.specs.declared.journal.Step.{Step}
 use Rattle.hs_journal.specs.declared.journal.Step.TheVariants as steps
 use Rattle.hs_journal.specs.Views.{PlainJournal}
-use Rattle.hs_law_agent.specs.Stepping.{Given, Missed, Unread, Chunk, Crumbed, Triggered, Asked, Turn, Event, Took, Gave}
+use Rattle.hs_law_agent.specs.Stepping.{Given, Missed, Unread, Chunk, Crumbed, Triggered, Asked, Turn, AgentEvent, Took, Gave}
 use Rattle.hs_records.specs.Plain.{PlainWorkload}
 use Rattle.hs_law_sends.specs.Sending.{Sent, ClientSends, client_sends, node_sends, operations_at, place_of, sent_triggers}
 use Rattle.hs_law_agent.specs.Bringing.{AllPass, TellsOf, ClaimsOnly, BringsOnly, ClaimsAreOfWhatIsBrought}
@@ -56,10 +56,10 @@ module _ (W : PlainWorkload) (J : PlainJournal) (test : TraceId → Bool) where
     sends : run.sends ≡ node_sends W J run.node
     claims : ClaimsOnly test run.state
 
-  quiet : {A : Type 0} (f : A → Event) (event : Event) (o : Option A) → ((a : A) → BringsOnly test (f a)) → option_map f o ≡ Some event → BringsOnly test event
+  quiet : {A : Type 0} (f : A → AgentEvent) (event : AgentEvent) (o : Option A) → ((a : A) → BringsOnly test (f a)) → option_map f o ≡ Some event → BringsOnly test event
   quiet f event o each h = let m = mapped_from f o event h in subst (BringsOnly test) (sym m.is) (each m.item)
 
-  quiet_client : {A : Type 0} (f : A → Event) (event : Event) (g : ClientSends → Option A) (o : Option ClientSends) → ((a : A) → BringsOnly test (f a)) → option_and_then (λ (s : ClientSends). option_map f (g s)) o ≡ Some event
+  quiet_client : {A : Type 0} (f : A → AgentEvent) (event : AgentEvent) (g : ClientSends → Option A) (o : Option ClientSends) → ((a : A) → BringsOnly test (f a)) → option_and_then (λ (s : ClientSends). option_map f (g s)) o ≡ Some event
       → BringsOnly test event
   quiet_client f event g None each h = let no : None ≡ Some event = h in absurd cc
   quiet_client f event g (Some s) each h = quiet f event (g s) each h
@@ -71,7 +71,7 @@ module _ (W : PlainWorkload) (J : PlainJournal) (test : TraceId → Bool) where
         (all_always (λ (number : ℕ). SendsOnly (client_sends W J node number)) (range_with_len 0 W.settings.clients) (λ number. only (place_of W.settings.clients node number)))
 
     module _ (heard : Messages) (told : AllByRecursion Tells heard) (run : NodeRun) (keeps : Keeps run) where
-      trigger_brings : (client : ℕ) (event : Event) (o : Option ClientSends) → slice_get run.sends client ≡ o
+      trigger_brings : (client : ℕ) (event : AgentEvent) (o : Option ClientSends) → slice_get run.sends client ≡ o
           → option_and_then (λ (sends : ClientSends). option_map (λ trigger. Took (Triggered client trigger)) (next_of (Triggers client) run.state sends.triggers)) o ≡ Some event → BringsOnly test event
       trigger_brings client event None is h = let no : None ≡ Some event = h in absurd cc
       trigger_brings client event (Some sends) is h =
@@ -81,13 +81,13 @@ module _ (W : PlainWorkload) (J : PlainJournal) (test : TraceId → Bool) where
           let own = all_at SendsOnly run.sends client sends (subst (AllByRecursion SendsOnly) (sym keeps.sends) (sends_only run.node)) is in
           subst (BringsOnly test) (sym m.is) (subst (λ (trigger : Trigger). AllPass test (names_in trigger)) (sym i.is) (own i.item (record { place = place; there = i.there })))
 
-      ask_brings : (event : Event) → option_map (λ ask. Took (Asked ask)) (slice_get (asks_to run.node heard) (taken Asks run.state.log)) ≡ Some event → BringsOnly test event
+      ask_brings : (event : AgentEvent) → option_map (λ ask. Took (Asked ask)) (slice_get (asks_to run.node heard) (taken Asks run.state.log)) ≡ Some event → BringsOnly test event
       ask_brings event h =
           let asks = asks_to run.node heard in
           let m = mapped_from (λ ask. Took (Asked ask)) (slice_get asks (taken Asks run.state.log)) event h in
           subst (BringsOnly test) (sym m.is) (all_at AsksOf asks (taken Asks run.state.log) m.item (asks_only run.node [] heard tt told) m.there)
 
-      event_brings : (step : Step) (event : Event) → event_of run heard step ≡ Some event → BringsOnly test event
+      event_brings : (step : Step) (event : AgentEvent) → event_of run heard step ≡ Some event → BringsOnly test event
       event_brings (steps.Chunk client) event h =
           quiet_client (λ sheet. Took (Chunk client sheet)) event (λ (s : ClientSends). next_of (Chunks client) run.state s.chunks) (slice_get run.sends client) (λ sheet. tt) h
       event_brings (steps.Crumb client) event h =

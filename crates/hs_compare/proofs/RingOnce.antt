@@ -6,23 +6,23 @@ use Rattle.std.proofs.lemmas.List.{take-append-drop}
 use Rattle.std.proofs.lemmas.List.Elements.{filter-append}
 use Rattle.hs_base.specs.declared.ids.TraceId.{TraceId}
 use Rattle.hs_base.specs.Ids.{is_among}
-use Rattle.hs_compare.specs.Coming.{Coming, Event, Comes, Names, events_in_order, all_comings, named_in}
+use Rattle.hs_compare.specs.Coming.{Coming, SamplerEvent, Comes, Names, events_in_order, all_comings, named_in}
 use Rattle.hs_compare.specs.SamplerLaws.{brought_by, RingKeepsEachOnce}
-use Rattle.hs_compare.specs.Samplers.{is_of, tail_keeps, Ring, empty_ring, last_ones, ring_step}
+use Rattle.hs_compare.specs.Samplers.{is_of, tail_keeps, SamplerRing, empty_ring, last_ones, ring_step}
 use Rattle.hs_compare.proofs.Order.{all_in_order}
 use Rattle.hs_compare.proofs.Ringing.{IsNamed, ring_holds}
 use Rattle.hs_compare.proofs.Same.{Same, Joins, same_from, behind, before, into, crossed, filtered, in_parts, to_permutation}
 
 -- what is in the ring or kept
-abbrev held : Ring → List Coming
+abbrev held : SamplerRing → List Coming
 held ring = ring.waiting ++ ring.kept
 
 -- behind these records and a ring, the next ring and what has left
-record Moves (records : List Coming) (ring next : Ring) : Type 0 where
+record Moves (records : List Coming) (ring next : SamplerRing) : Type 0 where
   left : List Coming
   same : Same (records ++ held ring) (held next ++ left)
 
-comes_moves : (room : ℕ) (c : Coming) (ring : Ring) (b : Bool)
+comes_moves : (room : ℕ) (c : Coming) (ring : SamplerRing) (b : Bool)
     → Moves (c ∷ []) ring (cond b (record ring { kept = ring.kept ++ c ∷ [] }) (record ring { waiting = last_ones room (ring.waiting ++ c ∷ []) }))
 comes_moves room c ring true =
     record {
@@ -44,7 +44,7 @@ comes_moves room c ring false =
           (crossed (take n more) (drop n more ++ ring.kept)));
     }
 
-names_moves : (trace : TraceId) (ring : Ring) (b : Bool)
+names_moves : (trace : TraceId) (ring : SamplerRing) (b : Bool)
     → Moves [] ring
     (cond b ring (record { waiting = filter (λ c. not (is_of trace c)) ring.waiting; named = ring.named ++ trace ∷ []; kept = ring.kept ++ filter (is_of trace) ring.waiting }))
 names_moves trace ring true = record { left = []; same = same_from _ _ (sym (append-nil (held ring))) }
@@ -60,11 +60,11 @@ names_moves trace ring false =
           (same_from _ _ (sym (append-nil (stay ++ (ring.kept ++ go)))))));
     }
 
-step_moves : (room : ℕ) (ring : Ring) (event : Event) → Moves (brought_by event) ring (ring_step room ring event)
+step_moves : (room : ℕ) (ring : SamplerRing) (event : SamplerEvent) → Moves (brought_by event) ring (ring_step room ring event)
 step_moves room ring (Comes c) = comes_moves room c ring (is_among ring.named c.trace)
 step_moves room ring (Names trace) = names_moves trace ring (is_among ring.named trace)
 
-steps_move : (room : ℕ) (events : List Event) (ring : Ring) → Moves (flat_map brought_by events) ring (fold (ring_step room) ring events)
+steps_move : (room : ℕ) (events : List SamplerEvent) (ring : SamplerRing) → Moves (flat_map brought_by events) ring (fold (ring_step room) ring events)
 steps_move room [] ring = record { left = []; same = same_from _ _ (sym (append-nil (held ring))) }
 steps_move room (event ∷ events) ring =
     let now = brought_by event in

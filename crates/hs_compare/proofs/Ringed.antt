@@ -10,7 +10,7 @@ use Rattle.hs_base.specs.declared.ids.TraceId.{TraceId}
 use Rattle.hs_base.specs.Ids.{is_among}
 use Rattle.hs_compare.specs.Coming.{Coming}
 use Rattle.hs_compare.specs.Coming as samplers
-use Rattle.hs_compare.specs.Samplers.{Ring, is_of, last_ones, ring_step}
+use Rattle.hs_compare.specs.Samplers.{SamplerRing, is_of, last_ones, ring_step}
 use Rattle.hs_compare.specs.Samplers as rings
 use Rattle.hs_compare.specs.Lines.{each_once}
 use Rattle.hs_compare.specs.Ringing.{is_noted_of, ids_in, traces_in, last_noted}
@@ -32,7 +32,7 @@ traces_noted (c ∷ cs) = ap (λ ts. c.trace ∷ ts) (traces_noted cs)
 last_same : (room : ℕ) (cs : List Coming) → last_noted room (map noted_of cs) ≡ map noted_of (last_ones room cs)
 last_same room cs = ap (λ n. drop (n - room) (map noted_of cs)) (length_map noted_of cs) ∙ sym (map_drop noted_of (length cs - room) cs)
 
-one_step : (room : ℕ) (ring : Ring) (e : samplers.Event) → ring_after (ringing_by room ring) (event_of e) ≡ ringing_by room (ring_step room ring e)
+one_step : (room : ℕ) (ring : SamplerRing) (e : samplers.SamplerEvent) → ring_after (ringing_by room ring) (event_of e) ≡ ringing_by room (ring_step room ring e)
 one_step room ring (samplers.Comes c) = by (is_among ring.named c.trace)
   where
     by : (b : Bool)
@@ -64,7 +64,7 @@ one_step room ring (samplers.Names t) = by (is_among ring.named t)
         (ap (λ ts. map (λ (c : Coming). c.trace) ring.kept ++ ts) (ap traces_in mine ∙ traces_noted own) ∙ sym (map-append (λ (c : Coming). c.trace) ring.kept own))
 
 -- a ring through any events
-pub rings_are : (room : ℕ) (events : List samplers.Event) (ring : Ring) → rings_after (ringing_by room ring) (map event_of events) ≡ ringing_by room (fold (ring_step room) ring events)
+pub rings_are : (room : ℕ) (events : List samplers.SamplerEvent) (ring : SamplerRing) → rings_after (ringing_by room ring) (map event_of events) ≡ ringing_by room (fold (ring_step room) ring events)
 rings_are room [] ring = refl
 rings_are room (e ∷ events) ring = ap (λ r. rings_after r (map event_of events)) (one_step room ring e) ∙ rings_are room events (ring_step room ring e)
 
@@ -107,7 +107,7 @@ names_more all named t has = by (is_among named t) refl
               ∙ ap (λ b. count_by p (each_once all) + cond b 0 (cond (p t) 1 0)) (sym (sym (has.among t) ∙ e)) ∙ sym (once_more p all t);
         }
 
-named_step : (room : ℕ) (ring : Ring) (t : TraceId) → (rings.names t ring).named ≡ cond (is_among ring.named t) ring.named (ring.named ++ t ∷ [])
+named_step : (room : ℕ) (ring : SamplerRing) (t : TraceId) → (rings.names t ring).named ≡ cond (is_among ring.named t) ring.named (ring.named ++ t ∷ [])
 named_step room ring t = by (is_among ring.named t)
   where
     by : (b : Bool)
@@ -116,7 +116,7 @@ named_step room ring t = by (is_among ring.named t)
     by true = refl
     by false = refl
 
-comes_step : (room : ℕ) (ring : Ring) (c : Coming) → (rings.comes room c ring).named ≡ ring.named
+comes_step : (room : ℕ) (ring : SamplerRing) (c : Coming) → (rings.comes room c ring).named ≡ ring.named
 comes_step room ring c = by (is_among ring.named c.trace)
   where
     by : (b : Bool) → (cond b (record ring { kept = ring.kept ++ c ∷ [] }) (record ring { waiting = last_ones room (ring.waiting ++ c ∷ []) })).named ≡ ring.named
@@ -124,8 +124,8 @@ comes_step room ring c = by (is_among ring.named c.trace)
     by false = refl
 
 -- where f gives what an event names
-pub names_are_named : (f : samplers.Event → List TraceId) → ((c : Coming) → f (samplers.Comes c) ≡ []) → ((t : TraceId) → f (samplers.Names t) ≡ t ∷ [])
-    → (room : ℕ) (events : List samplers.Event) (ring : Ring) (all : List TraceId) → HasNames all ring.named → HasNames (all ++ flat_map f events) (fold (ring_step room) ring events).named
+pub names_are_named : (f : samplers.SamplerEvent → List TraceId) → ((c : Coming) → f (samplers.Comes c) ≡ []) → ((t : TraceId) → f (samplers.Names t) ≡ t ∷ [])
+    → (room : ℕ) (events : List samplers.SamplerEvent) (ring : SamplerRing) (all : List TraceId) → HasNames all ring.named → HasNames (all ++ flat_map f events) (fold (ring_step room) ring events).named
 names_are_named f quiet tells room [] ring all has = subst (λ (ts : List TraceId). HasNames ts ring.named) (sym (append-nil all)) has
 names_are_named f quiet tells room (samplers.Comes c ∷ events) ring all has =
     subst (λ (ts : List TraceId). HasNames (all ++ (ts ++ flat_map f events)) (fold (ring_step room) (rings.comes room c ring) events).named) (sym (quiet c))

@@ -14,9 +14,9 @@ use Rattle.hs_law_sends.specs.Timing.{point_numbers}
 use Rattle.hs_law_journal.specs.Ends.{rounds_of}
 use Rattle.hs_law_outcome.specs.Outcomes.{client_at}
 use Rattle.hs_law_outcome.proofs.Among.{contained, in_filter}
-use Rattle.hs_compare.specs.Coming.{Coming, Event, Comes, Names, comings_of, sent_comings, items_at, names_in, events_at, events_of, events_in_order, all_comings, named_in}
+use Rattle.hs_compare.specs.Coming.{Coming, SamplerEvent, Comes, Names, comings_of, sent_comings, items_at, names_in, events_at, events_of, events_in_order, all_comings, named_in}
 use Rattle.hs_compare.specs.SamplerLaws.{RingKeepsLess}
-use Rattle.hs_compare.specs.Samplers.{is_of, tail_keeps, Ring, empty_ring, last_ones, ring_step, ring_keeps}
+use Rattle.hs_compare.specs.Samplers.{is_of, tail_keeps, SamplerRing, empty_ring, last_ones, ring_step, ring_keeps}
 use Rattle.hs_compare.proofs.Lists.{all_filtered, all_themselves, in_flat, in_range}
 use Rattle.hs_compare.proofs.Naming.{Among, among_same, among_all, among_in, NamesOnly, all_named}
 
@@ -28,16 +28,16 @@ module _ (all : List Coming) (named : List TraceId) where
     pub came : IsIn all coming
     pub of : Among named coming.trace
 
-  pub record Holds (ring : Ring) : Type 0 where
+  pub record Holds (ring : SamplerRing) : Type 0 where
     pub waiting : AllByRecursion (IsIn all) ring.waiting
     pub known : AllByRecursion (Among named) ring.named
     pub kept : AllByRecursion IsNamed ring.kept
 
-  abbrev IsRight : Event → Type 0
+  abbrev IsRight : SamplerEvent → Type 0
   IsRight (Comes coming) = IsIn all coming
   IsRight (Names trace) = Among named trace
 
-  comes_right : (room : ℕ) (coming : Coming) (ring : Ring) (b : Bool) → is_among ring.named coming.trace ≡ b → IsIn all coming → Holds ring
+  comes_right : (room : ℕ) (coming : Coming) (ring : SamplerRing) (b : Bool) → is_among ring.named coming.trace ≡ b → IsIn all coming → Holds ring
       → Holds (cond b (record ring { kept = ring.kept ++ coming ∷ [] }) (record ring { waiting = last_ones room (ring.waiting ++ coming ∷ []) }))
   comes_right room coming ring true e came h =
       record { waiting = h.waiting; known = h.known; kept = all_append IsNamed ring.kept (coming ∷ []) h.kept (record { came = came; of = among_all named ring.named coming.trace h.known e }, tt) }
@@ -45,7 +45,7 @@ module _ (all : List Coming) (named : List TraceId) where
       let more = ring.waiting ++ coming ∷ [] in
       record { waiting = all_drop (IsIn all) (length more - room) more (all_append (IsIn all) ring.waiting (coming ∷ []) h.waiting (came, tt)); known = h.known; kept = h.kept }
 
-  names_right : (trace : TraceId) (ring : Ring) (b : Bool) → Among named trace → Holds ring
+  names_right : (trace : TraceId) (ring : SamplerRing) (b : Bool) → Among named trace → Holds ring
       → Holds
       (cond b ring
       (record { waiting = filter (λ c. not (is_of trace c)) ring.waiting; named = ring.named ++ trace ∷ []; kept = ring.kept ++ filter (is_of trace) ring.waiting }))
@@ -60,18 +60,18 @@ module _ (all : List Coming) (named : List TraceId) where
             (λ c came passes. record { came = came; of = among_same named trace c.trace (sym (eqb-true c.trace.0 trace.0 passes)) is }) ring.waiting h.waiting);
       }
 
-  step_right : (room : ℕ) (event : Event) (ring : Ring) → IsRight event → Holds ring → Holds (ring_step room ring event)
+  step_right : (room : ℕ) (event : SamplerEvent) (ring : SamplerRing) → IsRight event → Holds ring → Holds (ring_step room ring event)
   step_right room (Comes coming) ring right h = comes_right room coming ring (is_among ring.named coming.trace) refl right h
   step_right room (Names trace) ring right h = names_right trace ring (is_among ring.named trace) right h
 
-  steps_right : (room : ℕ) (events : List Event) (ring : Ring) → AllByRecursion IsRight events → Holds ring → Holds (fold (ring_step room) ring events)
+  steps_right : (room : ℕ) (events : List SamplerEvent) (ring : SamplerRing) → AllByRecursion IsRight events → Holds ring → Holds (fold (ring_step room) ring events)
   steps_right room [] ring right h = h
   steps_right room (event ∷ events) ring right h = steps_right room events (ring_step room ring event) right.1 (step_right room event ring right.0 h)
 
 -- ---- all events
 
 -- a record that comes with an event has this
-abbrev ComesAs : (Coming → Type 0) → Event → Type 0
+abbrev ComesAs : (Coming → Type 0) → SamplerEvent → Type 0
 ComesAs P (Comes coming) = P coming
 ComesAs P (Names trace) = Unit {0}
 
@@ -121,7 +121,7 @@ module _ (W : PlainWorkload) where
   all_are_named =
       all_named (Among (named_in W)) (events_in_order W) (all_each (IsIn (named_in W)) (Among (named_in W)) (named_in W) (λ trace h. among_in (named_in W) trace h) (all_themselves (named_in W)))
 
-  both_right : (events : List Event) → AllByRecursion (ComesAs (IsIn (all_comings W))) events → AllByRecursion (NamesOnly (Among (named_in W))) events → AllByRecursion (IsRight (all_comings W) (named_in W)) events
+  both_right : (events : List SamplerEvent) → AllByRecursion (ComesAs (IsIn (all_comings W))) events → AllByRecursion (NamesOnly (Among (named_in W))) events → AllByRecursion (IsRight (all_comings W) (named_in W)) events
   both_right [] came named = tt
   both_right (Comes coming ∷ events) came named = (came.0, both_right events came.1 named.1)
   both_right (Names trace ∷ events) came named = (named.0, both_right events came.1 named.1)

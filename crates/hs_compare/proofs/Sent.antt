@@ -16,7 +16,7 @@ use Rattle.hs_law_sends.specs.SoFar.{AllTriggersAreSent}
 use Rattle.hs_law_journal.specs.Ends.{rounds_for, rounds_of}
 use Rattle.hs_law_outcome.specs.Outcomes.{client_at}
 use Rattle.hs_law_outcome.proofs.Among.{is_first, of_all, in_filter}
-use Rattle.hs_compare.specs.Coming.{Event, Comes, Names, sent_comings, items_at, names_in, events_at, events_of, events_in_order, named_by, named_in}
+use Rattle.hs_compare.specs.Coming.{SamplerEvent, Comes, Names, sent_comings, items_at, names_in, events_at, events_of, events_in_order, named_by, named_in}
 use Rattle.hs_compare.proofs.Lists.{all_filtered, all_themselves, in_back, in_flat, in_map, in_range}
 use Rattle.hs_compare.proofs.Naming.{Among, among_in}
 
@@ -91,7 +91,7 @@ module _ (sent : AllTriggersAreSent) (W : PlainWorkload) (some : 1 ≤ W.setting
     trace_named trace h =
         let low = client_there (slice_get W.clients place) n refl n_low in
         let below = round_there (slice_get W.clients place) n refl n_low in
-        let e : Event = Names trace in
+        let e : SamplerEvent = Names trace in
         let own = in_flat (events_at W.settings.autos client ops) (range_with_len (round * W.settings.stride) W.settings.stride) n e in_stride (comes_named trace h) in
         let mid = in_flat (events_of W round) (range_with_len 0 (length W.clients)) place e (in_range 0 (length W.clients) place place (omega arith) low) own in
         let all =

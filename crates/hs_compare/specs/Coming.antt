@@ -22,9 +22,9 @@ pub record Coming : Type 0 where
   pub trace : TraceId
   pub bytes : ℕ
 
-pub data Event : Type 0 where
-  Comes : (coming : Coming) → Event
-  Names : (trace : TraceId) → Event
+pub data SamplerEvent : Type 0 where
+  Comes : (coming : Coming) → SamplerEvent
+  Names : (trace : TraceId) → SamplerEvent
 
 -- ---- one client
 
@@ -45,23 +45,23 @@ abbrev pub names_in : Trigger → List TraceId
 names_in trigger = trigger.lead ∷ trigger.laterals
 
 -- what an operation brings
-abbrev pub events_at : List AutoRule → ClientId → List Operation → ℕ → List Event
+abbrev pub events_at : List AutoRule → ClientId → List Operation → ℕ → List SamplerEvent
 events_at autos client ops n = map Comes (items_at n (sent_comings client ops)) ++ map Names (flat_map names_in (items_at n (sent_triggers autos ops)))
 
 -- ---- all
 
-abbrev pub events_of : PlainWorkload → ℕ → ℕ → List Event
+abbrev pub events_of : PlainWorkload → ℕ → ℕ → List SamplerEvent
 events_of W round place =
     flat_map (events_at W.settings.autos (client_at W.settings.clients place) (operations_at W place)) (range_with_len (round * W.settings.stride) W.settings.stride)
 
-abbrev pub events_in_order : PlainWorkload → List Event
+abbrev pub events_in_order : PlainWorkload → List SamplerEvent
 events_in_order W = flat_map (λ round. flat_map (events_of W round) (range_with_len 0 (length W.clients))) (range_with_len 0 (rounds_of W))
 
 -- all records, by node, client and number
 abbrev pub all_comings : PlainWorkload → List Coming
 all_comings W = flat_map (λ place. comings_of (client_at W.settings.clients place) (operations_at W place)) (range_with_len 0 (length W.clients))
 
-abbrev pub named_by : Event → List TraceId
+abbrev pub named_by : SamplerEvent → List TraceId
 named_by (Comes coming) = []
 named_by (Names trace) = trace ∷ []
 
@@ -75,7 +75,7 @@ named_in W = flat_map named_by (events_in_order W)
 abbrev by_turns : PlainWorkload
 by_turns = record short_of_pins { settings = record short_of_pins.settings { stride = 1 } }
 
-abbrev comers : Event → List ℕ
+abbrev comers : SamplerEvent → List ℕ
 comers (Comes coming) = coming.id.client.node ∷ []
 comers (Names trace) = []
 

@@ -8,9 +8,9 @@ use Rattle.hs_compare.specs.Coming.{comings_of}
 use Rattle.hs_compare.specs.Happens.{coming_of, points_by}
 use Rattle.hs_compare.specs.Walking.{AreOf, IsScript}
 use Rattle.hs_compare.specs.declared.coming.Coming.{Coming}
-use Rattle.hs_compare.specs.declared.happening.Event.{Event}
-use Rattle.hs_compare.specs.declared.happening.Event.TheVariants.{Comes}
-use Rattle.hs_compare.specs.declared.happening.Happening.{Happening}
+use Rattle.hs_compare.specs.declared.happening.ScriptEvent.{ScriptEvent}
+use Rattle.hs_compare.specs.declared.happening.ScriptEvent.TheVariants.{Comes}
+use Rattle.hs_compare.specs.declared.happening.NumberedEvent.{NumberedEvent}
 use Rattle.hs_compare.specs.declared.points.Seen.{Seen}
 use Rattle.hs_compare.specs.declared.points.Walk.{Walk}
 use Rattle.hs_compare.specs.declared.script.Script.{Script}
@@ -34,7 +34,7 @@ coming_seen client number seen = record { id = record { client = client; number 
 abbrev pub brought : ClientId → List Operation → Operation → Option Coming
 brought client ops op = option_map (coming_seen client (length (records_of ops))) (record_seen (record_in (open_after None ops) op))
 
-abbrev pub comes_in : Option Coming → List Event
+abbrev pub comes_in : Option Coming → List ScriptEvent
 comes_in None = []
 comes_in (Some coming) = Comes coming.id coming.trace ∷ []
 
@@ -49,11 +49,11 @@ pub record HasJoined (ops : List Operation) (first : List Coming) (walk : Walk) 
   pub joined : map coming_of all ≡ map coming_of first ++ comings_of walk.client ops
 
 -- The script has what happens in these operations of a client, in which these traces are named.
-pub record IsScriptOf (client : ClientId) (names : List Happening) (ops : List Operation) (script : Script) : Type 0 where
+pub record IsScriptOf (client : ClientId) (names : List NumberedEvent) (ops : List Operation) (script : Script) : Type 0 where
   pub is : IsScript (points_by client ops) names (length ops) script
   pub low : AreOf (length ops) (points_by client ops)
 
 -- They were walked through.
-pub record HasScript (names : List Happening) (ops : List Operation) (walk : Walk) (script : Script) : Type 0 where
+pub record HasScript (names : List NumberedEvent) (ops : List Operation) (walk : Walk) (script : Script) : Type 0 where
   pub gone : HasGone ops walk
   pub holds : IsScriptOf walk.client names ops script

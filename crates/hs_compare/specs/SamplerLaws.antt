@@ -20,7 +20,7 @@ use Rattle.hs_law_outcome.specs.Origins.{HasItsClients}
 use Rattle.hs_law_outcome.specs.Outcomes.{outcome_of}
 use Rattle.hs_law_outcome.specs.Records.{EndsItsTraces, Named, name_of}
 use Rattle.hs_law_outcome.specs.Reports.{Report, reports_of}
-use Rattle.hs_compare.specs.Coming.{Coming, Event, Comes, Names, names_in, events_in_order, all_comings, named_in}
+use Rattle.hs_compare.specs.Coming.{Coming, SamplerEvent, Comes, Names, names_in, events_in_order, all_comings, named_in}
 use Rattle.hs_compare.specs.Lines.{PlainComparison, is_gap, is_limited, comparison_of}
 use Rattle.hs_compare.specs.Samplers.{tail_keeps, ring_keeps}
 
@@ -31,7 +31,7 @@ RingKeepsLess = (W : PlainWorkload) (room : ℕ) → All (Contains (tail_keeps W
 -- ---- the operation order
 
 -- the record that an event brings
-abbrev pub brought_by : Event → List Coming
+abbrev pub brought_by : SamplerEvent → List Coming
 brought_by (Comes coming) = coming ∷ []
 brought_by (Names trace) = []
 

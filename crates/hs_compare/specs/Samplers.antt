@@ -8,7 +8,7 @@ use Rattle.hs_base.specs.Ids.{is_among}
 use Rattle.hs_ledger.specs.declared.ledger.Entry.{Entry}
 use Rattle.hs_ledger.specs.Totals.{is_reported}
 use Rattle.hs_records.specs.Plain.{PlainWorkload}
-use Rattle.hs_compare.specs.Coming.{Coming, Event, Comes, Names, all_comings, events_in_order, named_in}
+use Rattle.hs_compare.specs.Coming.{Coming, SamplerEvent, Comes, Names, all_comings, events_in_order, named_in}
 
 abbrev pub is_of : TraceId → Coming → Bool
 is_of trace coming = coming.trace.0 == trace.0
@@ -24,27 +24,27 @@ tail_keeps W = filter (λ (c : Coming). is_among (named_in W) c.trace) (all_comi
 
 -- ---- the ring
 
-pub record Ring : Type 0 where
+pub record SamplerRing : Type 0 where
   pub waiting : List Coming
   pub named : List TraceId
   pub kept : List Coming
 
-abbrev pub empty_ring : Ring
+abbrev pub empty_ring : SamplerRing
 empty_ring = record { waiting = []; named = []; kept = [] }
 
 -- the last ones, as many as there is room for
 abbrev pub last_ones : ℕ → List Coming → List Coming
 last_ones room records = drop (length records - room) records
 
-abbrev pub comes : ℕ → Coming → Ring → Ring
+abbrev pub comes : ℕ → Coming → SamplerRing → SamplerRing
 comes room c ring = if is_among ring.named c.trace then record ring { kept = ring.kept ++ c ∷ [] } else record ring { waiting = last_ones room (ring.waiting ++ c ∷ []) }
 
-abbrev pub names : TraceId → Ring → Ring
+abbrev pub names : TraceId → SamplerRing → SamplerRing
 names trace ring =
     if is_among ring.named trace then ring else
     record { waiting = filter (λ c. not (is_of trace c)) ring.waiting; named = ring.named ++ trace ∷ []; kept = ring.kept ++ filter (is_of trace) ring.waiting }
 
-abbrev pub ring_step : ℕ → Ring → Event → Ring
+abbrev pub ring_step : ℕ → SamplerRing → SamplerEvent → SamplerRing
 ring_step room ring (Comes c) = comes room c ring
 ring_step room ring (Names trace) = names trace ring
 
@@ -66,12 +66,12 @@ hindsight_keeps W entries = chosen (λ (e : Entry). is_reported e.fate) (all_com
 abbrev of_trace : (trace number : ℕ) → Coming
 of_trace trace number = record { id = record { client = record { node = 0; number = 0 }; number = number }; trace = t trace; bytes = 1 }
 
-abbrev kept_numbers : ℕ → List Event → List ℕ
+abbrev kept_numbers : ℕ → List SamplerEvent → List ℕ
 kept_numbers room events = map (λ (c : Coming). c.id.number) (fold (ring_step room) empty_ring events).kept
 
 -- the records 0 and 2 of the trace 7, with record 1 of the trace 8 between them; then the trace 7 is named, has one more record, and is named
 -- again; at last the trace 8 is named
-abbrev two_traces : List Event
+abbrev two_traces : List SamplerEvent
 two_traces = Comes (of_trace 7 0) ∷ Comes (of_trace 8 1) ∷ Comes (of_trace 7 2) ∷ Names (t 7) ∷ Comes (of_trace 7 3) ∷ Names (t 7) ∷ Names (t 8) ∷ []
 
 -- with room for three all are kept; with room for two the first leaves; with room for one only the last waits, and the record of the trace 8 is gone

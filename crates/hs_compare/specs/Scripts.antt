@@ -9,9 +9,9 @@ use Rattle.hs_law_sends.specs.Sending.{Sent, sent_triggers}
 use Rattle.hs_compare.specs.Coming as samplers
 use Rattle.hs_compare.specs.Happens.{names_at}
 use Rattle.hs_compare.specs.Points.{IsScriptOf}
-use Rattle.hs_compare.specs.declared.happening.Event.{Event}
-use Rattle.hs_compare.specs.declared.happening.Event.TheVariants.{Comes, Names}
-use Rattle.hs_compare.specs.declared.happening.Happening.{Happening}
+use Rattle.hs_compare.specs.declared.happening.ScriptEvent.{ScriptEvent}
+use Rattle.hs_compare.specs.declared.happening.ScriptEvent.TheVariants.{Comes, Names}
+use Rattle.hs_compare.specs.declared.happening.NumberedEvent.{NumberedEvent}
 use Rattle.hs_compare.specs.declared.script.Script.{Script}
 
 -- a trigger is sent at no other operation
@@ -21,17 +21,17 @@ may_trigger (Sample moment auto value) = true
 may_trigger _ = false
 
 -- the names of these triggers
-abbrev pub sent_names : List (Sent Trigger) → List Happening
+abbrev pub sent_names : List (Sent Trigger) → List NumberedEvent
 sent_names triggers = flat_map (λ (s : Sent Trigger). names_at s.number s.item) triggers
 
 -- what is named in these operations
-abbrev pub names_of : List AutoRule → List Operation → List Happening
+abbrev pub names_of : List AutoRule → List Operation → List NumberedEvent
 names_of autos ops = sent_names (sent_triggers autos ops)
 
 abbrev pub IsClientScript : List AutoRule → ClientId → List Operation → Script → Type 0
 IsClientScript autos client ops script = IsScriptOf client (names_of autos ops) ops script
 
 -- an event without its payload
-abbrev pub event_of : samplers.Event → Event
+abbrev pub event_of : samplers.SamplerEvent → ScriptEvent
 event_of (samplers.Comes coming) = Comes coming.id coming.trace
 event_of (samplers.Names trace) = Names trace

@@ -1,7 +1,7 @@
 -- The ring of the definition, whose records are whole, as one of records without their payloads.
 use Rattle.std.specs.Prelude.{ℕ, map}
 use Rattle.hs_compare.specs.Coming.{Coming}
-use Rattle.hs_compare.specs.Samplers.{Ring}
+use Rattle.hs_compare.specs.Samplers.{SamplerRing}
 use Rattle.hs_compare.specs.declared.ring.Noted.{Noted}
 use Rattle.hs_compare.specs.Ringing.{Ringing}
 
@@ -9,7 +9,7 @@ use Rattle.hs_compare.specs.Ringing.{Ringing}
 abbrev pub noted_of : Coming → Noted
 noted_of c = record { id = c.id; trace = c.trace }
 
-abbrev pub ringing_by : ℕ → Ring → Ringing
+abbrev pub ringing_by : ℕ → SamplerRing → Ringing
 ringing_by room ring =
     record {
       room = room;

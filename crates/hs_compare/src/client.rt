@@ -9,12 +9,11 @@ ghost use Rattle.hs_workload.specs.Views.{operation_of};
 ghost use Rattle.hs_workload.specs.declared.operation.Op.{Op};
 ghost use Rattle.hs_compare.specs.Scripts.{may_trigger, names_of, IsClientScript};
 
-use crate::happening::Happening;
+use crate::happening::NumberedEvent;
 use crate::names::names_of;
 use crate::script::{Script, script_of};
 use hs_base::{ClientId, List, Memory, Settings};
-use hs_check_follow::Sending;
-use hs_check_follow::send;
+use hs_check_follow::{FollowedClient, send};
 use hs_journal::Draw;
 use hs_law_sends::laws::items_are_sent_in_order;
 use hs_workload::Op;
@@ -41,7 +40,7 @@ fn client_names(
     settings: &Settings,
     operations: &[Op],
     draws: &[Draw],
-) -> Result<List<Happening>, Memory>
+) -> Result<List<NumberedEvent>, Memory>
     requires playable { IsPlayable (settings_of settings.now) (map operation_of operations.now) }
     requires each { length draws.now ≡ length (pages_of settings.now.size (map operation_of operations.now)) }
     ensures { IfOk result (λ names. names.items ≡ names_of (settings_of settings.now).autos (map operation_of operations.now)) }
@@ -50,7 +49,7 @@ fn client_names(
         return Ok(List::new(alloc));
     }
     let sending = send(alloc, client, settings, operations, draws)?;
-    let Sending {
+    let FollowedClient {
         triggers,
         found,
         ..

@@ -14,6 +14,7 @@ ghost use Rattle.hs_compare.specs.Plain.{plain_comparison};
 ghost use Rattle.hs_compare.specs.Whole.{ringing_by};
 
 use crate::comparison::{Comparison, compared};
+use crate::laws::{kept_is_parted, ring_keeps_each_once, tail_is_the_sum};
 use crate::limits::{MAX_ONE_IN, MAX_ROOM};
 use crate::records::all_records;
 use crate::ring_tail::RingTail;
@@ -24,9 +25,6 @@ use hs_check_clauses::count_rounds;
 use hs_journal::Journal;
 use hs_law_lockstep::laws::schedule_is_lawful;
 use hs_report::Outcome;
-use crate::laws::kept_is_parted;
-use crate::laws::ring_keeps_each_once;
-use crate::laws::tail_is_the_sum;
 use hs_workload::Workload;
 use std::alloc::Global;
 

@@ -4,14 +4,14 @@ use hs_base::{RecordId, TraceId};
 
 /// A record comes, or a trace is named.
 #[derive(Clone, Copy)]
-pub(crate) enum Event {
+pub(crate) enum ScriptEvent {
     Comes { id: RecordId, trace: TraceId },
     Names { trace: TraceId },
 }
 
 /// An event with the number of its operation.
 #[derive(Clone, Copy)]
-pub(crate) struct Happening {
+pub(crate) struct NumberedEvent {
     pub(crate) number: usize,
-    pub(crate) event: Event,
+    pub(crate) event: ScriptEvent,
 }

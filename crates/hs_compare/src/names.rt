@@ -3,23 +3,27 @@
 ghost use Rattle.std.specs.Prelude.{◌≡◌, ◌++◌, length, OnOk, IfOk};
 ghost use Rattle.hs_compare.specs.Happens.{name_at, names_at, names_by};
 
-use crate::happening::{Event, Happening};
+use crate::happening::{NumberedEvent, ScriptEvent};
 use hs_base::{List, Memory, TraceId, Trigger};
 use std::alloc::Global;
 use std::collections::VecDeque;
 
 /// The naming of a trace in an operation.
-fn naming(number: usize, trace: TraceId) -> Happening
+fn naming(number: usize, trace: TraceId) -> NumberedEvent
     ensures { result ≡ name_at number trace }
 {
-    Happening {
+    NumberedEvent {
         number,
-        event: Event::Names { trace },
+        event: ScriptEvent::Names { trace },
     }
 }
 
 /// Appends the names of a trigger: its lead, and then its laterals.
-fn add_names(names: &mut List<Happening>, number: usize, trigger: &Trigger) -> Result<(), Memory>
+fn add_names(
+    names: &mut List<NumberedEvent>,
+    number: usize,
+    trigger: &Trigger,
+) -> Result<(), Memory>
     ensures { OnOk result (names.new.items ≡ names.old.items ++ names_at number trigger.now) }
 {
     names.append(naming(number, trigger.lead))?;
@@ -36,7 +40,7 @@ pub(crate) fn names_of(
     alloc: Global,
     mut triggers: VecDeque<Trigger>,
     numbers: &[usize],
-) -> Result<List<Happening>, Memory>
+) -> Result<List<NumberedEvent>, Memory>
     requires { length triggers.items ≡ length numbers.now }
     ensures { IfOk result (λ names. names.items ≡ names_by numbers.now triggers.items) }
 {

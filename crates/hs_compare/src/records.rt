@@ -14,8 +14,7 @@ use crate::places::client_at;
 use crate::points::Walk;
 use hs_base::limits::MAX_OPERATIONS;
 use hs_base::{ClientId, List, Memory};
-use hs_law_sends::laws::valid_clients_may_be_played;
-use hs_law_sends::laws::one_operation_more;
+use hs_law_sends::laws::{one_operation_more, valid_clients_may_be_played};
 use hs_workload::{Op, Workload};
 use std::alloc::Global;
 

@@ -2,11 +2,11 @@
 
 ghost use Rattle.std.specs.Prelude.{◌≡◌, ◌≤◌, ◌<◌, ◌+◌, ◌++◌, ◌∷◌, [], length, map, drop, IfOk, OnOk};
 ghost use Rattle.hs_workload.specs.Views.{operation_of};
-ghost use Rattle.hs_compare.specs.declared.happening.Happening.{Happening};
+ghost use Rattle.hs_compare.specs.declared.happening.NumberedEvent.{NumberedEvent};
 ghost use Rattle.hs_compare.specs.Points.{Operations, HasGone, HasScript, IsScriptOf, brought, comes_in};
 ghost use Rattle.hs_compare.specs.Walking.{AreInTurn, AreLeft, events_in, run_of, rest_of, rings_after};
 
-use crate::happening::{Event, Happening};
+use crate::happening::{NumberedEvent, ScriptEvent};
 use crate::points::Walk;
 use crate::ring_tail::RingTail;
 use hs_base::limits::MAX_OPERATIONS;
@@ -19,14 +19,14 @@ use std::alloc::Global;
 /// end.
 #[derive(Drop)]
 pub(crate) struct Script {
-    pub(crate) events: List<Event>,
+    pub(crate) events: List<ScriptEvent>,
     pub(crate) ends: List<usize>,
 }
 
 /// Appends the events of an operation, from the happening at this place on, and answers the place behind them.
 fn take_at(
-    events: &mut List<Event>,
-    happenings: &[Happening],
+    events: &mut List<ScriptEvent>,
+    happenings: &[NumberedEvent],
     from: usize,
     number: usize,
 ) -> Result<usize, Memory>
@@ -42,7 +42,11 @@ fn take_at(
 }
 
 /// Goes on by an operation. The record that it brings comes next.
-fn note_record(events: &mut List<Event>, walk: &mut Walk, operation: &Op) -> Result<(), Memory>
+fn note_record(
+    events: &mut List<ScriptEvent>,
+    walk: &mut Walk,
+    operation: &Op,
+) -> Result<(), Memory>
     requires few { walk.old.count < MAX_OPERATIONS }
     ensures client { walk.new.client ≡ walk.old.client }
     ensures gone { (before : Operations) → HasGone before walk.old → HasGone (before ++ operation_of operation.now ∷ []) walk.new }
@@ -50,7 +54,7 @@ fn note_record(events: &mut List<Event>, walk: &mut Walk, operation: &Op) -> Res
         → OnOk result (events.new.items ≡ events.old.items ++ comes_in (brought walk.old.client before (operation_of operation.now))) }
 {
     match walk.go(operation) {
-        Some(coming) => events.append(Event::Comes {
+        Some(coming) => events.append(ScriptEvent::Comes {
             id: coming.id,
             trace: coming.trace,
         }),
@@ -63,7 +67,7 @@ fn note_record(events: &mut List<Event>, walk: &mut Walk, operation: &Op) -> Res
 fn take_operation(
     script: &mut Script,
     walk: &mut Walk,
-    names: &[Happening],
+    names: &[NumberedEvent],
     taken: usize,
     number: usize,
     operation: &Op,
@@ -87,7 +91,7 @@ pub(crate) fn script_of(
     alloc: Global,
     client: ClientId,
     operations: &[Op],
-    names: &[Happening],
+    names: &[NumberedEvent],
 ) -> Result<Script, Memory>
     requires few { length operations.now ≤ MAX_OPERATIONS }
     requires names { AreInTurn 0 names.now }
@@ -108,13 +112,13 @@ pub(crate) fn script_of(
 }
 
 /// Takes a ring through these events.
-pub(crate) fn go_through(ring: &mut RingTail, events: &[Event]) -> Result<(), Memory>
+pub(crate) fn go_through(ring: &mut RingTail, events: &[ScriptEvent]) -> Result<(), Memory>
     ensures { OnOk result (ring.new ≡ rings_after ring.old events.now) }
 {
     for event in events {
         match *event {
-            Event::Comes { id, trace } => ring.note(id, trace)?,
-            Event::Names { trace } => ring.name(trace)?,
+            ScriptEvent::Comes { id, trace } => ring.note(id, trace)?,
+            ScriptEvent::Names { trace } => ring.name(trace)?,
         }
     }
     Ok(())

@@ -5,7 +5,7 @@ ghost use Rattle.std.specs.List.{AllByRecursion, flat_map};
 ghost use Rattle.hs_compare.specs.Walking.{rings_after};
 ghost use Rattle.hs_compare.specs.Rounds.{IsSound, events_before, part_of, all_rounds};
 
-use crate::happening::Event;
+use crate::happening::ScriptEvent;
 use crate::ring_tail::RingTail;
 use crate::script::{Script, go_through};
 use hs_base::Memory;
@@ -20,7 +20,7 @@ fn events_before(script: &Script, operation: usize) -> usize
 }
 
 /// The events of so many operations from one on.
-fn part_of(script: &Script, from: usize, count: usize) -> &[Event]
+fn part_of(script: &Script, from: usize, count: usize) -> &[ScriptEvent]
     requires sound { IsSound script.now }
     requires fits { from + count < 2 ^ 64 }
     ensures { result.now ≡ part_of from count script.now }

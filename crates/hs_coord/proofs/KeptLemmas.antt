@@ -14,7 +14,7 @@ use Rattle.hs_coord.specs.declared.asks.Asks.{Asks}
 use Rattle.hs_coord.specs.declared.followed.Followed.{Followed}
 use Rattle.hs_coord.specs.Following.{Message, Messages, same_group, is_of, has_crumb, has_ask, is_asked, is_first_sender, is_answer, is_answer_from, is_answered, first_of, AreAsks}
 use Rattle.hs_coord.specs.Answers.{IsAskedSet}
-use Rattle.hs_coord.specs.Kept.{Kept, IsFollowed, StandsFor, HasTaken}
+use Rattle.hs_coord.specs.Kept.{PlainCoordinator, IsFollowed, StandsFor, HasTaken}
 use Rattle.hs_coord.specs.Leading.{Begins, Takes, Writes}
 use Rattle.hs_coord.proofs.BitLemmas.{ask_bit, waiting_bit}
 use Rattle.hs_coord.proofs.FollowingLemmas.{first_stays, first_now, first_of_other, has_crumb-push, is_answered-push, unanswered, no_message_no_crumb}
@@ -187,9 +187,9 @@ module _ (group : GroupId) (messages : Messages) (m : Message) (other : is_of gr
         ∙ ap (λ b. (has_crumb group messages n && not (is_first_sender group messages n)) && not b) (answered_else n));
   }
 
-module _ (old : Kept) (messages : Messages) (m : Message) (begun next : Followed) (fresh : NodeSet)
+module _ (old : PlainCoordinator) (messages : Messages) (m : Message) (begun next : Followed) (fresh : NodeSet)
     (h : HasTaken old messages) (b : Begins m begun) (t : Takes m (unwrap_or (lookup (same_group (group_of m)) old.groups) begun) next fresh) where
-  pub taken : {new : Kept} → new.log ≡ old.log ++ m.node ∷ [] → Writes old.groups new.groups (group_of m) next → HasTaken new (messages ++ m ∷ [])
+  pub taken : {new : PlainCoordinator} → new.log ≡ old.log ++ m.node ∷ [] → Writes old.groups new.groups (group_of m) next → HasTaken new (messages ++ m ∷ [])
   taken {new} log writes = record {
     log = log ∙ ap (λ l. l ++ m.node ∷ []) h.log ∙ sym (map-append (λ (x : Message). x.node) messages (m ∷ []));
     groups = λ q. subst (StandsFor q (messages ++ m ∷ [])) (sym (writes q)) (by q (same_group (group_of m) q) refl);
@@ -206,12 +206,12 @@ module _ (old : Kept) (messages : Messages) (m : Message) (begun next : Followed
       let w = met messages m begun _ (h.groups (group_of m)) b in asks_are messages m w.0 _ next fresh w.1 t asks ask to
 
 -- what an entry says of its group
-pub asked_some : (state : Kept) (messages : Messages) (group : GroupId) (entry : Followed) → HasTaken state messages → Some entry ≡ lookup (same_group group) state.groups
+pub asked_some : (state : PlainCoordinator) (messages : Messages) (group : GroupId) (entry : Followed) → HasTaken state messages → Some entry ≡ lookup (same_group group) state.groups
     → IsAskedSet group messages (Some entry.asked)
 asked_some state messages group entry h is =
     let f : IsFollowed group messages entry = subst (StandsFor group messages) (sym is) (h.groups group) in
     (subst IsSome (sym f.is_first) refl, f.asked)
 
 -- and what no entry says
-pub asked_none : (state : Kept) (messages : Messages) (group : GroupId) → HasTaken state messages → None ≡ lookup (same_group group) state.groups → IsAskedSet group messages None
+pub asked_none : (state : PlainCoordinator) (messages : Messages) (group : GroupId) → HasTaken state messages → None ≡ lookup (same_group group) state.groups → IsAskedSet group messages None
 asked_none state messages group h is = subst (StandsFor group messages) (sym is) (h.groups group)

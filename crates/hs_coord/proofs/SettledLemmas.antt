@@ -9,12 +9,12 @@ use Rattle.hs_base.specs.declared.ids.GroupId.{GroupId}
 use Rattle.hs_base.specs.NodeSets.{has_node}
 use Rattle.hs_coord.specs.declared.followed.Followed.{Followed}
 use Rattle.hs_coord.specs.Following.{Messages, same_group, has_ask, is_answered, is_first_sender, IsSettled}
-use Rattle.hs_coord.specs.Kept.{Kept, IsFollowed, StandsFor, HasTaken, count_open}
+use Rattle.hs_coord.specs.Kept.{PlainCoordinator, IsFollowed, StandsFor, HasTaken, count_open}
 use Rattle.hs_coord.proofs.FollowingLemmas.{no_message_no_crumb}
 use Rattle.hs_coord.proofs.KeptLemmas.{same_group_laws}
 use Rattle.hs_coord.proofs.OpenLemmas.{IsQuiet, quiet_if_none_open, none_open_if_quiet}
 
-module _ (state : Kept) (messages : Messages) (h : HasTaken state messages) where
+module _ (state : PlainCoordinator) (messages : Messages) (h : HasTaken state messages) where
   pub settled_if_quiet : All IsQuiet state.groups → IsSettled messages
   settled_if_quiet quiet group node ask =
       by (lookup (same_group group) state.groups) (h.groups group) (All-lookup (λ (e : Followed). (n : ℕ) → has_node e.waiting n ≡ false) (same_group group) state.groups quiet)
@@ -39,7 +39,7 @@ module _ (state : Kept) (messages : Messages) (h : HasTaken state messages) wher
       quiet false done a = refl
 
 -- what the number of the open groups says, where no two entries are of one group
-pub settled_by_count : (state : Kept) (messages : Messages) → HasTaken state messages → IsDistinct same_group (keys_of state.groups) → (open_groups : ℕ) → open_groups ≡ count_open state.groups
+pub settled_by_count : (state : PlainCoordinator) (messages : Messages) → HasTaken state messages → IsDistinct same_group (keys_of state.groups) → (open_groups : ℕ) → open_groups ≡ count_open state.groups
     → (nat_eq open_groups 0 ≡ true) ↔ IsSettled messages
 settled_by_count state messages h distinct open_groups counted = (
   λ none. settled_if_quiet state messages h (quiet_if_none_open state.groups (sym counted ∙ eqb-true open_groups 0 none)),

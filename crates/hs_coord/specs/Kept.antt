@@ -9,7 +9,7 @@ use Rattle.hs_base.specs.NodeSets.{has_node}
 use Rattle.hs_coord.specs.declared.followed.Followed.{Followed}
 use Rattle.hs_coord.specs.Following.{Message, Messages, same_group, is_of, is_asked, has_ask, is_answered}
 
-pub record Kept : Type 0 where
+pub record PlainCoordinator : Type 0 where
   pub nodes : ℕ
   pub log : List NodeId
   pub groups : List (GroupId × Followed)
@@ -29,7 +29,7 @@ StandsFor group messages None = find (is_of group) messages ≡ None
 StandsFor group messages (Some entry) = IsFollowed group messages entry
 
 -- These are the messages that a coordinator has taken, in their order.
-pub record HasTaken (kept : Kept) (messages : Messages) : Type 0 where
+pub record HasTaken (kept : PlainCoordinator) (messages : Messages) : Type 0 where
   pub log : kept.log ≡ map (λ (m : Message). m.node) messages
   pub groups : (group : GroupId) → StandsFor group messages (lookup (same_group group) kept.groups)
 

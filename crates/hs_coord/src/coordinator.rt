@@ -29,9 +29,9 @@ pub struct Coordinator {
 impl Model for Coordinator {
     ghost use Rattle.std.specs.Prelude.{◌≤◌};
     ghost use Rattle.hs_base.specs.declared.limits.TheConstants.{MAX_NODES};
-    ghost use Rattle.hs_coord.specs.Kept.{Kept, IsCounted};
+    ghost use Rattle.hs_coord.specs.Kept.{PlainCoordinator, IsCounted};
 
-    ghost Value = { Kept };
+    ghost Value = { PlainCoordinator };
 
     ghost view = { λ a. record { nodes = a.nodes; log = a.log.items; groups = a.groups.entries } };
 

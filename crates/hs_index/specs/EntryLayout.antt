@@ -1,6 +1,6 @@
 -- How what is indexed of a trace lies in its fields. Beside the chunks stands an empty list with room for all of them.
 use Rattle.std.specs.Prelude.{◌≡◌, ◌≤◌, [], length, map}
-use Rattle.hs_index.specs.declared.entry.Entry.TheInside.{Inside}
+use Rattle.hs_index.specs.declared.entry.IndexedTrace.TheInside.{Inside}
 use Rattle.hs_index.specs.Index.{Noted}
 use Rattle.hs_words.specs.Buffers.{buffer_of}
 

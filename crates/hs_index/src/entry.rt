@@ -14,14 +14,14 @@ use std::marker::Model;
 
 /// The chunks of a trace in the order of arrival, and the nodes to which its crumbs lead.
 #[derive(Drop)]
-pub struct Entry<L: Token> {
+pub struct IndexedTrace<L: Token> {
     held: List<Held<L>>,
     /// Empty, with room for all chunks, so that they go without memory.
     gone: List<Gone<L>>,
     crumbs: NodeSet,
 }
 
-impl<L: Token> Model for Entry<L> {
+impl<L: Token> Model for IndexedTrace<L> {
     ghost use Rattle.hs_index.specs.Index.{Noted};
 
     ghost Value = { Noted L };
@@ -33,12 +33,12 @@ impl<L: Token> Model for Entry<L> {
     ghost invariant = { HasRoom };
 }
 
-impl<L: Token> Entry<L> {
+impl<L: Token> IndexedTrace<L> {
     /// Nothing. Takes no memory.
-    pub fn new(alloc: Global) -> Entry<L>
+    pub fn new(alloc: Global) -> IndexedTrace<L>
         ensures { result ≡ nothing }
     {
-        Entry {
+        IndexedTrace {
             held: List::new(alloc),
             gone: List::new(alloc),
             crumbs: NodeSet::none(),
@@ -88,7 +88,7 @@ impl<L: Token> Entry<L> {
         requires { 0 < length self.chunks }
         ensures { IsLast self.chunks (buffer_of result) }
     {
-        let Entry {
+        let IndexedTrace {
             mut held,
             gone: _,
             crumbs: _,
@@ -103,7 +103,7 @@ impl<L: Token> Entry<L> {
     pub fn go(self, chunks: u32, traces: u32) -> List<Gone<L>>
         ensures { map leaving_of result.items ≡ map (leaving chunks traces) self.chunks }
     {
-        let Entry {
+        let IndexedTrace {
             held,
             mut gone,
             crumbs: _,
@@ -125,7 +125,7 @@ impl<L: Token> Entry<L> {
             ≡ map buffer_of others.old.items ++ self.chunks }
         ensures room { others.old.room ≤ others.new.room }
     {
-        let Entry {
+        let IndexedTrace {
             held,
             gone: _,
             crumbs: _,
@@ -140,7 +140,7 @@ impl<L: Token> Entry<L> {
         ensures held { map buffer_of result.held.items ≡ self.chunks }
         ensures crumbs { result.crumbs ≡ self.crumbs }
     {
-        let Entry {
+        let IndexedTrace {
             held,
             gone: _,
             crumbs,

@@ -6,7 +6,7 @@ ghost use Rattle.hs_words.specs.Buffers.{buffer_of};
 ghost use Rattle.hs_index.specs.Touched.{indexed};
 
 use crate::answers::Gone;
-use crate::entry::Entry;
+use crate::entry::IndexedTrace;
 use hs_base::limits::MAX_NODES;
 use hs_base::{Crumb, List, Memory, NodeSet, TraceId};
 use hs_words::{Held, Token};
@@ -22,7 +22,7 @@ const MOST: u32 = u32::MAX;
 #[derive(Drop)]
 pub struct Recent<L: Token> {
     chunks: u32,
-    cache: LruCache<TraceId, Entry<L>>,
+    cache: LruCache<TraceId, IndexedTrace<L>>,
 }
 
 impl<L: Token> Model for Recent<L> {
@@ -71,7 +71,7 @@ impl<L: Token> Recent<L> {
                 Ok(())
             }
             None => {
-                let mut entry = Entry::new(*self.cache.allocator());
+                let mut entry = IndexedTrace::new(*self.cache.allocator());
                 entry.add(held)?;
                 match self.insert(trace, entry) {
                     Ok(()) => Ok(()),
@@ -103,7 +103,7 @@ impl<L: Token> Recent<L> {
                 if full {
                     return Err(Memory);
                 }
-                let mut entry = Entry::new(*self.cache.allocator());
+                let mut entry = IndexedTrace::new(*self.cache.allocator());
                 entry.add_crumb(crumb.node);
                 match self.insert(crumb.trace, entry) {
                     Ok(()) => Ok(()),
@@ -114,7 +114,7 @@ impl<L: Token> Recent<L> {
     }
 
     /// Adds a trace that is not there, as the one touched last.
-    fn insert(&mut self, trace: TraceId, entry: Entry<L>) -> Result<(), Entry<L>>
+    fn insert(&mut self, trace: TraceId, entry: IndexedTrace<L>) -> Result<(), IndexedTrace<L>>
         requires new { find (is_of trace) self.old.traces ≡ None }
         requires room { length self.old.traces < self.old.room }
         requires few { length self.old.traces < 2 ^ 32 - 1 }
@@ -135,26 +135,26 @@ impl<L: Token> Recent<L> {
     }
 
     /// Takes out what is indexed of a trace, which is nothing where the trace is not there.
-    pub fn take(&mut self, trace: TraceId) -> Entry<L>
+    pub fn take(&mut self, trace: TraceId) -> IndexedTrace<L>
         ensures taken { result ≡ noted_of trace self.old.traces }
         ensures others { self.new.traces ≡ others trace self.old.traces }
         ensures count { count_chunks self.new.traces + chunk_count result ≡ count_chunks self.old.traces }
         ensures room { self.new.room ≡ self.old.room }
     {
         if self.cache.len() == 0 {
-            return Entry::new(*self.cache.allocator());
+            return IndexedTrace::new(*self.cache.allocator());
         }
         match self.cache.pop_entry(&trace) {
             Some((_, entry)) => {
                 self.chunks -= entry.len() as u32;
                 entry
             }
-            None => Entry::new(*self.cache.allocator()),
+            None => IndexedTrace::new(*self.cache.allocator()),
         }
     }
 
     /// Takes out the trace that was touched longest ago, where there is one.
-    fn take_oldest(&mut self) -> Option<(TraceId, Entry<L>)>
+    fn take_oldest(&mut self) -> Option<(TraceId, IndexedTrace<L>)>
         ensures some { IfSome result (λ oldest. self.old.traces ≡ indexed oldest ∷ self.new.traces) }
         ensures none { IfNone result ((self.old.traces ≡ []) × (self.new.traces ≡ [])) }
         ensures room { self.new.room ≡ self.old.room }

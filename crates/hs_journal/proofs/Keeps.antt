@@ -8,8 +8,8 @@ use Rattle.hs_lists.proofs.Alls.{all_push}
 use Rattle.hs_base.specs.declared.limits.TheConstants.{MAX_NODES, MAX_CLIENTS}
 use Rattle.hs_journal.specs.declared.journal.Draw.{Draw}
 use Rattle.hs_journal.specs.declared.journal.Step.{Step}
-use Rattle.hs_journal.specs.declared.place.Place.{Place}
-use Rattle.hs_journal.specs.declared.place.Place.TheVariants as places
+use Rattle.hs_journal.specs.declared.part.JournalPart.{JournalPart}
+use Rattle.hs_journal.specs.declared.part.JournalPart.TheVariants as places
 use Rattle.hs_journal.specs.Statements.{Statement, draw_statement, step_statement}
 use Rattle.hs_journal.specs.Grammar.{head_statement, draw_statements, log_statements, order_statements, end_statement, IsDraw, IsStep, IsNodeBelow}
 use Rattle.hs_journal.specs.Faults.{is_in_draws, is_in_logs, is_in_order, may_begin_journal, may_begin_draws, may_begin_log}
@@ -18,11 +18,11 @@ use Rattle.hs_journal.proofs.Drafts.{all_onto_last, length-onto_last, draws_at, 
 
 -- ---- definitions
 
-abbrev pub HasBoth : Place → ℕ → ℕ → Type 0
+abbrev pub HasBoth : JournalPart → ℕ → ℕ → Type 0
 HasBoth places.Start nodes clients = ⊤
 HasBoth _ nodes clients = (0 < nodes) × (0 < clients)
 
-abbrev pub Counts : Place → Draft → Type 0
+abbrev pub Counts : JournalPart → Draft → Type 0
 Counts places.Start d = (d.draws ≡ []) × (d.logs ≡ []) × (d.told ≡ [])
 Counts places.Head d = (d.draws ≡ []) × (d.logs ≡ []) × (d.told ≡ [])
 Counts places.Draws d = (0 < length d.draws) × (length d.draws ≤ d.nodes * d.clients) × (d.logs ≡ []) × (d.told ≡ [])
@@ -41,7 +41,7 @@ pub record Keeps (d : Draft) : Type 0 where
 abbrev pub lists_statements : Draft → List Statement
 lists_statements d = head_statement d.nodes d.clients ∷ (draw_statements d.clients 0 d.draws ++ log_statements 0 d.logs)
 
-abbrev pub statements_at : Place → Draft → List Statement
+abbrev pub statements_at : JournalPart → Draft → List Statement
 statements_at places.Start d = []
 statements_at places.Head d = lists_statements d
 statements_at places.Draws d = lists_statements d
@@ -63,17 +63,17 @@ keeps_fresh = record { nodes = omega arith; clients = omega arith; some = tt; co
 
 -- ---- from places and counts
 
-some_clients : (place : Place) (nodes clients : ℕ) → HasBoth place nodes clients → HasClients place clients
+some_clients : (place : JournalPart) (nodes clients : ℕ) → HasBoth place nodes clients → HasClients place clients
 some_clients places.Start nodes clients both = tt
 some_clients _ nodes clients both = both.1
 
-few_draws : (place : Place) (d : Draft) → Counts place d → length d.draws ≤ d.nodes * d.clients
+few_draws : (place : JournalPart) (d : Draft) → Counts place d → length d.draws ≤ d.nodes * d.clients
 few_draws places.Start d counts = let none = ap length counts.0 in omega (arith, none)
 few_draws places.Head d counts = let none = ap length counts.0 in omega (arith, none)
 few_draws places.Draws d counts = counts.1
 few_draws _ d counts = let all = counts.0 in omega (arith, all)
 
-few_logs : (place : Place) (d : Draft) → Counts place d → length d.logs ≤ d.nodes
+few_logs : (place : JournalPart) (d : Draft) → Counts place d → length d.logs ≤ d.nodes
 few_logs places.Start d counts = let none = ap length counts.1 in omega (arith, none)
 few_logs places.Head d counts = let none = ap length counts.1 in omega (arith, none)
 few_logs places.Draws d counts = let none = ap length counts.2 in omega (arith, none)
@@ -93,19 +93,19 @@ sound d keeps =
       logs = (let few = keeps.nodes in omega (arith, few, logs));
     }
 
-pub in_draws : (place : Place) → is_in_draws place ≡ true → place ≡ places.Draws
+pub in_draws : (place : JournalPart) → is_in_draws place ≡ true → place ≡ places.Draws
 in_draws places.Draws is = refl
 in_draws _ is = cc
 
-pub in_logs : (place : Place) → is_in_logs place ≡ true → place ≡ places.Logs
+pub in_logs : (place : JournalPart) → is_in_logs place ≡ true → place ≡ places.Logs
 in_logs places.Logs is = refl
 in_logs _ is = cc
 
-pub in_order : (place : Place) → is_in_order place ≡ true → place ≡ places.Order
+pub in_order : (place : JournalPart) → is_in_order place ≡ true → place ≡ places.Order
 in_order places.Order is = refl
 in_order _ is = cc
 
-pub at_start : (place : Place) → may_begin_journal place ≡ true → place ≡ places.Start
+pub at_start : (place : JournalPart) → may_begin_journal place ≡ true → place ≡ places.Start
 at_start places.Start is = refl
 at_start _ is = cc
 
@@ -180,7 +180,7 @@ at_most a b is = grind arith
 first_product : (a b : ℕ) → 0 < a → 0 < b → 0 < a * b
 first_product a b some_a some_b = omega (arith, mul-le-mul {n₁ = 1} {m₁ = 1} {n₂ = a} {m₂ = b} some_a some_b)
 
-pub draws_kept : (place : Place) (d : Draft) → Keeps d → d.place ≡ place → may_begin_draws (past_of d) place ≡ true → Kept d (begun_draws d) (draws_at d.clients (length d.draws))
+pub draws_kept : (place : JournalPart) (d : Draft) → Keeps d → d.place ≡ place → may_begin_draws (past_of d) place ≡ true → Kept d (begun_draws d) (draws_at d.clients (length d.draws))
 draws_kept places.Head d keeps place is =
     let counts : Counts places.Head d = subst (λ p. Counts p d) place keeps.counts in
     let both : HasBoth places.Head d.nodes d.clients = subst (λ p. HasBoth p d.nodes d.clients) place keeps.some in
@@ -222,7 +222,7 @@ draws_kept places.Draws d keeps place is =
     }
 draws_kept _ d keeps place is = cc
 
-pub log_kept : (place : Place) (d : Draft) → Keeps d → d.place ≡ place → may_begin_log (past_of d) place ≡ true → Kept d (begun_log d) (log_at (length d.logs))
+pub log_kept : (place : JournalPart) (d : Draft) → Keeps d → d.place ≡ place → may_begin_log (past_of d) place ≡ true → Kept d (begun_log d) (log_at (length d.logs))
 log_kept places.Draws d keeps place is =
     let counts : Counts places.Draws d = subst (λ p. Counts p d) place keeps.counts in
     let both : HasBoth places.Draws d.nodes d.clients = subst (λ p. HasBoth p d.nodes d.clients) place keeps.some in

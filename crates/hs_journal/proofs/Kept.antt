@@ -12,8 +12,8 @@ use Rattle.hs_journal.specs.declared.journal.Draw.TheVariants as draws
 use Rattle.hs_journal.specs.declared.journal.Step.TheVariants as steps
 use Rattle.hs_journal.specs.declared.word.Keyword.{Keyword}
 use Rattle.hs_journal.specs.declared.word.Keyword.TheVariants as keywords
-use Rattle.hs_journal.specs.declared.place.Place.{Place}
-use Rattle.hs_journal.specs.declared.place.Place.TheVariants as places
+use Rattle.hs_journal.specs.declared.part.JournalPart.{JournalPart}
+use Rattle.hs_journal.specs.declared.part.JournalPart.TheVariants as places
 use Rattle.hs_journal.specs.Statements.{number_count, told_statement}
 use Rattle.hs_journal.specs.Grammar.{head_statement, draw_statements, log_statements, order_statements, coordinator_statement, end_statement, journal_statements, IsNodeBelow, IsJournal}
 use Rattle.hs_journal.specs.Faults.{numbers_at, may_stand, is_out_of_range, is_out_of_order, is_in_logs, is_ended}
@@ -209,7 +209,7 @@ taken_kept d next line keeps taken =
 
 -- ---- the journal that has ended
 
-pub ended_place : (place : Place) → is_ended place ≡ true → place ≡ places.Ended
+pub ended_place : (place : JournalPart) → is_ended place ≡ true → place ≡ places.Ended
 ended_place places.Ended is = refl
 ended_place _ is = cc
 

@@ -12,7 +12,7 @@ use Rattle.hs_journal.specs.declared.journal.Draw.TheVariants as draws
 use Rattle.hs_journal.specs.declared.journal.Step.{Step}
 use Rattle.hs_journal.specs.declared.journal.Step.TheVariants as steps
 use Rattle.hs_journal.specs.declared.word.Keyword.TheVariants as keywords
-use Rattle.hs_journal.specs.declared.place.Place.TheVariants as places
+use Rattle.hs_journal.specs.declared.part.JournalPart.TheVariants as places
 use Rattle.hs_journal.specs.Views.{PlainJournal}
 use Rattle.hs_journal.specs.Statements.{Statement, statement_line, draw_statement, step_statement, told_statement}
 use Rattle.hs_journal.specs.Grammar.{head_statement, draw_statements, log_statements, order_statements, coordinator_statement, end_statement, journal_lines, IsDraw, IsStep, IsNodeBelow, IsJournal}

@@ -9,7 +9,7 @@ use Rattle.hs_journal.specs.declared.refusal.JournalReason.{JournalReason}
 use Rattle.hs_journal.specs.declared.refusal.JournalRefusal.{JournalRefusal}
 use Rattle.hs_journal.specs.declared.word.Keyword.{Keyword}
 use Rattle.hs_journal.specs.declared.word.Keyword.TheVariants as keywords
-use Rattle.hs_journal.specs.declared.place.Place.TheVariants as places
+use Rattle.hs_journal.specs.declared.part.JournalPart.TheVariants as places
 use Rattle.hs_journal.specs.Statements.{Statement, statement_line, statement_of}
 use Rattle.hs_journal.specs.LookBack.{Past, said, past_said}
 use Rattle.hs_journal.specs.Faults.{numbers_at, fault_at, fault_of, may_stand, is_ended, judging}

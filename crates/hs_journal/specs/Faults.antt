@@ -15,8 +15,8 @@ use Rattle.hs_journal.specs.declared.refusal.JournalError.{JournalError}
 use Rattle.hs_journal.specs.declared.refusal.JournalError.TheVariants as errors
 use Rattle.hs_journal.specs.declared.word.Keyword.{Keyword}
 use Rattle.hs_journal.specs.declared.word.Keyword.TheVariants as keywords
-use Rattle.hs_journal.specs.declared.place.Place.{Place}
-use Rattle.hs_journal.specs.declared.place.Place.TheVariants as places
+use Rattle.hs_journal.specs.declared.part.JournalPart.{JournalPart}
+use Rattle.hs_journal.specs.declared.part.JournalPart.TheVariants as places
 use Rattle.hs_journal.specs.declared.line.Numbers.{Numbers}
 use Rattle.hs_journal.specs.Statements.{Statement, number_count, keyword_of, says}
 use Rattle.hs_journal.specs.LookBack.{Past, said, past_said}
@@ -27,35 +27,35 @@ use Rattle.hs_journal.specs.LookBack.{Past, said, past_said}
 abbrev pub all_clients : Past → ℕ
 all_clients past = past.nodes * past.clients
 
-abbrev pub may_begin_journal : Place → Bool
+abbrev pub may_begin_journal : JournalPart → Bool
 may_begin_journal places.Start = true
 may_begin_journal _ = false
 
 -- behind the first line, and behind draws where clients are left
-abbrev pub may_begin_draws : Past → Place → Bool
+abbrev pub may_begin_draws : Past → JournalPart → Bool
 may_begin_draws past places.Head = true
 may_begin_draws past places.Draws = nat_lt past.draws (all_clients past)
 may_begin_draws past _ = false
 
-abbrev pub is_in_draws : Place → Bool
+abbrev pub is_in_draws : JournalPart → Bool
 is_in_draws places.Draws = true
 is_in_draws _ = false
 
 -- behind the draws of the last client, and behind a log where nodes are left
-abbrev pub may_begin_log : Past → Place → Bool
+abbrev pub may_begin_log : Past → JournalPart → Bool
 may_begin_log past places.Draws = nat_le (all_clients past) past.draws
 may_begin_log past places.Logs = nat_lt past.logs past.nodes
 may_begin_log past _ = false
 
-abbrev pub is_in_logs : Place → Bool
+abbrev pub is_in_logs : JournalPart → Bool
 is_in_logs places.Logs = true
 is_in_logs _ = false
 
-abbrev pub is_in_order : Place → Bool
+abbrev pub is_in_order : JournalPart → Bool
 is_in_order places.Order = true
 is_in_order _ = false
 
-abbrev pub is_ended : Place → Bool
+abbrev pub is_ended : JournalPart → Bool
 is_ended places.Ended = true
 is_ended _ = false
 

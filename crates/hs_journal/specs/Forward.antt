@@ -15,8 +15,8 @@ use Rattle.hs_journal.specs.declared.refusal.JournalReason.{JournalReason}
 use Rattle.hs_journal.specs.declared.refusal.JournalReason.TheVariants as reasons
 use Rattle.hs_journal.specs.declared.word.Keyword.{Keyword}
 use Rattle.hs_journal.specs.declared.word.Keyword.TheVariants as keywords
-use Rattle.hs_journal.specs.declared.place.Place.{Place}
-use Rattle.hs_journal.specs.declared.place.Place.TheVariants as places
+use Rattle.hs_journal.specs.declared.part.JournalPart.{JournalPart}
+use Rattle.hs_journal.specs.declared.part.JournalPart.TheVariants as places
 use Rattle.hs_journal.specs.declared.line.Numbers.{Numbers}
 use Rattle.hs_journal.specs.declared.reader.Reader.{Reader}
 use Rattle.hs_journal.specs.Views.{PlainJournal}
@@ -42,7 +42,7 @@ three_numbers words = do
 
 -- the lists of draws and the logs include the last one, which goes on
 pub record Draft : Type 0 where
-  pub place : Place
+  pub place : JournalPart
   pub nodes : ℕ
   pub clients : ℕ
   pub draws : List (List Draw)
@@ -87,7 +87,7 @@ abbrev pub with_step : Draft → Step → Draft
 with_step d step = record d { logs = onto_last d.logs step }
 
 -- the draft at a place, with a list begun where lists stand there
-abbrev pub entered : Draft → Place → Draft
+abbrev pub entered : Draft → JournalPart → Draft
 entered d place =
     record d { place = place; draws = with_current (is_in_draws place) d.draws []; logs = with_current (is_in_logs place) d.logs [] }
 
@@ -129,7 +129,7 @@ abbrev pub journal_drafted : Draft → PlainJournal
 journal_drafted d = record { nodes = d.nodes; clients = d.clients; draws = d.draws; logs = d.logs; told = d.told }
 
 -- at each place but the first, there is a client
-abbrev pub HasClients : Place → ℕ → Type 0
+abbrev pub HasClients : JournalPart → ℕ → Type 0
 HasClients places.Start clients = ⊤
 HasClients _ clients = 0 < clients
 

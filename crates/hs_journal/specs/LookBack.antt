@@ -4,8 +4,8 @@ use Rattle.std.specs.Prelude.{◌≡◌, ℕ, Bool, true, false, List, [], ◌�
 use Rattle.std.specs.List.{cons_option}
 use Rattle.hs_journal.specs.declared.word.Keyword.{Keyword}
 use Rattle.hs_journal.specs.declared.word.Keyword.TheVariants as keywords
-use Rattle.hs_journal.specs.declared.place.Place.{Place}
-use Rattle.hs_journal.specs.declared.place.Place.TheVariants as places
+use Rattle.hs_journal.specs.declared.part.JournalPart.{JournalPart}
+use Rattle.hs_journal.specs.declared.part.JournalPart.TheVariants as places
 use Rattle.hs_journal.specs.Statements.{Statement, statement_of}
 
 -- what lines say
@@ -14,7 +14,7 @@ said [] = []
 said (line ∷ earlier) = cons_option (statement_of line) (said earlier)
 
 -- the place behind a line that begins with this word
-abbrev pub place_behind : Keyword → Place
+abbrev pub place_behind : Keyword → JournalPart
 place_behind keywords.Journal = places.Head
 place_behind keywords.Draws = places.Draws
 place_behind keywords.Got = places.Draws
@@ -37,7 +37,7 @@ is_log_word keywords.Log = true
 is_log_word _ = false
 
 -- where the next line stands
-abbrev pub place_said : List Statement → Place
+abbrev pub place_said : List Statement → JournalPart
 place_said [] = places.Start
 place_said (newest ∷ earlier) = place_behind newest.keyword
 
@@ -59,7 +59,7 @@ logs_said earlier = length (filter (λ statement. is_log_word statement.keyword)
 
 -- all of it
 pub record Past : Type 0 where
-  pub place : Place
+  pub place : JournalPart
   pub nodes : ℕ
   pub clients : ℕ
   pub draws : ℕ

@@ -6,7 +6,7 @@ mod books;
 mod journal;
 pub mod laws;
 mod line;
-mod place;
+mod part;
 mod reader;
 mod reading;
 mod refusal;

@@ -5,13 +5,13 @@ ghost use Rattle.hs_journal.specs.Faults.{all_clients, may_stand, is_out_of_rang
 ghost use Rattle.hs_text.specs.LineFaults.{line_fault_of};
 ghost use Rattle.hs_text.specs.Steps.{Gives};
 ghost use Rattle.hs_journal.specs.Forward.{IsSound, draft_of, past_of, after, fresh, entered, with_draw, with_step, line_step, journal_drafted};
-ghost use Rattle.hs_journal.specs.declared.place.Place.TheVariants.{Start};
+ghost use Rattle.hs_journal.specs.declared.part.JournalPart.TheVariants.{Start};
 ghost use Rattle.hs_journal.specs.declared.word.Keyword.TheVariants.{Journal as JournalWord};
 ghost use Rattle.hs_journal.specs.Views.{journal_of};
 
 use crate::journal::{Draw, Journal, Step};
 use crate::line::{Numbers, numbers_in};
-use crate::place::Place;
+use crate::part::JournalPart;
 use crate::refusal::JournalReason;
 use crate::word::Keyword;
 use hs_base::limits::{MAX_BUFFERS, MAX_CLIENTS, MAX_NODES};
@@ -30,7 +30,7 @@ const LINE_REASONS: LineReasons<JournalReason> = LineReasons {
 #[derive(Drop)]
 pub struct Reader {
     alloc: Global,
-    place: Place,
+    place: JournalPart,
     nodes: u16,
     clients: u16,
     draws: List<List<Draw>>,
@@ -47,7 +47,7 @@ impl Reader {
     {
         Reader {
             alloc,
-            place: Place::Start,
+            place: JournalPart::Start,
             nodes: 0,
             clients: 0,
             draws: List::new(alloc),
@@ -73,7 +73,7 @@ impl Reader {
     {
         let finished = self.draws.len() as u64;
         match self.place {
-            Place::Draws => finished + 1,
+            JournalPart::Draws => finished + 1,
             _ => finished,
         }
     }
@@ -85,7 +85,7 @@ impl Reader {
     {
         let finished = self.logs.len() as u64;
         match self.place {
-            Place::Logs => finished + 1,
+            JournalPart::Logs => finished + 1,
             _ => finished,
         }
     }
@@ -96,16 +96,16 @@ impl Reader {
         ensures { result ≡ may_stand (past_of (draft_of self.now)) keyword }
     {
         match keyword {
-            Keyword::Journal => matches!(self.place, Place::Start),
+            Keyword::Journal => matches!(self.place, JournalPart::Start),
             Keyword::Draws => match self.place {
-                Place::Head => true,
-                Place::Draws => self.begun_draws() < self.all_clients(),
+                JournalPart::Head => true,
+                JournalPart::Draws => self.begun_draws() < self.all_clients(),
                 _ => false,
             },
-            Keyword::Got | Keyword::Empty => matches!(self.place, Place::Draws),
+            Keyword::Got | Keyword::Empty => matches!(self.place, JournalPart::Draws),
             Keyword::Log => match self.place {
-                Place::Draws => self.all_clients() <= self.begun_draws(),
-                Place::Logs => self.begun_logs() < u64::from(self.nodes),
+                JournalPart::Draws => self.all_clients() <= self.begun_draws(),
+                JournalPart::Logs => self.begun_logs() < u64::from(self.nodes),
                 _ => false,
             },
             Keyword::Chunk
@@ -115,12 +115,12 @@ impl Reader {
             | Keyword::Turn
             | Keyword::Given
             | Keyword::Missed
-            | Keyword::Unread => matches!(self.place, Place::Logs),
+            | Keyword::Unread => matches!(self.place, JournalPart::Logs),
             Keyword::Coordinator => match self.place {
-                Place::Logs => u64::from(self.nodes) <= self.begun_logs(),
+                JournalPart::Logs => u64::from(self.nodes) <= self.begun_logs(),
                 _ => false,
             },
-            Keyword::Told | Keyword::End => matches!(self.place, Place::Order),
+            Keyword::Told | Keyword::End => matches!(self.place, JournalPart::Order),
         }
     }
 
@@ -173,11 +173,11 @@ impl Reader {
         ensures told { self.new.told.items ≡ self.old.told.items }
     {
         match self.place {
-            Place::Draws => {
+            JournalPart::Draws => {
                 let current = std::mem::replace(&mut self.current_draws, List::new(self.alloc));
                 self.draws.append(current)
             }
-            Place::Logs => {
+            JournalPart::Logs => {
                 let current = std::mem::replace(&mut self.current_log, List::new(self.alloc));
                 self.logs.append(current)
             }
@@ -186,7 +186,7 @@ impl Reader {
     }
 
     /// Goes on to a place, where no draws or steps were read yet.
-    fn enter(&mut self, place: Place) -> Result<(), Memory>
+    fn enter(&mut self, place: JournalPart) -> Result<(), Memory>
         ensures { OnOk result (draft_of self.new ≡ entered (draft_of self.old) place) }
     {
         self.close()?;
@@ -205,7 +205,7 @@ impl Reader {
     {
         self.nodes = numbers.second as u16;
         self.clients = numbers.third as u16;
-        self.place = Place::Head;
+        self.place = JournalPart::Head;
     }
 
     /// Adds a draw of the client that is read.
@@ -239,13 +239,13 @@ impl Reader {
                 self.begin(numbers);
                 Ok(())
             }
-            Keyword::Draws => self.enter(Place::Draws),
+            Keyword::Draws => self.enter(JournalPart::Draws),
             Keyword::Got => self.add_draw(Draw::Got {
                 buffer: first as u32,
                 stamp: numbers.second,
             }),
             Keyword::Empty => self.add_draw(Draw::Empty { stamp: first }),
-            Keyword::Log => self.enter(Place::Logs),
+            Keyword::Log => self.enter(JournalPart::Logs),
             Keyword::Chunk => self.add_step(Step::Chunk {
                 client: first as u16,
             }),
@@ -260,9 +260,9 @@ impl Reader {
             Keyword::Given => self.add_step(Step::Given { stamp: first }),
             Keyword::Missed => self.add_step(Step::Missed { stamp: first }),
             Keyword::Unread => self.add_step(Step::Unread),
-            Keyword::Coordinator => self.enter(Place::Order),
+            Keyword::Coordinator => self.enter(JournalPart::Order),
             Keyword::Told => self.told.append(NodeId(first as u16)),
-            Keyword::End => self.enter(Place::Ended),
+            Keyword::End => self.enter(JournalPart::Ended),
         }
     }
 
@@ -299,7 +299,7 @@ impl Reader {
     pub fn is_ended(&self) -> bool
         ensures { result ≡ is_ended (draft_of self.now).place }
     {
-        matches!(self.place, Place::Ended)
+        matches!(self.place, JournalPart::Ended)
     }
 
     /// The journal of the text that has ended.

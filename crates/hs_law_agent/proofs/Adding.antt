@@ -13,7 +13,7 @@ use Rattle.hs_law_agent.specs.State.{AgentState, ClaimedTrace, GivenPlace, claim
 use Rattle.hs_law_agent.specs.Evicting.{evict}
 use Rattle.hs_law_agent.specs.Claiming.{traces_of, claim_each}
 use Rattle.hs_law_agent.specs.Messages.{has_crumb}
-use Rattle.hs_law_agent.specs.Stepping.{Input, Chunk, Crumbed, Triggered, Asked, Turn, Answered, Given, Missed, Unread, Event, Took, Gave, with_indexed, with_abandoned, with_pinned, pin_chunk, with_touched, tell_late, late_crumb, admits, group_of, claim_for, note_trigger, count_admitted, admit, take_input, give_back, take_answer, after_event}
+use Rattle.hs_law_agent.specs.Stepping.{Input, Chunk, Crumbed, Triggered, Asked, Turn, Answered, Given, Missed, Unread, AgentEvent, Took, Gave, with_indexed, with_abandoned, with_pinned, pin_chunk, with_touched, tell_late, late_crumb, admits, group_of, claim_for, note_trigger, count_admitted, admit, take_input, give_back, take_answer, after_event}
 use Rattle.hs_law_agent.specs.Abandoning.{abandon}
 use Rattle.hs_law_agent.specs.Laws.{sheets_of, brought_by, noted_as, EventsAddThis}
 use Rattle.hs_law_agent.proofs.Traversal.{evict_loop, abandon_loop, visit_loop, claim_loop}
@@ -142,10 +142,10 @@ events_add_this settings node s =
       log = log;
     }
   where
-    chunks : (event : Event) → sheets_of (after_event settings node s event).taken ≡ sheets_of s.taken ++ brought_by event
+    chunks : (event : AgentEvent) → sheets_of (after_event settings node s event).taken ≡ sheets_of s.taken ++ brought_by event
     chunks (Took input) = (input_has settings node s input).sheets_are
     chunks (Gave answer) = ap sheets_of (answer_taken settings node s answer) ∙ sym (append-nil (sheets_of s.taken))
 
-    log : (event : Event) → (after_event settings node s event).log ≡ s.log ++ noted_as event ∷ []
+    log : (event : AgentEvent) → (after_event settings node s event).log ≡ s.log ++ noted_as event ∷ []
     log (Took input) = ap (λ (log : List Step). log ++ noted_as (Took input) ∷ []) (input_has settings node s input).log_is
     log (Gave answer) = ap (λ (log : List Step). log ++ noted_as (Gave answer) ∷ []) (answer_log settings node s answer)

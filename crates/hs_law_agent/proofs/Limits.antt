@@ -24,7 +24,7 @@ use Rattle.hs_law_agent.specs.Claiming.{claim_trace, traces_of, claim_each}
 use Rattle.hs_law_agent.specs.Abandoning.{pinned_groups, next_to_go, abandon_group, abandon_within, abandon}
 use Rattle.hs_law_agent.specs.Turning.{order_of, costs_of, reported_standing, visit}
 use Rattle.hs_law_agent.specs.Messages.{has_crumb}
-use Rattle.hs_law_agent.specs.Stepping.{Input, Chunk, Crumbed, Triggered, Asked, Turn, Answered, Given, Missed, Unread, Event, Took, Gave, with_indexed, with_pinned, with_abandoned, pin_chunk, with_touched, tell_late, late_crumb, admits, group_of, claim_for, note_trigger, count_admitted, admit, take_input, give_back, take_answer, after_event, after_from}
+use Rattle.hs_law_agent.specs.Stepping.{Input, Chunk, Crumbed, Triggered, Asked, Turn, Answered, Given, Missed, Unread, AgentEvent, Took, Gave, with_indexed, with_pinned, with_abandoned, pin_chunk, with_touched, tell_late, late_crumb, admits, group_of, claim_for, note_trigger, count_admitted, admit, take_input, give_back, take_answer, after_event, after_from}
 use Rattle.hs_law_agent.specs.Laws.{count_of, count_traces, PlacesMatch, IsNextToGo, MatchNextToGo, IsWithin, LimitsHold}
 use Rattle.hs_law_agent.proofs.Counts.{counted_one}
 use Rattle.hs_law_agent.proofs.Traces.{same_trace-refl, same_trace-sym, traces-without, traces-touch}
@@ -368,11 +368,11 @@ module _ (settings : PlainSettings) (node : ℕ) where
   answer_within s (Missed stamp) w = w
   answer_within s Unread w = w
 
-  event_within : (s : AgentState) (event : Event) → IsFull settings s → IsWithin settings (after_event settings node s event)
+  event_within : (s : AgentState) (event : AgentEvent) → IsFull settings s → IsWithin settings (after_event settings node s event)
   event_within s (Took input) f = let w = input_within s input f in record { chunks = w.chunks; traces = w.traces; pins = w.pins }
   event_within s (Gave answer) f = let w = answer_within s answer f.within in record { chunks = w.chunks; traces = w.traces; pins = w.pins }
 
-  full_from : (s : AgentState) (events : List Event) → IsFull settings s → IsFull settings (after_from settings node s events)
+  full_from : (s : AgentState) (events : List AgentEvent) → IsFull settings s → IsFull settings (after_from settings node s events)
   full_from s [] f = f
   full_from s (event ∷ events) f =
       full_from (after_event settings node s event) events (record {

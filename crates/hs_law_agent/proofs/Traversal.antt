@@ -18,7 +18,7 @@ use Rattle.hs_law_agent.specs.Claiming.{claim_trace, claim_unclaimed, traces_of,
 use Rattle.hs_law_agent.specs.Abandoning.{pinned_groups, next_to_go, abandon_group, abandon_within, abandon}
 use Rattle.hs_law_agent.specs.Turning.{visit, with_shares, shares_after}
 use Rattle.hs_law_agent.specs.Messages.{has_crumb, say, told_of}
-use Rattle.hs_law_agent.specs.Stepping.{Input, Chunk, Crumbed, Triggered, Asked, Turn, Answered, Given, Missed, Unread, Event, Took, Gave, with_indexed, with_pinned, with_abandoned, pin_chunk, with_touched, tell_late, late_crumb, admits, group_of, claim_for, note_trigger, count_admitted, admit, take_trigger, note, take_input, give_place, give_back, take_answer, after_event, after_from, after}
+use Rattle.hs_law_agent.specs.Stepping.{Input, Chunk, Crumbed, Triggered, Asked, Turn, Answered, Given, Missed, Unread, AgentEvent, Took, Gave, with_indexed, with_pinned, with_abandoned, pin_chunk, with_touched, tell_late, late_crumb, admits, group_of, claim_for, note_trigger, count_admitted, admit, take_trigger, note, take_input, give_place, give_back, take_answer, after_event, after_from, after}
 
 -- What is kept by each small step of a node's agent.
 pub record IsKept (settings : PlainSettings) (node : ℕ) (P : AgentState → Type 0) : Type 0 where
@@ -141,13 +141,13 @@ module _ (settings : PlainSettings) (node : ℕ) (P : AgentState → Type 0) (ke
   kept_answer s (Missed stamp) p = p
   kept_answer s Unread p = p
 
-  pub kept_event : (s : AgentState) (event : Event) → P s → P (after_event settings node s event)
+  pub kept_event : (s : AgentState) (event : AgentEvent) → P s → P (after_event settings node s event)
   kept_event s (Took input) p = kept.notes _ (take_input settings node s input) (kept_input s input p)
   kept_event s (Gave answer) p = kept.notes _ (take_answer s answer) (kept_answer s answer p)
 
-  pub kept_from : (s : AgentState) (events : List Event) → P s → P (after_from settings node s events)
+  pub kept_from : (s : AgentState) (events : List AgentEvent) → P s → P (after_from settings node s events)
   kept_from s [] p = p
   kept_from s (event ∷ events) p = kept_from (after_event settings node s event) events (kept_event s event p)
 
-  pub kept_after : P (start settings) → (events : List Event) → P (after settings node events)
+  pub kept_after : P (start settings) → (events : List AgentEvent) → P (after settings node events)
   kept_after p events = kept_from (start settings) events p

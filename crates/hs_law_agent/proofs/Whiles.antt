@@ -9,7 +9,7 @@ use Rattle.hs_records.specs.Plain.{PlainSettings}
 use Rattle.hs_law_agent.specs.State.{AgentState, start}
 use Rattle.hs_law_agent.specs.Evicting.{is_over, evict_trace, evict_from}
 use Rattle.hs_law_agent.specs.Abandoning.{pinned_groups, next_to_go, abandon_group, abandon_within}
-use Rattle.hs_law_agent.specs.Stepping.{Event, after_event, after_from}
+use Rattle.hs_law_agent.specs.Stepping.{AgentEvent, after_event, after_from}
 use Rattle.hs_law_agent.specs.Laws.{PlacesMatch, MatchNextToGo, IndexedAreTouched, Evicts, Stays, Goes, EvictsWhileOver, Abandons, Remains, Leaves, AbandonsWhileOver, IndexedStayTouched, EventsGoOn}
 use Rattle.hs_law_agent.proofs.Traversal.{kept_after}
 use Rattle.hs_law_agent.proofs.Placed.{match_kept}
@@ -54,7 +54,7 @@ abandons_while_over settings s m = drops settings s.pinned s m (omega arith)
 pub indexed_stay_touched : IndexedStayTouched
 indexed_stay_touched settings node events = kept_after settings node IndexedAreTouched (touched_kept settings node) tt events
 
-goes_on : (settings : PlainSettings) (node : ℕ) (s : AgentState) (events later : List Event) → after_from settings node s (events ++ later) ≡ after_from settings node (after_from settings node s events) later
+goes_on : (settings : PlainSettings) (node : ℕ) (s : AgentState) (events later : List AgentEvent) → after_from settings node s (events ++ later) ≡ after_from settings node (after_from settings node s events) later
 goes_on settings node s [] later = refl
 goes_on settings node s (event ∷ events) later = goes_on settings node (after_event settings node s event) events later
 

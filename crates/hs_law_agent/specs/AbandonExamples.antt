@@ -8,15 +8,15 @@ use Rattle.hs_journal.specs.declared.books.Standing.{Standing}
 use Rattle.hs_journal.specs.declared.journal.Step.TheVariants as steps
 use Rattle.hs_law_agent.specs.Standings.{Pinned, Reported, Abandoned}
 use Rattle.hs_law_agent.specs.State.{AgentState}
-use Rattle.hs_law_agent.specs.Stepping.{Event, after}
+use Rattle.hs_law_agent.specs.Stepping.{AgentEvent, after}
 use Rattle.hs_law_agent.specs.Abandoning.{fullest_id, next_to_go}
 use Rattle.hs_law_agent.specs.Books.{book_of}
 use Rattle.hs_law_agent.specs.Samples.{settings_with, chunk, trigger, group, turned, given, standings, deficits}
 
-abbrev run : ℕ → List Event → AgentState
+abbrev run : ℕ → List AgentEvent → AgentState
 run pins events = after (settings_with 4 8 pins one_rule) 0 events
 
-three_chunks : List Event
+three_chunks : List AgentEvent
 three_chunks = chunk 0 0 ∷ chunk g 1 ∷ chunk g2 2 ∷ trigger 1 1 0 [] ∷ trigger 2 1 g [] ∷ trigger 3 1 g2 [] ∷ []
 
 -- the third claim makes three pinned chunks, and 2g, whose rank is least, is abandoned at once
@@ -31,7 +31,7 @@ least_rank_goes_anyway = refl
 
 -- The first turn pays for one page of 35 bytes of 64, the one of greatest rank; the rest stays, and pays with the next
 -- turn's budget for the other. An id for which nothing waits has no deficit.
-whole_run : List Event
+whole_run : List AgentEvent
 whole_run =
     chunk 0 0 ∷ chunk g 1 ∷ chunk g2 2 ∷ trigger 1 1 0 [] ∷ trigger 2 1 g [] ∷ trigger 3 1 g2 [] ∷ turned ∷ given 3 ∷ given 4 ∷ turned ∷ given 5 ∷ []
 
@@ -53,7 +53,7 @@ unfolding whole_run
 fates_in_the_book = refl
 
 -- with no pins a group is abandoned with its first chunk, and its later chunk as it comes
-no_pins : List Event
+no_pins : List AgentEvent
 no_pins = chunk 0 0 ∷ trigger 2 1 0 [] ∷ turned ∷ given 1 ∷ chunk 0 1 ∷ turned ∷ given 3 ∷ []
 
 later_chunk_of_an_abandoned_group : (standings (run 0 no_pins) ≡ Abandoned (group 0 0 1 0) ∷ Abandoned (group 0 0 1 0) ∷ [])

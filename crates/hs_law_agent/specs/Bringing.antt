@@ -8,7 +8,7 @@ use Rattle.hs_base.specs.Samples.{one_rule, t}
 use Rattle.hs_records.specs.Plain.{PlainSettings}
 use Rattle.hs_law_agent.specs.Samples.{settings_with, chunk, crumb, trigger, asked, group}
 use Rattle.hs_law_agent.specs.State.{AgentState, ClaimedTrace}
-use Rattle.hs_law_agent.specs.Stepping.{Chunk, Crumbed, Triggered, Asked, Turn, Event, Took, Gave, after_event, after}
+use Rattle.hs_law_agent.specs.Stepping.{Chunk, Crumbed, Triggered, Asked, Turn, AgentEvent, Took, Gave, after_event, after}
 
 -- these traces pass the test
 abbrev pub AllPass : (TraceId → Bool) → List TraceId → Type 0
@@ -29,7 +29,7 @@ pub record ClaimsOnly (test : TraceId → Bool) (state : AgentState) : Type 0 wh
   pub said : AllByRecursion (TellsOf test) state.said
 
 -- the lead and the laterals that an event brings pass
-abbrev pub BringsOnly : (TraceId → Bool) → Event → Type 0
+abbrev pub BringsOnly : (TraceId → Bool) → AgentEvent → Type 0
 BringsOnly test (Took (Chunk client sheet)) = Unit {0}
 BringsOnly test (Took (Crumbed client crumb)) = Unit {0}
 BringsOnly test (Took (Triggered client trigger)) = AllPass test (trigger.lead ∷ trigger.laterals)
@@ -40,12 +40,12 @@ BringsOnly test (Gave answer) = Unit {0}
 -- Where all triggers and asks bring traces that pass, all that is claimed and told is of such traces.
 abbrev pub ClaimsAreOfWhatIsBrought : Type 0
 ClaimsAreOfWhatIsBrought =
-    (settings : PlainSettings) (node : ℕ) (test : TraceId → Bool) (state : AgentState) (event : Event) → BringsOnly test event → ClaimsOnly test state
+    (settings : PlainSettings) (node : ℕ) (test : TraceId → Bool) (state : AgentState) (event : AgentEvent) → BringsOnly test event → ClaimsOnly test state
     → ClaimsOnly test (after_event settings node state event)
 
 -- ---- examples
 
-abbrev claimed : List Event → List TraceId
+abbrev claimed : List AgentEvent → List TraceId
 claimed events = map (λ (claim : ClaimedTrace). claim.trace) (after (settings_with 4 8 4 one_rule) 0 events).claims
 
 -- the trace of a chunk or of a crumb is not claimed for that alone

@@ -6,14 +6,14 @@ use Rattle.hs_base.specs.Samples.{rule, one_rule, t}
 use Rattle.hs_journal.specs.declared.journal.Step.TheVariants as steps
 use Rattle.hs_law_agent.specs.Standings.{Indexed, Pinned, Reported, Evicted}
 use Rattle.hs_law_agent.specs.State.{AgentState, ClaimedTrace}
-use Rattle.hs_law_agent.specs.Stepping.{Event, after}
+use Rattle.hs_law_agent.specs.Stepping.{AgentEvent, after}
 use Rattle.hs_law_agent.specs.Samples.{settings_with, chunk, crumb, trigger, group, asked, turned, given, standings}
 
-abbrev run : List Event → AgentState
+abbrev run : List AgentEvent → AgentState
 run events = after (settings_with 4 8 4 one_rule) 0 events
 
 -- a trigger comes before the chunk of its trace, which is pinned as it comes and reported in the next turn
-before_its_chunk : List Event
+before_its_chunk : List AgentEvent
 before_its_chunk = trigger 1 1 1 [] ∷ turned ∷ turned ∷ turned ∷ chunk 1 0 ∷ turned ∷ given 1 ∷ []
 
 trigger_before_its_chunk : (standings (run (trigger 1 1 1 [] ∷ turned ∷ chunk 1 0 ∷ [])) ≡ Pinned (group 0 0 1 1) ∷ [])
@@ -24,7 +24,7 @@ unfolding before_its_chunk
 trigger_before_its_chunk = (refl, refl, refl, refl)
 
 -- a trace whose first chunk was evicted is claimed all the same, and its next chunk reported
-evicted_before_the_claim : List Event
+evicted_before_the_claim : List AgentEvent
 evicted_before_the_claim = turned ∷ turned ∷ chunk 1 0 ∷ turned ∷ given 1 ∷ trigger 2 1 1 [] ∷ turned ∷ turned ∷ turned ∷ chunk 1 1 ∷ turned ∷ given 3 ∷ []
 
 claim_after_an_eviction : (standings (after (settings_with 0 8 4 one_rule) 0 evicted_before_the_claim) ≡ Evicted 1 1 ∷ Reported (group 0 0 1 1) ∷ [])

@@ -3,10 +3,10 @@ use Rattle.std.specs.Prelude.{◌≡◌, ℕ, List, [], ◌∷◌, refl}
 use Rattle.hs_base.specs.Samples.{t}
 use Rattle.hs_law_agent.specs.Standings.{Indexed, Evicted}
 use Rattle.hs_law_agent.specs.State.{AgentState}
-use Rattle.hs_law_agent.specs.Stepping.{Event, after}
+use Rattle.hs_law_agent.specs.Stepping.{AgentEvent, after}
 use Rattle.hs_law_agent.specs.Samples.{settings_with, chunk, crumb, turned, given, missed, unread, standings}
 
-abbrev run : (threshold traces : ℕ) → List Event → AgentState
+abbrev run : (threshold traces : ℕ) → List AgentEvent → AgentState
 run threshold traces events = after (settings_with threshold traces 4 []) 0 events
 
 -- at the threshold nothing goes; the third chunk makes three, and the trace touched longest ago goes

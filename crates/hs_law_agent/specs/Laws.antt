@@ -17,7 +17,7 @@ use Rattle.hs_law_agent.specs.State.{AgentState, ClaimedTrace, GivenPlace, claim
 use Rattle.hs_law_agent.specs.Evicting.{is_over, evict_trace, evict}
 use Rattle.hs_law_agent.specs.Abandoning.{pinned_groups, count_of_id, is_no_greater, next_to_go, abandon_group, abandon}
 use Rattle.hs_law_agent.specs.Turning.{is_pinned_under, order_of, used_at, costs_of, shares_after, visit}
-use Rattle.hs_law_agent.specs.Stepping.{Input, Chunk, Crumbed, Triggered, Asked, Turn, Answered, Event, Took, Gave, step_of, step_of_answer, admits, group_of, told_by, after_step, after_gave, after_event, after_from, after}
+use Rattle.hs_law_agent.specs.Stepping.{Input, Chunk, Crumbed, Triggered, Asked, Turn, Answered, AgentEvent, Took, Gave, step_of, step_of_answer, admits, group_of, told_by, after_step, after_gave, after_event, after_from, after}
 
 -- ---- places
 
@@ -45,7 +45,7 @@ PlacesMatch state = ArePlaced state.taken state.pinned state.reported (given_pla
 
 -- The evicted, abandoned and reported chunks are in the hand, each once, until they are given back.
 abbrev pub ListsHaveTheirChunks : Type 0
-ListsHaveTheirChunks = (settings : PlainSettings) (node : ℕ) (events : List Event) → PlacesMatch (after settings node events)
+ListsHaveTheirChunks = (settings : PlainSettings) (node : ℕ) (events : List AgentEvent) → PlacesMatch (after settings node events)
 
 -- Each chunk is either indexed, or once among the pinned, or once among those in the hand or given back.
 abbrev pub IsInOnePlace : AgentState → ℕ → Type 0
@@ -54,7 +54,7 @@ IsInOnePlace state place =
     ≡ (if stands (λ _. true) state.taken place then 1 else 0)
 
 abbrev pub StandingsPartition : Type 0
-StandingsPartition = (settings : PlainSettings) (node : ℕ) (events : List Event) (place : ℕ) → IsInOnePlace (after settings node events) place
+StandingsPartition = (settings : PlainSettings) (node : ℕ) (events : List AgentEvent) (place : ℕ) → IsInOnePlace (after settings node events) place
 
 -- A chunk that is indexed or pinned is not in the hand, and its buffer was not given back.
 pub record IsHeld (state : AgentState) (place : ℕ) : Type 0 where
@@ -63,7 +63,7 @@ pub record IsHeld (state : AgentState) (place : ℕ) : Type 0 where
 
 abbrev pub HeldChunksAreInNoHand : Type 0
 HeldChunksAreInNoHand =
-    (settings : PlainSettings) (node : ℕ) (events : List Event) (place : ℕ)
+    (settings : PlainSettings) (node : ℕ) (events : List AgentEvent) (place : ℕ)
     → (stands is_indexed (after settings node events).taken place ≡ true) ⊎ (stands is_pinned (after settings node events).taken place ≡ true)
     → IsHeld (after settings node events) place
 
@@ -82,12 +82,12 @@ abbrev pub IsClaimedOrTouched : AgentState → TraceId → Type 0
 IsClaimedOrTouched state trace = count_traces (claimed_traces state) trace + count_traces state.touched trace ≤ 1
 
 abbrev pub TracesAreClaimedOnce : Type 0
-TracesAreClaimedOnce = (settings : PlainSettings) (node : ℕ) (events : List Event) (trace : TraceId) → IsClaimedOrTouched (after settings node events) trace
+TracesAreClaimedOnce = (settings : PlainSettings) (node : ℕ) (events : List AgentEvent) (trace : TraceId) → IsClaimedOrTouched (after settings node events) trace
 
 -- Later events only add claims behind those that were made.
 abbrev pub ClaimsHoldForGood : Type 0
 ClaimsHoldForGood =
-    (settings : PlainSettings) (node : ℕ) (events later : List Event)
+    (settings : PlainSettings) (node : ℕ) (events later : List AgentEvent)
     → (more : List ClaimedTrace) × ((after_from settings node (after settings node events) later).claims ≡ (after settings node events).claims ++ more)
 
 -- the group of the claim of a trace, where it is claimed
@@ -108,12 +108,12 @@ AllStandByClaim claims taken = AllByRecursion (λ (chunk : Taken). StandsByClaim
 
 abbrev pub ChunksStandByTheirClaim : Type 0
 ChunksStandByTheirClaim =
-    (settings : PlainSettings) (node : ℕ) (events : List Event) → AllStandByClaim (after settings node events).claims (after settings node events).taken
+    (settings : PlainSettings) (node : ℕ) (events : List AgentEvent) → AllStandByClaim (after settings node events).claims (after settings node events).taken
 
 -- An event evicts no chunk of a trace that was claimed before it.
 abbrev pub NothingClaimedIsEvicted : Type 0
 NothingClaimedIsEvicted =
-    (settings : PlainSettings) (node : ℕ) (events : List Event) (event : Event) (place : ℕ) (trace : TraceId)
+    (settings : PlainSettings) (node : ℕ) (events : List AgentEvent) (event : AgentEvent) (place : ℕ) (trace : TraceId)
     → is_of_trace (after settings node events).taken trace place ≡ true → is_claimed (after settings node events).claims trace ≡ true
     → stands is_evicted (after_event settings node (after settings node events) event).taken place ≡ stands is_evicted (after settings node events).taken place
 
@@ -146,7 +146,7 @@ pub record IsWithin (settings : PlainSettings) (state : AgentState) : Type 0 whe
   pub pins : length state.pinned ≤ settings.pins
 
 abbrev pub LimitsHold : Type 0
-LimitsHold = (settings : PlainSettings) (node : ℕ) (events : List Event) → IsWithin settings (after settings node events)
+LimitsHold = (settings : PlainSettings) (node : ℕ) (events : List AgentEvent) → IsWithin settings (after settings node events)
 
 -- a chunk that was evicted was so where one of its counts was over its limit
 abbrev pub WasOver : PlainSettings → ChunkStanding → Type 0
@@ -161,7 +161,7 @@ AllWereOver settings taken = AllByRecursion (λ (chunk : Taken). WasOver setting
 
 -- Nothing was evicted at or below both limits.
 abbrev pub EvictedWereOver : Type 0
-EvictedWereOver = (settings : PlainSettings) (node : ℕ) (events : List Event) → AllWereOver settings (after settings node events).taken
+EvictedWereOver = (settings : PlainSettings) (node : ℕ) (events : List AgentEvent) → AllWereOver settings (after settings node events).taken
 
 -- ---- the order of reports
 
@@ -176,7 +176,7 @@ reported_of state trace = filter (is_of_trace state.taken trace) state.reported
 
 -- Of one trace, an earlier chunk is never reported behind a later one.
 abbrev pub ReportedInOrder : Type 0
-ReportedInOrder = (settings : PlainSettings) (node : ℕ) (events : List Event) (trace : TraceId) → AreRising (reported_of (after settings node events) trace)
+ReportedInOrder = (settings : PlainSettings) (node : ℕ) (events : List AgentEvent) (trace : TraceId) → AreRising (reported_of (after settings node events) trace)
 
 -- ---- no more goes than needed
 
@@ -206,11 +206,11 @@ AbandonsWhileOver = (settings : PlainSettings) (state : AgentState) → PlacesMa
 
 -- After any events both hold of the state to which the next ones apply.
 abbrev pub IndexedStayTouched : Type 0
-IndexedStayTouched = (settings : PlainSettings) (node : ℕ) (events : List Event) → IndexedAreTouched (after settings node events)
+IndexedStayTouched = (settings : PlainSettings) (node : ℕ) (events : List AgentEvent) → IndexedAreTouched (after settings node events)
 
 -- Events go on where earlier ones stopped.
 abbrev pub EventsGoOn : Type 0
-EventsGoOn = (settings : PlainSettings) (node : ℕ) (events later : List Event) → after settings node (events ++ later) ≡ after_from settings node (after settings node events) later
+EventsGoOn = (settings : PlainSettings) (node : ℕ) (events later : List AgentEvent) → after settings node (events ++ later) ≡ after_from settings node (after settings node events) later
 
 -- ---- the order of a client's pages
 
@@ -229,7 +229,7 @@ sheets_of taken = map (λ (chunk : Taken). chunk.sheet) taken
 -- Where each client's pages come in rising order, those of one trace are reported in rising order too, client by client.
 abbrev pub ClientsPagesRise : Type 0
 ClientsPagesRise =
-    (settings : PlainSettings) (node : ℕ) (events : List Event) (trace : TraceId) → PagesRise (sheets_of (after settings node events).taken)
+    (settings : PlainSettings) (node : ℕ) (events : List AgentEvent) (trace : TraceId) → PagesRise (sheets_of (after settings node events).taken)
     → PagesRise (sheets_at (after settings node events).taken (reported_of (after settings node events) trace))
 
 -- ---- the ids in a turn
@@ -255,7 +255,7 @@ StepsSayWhatTheyTell = (settings : PlainSettings) (node : ℕ) (state : AgentSta
 -- ---- one event
 
 -- the page of the chunk that an event takes
-abbrev pub brought_by : Event → List Sheet
+abbrev pub brought_by : AgentEvent → List Sheet
 brought_by (Took (Chunk client sheet)) = sheet ∷ []
 brought_by (Took (Crumbed client crumb)) = []
 brought_by (Took (Triggered client trigger)) = []
@@ -264,16 +264,16 @@ brought_by (Took Turn) = []
 brought_by (Gave answer) = []
 
 -- the step as which an event is noted
-abbrev pub noted_as : Event → Step
+abbrev pub noted_as : AgentEvent → Step
 noted_as (Took input) = step_of input
 noted_as (Gave answer) = step_of_answer answer
 
 -- An event adds its step to the log, and behind the pages of the chunks that were taken the page that it brings. No input gives a
 -- buffer back.
 pub record AddsThis (settings : PlainSettings) (node : ℕ) (state : AgentState) : Type 0 where
-  pub chunks : (event : Event) → sheets_of (after_event settings node state event).taken ≡ sheets_of state.taken ++ brought_by event
+  pub chunks : (event : AgentEvent) → sheets_of (after_event settings node state event).taken ≡ sheets_of state.taken ++ brought_by event
   pub given : (input : Input) → (after_step settings node state input).given ≡ state.given
-  pub log : (event : Event) → (after_event settings node state event).log ≡ state.log ++ noted_as event ∷ []
+  pub log : (event : AgentEvent) → (after_event settings node state event).log ≡ state.log ++ noted_as event ∷ []
 
 abbrev pub EventsAddThis : Type 0
 EventsAddThis = (settings : PlainSettings) (node : ℕ) (state : AgentState) → AddsThis settings node state

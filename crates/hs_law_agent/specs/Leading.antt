@@ -9,7 +9,7 @@ use Rattle.hs_base.specs.Samples.{one_rule, t}
 use Rattle.hs_records.specs.Plain.{PlainSettings}
 use Rattle.hs_law_agent.specs.Samples.{settings_with, chunk, crumb, trigger}
 use Rattle.hs_law_agent.specs.State.{AgentState}
-use Rattle.hs_law_agent.specs.Stepping.{Chunk, Crumbed, Triggered, Asked, Turn, Event, Took, Gave, after_event, after}
+use Rattle.hs_law_agent.specs.Stepping.{Chunk, Crumbed, Triggered, Asked, Turn, AgentEvent, Took, Gave, after_event, after}
 
 -- a message names no node from this number on
 abbrev pub IsToldBelow : ℕ → Told → Type 0
@@ -21,7 +21,7 @@ pub record LeadsBelow (nodes : ℕ) (state : AgentState) : Type 0 where
   pub said : AllByRecursion (IsToldBelow nodes) state.said
 
 -- a crumb that an event takes leads there
-abbrev pub BringsBelow : ℕ → Event → Type 0
+abbrev pub BringsBelow : ℕ → AgentEvent → Type 0
 BringsBelow nodes (Took (Chunk client sheet)) = Unit {0}
 BringsBelow nodes (Took (Crumbed client crumb)) = crumb.node.0 < nodes
 BringsBelow nodes (Took (Triggered client trigger)) = Unit {0}
@@ -31,12 +31,12 @@ BringsBelow nodes (Gave answer) = Unit {0}
 
 -- Where all crumbs lead to nodes below a number, so does all that is remembered and told.
 abbrev pub CrumbsLeadBelow : Type 0
-CrumbsLeadBelow = (settings : PlainSettings) (node nodes : ℕ) (state : AgentState) (event : Event) → BringsBelow nodes event → LeadsBelow nodes state → LeadsBelow nodes (after_event settings node state event)
+CrumbsLeadBelow = (settings : PlainSettings) (node nodes : ℕ) (state : AgentState) (event : AgentEvent) → BringsBelow nodes event → LeadsBelow nodes state → LeadsBelow nodes (after_event settings node state event)
 
 -- ---- examples
 
 -- the nodes that the last message names
-abbrev named : List Event → List (List ℕ)
+abbrev named : List AgentEvent → List (List ℕ)
 named events = map (λ (told : Told). filter (has_node told.crumbs) (range_with_len 0 4)) (after (settings_with 4 8 4 one_rule) 0 events).said
 
 -- a crumb of the lead to node 1, and one of another trace

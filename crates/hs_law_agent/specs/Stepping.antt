@@ -194,19 +194,19 @@ after_gave state answer = note (step_of_answer answer) (take_answer state answer
 -- ---- whole runs
 
 -- an input, or an offer's answer
-pub data Event : Type 0 where
-  Took : (input : Input) → Event
-  Gave : (answer : Answered) → Event
+pub data AgentEvent : Type 0 where
+  Took : (input : Input) → AgentEvent
+  Gave : (answer : Answered) → AgentEvent
 
-abbrev pub after_event : PlainSettings → ℕ → AgentState → Event → AgentState
+abbrev pub after_event : PlainSettings → ℕ → AgentState → AgentEvent → AgentState
 after_event settings node state (Took input) = after_step settings node state input
 after_event settings node state (Gave answer) = after_gave state answer
 
 -- the state after these events, from this one on
-abbrev pub after_from : PlainSettings → ℕ → AgentState → List Event → AgentState
+abbrev pub after_from : PlainSettings → ℕ → AgentState → List AgentEvent → AgentState
 after_from settings node state [] = state
 after_from settings node state (event ∷ events) = after_from settings node (after_event settings node state event) events
 
 -- the state of a node's agent after these events
-abbrev pub after : PlainSettings → ℕ → List Event → AgentState
+abbrev pub after : PlainSettings → ℕ → List AgentEvent → AgentState
 after settings node events = after_from settings node (start settings) events

@@ -5,7 +5,7 @@ use Rattle.hs_base.specs.declared.settings.TriggerRule.{TriggerRule}
 use Rattle.hs_base.specs.Samples.{t}
 use Rattle.hs_law_agent.specs.State.{AgentState}
 use Rattle.hs_law_agent.specs.Turning.{order_of}
-use Rattle.hs_law_agent.specs.Stepping.{Event, after}
+use Rattle.hs_law_agent.specs.Stepping.{AgentEvent, after}
 use Rattle.hs_law_agent.specs.Samples.{settings_with, chunk, trigger, turned, deficits}
 
 -- id 1 with weight 2 and id 2 with weight 1
@@ -13,7 +13,7 @@ abbrev two_rules : List TriggerRule
 two_rules =
     record { id = record { 0 = 1 }; weight = 2; burst = 10; rate = 0 } ∷ record { id = record { 0 = 2 }; weight = 1; burst = 10; rate = 0 } ∷ []
 
-abbrev run : List Event → AgentState
+abbrev run : List AgentEvent → AgentState
 run events = after (settings_with 9 9 9 two_rules) 0 events
 
 -- the rank of 0 is greater than that of 0x3c6ef372fe94f82a
@@ -21,7 +21,7 @@ abbrev low : ℕ
 low = 0x3c6ef372fe94f82a
 
 -- two chunks of the trace `low`, which id 1 claims first, two of 0 and one of the lateral 5, and one of 7 for id 2
-waiting : List Event
+waiting : List AgentEvent
 waiting = chunk low 0 ∷ chunk 0 1 ∷ chunk 5 2 ∷ chunk 7 3 ∷ trigger 1 1 low [] ∷ trigger 2 1 0 (t 5 ∷ []) ∷ trigger 3 2 7 [] ∷ chunk 0 4 ∷ chunk low 5 ∷ []
 
 -- the group of the greater lead comes first, its lead's chunk before that of its lateral, and a later chunk behind both
@@ -29,7 +29,7 @@ by_falling_priority : (order_of (run waiting) 1 ≡ 1 ∷ 2 ∷ 4 ∷ 0 ∷ 5 �
 unfolding waiting
 by_falling_priority = (refl, refl, refl)
 
-two_turns : List Event
+two_turns : List AgentEvent
 two_turns = chunk low 0 ∷ chunk 0 1 ∷ chunk 5 2 ∷ chunk 7 3 ∷ trigger 1 1 low [] ∷ trigger 2 1 0 (t 5 ∷ []) ∷ trigger 3 2 7 [] ∷ chunk 0 4 ∷ chunk low 5 ∷ turned ∷ []
 
 -- 128 bytes pay for three of five chunks of id 1, and leave 23; id 2 is emptied, and has no deficit

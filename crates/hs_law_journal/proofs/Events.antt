@@ -7,7 +7,7 @@ use Rattle.hs_coord.specs.Following.{Message, Messages}
 use Rattle.hs_journal.specs.declared.journal.Step.{Step}
 use Rattle.hs_journal.specs.Views.{PlainJournal}
 use Rattle.hs_law_agent.specs.Laws.{EventsGoOn}
-use Rattle.hs_law_agent.specs.Stepping.{Event, after_event}
+use Rattle.hs_law_agent.specs.Stepping.{AgentEvent, after_event}
 use Rattle.hs_records.specs.Plain.{PlainSettings, PlainWorkload}
 use Rattle.hs_law_journal.specs.Following.{NodeRun, Run, node_start, run_start, event_of, perform, step_of, step_node, step_lowest, message_of, hear, step_run, follow, step_count}
 use Rattle.hs_law_journal.specs.Laws.{ComesByEvents, AgentsComeByEvents}
@@ -22,7 +22,7 @@ mapped P f None h = tt
 mapped P f (Some x) h = h x
 
 module _ (goes : EventsGoOn) (settings : PlainSettings) where
-  performed : (rest : List Step) (run : NodeRun) (event : Event) → ComesByEvents settings run → ComesByEvents settings (perform settings rest run event)
+  performed : (rest : List Step) (run : NodeRun) (event : AgentEvent) → ComesByEvents settings run → ComesByEvents settings (perform settings rest run event)
   performed rest run event c = ap (λ state. after_event settings run.node state event) c ∙ sym (goes settings run.node run.events (event ∷ []))
 
   left_comes : (heard : Messages) (run : NodeRun) (left : List Step) → ComesByEvents settings run → Holds (ComesByEvents settings) (step_of settings heard run left)

@@ -16,7 +16,7 @@ use Rattle.hs_journal.specs.declared.journal.Step.{Step}
 use Rattle.hs_journal.specs.declared.journal.Step.TheVariants as steps
 use Rattle.hs_journal.specs.Views.{PlainJournal}
 use Rattle.hs_law_agent.specs.Laws.{EventsAddThis, noted_as}
-use Rattle.hs_law_agent.specs.Stepping.{Event, Took, Gave, Chunk, Crumbed, Triggered, Asked, Turn, Answered, Given, Missed, Unread, step_of_answer}
+use Rattle.hs_law_agent.specs.Stepping.{AgentEvent, Took, Gave, Chunk, Crumbed, Triggered, Asked, Turn, Answered, Given, Missed, Unread, step_of_answer}
 use Rattle.hs_records.specs.Plain.{PlainWorkload}
 use Rattle.hs_law_sends.specs.Drawn.{DrawnPage, has_buffer, drawn_from}
 use Rattle.hs_law_sends.specs.Sending.{Sent, ClientSends, operations_at, place_of, sheet_of, sent_chunks, client_sends, node_sends, draws_at}
@@ -98,14 +98,14 @@ module _ (W : PlainWorkload) (J K : PlainJournal) (goes : GoesOn J K) where
 
   -- ---- events
 
-  record HasItem {A : Type 0} (f : A → Event) (queue : Queue) (pick : ClientSends → List (Sent A)) (run : NodeRun) (client : ℕ) (event : Event) : Type 0 where
+  record HasItem {A : Type 0} (f : A → AgentEvent) (queue : Queue) (pick : ClientSends → List (Sent A)) (run : NodeRun) (client : ℕ) (event : AgentEvent) : Type 0 where
     sends : ClientSends
     item : Sent A
     client_there : slice_get run.sends client ≡ Some sends
     item_there : slice_get (pick sends) (taken queue run.state.log) ≡ Some item
     is : event ≡ f item.item
 
-  item_from : {A : Type 0} (f : A → Event) (queue : Queue) (pick : ClientSends → List (Sent A)) (run : NodeRun) (client : ℕ) (event : Event) (o : Option ClientSends)
+  item_from : {A : Type 0} (f : A → AgentEvent) (queue : Queue) (pick : ClientSends → List (Sent A)) (run : NodeRun) (client : ℕ) (event : AgentEvent) (o : Option ClientSends)
       → slice_get run.sends client ≡ o → option_and_then (λ (sends : ClientSends). option_map f (next_of queue run.state (pick sends))) o ≡ Some event → HasItem f queue pick run client event
   item_from {A = A} f queue pick run client event None e h = let no : None ≡ Some event = h in absurd cc
   item_from {A = A} f queue pick run client event (Some sends) e h =
@@ -119,15 +119,15 @@ module _ (W : PlainWorkload) (J K : PlainJournal) (goes : GoesOn J K) where
         is = m.is ∙ ap f i.is;
       }
 
-  item_to : {A : Type 0} (f : A → Event) (queue : Queue) (pick : ClientSends → List (Sent A)) (run : NodeRun) (client : ℕ) (event : Event) → HasItem f queue pick run client event
+  item_to : {A : Type 0} (f : A → AgentEvent) (queue : Queue) (pick : ClientSends → List (Sent A)) (run : NodeRun) (client : ℕ) (event : AgentEvent) → HasItem f queue pick run client event
       → option_and_then (λ (sends : ClientSends). option_map f (next_of queue run.state (pick sends))) (slice_get run.sends client) ≡ Some event
   item_to {A = A} f queue pick run client event h =
       ap (option_and_then (λ (sends : ClientSends). option_map f (next_of queue run.state (pick sends)))) h.client_there
       ∙ ap (λ o. option_map f (option_map (λ (item : Sent A). item.item) o)) h.item_there
       ∙ ap Some (sym h.is)
 
-  item_behind : {A : Type 0} (f : A → Event) (queue : Queue) (pick : ClientSends → List (Sent A))
-      → ((a b : ClientSends) → SendsMore a b → HasMore (pick a) (pick b)) → (run : NodeRun) (client : ℕ) (event : Event) → run.sends ≡ node_sends W J run.node
+  item_behind : {A : Type 0} (f : A → AgentEvent) (queue : Queue) (pick : ClientSends → List (Sent A))
+      → ((a b : ClientSends) → SendsMore a b → HasMore (pick a) (pick b)) → (run : NodeRun) (client : ℕ) (event : AgentEvent) → run.sends ≡ node_sends W J run.node
       → option_and_then (λ (sends : ClientSends). option_map f (next_of queue run.state (pick sends))) (slice_get run.sends client) ≡ Some event
       → option_and_then (λ (sends : ClientSends). option_map f (next_of queue run.state (pick sends))) (slice_get (node_sends W K run.node) client) ≡ Some event
   item_behind {A = A} f queue pick longer run client event sends h =
@@ -146,7 +146,7 @@ module _ (W : PlainWorkload) (J K : PlainJournal) (goes : GoesOn J K) where
   same_more : {X : Type 0} (a b : List X) → b ≡ a → HasMore a b
   same_more a b e = record { more = []; is = e ∙ sym (append-nil a) }
 
-  event_behind : (run : NodeRun) (heard : Messages) (step : Step) (event : Event) → run.sends ≡ node_sends W J run.node → event_of run heard step ≡ Some event → event_of (node_behind W J K run) heard step ≡ Some event
+  event_behind : (run : NodeRun) (heard : Messages) (step : Step) (event : AgentEvent) → run.sends ≡ node_sends W J run.node → event_of run heard step ≡ Some event → event_of (node_behind W J K run) heard step ≡ Some event
   event_behind run heard (steps.Chunk client) event sends h =
       item_behind (λ sheet. Took (Chunk client sheet)) (Chunks client) (λ (s : ClientSends). s.chunks) (λ a b m. m.chunks) run client event sends h
   event_behind run heard (steps.Crumb client) event sends h =
@@ -249,12 +249,12 @@ journals_go_on plays W J K goes =
 -- ---- the journal's nodes
 
 -- the step that was next is the one that an event notes
-module _ (run : NodeRun) (heard : Messages) (event : Event) where
+module _ (run : NodeRun) (heard : Messages) (event : AgentEvent) where
   offer_step : (step : Step) (answer : Answered) (hand : List ℕ) → step_of_answer answer ≡ step → option_map (λ _. Gave answer) (slice_get hand 0) ≡ Some event → noted_as event ≡ step
   offer_step step answer [] same h = let no : None ≡ Some event = h in absurd cc
   offer_step step answer (place ∷ hand) same h = ap (noted_as) (sym (same_Some (Gave answer) event h)) ∙ same
 
-  item_step : {A : Type 0} (f : A → Event) (step : Step) (queue : Queue) (pick : ClientSends → List (Sent A)) (client : ℕ) → ((a : A) → noted_as (f a) ≡ step)
+  item_step : {A : Type 0} (f : A → AgentEvent) (step : Step) (queue : Queue) (pick : ClientSends → List (Sent A)) (client : ℕ) → ((a : A) → noted_as (f a) ≡ step)
       → (o : Option ClientSends) → option_and_then (λ (sends : ClientSends). option_map f (next_of queue run.state (pick sends))) o ≡ Some event → noted_as event ≡ step
   item_step f step queue pick client same None h = let no : None ≡ Some event = h in absurd cc
   item_step f step queue pick client same (Some sends) h =

@@ -23,7 +23,7 @@ use Rattle.hs_journal.specs.Views.{PlainJournal}
 use Rattle.hs_journal.specs.declared.journal.Step.{Step}
 use Rattle.hs_journal.specs.declared.journal.Step.TheVariants as steps
 use Rattle.hs_law_agent.specs.State.{AgentState}
-use Rattle.hs_law_agent.specs.Stepping.{Event, Took, Gave, Answered, Given, Missed, Unread, Chunk, Crumbed, Triggered, Asked, Turn}
+use Rattle.hs_law_agent.specs.Stepping.{AgentEvent, Took, Gave, Answered, Given, Missed, Unread, Chunk, Crumbed, Triggered, Asked, Turn}
 use Rattle.hs_records.specs.Plain.{Operation, PlainSettings, PlainWorkload}
 use Rattle.hs_records.specs.Plain as plain
 use Rattle.hs_records.specs.Records.{NumberedOperation, numbered_from, open_behind}
@@ -125,18 +125,18 @@ module _ (settings : PlainSettings) (i : ℕ) where
 
   module _ (state : AgentState) (few : state.admitted + 1 < 2 ^ 32) where
     -- an event that takes takes what may be taken
-    abbrev pub Fits : Event → Type 0
+    abbrev pub Fits : AgentEvent → Type 0
     Fits (Took input) = MayTake settings i state input
     Fits (Gave answer) = Unit {0}
 
-    item_fits : {A : Type 0} (f : A → Event) (P : A → Type 0) (queue : Queue) (items : List (Sent A)) (event : Event) → ((x : A) → P x → Fits (f x)) → AllByRecursion (λ (item : Sent A). P item.item) items → option_map f (next_of queue state items) ≡ Some event → Fits event
+    item_fits : {A : Type 0} (f : A → AgentEvent) (P : A → Type 0) (queue : Queue) (items : List (Sent A)) (event : AgentEvent) → ((x : A) → P x → Fits (f x)) → AllByRecursion (λ (item : Sent A). P item.item) items → option_map f (next_of queue state items) ≡ Some event → Fits event
     item_fits {A = A} f P queue items event each all h =
         let t = option_unmap f (next_of queue state items) event h in
         let u = option_unmap (λ (item : Sent A). item.item) (slice_get items (taken queue state.log)) t.0 t.1 in
         let p = all_at (λ (item : Sent A). P item.item) items (taken queue state.log) u.0 all u.1 in
         subst Fits t.2 (each t.0 (subst P u.2 p))
 
-    client_fits : {A : Type 0} (f : A → Event) (P : A → Type 0) (queue : Queue) (pick : ClientSends → List (Sent A)) (sends : List ClientSends) (client : ℕ) (event : Event) → ((x : A) → P x → Fits (f x))
+    client_fits : {A : Type 0} (f : A → AgentEvent) (P : A → Type 0) (queue : Queue) (pick : ClientSends → List (Sent A)) (sends : List ClientSends) (client : ℕ) (event : AgentEvent) → ((x : A) → P x → Fits (f x))
         → ((s : ClientSends) → slice_get sends client ≡ Some s → AllByRecursion (λ (item : Sent A). P item.item) (pick s))
         → option_and_then (λ (s : ClientSends). option_map f (next_of queue state (pick s))) (slice_get sends client) ≡ Some event → Fits event
     client_fits {A = A} f P queue pick sends client event each all h = go (slice_get sends client) refl h
@@ -145,10 +145,10 @@ module _ (settings : PlainSettings) (i : ℕ) where
         go None e h = let never : None ≡ Some event = h in absurd cc
         go (Some s) e h = item_fits f P queue (pick s) event each (all s e) h
 
-    offer_fits : (answer : Answered) (o : Option ℕ) (event : Event) → option_map (λ (_ : ℕ). Gave answer) o ≡ Some event → Fits event
+    offer_fits : (answer : Answered) (o : Option ℕ) (event : AgentEvent) → option_map (λ (_ : ℕ). Gave answer) o ≡ Some event → Fits event
     offer_fits answer o event h = let t = option_unmap (λ (_ : ℕ). Gave answer) o event h in subst Fits t.2 tt
 
-    pub event_fits : (run : NodeRun) (heard : Messages) (step : Step) (event : Event) → run.state ≡ state → run.node ≡ i → ((number : ℕ) (s : ClientSends) → slice_get run.sends number ≡ Some s → SendsFit number s)
+    pub event_fits : (run : NodeRun) (heard : Messages) (step : Step) (event : AgentEvent) → run.state ≡ state → run.node ≡ i → ((number : ℕ) (s : ClientSends) → slice_get run.sends number ≡ Some s → SendsFit number s)
         → AllByRecursion (λ (ask : Ask). is_declared settings.triggers ask.group.trigger ≡ true) (asks_to run.node heard) → event_of run heard step ≡ Some event → Fits event
     event_fits run heard (steps.Chunk client) event same number sends asks h =
         client_fits (λ sheet. Took (Chunk client sheet)) (λ (sheet : Sheet). sheet.header.client ≡ record { node = i; number = client }) (Chunks client) (λ (s : ClientSends). s.chunks) run.sends client event (λ x p. p)

@@ -17,9 +17,9 @@ use Rattle.hs_law_journal.proofs.Extending.{noted_step}
 use Rattle.hs_law_journal.proofs.Steps.{step_from, heard_from}
 use Rattle.hs_law_agent.specs.Laws.{EventsAddThis}
 use Rattle.hs_law_agent.specs.State.{AgentState, GivenPlace}
-use Rattle.hs_law_agent.specs.Stepping.{Input, Chunk, Crumbed, Triggered, Asked, Turn, Answered, Given, Missed, Unread, Event, Took, Gave, step_of, give_back, after_event}
+use Rattle.hs_law_agent.specs.Stepping.{Input, Chunk, Crumbed, Triggered, Asked, Turn, Answered, Given, Missed, Unread, AgentEvent, Took, Gave, step_of, give_back, after_event}
 
-abbrev IsGive : Event → Type 0
+abbrev IsGive : AgentEvent → Type 0
 IsGive (Gave (Given stamp)) = Unit {0}
 IsGive _ = ⊥
 
@@ -43,7 +43,7 @@ module _ (adds : EventsAddThis) (settings : PlainSettings) (node : ℕ) where
   given_case stamp [] state h = absurd (omega (arith, h))
   given_case stamp (place ∷ hand) state h = map-append (λ (g : GivenPlace). g.stamp) state.given (record { place = place; stamp = stamp } ∷ [])
 
-  event_same : (state : AgentState) (event : Event) → (IsGive event → 0 < length state.hand) → stamps_in state.given ≡ filter_map given_stamp state.log
+  event_same : (state : AgentState) (event : AgentEvent) → (IsGive event → 0 < length state.hand) → stamps_in state.given ≡ filter_map given_stamp state.log
       → stamps_in (after_event settings node state event).given ≡ filter_map given_stamp (after_event settings node state event).log
   event_same state (Took input) some h =
       ap stamps_in ((adds settings node state).given input) ∙ h ∙ sym (ap (filter_map given_stamp) ((adds settings node state).log (Took input)) ∙ no_give (step_of input) (input_none input) state.log)
@@ -56,11 +56,11 @@ module _ (adds : EventsAddThis) (settings : PlainSettings) (node : ℕ) where
 
 -- ---- all steps
 
-some_hand : (answer : Answered) (hand : List ℕ) (event : Event) → option_map (λ _. Gave answer) (slice_get hand 0) ≡ Some event → 0 < length hand
+some_hand : (answer : Answered) (hand : List ℕ) (event : AgentEvent) → option_map (λ _. Gave answer) (slice_get hand 0) ≡ Some event → 0 < length hand
 some_hand answer [] event h = let no : None ≡ Some event = h in absurd cc
 some_hand answer (place ∷ hand) event h = omega arith
 
-give_ready : (run : NodeRun) (heard : Messages) (step : Step) (event : Event) → event_of run heard step ≡ Some event → IsGive event → 0 < length run.state.hand
+give_ready : (run : NodeRun) (heard : Messages) (step : Step) (event : AgentEvent) → event_of run heard step ≡ Some event → IsGive event → 0 < length run.state.hand
 give_ready run heard step (Gave (Given stamp)) h give =
     some_hand (Given stamp) run.state.hand (Gave (Given stamp)) (ap (event_of run heard) (noted_step run heard (Gave (Given stamp)) step h) ∙ h)
 give_ready run heard step (Gave (Missed stamp)) h give = absurd give

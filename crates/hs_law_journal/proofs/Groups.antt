@@ -30,7 +30,7 @@ use Rattle.hs_base.specs.Ids.{same_trace}
 use Rattle.hs_pins.specs.Buckets.{level_found}
 use Rattle.hs_pins.specs.Remembered.{Tried, moments_of}
 use Rattle.hs_law_agent.specs.State.{AgentState, ClaimedTrace, claim_of}
-use Rattle.hs_law_agent.specs.Stepping.{Input, Chunk, Crumbed, Triggered, Asked, Turn, Given, Missed, Unread, Event, Took, Gave, rule_of, admits, group_of, told_by, after_event}
+use Rattle.hs_law_agent.specs.Stepping.{Input, Chunk, Crumbed, Triggered, Asked, Turn, Given, Missed, Unread, AgentEvent, Took, Gave, rule_of, admits, group_of, told_by, after_event}
 use Rattle.hs_law_agent.specs.Turning.{costs_of, shares_after}
 use Rattle.hs_records.specs.Plain.{PlainSettings, PlainWorkload}
 use Rattle.hs_sched.specs.declared.share.Share.{Share}
@@ -112,7 +112,7 @@ module _ (test : Group → Bool) (v : ℕ) where
 
 module _ (test : Group → Bool) where
   -- an ask that an event takes passes the test
-  abbrev AskPasses : Event → Type 0
+  abbrev AskPasses : AgentEvent → Type 0
   AskPasses (Took (Chunk client sheet)) = Unit {0}
   AskPasses (Took (Crumbed client crumb)) = Unit {0}
   AskPasses (Took (Triggered client trigger)) = Unit {0}
@@ -120,14 +120,14 @@ module _ (test : Group → Bool) where
   AskPasses (Took Turn) = Unit {0}
   AskPasses (Gave answer) = Unit {0}
 
-  other_passes : {A : Type 0} (f : A → Event) (o : Option A) (event : Event) → ((a : A) → AskPasses (f a)) → option_map f o ≡ Some event → AskPasses event
+  other_passes : {A : Type 0} (f : A → AgentEvent) (o : Option A) (event : AgentEvent) → ((a : A) → AskPasses (f a)) → option_map f o ≡ Some event → AskPasses event
   other_passes f o event each h = let t = option_unmap f o event h in subst AskPasses t.2 (each t.0)
 
-  client_passes : {A : Type 0} (f : A → Event) (g : ClientSends → Option A) (o : Option ClientSends) (event : Event) → ((a : A) → AskPasses (f a)) → option_and_then (λ (s : ClientSends). option_map f (g s)) o ≡ Some event → AskPasses event
+  client_passes : {A : Type 0} (f : A → AgentEvent) (g : ClientSends → Option A) (o : Option ClientSends) (event : AgentEvent) → ((a : A) → AskPasses (f a)) → option_and_then (λ (s : ClientSends). option_map f (g s)) o ≡ Some event → AskPasses event
   client_passes f g None event each h = let never : None ≡ Some event = h in absurd cc
   client_passes f g (Some s) event each h = other_passes f (g s) event each h
 
-  event_passes : (run : NodeRun) (heard : Messages) (step : Step) (event : Event) → AllByRecursion (λ (ask : Ask). test ask.group ≡ true) (asks_to run.node heard) → event_of run heard step ≡ Some event → AskPasses event
+  event_passes : (run : NodeRun) (heard : Messages) (step : Step) (event : AgentEvent) → AllByRecursion (λ (ask : Ask). test ask.group ≡ true) (asks_to run.node heard) → event_of run heard step ≡ Some event → AskPasses event
   event_passes run heard (steps.Chunk client) event asks h = client_passes (λ sheet. Took (Chunk client sheet)) (λ (s : ClientSends). next_of (Chunks client) run.state s.chunks) (slice_get run.sends client) event (λ a. tt) h
   event_passes run heard (steps.Crumb client) event asks h = client_passes (λ crumb. Took (Crumbed client crumb)) (λ (s : ClientSends). next_of (Crumbs client) run.state s.crumbs) (slice_get run.sends client) event (λ a. tt) h
   event_passes run heard (steps.Trigger client) event asks h = client_passes (λ trigger. Took (Triggered client trigger)) (λ (s : ClientSends). next_of (Triggers client) run.state s.triggers) (slice_get run.sends client) event (λ a. tt) h
@@ -141,7 +141,7 @@ module _ (test : Group → Bool) where
 
   module _ (settings : PlainSettings) (node : ℕ) (state : AgentState) (add : AddsFew settings node state) (say : SaysWhatItTells settings node state) where
     -- a trigger that an event takes makes a group that passes, where it is admitted
-    abbrev OwnPasses : Event → Type 0
+    abbrev OwnPasses : AgentEvent → Type 0
     OwnPasses event = (client : ℕ) (trigger : Trigger) → event ≡ Took (Triggered client trigger) → admits settings state.tried trigger ≡ true → test (group_of node state trigger).group ≡ true
 
     record Passes (after : AgentState) : Type 0 where
@@ -167,7 +167,7 @@ module _ (test : Group → Bool) where
         either false h =
             subst (λ (told : Told). test told.group ≡ true) (same_Some (late_of claim crumb) told h) (all_find (λ (claim : ClaimedTrace). test claim.group ≡ true) (λ claim. same_trace crumb.trace claim.trace) state.claims claim claims e)
 
-    after_passes : (event : Event) → OwnPasses event → AskPasses event → AllPass test state.claims → AllTold test state.said → Passes (after_event settings node state event)
+    after_passes : (event : AgentEvent) → OwnPasses event → AskPasses event → AllPass test state.claims → AllTold test state.said → Passes (after_event settings node state event)
     after_passes (Took (Chunk client sheet)) own ask claims said = input_passes (Chunk client sheet) tt (λ told h. let never : None ≡ Some told = h in absurd cc) claims said
     after_passes (Took (Crumbed client crumb)) own ask claims said = input_passes (Crumbed client crumb) tt (λ told h. late_told crumb told claims (claim_of state.claims crumb.trace) refl h) claims said
     after_passes (Took (Triggered client trigger)) own ask claims said =
@@ -245,11 +245,11 @@ module _ (add : EventsAddFew) (this : EventsAddThis) (says : StepsSayWhatTheyTel
   record IsStep (heard : Messages) (run stepped : NodeRun) : Type 0 where
     step : Step
     rest : List Step
-    event : Event
+    event : AgentEvent
     met : event_of run heard step ≡ Some event
     is : stepped ≡ perform settings rest run event
 
-  step_event : (heard : Messages) (run stepped : NodeRun) (step : Step) (rest : List Step) (o : Option Event) → event_of run heard step ≡ o → option_map (perform settings rest run) o ≡ Some stepped → IsStep heard run stepped
+  step_event : (heard : Messages) (run stepped : NodeRun) (step : Step) (rest : List Step) (o : Option AgentEvent) → event_of run heard step ≡ o → option_map (perform settings rest run) o ≡ Some stepped → IsStep heard run stepped
   step_event heard run stepped step rest None m h = let never : None ≡ Some stepped = h in absurd cc
   step_event heard run stepped step rest (Some event) m h = record { step = step; rest = rest; event = event; met = m; is = sym (same_Some (perform settings rest run event) stepped h) }
 
@@ -258,7 +258,7 @@ module _ (add : EventsAddFew) (this : EventsAddThis) (says : StepsSayWhatTheyTel
   step_left heard run stepped (step ∷ rest) h = step_event heard run stepped step rest (event_of run heard step) refl h
 
   -- a trigger is one of a client that is there
-  abbrev IsOfClient : ℕ → Event → Type 0
+  abbrev IsOfClient : ℕ → AgentEvent → Type 0
   IsOfClient clients (Took (Chunk client sheet)) = Unit {0}
   IsOfClient clients (Took (Crumbed client crumb)) = Unit {0}
   IsOfClient clients (Took (Triggered client trigger)) = client < clients
@@ -271,15 +271,15 @@ module _ (add : EventsAddFew) (this : EventsAddThis) (says : StepsSayWhatTheyTel
   there_low (y ∷ xs) zero x h = omega arith
   there_low (y ∷ xs) (suc i) x h = let rest = there_low xs i x h in omega (arith, rest)
 
-  other_client : {A : Type 0} (clients : ℕ) (f : A → Event) (o : Option A) (event : Event) → ((a : A) → IsOfClient clients (f a)) → option_map f o ≡ Some event → IsOfClient clients event
+  other_client : {A : Type 0} (clients : ℕ) (f : A → AgentEvent) (o : Option A) (event : AgentEvent) → ((a : A) → IsOfClient clients (f a)) → option_map f o ≡ Some event → IsOfClient clients event
   other_client clients f o event each h = let t = option_unmap f o event h in subst (IsOfClient clients) t.2 (each t.0)
 
-  own_client : {A : Type 0} (run : NodeRun) (client : ℕ) (f : A → Event) (g : ClientSends → Option A) (o : Option ClientSends) (event : Event) → slice_get run.sends client ≡ o → (client < length run.sends → (a : A) → IsOfClient (length run.sends) (f a))
+  own_client : {A : Type 0} (run : NodeRun) (client : ℕ) (f : A → AgentEvent) (g : ClientSends → Option A) (o : Option ClientSends) (event : AgentEvent) → slice_get run.sends client ≡ o → (client < length run.sends → (a : A) → IsOfClient (length run.sends) (f a))
       → option_and_then (λ (s : ClientSends). option_map f (g s)) o ≡ Some event → IsOfClient (length run.sends) event
   own_client run client f g None event e each h = let never : None ≡ Some event = h in absurd cc
   own_client run client f g (Some s) event e each h = other_client (length run.sends) f (g s) event (each (there_low run.sends client s e)) h
 
-  event_client : (run : NodeRun) (heard : Messages) (step : Step) (event : Event) → event_of run heard step ≡ Some event → IsOfClient (length run.sends) event
+  event_client : (run : NodeRun) (heard : Messages) (step : Step) (event : AgentEvent) → event_of run heard step ≡ Some event → IsOfClient (length run.sends) event
   event_client run heard (steps.Chunk client) event h = own_client run client (λ sheet. Took (Chunk client sheet)) (λ (s : ClientSends). next_of (Chunks client) run.state s.chunks) (slice_get run.sends client) event refl (λ low a. tt) h
   event_client run heard (steps.Crumb client) event h = own_client run client (λ crumb. Took (Crumbed client crumb)) (λ (s : ClientSends). next_of (Crumbs client) run.state s.crumbs) (slice_get run.sends client) event refl (λ low a. tt) h
   event_client run heard (steps.Trigger client) event h = own_client run client (λ trigger. Took (Triggered client trigger)) (λ (s : ClientSends). next_of (Triggers client) run.state s.triggers) (slice_get run.sends client) event refl (λ low a. low) h
@@ -304,7 +304,7 @@ module _ (add : EventsAddFew) (this : EventsAddThis) (says : StepsSayWhatTheyTel
       (let same = taken_step log client (steps.Trigger client) in let own = ap one_if (eq-eqb client client refl) in omega (arith, same, own))
 
   -- what an event admits is among its triggers
-  admits_few : (node clients : ℕ) (state : AgentState) (event : Event) → IsOfClient clients event → state.admitted ≤ triggers_in clients state.log → (after_event settings node state event).admitted ≤ triggers_in clients (after_event settings node state event).log
+  admits_few : (node clients : ℕ) (state : AgentState) (event : AgentEvent) → IsOfClient clients event → state.admitted ≤ triggers_in clients state.log → (after_event settings node state event).admitted ≤ triggers_in clients (after_event settings node state event).log
   admits_few node clients state (Took (Chunk client sheet)) own few =
       let log = ap (triggers_in clients) ((this settings node state).log (Took (Chunk client sheet))) in
       let grows = triggers_more clients state.log (steps.Chunk client) in
@@ -341,14 +341,14 @@ module _ (add : EventsAddFew) (this : EventsAddThis) (says : StepsSayWhatTheyTel
       let more = (add settings node state).counted answer in
       omega (arith, log, grows, more, few)
 
-  pub admits_more : (node : ℕ) (state : AgentState) (event : Event) → state.admitted ≤ (after_event settings node state event).admitted
+  pub admits_more : (node : ℕ) (state : AgentState) (event : AgentEvent) → state.admitted ≤ (after_event settings node state event).admitted
   admits_more node state (Took input) = let more = (add settings node state).admitted input in omega (arith, more)
   admits_more node state (Gave answer) = let more = (add settings node state).counted answer in omega (arith, more)
 
   shares_after_kept : (state : AgentState) → AreOfRules state.shares settings.triggers → AreOfRules (shares_after settings state) settings.triggers
   shares_after_kept state h = shares_kept (λ share. visited settings.size share (costs_of state share.trigger.0)) (λ share. refl) (λ share. refl) state.shares settings.triggers h
 
-  shares_event : (node : ℕ) (state : AgentState) (event : Event) → AreOfRules state.shares settings.triggers → AreOfRules (after_event settings node state event).shares settings.triggers
+  shares_event : (node : ℕ) (state : AgentState) (event : AgentEvent) → AreOfRules state.shares settings.triggers → AreOfRules (after_event settings node state event).shares settings.triggers
   shares_event node state (Took input) h = subst (λ (shares : List Share). AreOfRules shares settings.triggers) (sym ((add settings node state).shares input)) (by_input input)
     where
       by_input : (input : Input) → AreOfRules (shares_by settings state input) settings.triggers
@@ -402,7 +402,7 @@ module _ (add : EventsAddFew) (this : EventsAddThis) (says : StepsSayWhatTheyTel
       (λ client trigger is admitted.
       let one_more = (add settings run.node run.state).admitted (Triggered client trigger) in
       let counted : admitted_by settings run.state (Triggered client trigger) ≡ 1 = ap one_if admitted in
-      let same : after_state.admitted ≡ (after_event settings run.node run.state (Took (Triggered client trigger))).admitted = ap (λ (event : Event). (after_event settings run.node run.state event).admitted) is in
+      let same : after_state.admitted ≡ (after_event settings run.node run.state (Took (Triggered client trigger))).admitted = ap (λ (event : AgentEvent). (after_event settings run.node run.state event).admitted) is in
       new_known r.nodes place run trigger at number admitted after (omega (arith, there, admitted_is, same, one_more, counted)))
       asks speaks.claims speaks.said
       in

@@ -17,7 +17,7 @@ use Rattle.hs_base.specs.declared.limits.TheConstants.{MAX_TAKEN}
 use Rattle.hs_journal.specs.declared.journal.Step.{Step}
 use Rattle.hs_journal.specs.declared.journal.Step.TheVariants as steps
 use Rattle.hs_law_agent.specs.Laws.{noted_as}
-use Rattle.hs_law_agent.specs.Stepping.{Answered, Given, Missed, Unread, Event, step_of_answer}
+use Rattle.hs_law_agent.specs.Stepping.{Answered, Given, Missed, Unread, AgentEvent, step_of_answer}
 use Rattle.hs_records.specs.Plain.{PlainWorkload}
 use Rattle.hs_law_journal.specs.Following.{Queue, Chunks, Crumbs, Triggers, Asks, takes, taken}
 use Rattle.hs_law_journal.specs.Passes.{is_turn, is_offer, ends_between, put_step, passes_of, client_queues, queues_of, same_steps, arranged, is_whole_pass}
@@ -206,7 +206,7 @@ pub all_takes : (counts : Queue → ℕ) (queues : List Queue) → AllByRecursio
 all_takes counts [] = tt
 all_takes counts (queue ∷ queues) = all_append IsTake (block counts queue) (blocks counts queues) (all_replicate IsTake (counts queue) (step_from queue) (take_from queue)) (all_takes counts queues)
 
-module _ (W : PlainWorkload) (pass : List Event) (p : IsPass W pass) where
+module _ (W : PlainWorkload) (pass : List AgentEvent) (p : IsPass W pass) where
   abbrev pub items : List Step
   items = blocks p.counts (queues_of W)
 
@@ -334,11 +334,11 @@ begins_on : (items : List Step) (offers : List Answered) (rest : List Step) → 
 begins_on [] offers rest all = refl
 begins_on (item ∷ later) offers rest all = all.0.offer
 
-record IsCut (passes : List (List Event)) : Type 0 where
+record IsCut (passes : List (List AgentEvent)) : Type 0 where
   begins : Begins (steps_of (joined passes))
   is : passes_of (steps_of (joined passes)) ≡ map steps_of passes
 
-cut_all : (W : PlainWorkload) (passes : List (List Event)) → AllByRecursion (IsPass W) passes → IsCut passes
+cut_all : (W : PlainWorkload) (passes : List (List AgentEvent)) → AllByRecursion (IsPass W) passes → IsCut passes
 cut_all W [] all = record { begins = tt; is = refl }
 cut_all W (pass ∷ passes) all =
     let p = all.0 in
@@ -355,10 +355,10 @@ cut_all W (pass ∷ passes) all =
     }
 
 -- a log of such passes has these passes
-pub passes_are : (W : PlainWorkload) (passes : List (List Event)) → AllByRecursion (IsPass W) passes → passes_of (steps_of (joined passes)) ≡ map steps_of passes
+pub passes_are : (W : PlainWorkload) (passes : List (List AgentEvent)) → AllByRecursion (IsPass W) passes → passes_of (steps_of (joined passes)) ≡ map steps_of passes
 passes_are W passes all = (cut_all W passes all).is
 
-pub turns_are : (W : PlainWorkload) (passes : List (List Event)) → AllByRecursion (IsPass W) passes → turns (steps_of (joined passes)) ≡ length passes
+pub turns_are : (W : PlainWorkload) (passes : List (List AgentEvent)) → AllByRecursion (IsPass W) passes → turns (steps_of (joined passes)) ≡ length passes
 turns_are W [] all = refl
 turns_are W (pass ∷ passes) all =
     let parts = ap turns (map-append noted_as pass (joined passes)) ∙ sum_by-append (λ (s : Step). cond (is_turn s) 1 0) (steps_of pass) (steps_of (joined passes)) in

@@ -12,7 +12,7 @@ use Rattle.hs_journal.specs.declared.journal.Step.{Step}
 use Rattle.hs_journal.specs.declared.journal.Step.TheVariants as steps
 use Rattle.hs_law_agent.specs.Laws.{StepsSayWhatTheyTell}
 use Rattle.hs_law_agent.specs.State.{AgentState}
-use Rattle.hs_law_agent.specs.Stepping.{Event, Took, Gave, Asked, told_by, after_event}
+use Rattle.hs_law_agent.specs.Stepping.{AgentEvent, Took, Gave, Asked, told_by, after_event}
 use Rattle.hs_records.specs.Plain.{PlainSettings}
 use Rattle.hs_law_journal.specs.Following.{Asks, taken, ask_by, asks_behind, asks_to, NodeRun, Run, event_of, perform, step_of, step_node, message_of, hear}
 
@@ -36,7 +36,7 @@ ask_stays node heard more place ask h =
 
 -- ---- a node's step
 
-pub event_stays : (run : NodeRun) (heard more : Messages) (step : Step) (event : Event) → event_of run heard step ≡ Some event → event_of run (heard ++ more) step ≡ Some event
+pub event_stays : (run : NodeRun) (heard more : Messages) (step : Step) (event : AgentEvent) → event_of run heard step ≡ Some event → event_of run (heard ++ more) step ≡ Some event
 event_stays run heard more (steps.Chunk client) event h = h
 event_stays run heard more (steps.Crumb client) event h = h
 event_stays run heard more (steps.Trigger client) event h = h
@@ -52,7 +52,7 @@ event_stays run heard more steps.Unread event h = h
 pub record IsStep (settings : PlainSettings) (heard : Messages) (run stepped : NodeRun) : Type 0 where
   pub step : Step
   pub rest : List Step
-  pub event : Event
+  pub event : AgentEvent
   pub left : run.left ≡ step ∷ rest
   pub met : event_of run heard step ≡ Some event
   pub is : stepped ≡ perform settings rest run event
@@ -79,11 +79,11 @@ module _ (settings : PlainSettings) where
       (record { step = s.step; rest = s.rest; event = s.event; left = s.left; met = event_stays run heard more s.step s.event s.met; is = s.is })
 
   -- what an event adds to the messages
-  abbrev said_by : ℕ → AgentState → Event → List Told
+  abbrev said_by : ℕ → AgentState → AgentEvent → List Told
   said_by node state (Took input) = option_to_list (told_by settings node state input)
   said_by node state (Gave answer) = []
 
-  event_says : StepsSayWhatTheyTell → (node : ℕ) (state : AgentState) (event : Event) → (after_event settings node state event).said ≡ state.said ++ said_by node state event
+  event_says : StepsSayWhatTheyTell → (node : ℕ) (state : AgentState) (event : AgentEvent) → (after_event settings node state event).said ≡ state.said ++ said_by node state event
   event_says says node state (Took input) = (says settings node state).inputs input
   event_says says node state (Gave answer) = (says settings node state).answers answer ∙ sym (append-nil state.said)
 

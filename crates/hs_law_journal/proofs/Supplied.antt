@@ -16,7 +16,7 @@ use Rattle.hs_journal.specs.declared.journal.Step.{Step}
 use Rattle.hs_journal.specs.declared.journal.Step.TheVariants as steps
 use Rattle.hs_journal.specs.Views.{PlainJournal}
 use Rattle.hs_law_agent.specs.Laws.{EventsAddThis, StepsSayWhatTheyTell}
-use Rattle.hs_law_agent.specs.Stepping.{Event, Took, Chunk, Crumbed, Triggered, Asked}
+use Rattle.hs_law_agent.specs.Stepping.{AgentEvent, Took, Chunk, Crumbed, Triggered, Asked}
 use Rattle.hs_records.specs.Plain.{PlainSettings, PlainWorkload}
 use Rattle.hs_law_sends.specs.Sending.{Sent, ClientSends}
 use Rattle.hs_law_journal.specs.Following.{Queue, Chunks, Crumbs, Triggers, Asks, takes, taken, asks_behind, asks_to, is_from, NodeRun, Run, next_of, event_of, step_node, node_start, run_start}
@@ -28,7 +28,7 @@ use Rattle.hs_law_journal.proofs.Steps.{asks_more, step_from, said_stays, heard_
 -- ---- a queue
 
 -- what a step that is ready takes was there
-item_there : {A : Type 0} (f : A → Event) (queue : Queue) (pick : ClientSends → List (Sent A)) (run : NodeRun) (event : Event) (o : Option ClientSends)
+item_there : {A : Type 0} (f : A → AgentEvent) (queue : Queue) (pick : ClientSends → List (Sent A)) (run : NodeRun) (event : AgentEvent) (o : Option ClientSends)
     → option_and_then (λ (sends : ClientSends). option_map f (next_of queue run.state (pick sends))) o ≡ Some event → taken queue run.state.log < option_map_or (λ (sends : ClientSends). length (pick sends)) o 0
 item_there f queue pick run event None h = let no : None ≡ Some event = h in absurd cc
 item_there {A = A} f queue pick run event (Some sends) h =
@@ -45,7 +45,7 @@ same_queue make run heard client other true e less few =
     let there = subst (λ (c : ℕ). taken (make c) run.state.log < supply run heard (make c)) (eqb-true other client e) less in omega (arith, there)
 same_queue make run heard client other false e less few = omega (arith, few)
 
-module _ (run : NodeRun) (heard : Messages) (event : Event) (few : (queue : Queue) → taken queue run.state.log ≤ supply run heard queue) where
+module _ (run : NodeRun) (heard : Messages) (event : AgentEvent) (few : (queue : Queue) → taken queue run.state.log ≤ supply run heard queue) where
   no_take : (queue : Queue) → taken queue run.state.log + 0 ≤ supply run heard queue
   no_take queue = let low = few queue in omega (arith, low)
 

@@ -17,7 +17,7 @@ use Rattle.hs_journal.specs.declared.journal.Step.{Step}
 use Rattle.hs_journal.specs.declared.journal.Step.TheVariants as steps
 use Rattle.hs_journal.specs.Views.{PlainJournal}
 use Rattle.hs_law_agent.specs.Laws.{PagesRise, sheets_of, brought_by, EventsAddThis}
-use Rattle.hs_law_agent.specs.Stepping.{Event, Took, Gave, Chunk, Crumbed, Triggered, Asked, Turn}
+use Rattle.hs_law_agent.specs.Stepping.{AgentEvent, Took, Gave, Chunk, Crumbed, Triggered, Asked, Turn}
 use Rattle.hs_records.specs.Plain.{PlainWorkload}
 use Rattle.hs_law_sends.specs.Drawn.{drawn_from}
 use Rattle.hs_law_sends.specs.Sending.{Sent, ClientSends, client_sends, node_sends, sent_chunks, operations_at, draws_at, place_of}
@@ -165,7 +165,7 @@ module _ (W : PlainWorkload) (J : PlainJournal) where
       (all_at (λ (sheet : Sheet). sheet.header.client ≡ record { node = run.node; number = client }) (items (client_sends W J run.node client).chunks) n sheet own
       (ap (λ (s : ClientSends). slice_get (items s.chunks) n) (sym is) ∙ h))
 
-  chunk_so : (run : NodeRun) → run.sends ≡ node_sends W J run.node → (other : ℕ) (event : Event) (o : Option ClientSends) → slice_get run.sends other ≡ o
+  chunk_so : (run : NodeRun) → run.sends ≡ node_sends W J run.node → (other : ℕ) (event : AgentEvent) (o : Option ClientSends) → slice_get run.sends other ≡ o
       → option_and_then (λ (s : ClientSends). option_map (λ sheet. Took (Chunk other sheet)) (next_of (Chunks other) run.state s.chunks)) o ≡ Some event → TakesSo run (steps.Chunk other) (brought_by event)
   chunk_so run are other event None e met = let no : None ≡ Some event = met in absurd cc
   chunk_so run are other event (Some sends) e met =
@@ -173,18 +173,18 @@ module _ (W : PlainWorkload) (J : PlainJournal) where
       let t = mapped_from (λ sheet. Took (Chunk other sheet)) (next_of (Chunks other) run.state sends.chunks) event met in
       let there : slice_get (items sends.chunks) n ≡ Some t.item = slice_get-map (λ (item : Sent Sheet). item.item) sends.chunks n ∙ t.there in
       let here : slice_get (sheets_sent run other) n ≡ Some t.item = ap (λ (o : Option ClientSends). slice_get (option_map_or (λ (s : ClientSends). items s.chunks) o []) n) e ∙ there in
-      subst (λ (event : Event). TakesSo run (steps.Chunk other) (brought_by event)) (sym t.is) (λ client. chunk_case run other client t.item (eqb other client) refl (own_sheet run are other sends n t.item e there) here)
+      subst (λ (event : AgentEvent). TakesSo run (steps.Chunk other) (brought_by event)) (sym t.is) (λ client. chunk_case run other client t.item (eqb other client) refl (own_sheet run are other sends n t.item e there) here)
 
-  other_so : {A : Type 0} (run : NodeRun) (step : Step) (f : A → Event) (event : Event) (o : Option A) → ((client : ℕ) → takes (Chunks client) step ≡ false) → ((a : A) → brought_by (f a) ≡ []) → option_map f o ≡ Some event
+  other_so : {A : Type 0} (run : NodeRun) (step : Step) (f : A → AgentEvent) (event : AgentEvent) (o : Option A) → ((client : ℕ) → takes (Chunks client) step ≡ false) → ((a : A) → brought_by (f a) ≡ []) → option_map f o ≡ Some event
       → TakesSo run step (brought_by event)
   other_so run step f event o quiet none met = let t = mapped_from f o event met in none_so run step (brought_by event) quiet (ap brought_by t.is ∙ none t.item)
 
-  client_so : {A : Type 0} (run : NodeRun) (step : Step) (f : A → Event) (event : Event) (g : ClientSends → Option A) (o : Option ClientSends) → ((client : ℕ) → takes (Chunks client) step ≡ false) → ((a : A) → brought_by (f a) ≡ [])
+  client_so : {A : Type 0} (run : NodeRun) (step : Step) (f : A → AgentEvent) (event : AgentEvent) (g : ClientSends → Option A) (o : Option ClientSends) → ((client : ℕ) → takes (Chunks client) step ≡ false) → ((a : A) → brought_by (f a) ≡ [])
       → option_and_then (λ (s : ClientSends). option_map f (g s)) o ≡ Some event → TakesSo run step (brought_by event)
   client_so run step f event g None quiet none met = let nothing : None ≡ Some event = met in absurd cc
   client_so run step f event g (Some s) quiet none met = other_so run step f event (g s) quiet none met
 
-  takes_so : (heard : Messages) (run : NodeRun) → run.sends ≡ node_sends W J run.node → (step : Step) (event : Event) → event_of run heard step ≡ Some event → TakesSo run step (brought_by event)
+  takes_so : (heard : Messages) (run : NodeRun) → run.sends ≡ node_sends W J run.node → (step : Step) (event : AgentEvent) → event_of run heard step ≡ Some event → TakesSo run step (brought_by event)
   takes_so heard run are (steps.Chunk client) event met = chunk_so run are client event (slice_get run.sends client) refl met
   takes_so heard run are (steps.Crumb client) event met =
       client_so run (steps.Crumb client) (λ crumb. Took (Crumbed client crumb)) event (λ (s : ClientSends). next_of (Crumbs client) run.state s.crumbs) (slice_get run.sends client) (λ c. refl) (λ a. refl) met

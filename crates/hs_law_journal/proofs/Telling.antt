@@ -11,7 +11,7 @@ use Rattle.hs_journal.specs.Views.{PlainJournal}
 use Rattle.hs_journal.specs.declared.journal.Step.{Step}
 use Rattle.hs_journal.specs.declared.journal.Step.TheVariants as steps
 use Rattle.hs_law_agent.specs.Leading.{LeadsBelow, BringsBelow, CrumbsLeadBelow}
-use Rattle.hs_law_agent.specs.Stepping.{Event, Took, Gave, Given, Missed, Unread, Chunk, Crumbed, Triggered, Asked, Turn}
+use Rattle.hs_law_agent.specs.Stepping.{AgentEvent, Took, Gave, Given, Missed, Unread, Chunk, Crumbed, Triggered, Asked, Turn}
 use Rattle.hs_records.specs.Plain.{PlainSettings, PlainWorkload}
 use Rattle.hs_law_sends.specs.Sending.{Sent, ClientSends, node_sends}
 use Rattle.hs_workload.specs.Validity.{IsValid}
@@ -25,17 +25,17 @@ module _ (settings : PlainSettings) where
   abbrev CrumbsFit : ClientSends → Type 0
   CrumbsFit s = AllByRecursion (λ (item : Sent Crumb). item.item.node.0 < settings.nodes) s.crumbs
 
-  abbrev Brings : Event → Type 0
+  abbrev Brings : AgentEvent → Type 0
   Brings event = BringsBelow settings.nodes event
 
-  other_brings : {A : Type 0} (f : A → Event) (o : Option A) (event : Event) → ((x : A) → Brings (f x)) → option_map f o ≡ Some event → Brings event
+  other_brings : {A : Type 0} (f : A → AgentEvent) (o : Option A) (event : AgentEvent) → ((x : A) → Brings (f x)) → option_map f o ≡ Some event → Brings event
   other_brings f o event each h = let t = option_unmap f o event h in subst Brings t.2 (each t.0)
 
-  client_brings : {A : Type 0} (f : A → Event) (g : ClientSends → Option A) (o : Option ClientSends) (event : Event) → ((x : A) → Brings (f x)) → option_and_then (λ (s : ClientSends). option_map f (g s)) o ≡ Some event → Brings event
+  client_brings : {A : Type 0} (f : A → AgentEvent) (g : ClientSends → Option A) (o : Option ClientSends) (event : AgentEvent) → ((x : A) → Brings (f x)) → option_and_then (λ (s : ClientSends). option_map f (g s)) o ≡ Some event → Brings event
   client_brings f g None event each h = let never : None ≡ Some event = h in absurd cc
   client_brings f g (Some s) event each h = other_brings f (g s) event each h
 
-  crumb_brings : (run : NodeRun) (client : ℕ) (o : Option ClientSends) (event : Event) → ((s : ClientSends) → o ≡ Some s → CrumbsFit s)
+  crumb_brings : (run : NodeRun) (client : ℕ) (o : Option ClientSends) (event : AgentEvent) → ((s : ClientSends) → o ≡ Some s → CrumbsFit s)
       → option_and_then (λ (s : ClientSends). option_map (λ crumb. Took (Crumbed client crumb)) (next_of (Crumbs client) run.state s.crumbs)) o ≡ Some event → Brings event
   crumb_brings run client None event fit h = let never : None ≡ Some event = h in absurd cc
   crumb_brings run client (Some s) event fit h =
@@ -44,7 +44,7 @@ module _ (settings : PlainSettings) where
       let low = all_at (λ (item : Sent Crumb). item.item.node.0 < settings.nodes) s.crumbs (taken (Crumbs client) run.state.log) u.0 (fit s refl) u.1 in
       subst Brings t.2 (subst (λ (crumb : Crumb). crumb.node.0 < settings.nodes) u.2 low)
 
-  event_brings : (run : NodeRun) (heard : Messages) (step : Step) (event : Event) → AllByRecursion CrumbsFit run.sends → event_of run heard step ≡ Some event → Brings event
+  event_brings : (run : NodeRun) (heard : Messages) (step : Step) (event : AgentEvent) → AllByRecursion CrumbsFit run.sends → event_of run heard step ≡ Some event → Brings event
   event_brings run heard (steps.Chunk client) event fit h =
       client_brings (λ sheet. Took (Chunk client sheet)) (λ (s : ClientSends). next_of (Chunks client) run.state s.chunks) (slice_get run.sends client) event (λ x. tt) h
   event_brings run heard (steps.Crumb client) event fit h =

@@ -15,7 +15,7 @@ use Rattle.hs_journal.specs.Views.{PlainJournal}
 use Rattle.hs_law_agent.specs.Laws.{noted_as}
 use Rattle.hs_law_agent.specs.State.{AgentState}
 use Rattle.hs_law_agent.specs.Standings.{sample_group, sample_sheet}
-use Rattle.hs_law_agent.specs.Stepping.{Chunk, Crumbed, Triggered, Asked, Turn, Given, Event, Took, Gave, after}
+use Rattle.hs_law_agent.specs.Stepping.{Chunk, Crumbed, Triggered, Asked, Turn, Given, AgentEvent, Took, Gave, after}
 use Rattle.hs_records.specs.Plain.{PlainSettings, PlainWorkload}
 use Rattle.hs_law_sends.specs.Sending.{node_sends}
 use Rattle.hs_words.specs.Pages.{Sheet}
@@ -28,7 +28,7 @@ joined lists = flat_map (λ items. items) lists
 -- a node, with the events of its agent in passes
 pub record NodeDoings : Type 0 where
   pub node : ℕ
-  pub passes : List (List Event)
+  pub passes : List (List AgentEvent)
 
 pub record Doings : Type 0 where
   -- of the clients, in the order of node and number
@@ -39,14 +39,14 @@ pub record Doings : Type 0 where
 
 -- ---- a node
 
-abbrev pub all_events : NodeDoings → List Event
+abbrev pub all_events : NodeDoings → List AgentEvent
 all_events n = joined n.passes
 
 -- the events of the first so many passes
-abbrev pub events_in : NodeDoings → ℕ → List Event
+abbrev pub events_in : NodeDoings → ℕ → List AgentEvent
 events_in n passes = joined (take passes n.passes)
 
-abbrev pub steps_of : List Event → List Step
+abbrev pub steps_of : List AgentEvent → List Step
 steps_of events = map noted_as events
 
 -- the agent behind the first so many passes, and behind all
@@ -59,32 +59,32 @@ last_state settings n = after settings n.node (all_events n)
 -- ---- the items that are taken
 
 -- the chunks of a client, by its number
-abbrev pub chunk_in : ℕ → Event → List Sheet
+abbrev pub chunk_in : ℕ → AgentEvent → List Sheet
 chunk_in client (Took (Chunk other sheet)) = if other == client then sheet ∷ [] else []
 chunk_in client _ = []
 
-abbrev pub crumb_in : ℕ → Event → List Crumb
+abbrev pub crumb_in : ℕ → AgentEvent → List Crumb
 crumb_in client (Took (Crumbed other crumb)) = if other == client then crumb ∷ [] else []
 crumb_in client _ = []
 
-abbrev pub trigger_in : ℕ → Event → List Trigger
+abbrev pub trigger_in : ℕ → AgentEvent → List Trigger
 trigger_in client (Took (Triggered other trigger)) = if other == client then trigger ∷ [] else []
 trigger_in client _ = []
 
-abbrev pub ask_in : Event → List Ask
+abbrev pub ask_in : AgentEvent → List Ask
 ask_in (Took (Asked ask)) = ask ∷ []
 ask_in _ = []
 
-abbrev pub chunks_in : ℕ → List Event → List Sheet
+abbrev pub chunks_in : ℕ → List AgentEvent → List Sheet
 chunks_in client events = flat_map (chunk_in client) events
 
-abbrev pub crumbs_in : ℕ → List Event → List Crumb
+abbrev pub crumbs_in : ℕ → List AgentEvent → List Crumb
 crumbs_in client events = flat_map (crumb_in client) events
 
-abbrev pub triggers_in : ℕ → List Event → List Trigger
+abbrev pub triggers_in : ℕ → List AgentEvent → List Trigger
 triggers_in client events = flat_map (trigger_in client) events
 
-abbrev pub asks_in : List Event → List Ask
+abbrev pub asks_in : List AgentEvent → List Ask
 asks_in events = flat_map ask_in events
 
 -- ---- the whole
@@ -140,7 +140,7 @@ first_pass = (refl, refl)
 one_ask : (map (λ (ask : Ask). ask.group.lead.0) (asks_in (all_events one_node)) ≡ 7 ∷ []) × (chunks_in 0 (all_events one_node) ≡ [])
 one_ask = (refl, refl)
 
-abbrev of_clients : List Event
+abbrev of_clients : List AgentEvent
 of_clients = Took (Chunk 1 (sample_sheet 0 1 5 0)) ∷ Took (Chunk 0 (sample_sheet 0 0 5 0)) ∷ Took (Chunk 1 (sample_sheet 0 1 6 1)) ∷ []
 
 chunks_by_client : (map (λ (sheet : Sheet). sheet.header.page) (chunks_in 1 of_clients) ≡ 0 ∷ 1 ∷ []) × (map (λ (sheet : Sheet). sheet.header.page) (chunks_in 0 of_clients) ≡ 0 ∷ [])

@@ -12,7 +12,7 @@ use Rattle.hs_journal.specs.declared.journal.Step.{Step}
 use Rattle.hs_journal.specs.declared.journal.Step.TheVariants as steps
 use Rattle.hs_journal.specs.Views.{PlainJournal}
 use Rattle.hs_law_agent.specs.State.{AgentState, start}
-use Rattle.hs_law_agent.specs.Stepping.{Answered, Given, Missed, Unread, Chunk, Crumbed, Triggered, Asked, Turn, Event, Took, Gave, after_event}
+use Rattle.hs_law_agent.specs.Stepping.{Answered, Given, Missed, Unread, Chunk, Crumbed, Triggered, Asked, Turn, AgentEvent, Took, Gave, after_event}
 use Rattle.hs_records.specs.Plain.{PlainSettings, PlainWorkload}
 use Rattle.hs_law_sends.specs.Sending.{Sent, ClientSends, node_sends}
 
@@ -60,7 +60,7 @@ pub record NodeRun : Type 0 where
   pub node : ℕ
   pub sends : List ClientSends
   pub left : List Step
-  pub events : List Event
+  pub events : List AgentEvent
   pub state : AgentState
 
 -- the nodes, the nodes whose messages are still to be taken, and the messages that the coordinator took
@@ -94,11 +94,11 @@ abbrev pub next_of : {A : Type 0} → Queue → AgentState → List (Sent A) →
 next_of queue state items = option_map (λ item. item.item) (slice_get items (taken queue state.log))
 
 -- the answer to an offer, where there is one to make
-abbrev pub offered : AgentState → Answered → Option Event
+abbrev pub offered : AgentState → Answered → Option AgentEvent
 offered state answer = option_map (λ _. Gave answer) (slice_get state.hand 0)
 
 -- what a step is at its node, where it is ready
-abbrev pub event_of : NodeRun → Messages → Step → Option Event
+abbrev pub event_of : NodeRun → Messages → Step → Option AgentEvent
 event_of run heard (steps.Chunk client) =
     option_and_then (λ (sends : ClientSends). option_map (λ sheet. Took (Chunk client sheet)) (next_of (Chunks client) run.state sends.chunks)) (slice_get run.sends client)
 event_of run heard (steps.Crumb client) =
@@ -112,7 +112,7 @@ event_of run heard (steps.Missed stamp) = offered run.state (Missed stamp)
 event_of run heard steps.Unread = offered run.state Unread
 
 -- the node with one step performed, which leaves these
-abbrev pub perform : PlainSettings → List Step → NodeRun → Event → NodeRun
+abbrev pub perform : PlainSettings → List Step → NodeRun → AgentEvent → NodeRun
 perform settings rest run event = record run { left = rest; events = run.events ++ event ∷ []; state = after_event settings run.node run.state event }
 
 abbrev pub step_of : PlainSettings → Messages → NodeRun → List Step → Option NodeRun

@@ -6,14 +6,14 @@ use Rattle.std.specs.List.{AllByRecursion}
 use Rattle.hs_journal.specs.Views.{PlainJournal}
 use Rattle.hs_law_agent.specs.Stepping.{after}
 use Rattle.hs_records.specs.Plain.{PlainSettings, PlainWorkload}
-use Rattle.hs_words.specs.PoolHistory.{Event, IsPoolHistory}
+use Rattle.hs_words.specs.PoolHistory.{PoolEvent, IsPoolHistory}
 use Rattle.hs_law_journal.specs.Following.{NodeRun, followed}
 use Rattle.hs_law_journal.specs.Lawful.{IsLawful, first_unlawful}
 use Rattle.hs_law_journal.specs.Pooled.{is_history}
 
 -- the test of histories answers yes exactly for these
 abbrev pub HistoriesAreDecided : Type 0
-HistoriesAreDecided = (n : ℕ) (events : List Event) → (is_history n events ≡ true → IsPoolHistory n events) × (IsPoolHistory n events → is_history n events ≡ true)
+HistoriesAreDecided = (n : ℕ) (events : List PoolEvent) → (is_history n events ≡ true → IsPoolHistory n events) × (IsPoolHistory n events → is_history n events ≡ true)
 
 -- a journal is lawful exactly where no clause fails
 abbrev pub LawfulIsDecided : Type 0

@@ -5,7 +5,7 @@ use Rattle.std.proofs.Common.{lit<, lit≤}
 use Rattle.hs_base.specs.declared.limits.TheConstants.{MAX_TAKEN}
 use Rattle.hs_base.specs.Samples.{t}
 use Rattle.hs_journal.specs.declared.journal.Step.TheVariants as steps
-use Rattle.hs_law_agent.specs.Stepping.{Chunk, Turn, Event, Took}
+use Rattle.hs_law_agent.specs.Stepping.{Chunk, Turn, AgentEvent, Took}
 use Rattle.hs_words.specs.Pages.{Sheet}
 use Rattle.hs_law_journal.specs.Following.{Queue, Chunks, Crumbs, Triggers, Asks}
 use Rattle.hs_law_journal.specs.Workloads.{one_point}
@@ -20,7 +20,7 @@ the_page =
       pieces = record { moment = 7; payload = 0xaa ∷ [] } ∷ [];
     }
 
-abbrev pub one_pass : List Event
+abbrev pub one_pass : List AgentEvent
 one_pass = Took (Chunk 0 the_page) ∷ Took Turn ∷ []
 
 -- the pass takes one chunk, turns, and has nothing to offer
@@ -46,5 +46,5 @@ its_clients : AllByRecursion (IsOwn one_point) one_pass
 its_clients = (lit< tt, (tt, tt))
 
 -- no pass takes more items of a queue
-no_more_of_a_queue : (W : PlainWorkload) (pass : List Event) (it : IsPass W pass) (queue : Queue) → it.counts queue ≤ MAX_TAKEN
+no_more_of_a_queue : (W : PlainWorkload) (pass : List AgentEvent) (it : IsPass W pass) (queue : Queue) → it.counts queue ≤ MAX_TAKEN
 no_more_of_a_queue W pass it queue = it.few queue

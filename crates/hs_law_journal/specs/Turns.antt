@@ -4,10 +4,10 @@ use Rattle.std.specs.Prelude.{◌≡◌, ℕ, List, [], ◌∷◌, ◌++◌, sli
 use Rattle.hs_base.specs.Samples.{one_rule}
 use Rattle.hs_law_agent.specs.State.{AgentState}
 use Rattle.hs_law_agent.specs.Samples.{settings_with}
-use Rattle.hs_law_agent.specs.Stepping.{Input, Answered, Given, Missed, Unread, Event, Took, Gave, after}
+use Rattle.hs_law_agent.specs.Stepping.{Input, Answered, Given, Missed, Unread, AgentEvent, Took, Gave, after}
 use Rattle.hs_law_agent.specs.Stepping as model
 use Rattle.hs_records.specs.Plain.{PlainSettings}
-use Rattle.hs_words.specs.Ends.{Turn, answered, unread, met}
+use Rattle.hs_words.specs.Ends.{GiverTurn, answered, unread, met}
 use Rattle.hs_words.specs.Pages.{Sheet}
 use Rattle.hs_words.specs.PoolHistory as pool
 
@@ -24,18 +24,18 @@ pub record IsFirst (lents : List Lent) (state : AgentState) (lent : Lent) : Type
   pub came : slice_get lents place ≡ Some lent
 
 -- The turn is that of an offer in this state which was answered so.
-abbrev pub IsOffered : List Lent → AgentState → Answered → Turn → Type 0
+abbrev pub IsOffered : List Lent → AgentState → Answered → GiverTurn → Type 0
 IsOffered lents state (Given stamp) turn = (lent : Lent) × IsFirst lents state lent × (turn ≡ answered (record { stamp = stamp; event = pool.Given lent.buffer; draw = lent.draw }))
 IsOffered lents state (Missed stamp) turn = turn ≡ answered (record { stamp = stamp; event = pool.Missed; draw = 0 })
 IsOffered lents state Unread turn = turn ≡ unread
 
 -- These turns, the last of which stands first, are those of the offers among these events.
-pub data AreTurns (settings : PlainSettings) (node : ℕ) (lents : List Lent) : List Event → List Turn → Type 0 where
+pub data AreTurns (settings : PlainSettings) (node : ℕ) (lents : List Lent) : List AgentEvent → List GiverTurn → Type 0 where
   Begins : AreTurns settings node lents [] []
-  Takes : (events : List Event) (turns : List Turn) (input : Input) → AreTurns settings node lents events turns → AreTurns settings node lents (events ++ Took input ∷ []) turns
-  Offers : (events : List Event) (turns : List Turn) (answer : Answered) (turn : Turn) → IsOffered lents (after settings node events) answer turn → AreTurns settings node lents events turns
+  Takes : (events : List AgentEvent) (turns : List GiverTurn) (input : Input) → AreTurns settings node lents events turns → AreTurns settings node lents (events ++ Took input ∷ []) turns
+  Offers : (events : List AgentEvent) (turns : List GiverTurn) (answer : Answered) (turn : GiverTurn) → IsOffered lents (after settings node events) answer turn → AreTurns settings node lents events turns
       → AreTurns settings node lents (events ++ Gave answer ∷ []) (turn ∷ turns)
-  Meets : (events : List Event) (turns : List Turn) (stamps : List ℕ) → AreTurns settings node lents events turns → AreTurns settings node lents events (met stamps ∷ turns)
+  Meets : (events : List AgentEvent) (turns : List GiverTurn) (stamps : List ℕ) → AreTurns settings node lents events turns → AreTurns settings node lents events (met stamps ∷ turns)
 
 -- ---- examples
 

@@ -14,7 +14,7 @@ use Rattle.hs_base.specs.declared.limits.TheConstants.{MAX_TAKEN}
 use Rattle.hs_coord.specs.Following.{Messages}
 use Rattle.hs_journal.specs.declared.journal.Step.{Step}
 use Rattle.hs_law_agent.specs.State.{AgentState}
-use Rattle.hs_law_agent.specs.Stepping.{Event, after}
+use Rattle.hs_law_agent.specs.Stepping.{AgentEvent, after}
 use Rattle.hs_records.specs.Plain.{PlainWorkload}
 use Rattle.hs_law_sends.specs.Sending.{operations_at}
 use Rattle.hs_law_journal.specs.Extending.{node_behind}
@@ -301,7 +301,7 @@ module _ (k : Known) (W : PlainWorkload) (laid : IsLaidOut W) where
           in
           ap (λ (c : ℕ). length (after W.settings later.node (take c later.events)).said) count
           ∙ ap (λ (v : ℕ). length (after W.settings v (take (steps_in (passes_of node.state.log) n) later.events)).said) step.is_later.number
-          ∙ ap (λ (events : List Event). length (after W.settings node.node events).said) events
+          ∙ ap (λ (events : List AgentEvent). length (after W.settings node.node events).said) events
 
       -- and behind the last as it stands
       said_last : said_in W.settings later (made + 1) ≡ length later.state.said
@@ -312,7 +312,7 @@ module _ (k : Known) (W : PlainWorkload) (laid : IsLaidOut W) where
           let count = steps_of_all later.state.log (made + 1) (omega (arith, long, both, was)) in
           let even = step.even_later in
           ap (λ (c : ℕ). length (after W.settings later.node (take c later.events)).said) count
-          ∙ ap (λ (events : List Event). length (after W.settings later.node events).said) (take_all (length later.state.log) later.events (omega (arith, even)))
+          ∙ ap (λ (events : List AgentEvent). length (after W.settings later.node events).said) (take_all (length later.state.log) later.events (omega (arith, even)))
           ∙ ap (λ (state : AgentState). length state.said) (sym step.comes_later)
 
       -- what the coordinator heard of the node in this pass

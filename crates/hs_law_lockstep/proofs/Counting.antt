@@ -9,9 +9,9 @@ use Rattle.hs_law_agent.specs.State.{GivenPlace}
 use Rattle.hs_records.specs.Plain.{PlainSettings}
 use Rattle.hs_law_sends.specs.Sending.{ClientSends}
 use Rattle.hs_words.specs.Pages.{Sheet}
-use Rattle.hs_words.specs.PoolHistory.{Event, Got, Empty, Given, Missed, is_got, is_given}
+use Rattle.hs_words.specs.PoolHistory.{PoolEvent, Got, Empty, Given, Missed, is_got, is_given}
 use Rattle.hs_law_journal.specs.Following.{NodeRun}
-use Rattle.hs_law_journal.specs.Pooled.{PoolEvent, by_stamp, drawn_event}
+use Rattle.hs_law_journal.specs.Pooled.{StampedPoolEvent, by_stamp, drawn_event}
 use Rattle.hs_law_lockstep.proofs.Closing.{sum_both}
 use Rattle.hs_law_journal.proofs.Sums.{sum_to, sum_le}
 use Rattle.hs_law_lockstep.proofs.Growing.{events_back, history_of, IsBelow}
@@ -20,25 +20,25 @@ use Rattle.hs_law_lockstep.proofs.Holding.{given_as, event_at, pages_in, gives_i
 
 -- ---- counts of events in the order of stamps
 
-abbrev of_stamp : List PoolEvent → ℕ → List PoolEvent
-of_stamp events s = filter (λ (e : PoolEvent). eqb e.stamp s) events
+abbrev of_stamp : List StampedPoolEvent → ℕ → List StampedPoolEvent
+of_stamp events s = filter (λ (e : StampedPoolEvent). eqb e.stamp s) events
 
-module _ (p : PoolEvent → Bool) where
-  count_case : (e : PoolEvent) (kept : List PoolEvent) (b : Bool) → count_by p (cond b (e ∷ kept) kept) ≡ cond b (one_if (p e)) 0 + count_by p kept
+module _ (p : StampedPoolEvent → Bool) where
+  count_case : (e : StampedPoolEvent) (kept : List StampedPoolEvent) (b : Bool) → count_by p (cond b (e ∷ kept) kept) ≡ cond b (one_if (p e)) 0 + count_by p kept
   count_case e kept true = count_cons p e kept
   count_case e kept false = plain (count_by p kept)
     where
       plain : (n : ℕ) → n ≡ 0 + n
       plain n = omega arith
 
-  abbrev from : List PoolEvent → ℕ → ℕ → ℕ
+  abbrev from : List StampedPoolEvent → ℕ → ℕ → ℕ
   from events start count = count_by p (flat_map (of_stamp events) (range_with_len start count))
 
-  from_first : (events : List PoolEvent) (start count : ℕ) → from events start (suc count) ≡ count_by p (of_stamp events start) + from events (start + 1) count
+  from_first : (events : List StampedPoolEvent) (start count : ℕ) → from events start (suc count) ≡ count_by p (of_stamp events start) + from events (start + 1) count
   from_first events start count = count_append p (of_stamp events start) (flat_map (of_stamp events) (range_with_len (start + 1) count))
 
   -- an event whose stamp is past does not come again
-  from_past : (e : PoolEvent) (events : List PoolEvent) (start count : ℕ) → e.stamp < start → from (e ∷ events) start count ≡ from events start count
+  from_past : (e : StampedPoolEvent) (events : List StampedPoolEvent) (start count : ℕ) → e.stamp < start → from (e ∷ events) start count ≡ from events start count
   from_past e events start zero low = refl
   from_past e events start (suc count) low =
       let whole = from_first (e ∷ events) start count in
@@ -53,7 +53,7 @@ module _ (p : PoolEvent → Bool) where
       not_here false same = refl
 
   -- and one to come comes once
-  from_more : (e : PoolEvent) (events : List PoolEvent) (start count : ℕ) → start ≤ e.stamp → e.stamp < start + count → from (e ∷ events) start count ≡ one_if (p e) + from events start count
+  from_more : (e : StampedPoolEvent) (events : List StampedPoolEvent) (start count : ℕ) → start ≤ e.stamp → e.stamp < start + count → from (e ∷ events) start count ≡ one_if (p e) + from events start count
   from_more e events start zero low high = absurd (omega (arith, low, high))
   from_more e events start (suc count) low high =
       let whole = from_first (e ∷ events) start count in
@@ -89,7 +89,7 @@ module _ (p : PoolEvent → Bool) where
   from_none start zero = refl
   from_none start (suc count) = from_none (start + 1) count
 
-  sorted_count : (events : List PoolEvent) (n : ℕ) → IsBelow n events → count_by p (by_stamp (λ (e : PoolEvent). e.stamp) n events) ≡ count_by p events
+  sorted_count : (events : List StampedPoolEvent) (n : ℕ) → IsBelow n events → count_by p (by_stamp (λ (e : StampedPoolEvent). e.stamp) n events) ≡ count_by p events
   sorted_count [] n all = from_none 0 n
   sorted_count (e ∷ events) n all =
       let first = count_cons p e events in
@@ -109,11 +109,11 @@ count_reversed q (x ∷ xs) =
     omega (arith, turned, both, last, first, rest)
 
 -- what is counted of the history is counted of the events
-pub back_count : (q : Event → Bool) (events : List PoolEvent) → IsBelow (length events) events → count_by q (events_back events) ≡ count_by (λ (e : PoolEvent). q e.event) events
+pub back_count : (q : PoolEvent → Bool) (events : List StampedPoolEvent) → IsBelow (length events) events → count_by q (events_back events) ≡ count_by (λ (e : StampedPoolEvent). q e.event) events
 back_count q events low =
     count_reversed q (history_of events)
-    ∙ count_map q (λ (e : PoolEvent). e.event) (by_stamp (λ (e : PoolEvent). e.stamp) (length events) events)
-    ∙ sorted_count (λ (e : PoolEvent). q e.event) events (length events) low
+    ∙ count_map q (λ (e : StampedPoolEvent). e.event) (by_stamp (λ (e : StampedPoolEvent). e.stamp) (length events) events)
+    ∙ sorted_count (λ (e : StampedPoolEvent). q e.event) events (length events) low
 
 -- ---- sums of counts
 
@@ -207,7 +207,7 @@ none_of (suc n) = let rest = none_of n in omega (arith, rest)
 -- ---- gives and draws
 
 -- the events are gives
-record IsGive (e : PoolEvent) : Type 0 where
+record IsGive (e : StampedPoolEvent) : Type 0 where
   buffer : ℕ
   is : e.event ≡ Given buffer
 
@@ -215,50 +215,50 @@ gives_give : (sends : List ClientSends) (sheets : List Sheet) (givens : List Giv
 gives_give sends sheets [] = tt
 gives_give sends sheets (g ∷ givens) = kept (event_at sends sheets g) (λ e h. made e h) (gives_give sends sheets givens)
   where
-    made : (e : PoolEvent) → event_at sends sheets g ≡ Some e → IsGive e
-    made e h = let t = option_unmap (given_as g.stamp) _ e h in record { buffer = t.0; is = ap (λ (e : PoolEvent). e.event) (sym t.2) }
+    made : (e : StampedPoolEvent) → event_at sends sheets g ≡ Some e → IsGive e
+    made e h = let t = option_unmap (given_as g.stamp) _ e h in record { buffer = t.0; is = ap (λ (e : StampedPoolEvent). e.event) (sym t.2) }
 
-    kept : (o : Option PoolEvent) → ((e : PoolEvent) → o ≡ Some e → IsGive e) → AllByRecursion IsGive (gives_in sends sheets givens) → AllByRecursion IsGive (cons_option o (gives_in sends sheets givens))
+    kept : (o : Option StampedPoolEvent) → ((e : StampedPoolEvent) → o ≡ Some e → IsGive e) → AllByRecursion IsGive (gives_in sends sheets givens) → AllByRecursion IsGive (cons_option o (gives_in sends sheets givens))
     kept None each rest = rest
     kept (Some e) each rest = (each e refl, rest)
 
 -- a number above all buffers that are given
-abbrev top : (es : List PoolEvent) → AllByRecursion IsGive es → ℕ
+abbrev top : (es : List StampedPoolEvent) → AllByRecursion IsGive es → ℕ
 top [] all = 0
 top (e ∷ es) all = all.0.buffer + 1 + top es all.1
 
 module _ (n : ℕ) where
-  abbrev given_as_one : ℕ → PoolEvent → Bool
+  abbrev given_as_one : ℕ → StampedPoolEvent → Bool
   given_as_one c e = is_given c e.event
 
-  abbrev got_as_one : ℕ → PoolEvent → Bool
+  abbrev got_as_one : ℕ → StampedPoolEvent → Bool
   got_as_one c e = is_got c e.event
 
-  given_tally : (e : Event) (buffer : ℕ) → e ≡ Given buffer → sum_to (λ c. one_if (is_given c e)) n ≡ sum_to (λ c. one_if (eqb buffer c)) n
-  given_tally e buffer h = ap (λ (e : Event). sum_to (λ c. one_if (is_given c e)) n) h
+  given_tally : (e : PoolEvent) (buffer : ℕ) → e ≡ Given buffer → sum_to (λ c. one_if (is_given c e)) n ≡ sum_to (λ c. one_if (eqb buffer c)) n
+  given_tally e buffer h = ap (λ (e : PoolEvent). sum_to (λ c. one_if (is_given c e)) n) h
 
-  got_most : (e : Event) → sum_to (λ c. one_if (is_got c e)) n ≤ 1
+  got_most : (e : PoolEvent) → sum_to (λ c. one_if (is_got c e)) n ≤ 1
   got_most (Got buffer) = same_most buffer n
   got_most Empty = let none = none_of n in omega (arith, none)
   got_most (Given buffer) = let none = none_of n in omega (arith, none)
   got_most Missed = let none = none_of n in omega (arith, none)
 
-  all_got_most : (es : List PoolEvent) → AllByRecursion (λ e. tally got_as_one n e ≤ 1) es
+  all_got_most : (es : List StampedPoolEvent) → AllByRecursion (λ e. tally got_as_one n e ≤ 1) es
   all_got_most [] = tt
   all_got_most (e ∷ es) = (got_most e.event, all_got_most es)
 
-  gives_got : (es : List PoolEvent) → AllByRecursion IsGive es → AllByRecursion (λ e. tally got_as_one n e ≡ 0) es
+  gives_got : (es : List StampedPoolEvent) → AllByRecursion IsGive es → AllByRecursion (λ e. tally got_as_one n e ≡ 0) es
   gives_got [] all = tt
-  gives_got (e ∷ es) all = (ap (λ (e : Event). sum_to (λ c. one_if (is_got c e)) n) all.0.is ∙ none_of n, gives_got es all.1)
+  gives_got (e ∷ es) all = (ap (λ (e : PoolEvent). sum_to (λ c. one_if (is_got c e)) n) all.0.is ∙ none_of n, gives_got es all.1)
 
-gives_given : (n : ℕ) (es : List PoolEvent) (all : AllByRecursion IsGive es) → top es all ≤ n → AllByRecursion (λ e. 1 ≤ tally (given_as_one n) n e) es
+gives_given : (n : ℕ) (es : List StampedPoolEvent) (all : AllByRecursion IsGive es) → top es all ≤ n → AllByRecursion (λ e. 1 ≤ tally (given_as_one n) n e) es
 gives_given n [] all low = tt
 gives_given n (e ∷ es) all low =
     let same = given_tally n e.event all.0.buffer all.0.is in
     let least = same_least all.0.buffer n (omega (arith, low)) in
     (omega (arith, same, least), gives_given n es all.1 (omega (arith, low)))
 
-counts_apart : (n : ℕ) (xs ys : List PoolEvent) → counts (got_as_one n) n (xs ++ ys) ≡ counts (got_as_one n) n xs + counts (got_as_one n) n ys
+counts_apart : (n : ℕ) (xs ys : List StampedPoolEvent) → counts (got_as_one n) n (xs ++ ys) ≡ counts (got_as_one n) n xs + counts (got_as_one n) n ys
 counts_apart n xs ys =
     let both = sum_both (λ c. count_by (got_as_one n c) xs) (λ c. count_by (got_as_one n c) ys) n in
     let less = sum_le (λ c. count_by (got_as_one n c) (xs ++ ys)) (λ c. count_by (got_as_one n c) xs + count_by (got_as_one n c) ys) n (λ c low. let two = count_append (got_as_one n c) xs ys in omega (arith, two)) in

@@ -17,8 +17,8 @@ use Rattle.hs_law_sends.specs.Drawn.{DrawnPage, stamp_of, has_buffer, drawn_from
 use Rattle.hs_law_sends.specs.Sending.{Sent, ClientSends, sheet_of, sent_chunks}
 use Rattle.hs_law_sends.specs.Timing.{TimedPage}
 use Rattle.hs_words.specs.Pages.{Sheet}
-use Rattle.hs_words.specs.PoolHistory.{Event, Got, Empty, queue_after}
-use Rattle.hs_law_journal.specs.Pooled.{PoolEvent, drawn_event, event_drawn}
+use Rattle.hs_words.specs.PoolHistory.{PoolEvent, Got, Empty, queue_after}
+use Rattle.hs_law_journal.specs.Pooled.{StampedPoolEvent, drawn_event, event_drawn}
 use Rattle.hs_law_journal.specs.Shape.{rise}
 use Rattle.hs_law_journal.specs.Following.{Chunks, taken}
 use Rattle.hs_law_lockstep.specs.Lockstep.{next_draws}
@@ -64,18 +64,18 @@ grown s more = record s { drawn = s.drawn ++ more; chunks = sent_chunks (s.drawn
 -- ---- one draw
 
 -- a draw of the queue's front
-pub record Takes (n : ℕ) (events : List PoolEvent) (draw : Draw) : Type 0 where
+pub record Takes (n : ℕ) (events : List StampedPoolEvent) (draw : Draw) : Type 0 where
   pub buffer : ℕ
   pub front : slice_get (queue_after n (events_back events)) 0 ≡ Some buffer
   pub is : draw ≡ draws.Got buffer (length events)
 
 -- a draw that finds the queue empty
-pub record Finds (n : ℕ) (events : List PoolEvent) (draw : Draw) : Type 0 where
+pub record Finds (n : ℕ) (events : List StampedPoolEvent) (draw : Draw) : Type 0 where
   pub none : queue_after n (events_back events) ≡ []
   pub is : draw ≡ draws.Empty (length events)
 
 -- what a draw does to the pool
-pub record Drew (n : ℕ) (was now : List PoolEvent) (draw : Draw) : Type 0 where
+pub record Drew (n : ℕ) (was now : List StampedPoolEvent) (draw : Draw) : Type 0 where
   stamp : stamp_of draw ≡ length was
   more : length now ≡ length was + 1
   last : events_back now ≡ event_drawn draw ∷ events_back was
@@ -94,17 +94,17 @@ module _ (n : ℕ) (a b : List ClientSends) (s : ClientSends) (sheets : List She
   abbrev sends_later : List ClientSends
   sends_later = a ++ later ∷ b
 
-  abbrev was : List PoolEvent
+  abbrev was : List StampedPoolEvent
   was = events_in sends sheets given
 
-  abbrev now : List PoolEvent
+  abbrev now : List StampedPoolEvent
   now = events_in sends_later sheets given
 
   -- the events before that of the draw, and behind it
-  abbrev left : List PoolEvent
+  abbrev left : List StampedPoolEvent
   left = map drawn_event (pages_in a ++ s.drawn)
 
-  abbrev right : List PoolEvent
+  abbrev right : List StampedPoolEvent
   right = map drawn_event (pages_in b) ++ gives_in sends sheets given
 
   page_still : (sheet : Sheet) (page : DrawnPage) → page_in sends sheet ≡ Some page → page_in sends_later sheet ≡ Some page
@@ -132,9 +132,9 @@ module _ (n : ℕ) (a b : List ClientSends) (s : ClientSends) (sheets : List She
       let new = event_there sends_later sheets g x.sheet x.is (drawn_still x.sheet x.drawn) in
       ap (λ o. cons_option o (gives_in sends_later sheets givens)) (new ∙ sym old) ∙ ap (cons_option (event_at sends sheets g)) (gives_still givens all.1)
 
-  split : (pages behind : List DrawnPage) (gives : List PoolEvent) → map drawn_event (pages ++ behind) ++ gives ≡ map drawn_event pages ++ (map drawn_event behind ++ gives)
+  split : (pages behind : List DrawnPage) (gives : List StampedPoolEvent) → map drawn_event (pages ++ behind) ++ gives ≡ map drawn_event pages ++ (map drawn_event behind ++ gives)
   split pages behind gives =
-      ap (λ (es : List PoolEvent). es ++ gives) (map-append drawn_event pages behind) ∙ append_assoc (map drawn_event pages) (map drawn_event behind) gives
+      ap (λ (es : List StampedPoolEvent). es ++ gives) (map-append drawn_event pages behind) ∙ append_assoc (map drawn_event pages) (map drawn_event behind) gives
 
   was_is : was ≡ left ++ right
   was_is =
@@ -144,7 +144,7 @@ module _ (n : ℕ) (a b : List ClientSends) (s : ClientSends) (sheets : List She
 
   now_is : now ≡ left ++ drawn_event d ∷ right
   now_is =
-      ap (λ (gives : List PoolEvent). map drawn_event (pages_in sends_later) ++ gives) (gives_still given h.answers)
+      ap (λ (gives : List StampedPoolEvent). map drawn_event (pages_in sends_later) ++ gives) (gives_still given h.answers)
       ∙ ap (λ (pages : List DrawnPage). map drawn_event pages ++ gives_in sends sheets given)
       (flat_map-append (λ (s : ClientSends). s.drawn) a (later ∷ b)
       ∙ ap (λ (rest : List DrawnPage). pages_in a ++ rest) (append_assoc s.drawn (d ∷ []) (pages_in b))
@@ -163,10 +163,10 @@ module _ (n : ℕ) (a b : List ClientSends) (s : ClientSends) (sheets : List She
         ∙ ap (λ (k : ℕ). record { stamp = k; event = Got t.buffer }) (ap length was_is)
 
     got_now : after left right (Got t.buffer) ≡ now
-    got_now = sym (now_is ∙ ap (λ (e : PoolEvent). left ++ e ∷ right) got_event)
+    got_now = sym (now_is ∙ ap (λ (e : StampedPoolEvent). left ++ e ∷ right) got_event)
 
     front_there : slice_get (queue_after n (events_back (left ++ right))) 0 ≡ Some t.buffer
-    front_there = subst (λ (es : List PoolEvent). slice_get (queue_after n (events_back es)) 0 ≡ Some t.buffer) was_is t.front
+    front_there = subst (λ (es : List StampedPoolEvent). slice_get (queue_after n (events_back es)) 0 ≡ Some t.buffer) was_is t.front
 
     fresh_out : (buffer from : ℕ) → d.draw ≡ draws.Got buffer from → IsOut n now buffer from
     fresh_out buffer from got =
@@ -175,7 +175,7 @@ module _ (n : ℕ) (a b : List ClientSends) (s : ClientSends) (sheets : List She
         let stamp_is : length was ≡ from = cc in
         subst (λ (k : ℕ). IsOut n now buffer k) (sym (ap length was_is) ∙ stamp_is)
         (subst (λ (k : ℕ). IsOut n now k (length (left ++ right))) buffer_is
-        (subst (λ (es : List PoolEvent). IsOut n es t.buffer (length (left ++ right))) got_now (got_out n left right t.buffer pooled_there front_there)))
+        (subst (λ (es : List StampedPoolEvent). IsOut n es t.buffer (length (left ++ right))) got_now (got_out n left right t.buffer pooled_there front_there)))
 
     takes_drew : Drew n was now d.draw
     takes_drew =
@@ -187,15 +187,15 @@ module _ (n : ℕ) (a b : List ClientSends) (s : ClientSends) (sheets : List She
           more = omega (arith, long, there, same);
           last =
               ap events_back (sym got_now) ∙ back left right (Got t.buffer) pooled_there.low
-              ∙ ap (λ (es : List PoolEvent). Got t.buffer ∷ events_back es) (sym was_is)
+              ∙ ap (λ (es : List StampedPoolEvent). Got t.buffer ∷ events_back es) (sym was_is)
               ∙ ap (λ draw. event_drawn draw ∷ events_back was) (sym t.is);
           pooled = subst (IsPooled n) got_now (got_kept n left right t.buffer pooled_there front_there);
           answers = λ buffer from to x.
-              subst (λ (es : List PoolEvent). IsAnswered es buffer from to) got_now
-              (answered n left right (Got t.buffer) pooled_there buffer from to (subst (λ (es : List PoolEvent). IsAnswered es buffer from to) was_is x));
+              subst (λ (es : List StampedPoolEvent). IsAnswered es buffer from to) got_now
+              (answered n left right (Got t.buffer) pooled_there buffer from to (subst (λ (es : List StampedPoolEvent). IsAnswered es buffer from to) was_is x));
           stays = λ buffer from x.
-              subst (λ (es : List PoolEvent). IsOut n es buffer from) got_now
-              (got_stays n left right t.buffer pooled_there front_there buffer from (subst (λ (es : List PoolEvent). IsOut n es buffer from) was_is x));
+              subst (λ (es : List StampedPoolEvent). IsOut n es buffer from) got_now
+              (got_stays n left right t.buffer pooled_there front_there buffer from (subst (λ (es : List StampedPoolEvent). IsOut n es buffer from) was_is x));
           fresh = fresh_out;
         }
 
@@ -208,10 +208,10 @@ module _ (n : ℕ) (a b : List ClientSends) (s : ClientSends) (sheets : List She
         ∙ ap (λ (k : ℕ). record { stamp = k; event = Empty }) (ap length was_is)
 
     empty_now : after left right Empty ≡ now
-    empty_now = sym (now_is ∙ ap (λ (e : PoolEvent). left ++ e ∷ right) empty_event)
+    empty_now = sym (now_is ∙ ap (λ (e : StampedPoolEvent). left ++ e ∷ right) empty_event)
 
     none_there : queue_after n (events_back (left ++ right)) ≡ []
-    none_there = subst (λ (es : List PoolEvent). queue_after n (events_back es) ≡ []) was_is t.none
+    none_there = subst (λ (es : List StampedPoolEvent). queue_after n (events_back es) ≡ []) was_is t.none
 
     finds_drew : Drew n was now d.draw
     finds_drew =
@@ -223,15 +223,15 @@ module _ (n : ℕ) (a b : List ClientSends) (s : ClientSends) (sheets : List She
           more = omega (arith, long, there, same);
           last =
               ap events_back (sym empty_now) ∙ back left right Empty pooled_there.low
-              ∙ ap (λ (es : List PoolEvent). Empty ∷ events_back es) (sym was_is)
+              ∙ ap (λ (es : List StampedPoolEvent). Empty ∷ events_back es) (sym was_is)
               ∙ ap (λ draw. event_drawn draw ∷ events_back was) (sym t.is);
           pooled = subst (IsPooled n) empty_now (empty_kept n left right pooled_there none_there);
           answers = λ buffer from to x.
-              subst (λ (es : List PoolEvent). IsAnswered es buffer from to) empty_now
-              (answered n left right Empty pooled_there buffer from to (subst (λ (es : List PoolEvent). IsAnswered es buffer from to) was_is x));
+              subst (λ (es : List StampedPoolEvent). IsAnswered es buffer from to) empty_now
+              (answered n left right Empty pooled_there buffer from to (subst (λ (es : List StampedPoolEvent). IsAnswered es buffer from to) was_is x));
           stays = λ buffer from x.
-              subst (λ (es : List PoolEvent). IsOut n es buffer from) empty_now
-              (empty_stays n left right pooled_there none_there buffer from (subst (λ (es : List PoolEvent). IsOut n es buffer from) was_is x));
+              subst (λ (es : List StampedPoolEvent). IsOut n es buffer from) empty_now
+              (empty_stays n left right pooled_there none_there buffer from (subst (λ (es : List StampedPoolEvent). IsOut n es buffer from) was_is x));
           fresh = λ buffer from got. let no : draws.Empty (length was) ≡ draws.Got buffer from = sym t.is ∙ got in absurd cc;
         }
 
@@ -256,7 +256,7 @@ module _ (n : ℕ) (a b : List ClientSends) (s : ClientSends) (sheets : List She
     stamps_low =
         mapped s.drawn
         (λ i e at.
-        let low = at_page (λ (v : PoolEvent). v.stamp < length was) sends (gives_in sends sheets given) (length a) i s e h.pooled.low (get_mid a s b) at in
+        let low = at_page (λ (v : StampedPoolEvent). v.stamp < length was) sends (gives_in sends sheets given) (length a) i s e h.pooled.low (get_mid a s b) at in
         let stamp = drew.stamp in
         omega (arith, low, stamp))
       where
@@ -354,7 +354,7 @@ module _ (n : ℕ) (a b : List ClientSends) (sheets : List Sheet) (given : List 
   abbrev with_client : ClientSends → List ClientSends
   with_client s = a ++ s ∷ b
 
-  abbrev events_with : ClientSends → List PoolEvent
+  abbrev events_with : ClientSends → List StampedPoolEvent
   events_with s = events_in (with_client s) sheets given
 
   abbrev queue_with : ClientSends → List ℕ
@@ -411,11 +411,11 @@ module _ (n : ℕ) (a b : List ClientSends) (sheets : List Sheet) (given : List 
   -- ---- and what happened at the pool
 
   -- the latest event is the last of the history
-  last_event : (was now : List Event) (event : Event) → reverse now ≡ event ∷ reverse was → now ≡ was ++ event ∷ []
+  last_event : (was now : List PoolEvent) (event : PoolEvent) → reverse now ≡ event ∷ reverse was → now ≡ was ++ event ∷ []
   last_event was now event e =
-      sym (reverse-reverse now) ∙ ap reverse e ∙ reverse-append (event ∷ []) (reverse was) ∙ ap (λ (front : List Event). front ++ event ∷ []) (reverse-reverse was)
+      sym (reverse-reverse now) ∙ ap reverse e ∙ reverse-append (event ∷ []) (reverse was) ∙ ap (λ (front : List PoolEvent). front ++ event ∷ []) (reverse-reverse was)
 
-  abbrev history_with : ClientSends → List Event
+  abbrev history_with : ClientSends → List PoolEvent
   history_with s = history_of (events_with s)
 
   abbrev Told : List TimedPage → ℕ → Type 0
@@ -453,7 +453,7 @@ module _ (n : ℕ) (a b : List ClientSends) (sheets : List Sheet) (given : List 
         in
         ap history_with (sym whole)
         ∙ rest
-        ∙ ap (λ (front : List Event). front ++ map event_drawn (next_draws count (length (events_with s) + 1) queue)) (last_event (history_with s) (history_with first) (event_drawn draw) drew.last)
+        ∙ ap (λ (front : List PoolEvent). front ++ map event_drawn (next_draws count (length (events_with s) + 1) queue)) (last_event (history_with s) (history_with first) (event_drawn draw) drew.last)
         ∙ append_assoc (history_with s) (event_drawn draw ∷ []) (map event_drawn (next_draws count (length (events_with s) + 1) queue))
 
     told_case : (queue : List ℕ) → queue_with s ≡ queue

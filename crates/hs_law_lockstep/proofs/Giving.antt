@@ -12,9 +12,9 @@ use Rattle.hs_journal.specs.declared.journal.Step.TheVariants as steps
 use Rattle.hs_law_agent.specs.Stepping.{Gave}
 use Rattle.hs_law_agent.specs.Stepping as model
 use Rattle.hs_records.specs.Plain.{PlainSettings, PlainWorkload}
-use Rattle.hs_words.specs.PoolHistory.{Event, Given, IsHistoryBack, MayFollow}
+use Rattle.hs_words.specs.PoolHistory.{PoolEvent, Given, IsHistoryBack, MayFollow}
 use Rattle.hs_law_journal.specs.Following.{NodeRun, event_of, perform, followed}
-use Rattle.hs_law_journal.specs.Pooled.{PoolEvent, by_stamp, pool_events, pool_history}
+use Rattle.hs_law_journal.specs.Pooled.{StampedPoolEvent, by_stamp, pool_events, pool_history}
 use Rattle.hs_law_journal.specs.Known.{Known}
 use Rattle.hs_law_lockstep.specs.Lockstep.{Machine, give_steps, agents_give}
 use Rattle.hs_law_lockstep.specs.Parts.{node_at, heard_in, GivesNext, AgentGives}
@@ -37,14 +37,14 @@ pub history_long : (settings : PlainSettings) (run : NodeRun) → IsHeld setting
 history_long settings run h = ap length (history_is settings run h) ∙ sym (length-reverse (history_of (node_events run))) ∙ h.holds.pooled.count
 
 -- an event with the next stamp is the last of the history
-history_more : (es : List PoolEvent) (buffer : ℕ) → IsBelow (length es) es → history_of (es ++ given_as (length es) buffer ∷ []) ≡ history_of es ++ Given buffer ∷ []
+history_more : (es : List StampedPoolEvent) (buffer : ℕ) → IsBelow (length es) es → history_of (es ++ given_as (length es) buffer ∷ []) ≡ history_of es ++ Given buffer ∷ []
 history_more es buffer low =
     let none = append-nil es in
-    let below : IsBelow (length (es ++ [])) (es ++ []) = subst (λ (es : List PoolEvent). IsBelow (length es) es) (sym none) low in
-    ap (λ (all : List PoolEvent). history_of (es ++ given_as (length all) buffer ∷ [])) (sym none)
-    ∙ ap (map (λ (e : PoolEvent). e.event)) (comes_last es [] (Given buffer) below)
-    ∙ map-append (λ (e : PoolEvent). e.event) (by_stamp (λ (e : PoolEvent). e.stamp) (length (es ++ [])) (es ++ [])) (given_as (length (es ++ [])) buffer ∷ [])
-    ∙ ap (λ (all : List PoolEvent). history_of all ++ Given buffer ∷ []) none
+    let below : IsBelow (length (es ++ [])) (es ++ []) = subst (λ (es : List StampedPoolEvent). IsBelow (length es) es) (sym none) low in
+    ap (λ (all : List StampedPoolEvent). history_of (es ++ given_as (length all) buffer ∷ [])) (sym none)
+    ∙ ap (map (λ (e : StampedPoolEvent). e.event)) (comes_last es [] (Given buffer) below)
+    ∙ map-append (λ (e : StampedPoolEvent). e.event) (by_stamp (λ (e : StampedPoolEvent). e.stamp) (length (es ++ [])) (es ++ [])) (given_as (length (es ++ [])) buffer ∷ [])
+    ∙ ap (λ (all : List StampedPoolEvent). history_of all ++ Given buffer ∷ []) none
 
 -- ---- gives from a stamp on
 
@@ -125,12 +125,12 @@ module _ (k : Known) (settings : PlainSettings) (heard : Messages) where
       ap history_of (give_events k.adds k.go_on k.places settings stamp place hand run [] is h) ∙ history_more (node_events run) buffer h.held.holds.pooled.low
       in
       let back : events_back (node_events next) ≡ Given buffer ∷ reverse (pool_history run) =
-      ap reverse more ∙ reverse-append (history_of (node_events run)) (Given buffer ∷ []) ∙ ap (λ (es : List Event). Given buffer ∷ reverse es) (sym (history_is settings run h.held))
+      ap reverse more ∙ reverse-append (history_of (node_events run)) (Given buffer ∷ []) ∙ ap (λ (es : List PoolEvent). Given buffer ∷ reverse es) (sym (history_is settings run h.held))
       in
       record {
         next = next;
         gives = first_step settings heard (steps.Given stamp) [] run (Gave (model.Given stamp)) (give_event stamp place hand run is);
-        history = history_is settings next later.held ∙ more ∙ ap (λ (es : List Event). es ++ Given buffer ∷ []) (sym (history_is settings run h.held));
+        history = history_is settings next later.held ∙ more ∙ ap (λ (es : List PoolEvent). es ++ Given buffer ∷ []) (sym (history_is settings run h.held));
         may = (subst (IsHistoryBack settings.buffers) back later.held.holds.pooled.history).1;
       }
 

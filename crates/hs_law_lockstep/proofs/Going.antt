@@ -14,10 +14,10 @@ use Rattle.hs_law_sends.specs.Drawn.{drawn_from}
 use Rattle.hs_law_sends.specs.Sending.{ClientSends, draws_at, node_sends, place_of}
 use Rattle.hs_law_sends.proofs.Order.{length_next}
 use Rattle.hs_words.specs.Pages.{Sheet}
-use Rattle.hs_words.specs.PoolHistory.{Event, queue_after}
+use Rattle.hs_words.specs.PoolHistory.{PoolEvent, queue_after}
 use Rattle.hs_law_journal.specs.Extending.{node_behind, run_behind}
 use Rattle.hs_law_journal.specs.Following.{NodeRun, Run, log_at, followed}
-use Rattle.hs_law_journal.specs.Pooled.{PoolEvent, event_drawn, pool_history}
+use Rattle.hs_law_journal.specs.Pooled.{StampedPoolEvent, event_drawn, pool_history}
 use Rattle.hs_law_lockstep.specs.Clauses.{IsLaidOut}
 use Rattle.hs_law_journal.specs.Known.{Known}
 use Rattle.hs_law_lockstep.specs.Lockstep.{Machine, done_at, next_draws, draws_by, draws_in, client_goes}
@@ -134,7 +134,7 @@ module _ (k : Known) (W : PlainWorkload) (laid : IsLaidOut W) (m : Machine) (r :
       ∙ ap (node_sends W m.journal) (number_at k W m i run stands)
       ∙ more.was
 
-  abbrev events_then : ClientSends → List PoolEvent
+  abbrev events_then : ClientSends → List StampedPoolEvent
   events_then s = events_in (more.a ++ s ∷ more.b) sheets run.state.given
 
   drew_next : next_drawn W m place run ≡ next_draws (next_pages W m place) (length (events_then more.s)) (queue_after W.settings.buffers (events_back (events_then more.s)))
@@ -170,7 +170,7 @@ module _ (k : Known) (W : PlainWorkload) (laid : IsLaidOut W) (m : Machine) (r :
       ∙ ap (λ (drew : List Draw). history_of (events_then (grown more.s (drawn_from more.client (length more.s.drawn) more.rest drew)))) drew_next
       ∙ told
       ∙ ap (λ (drew : List Draw). history_of (events_then more.s) ++ map event_drawn drew) drew
-      ∙ ap (λ (front : List Event). front ++ map event_drawn (next_drawn W m place run)) was
+      ∙ ap (λ (front : List PoolEvent). front ++ map event_drawn (next_drawn W m place run)) was
 
   module _ (few : (later : NodeRun) → node_at W new.journal i ≡ Some later → length (pool_history later) < 2 ^ 32) where
     pub client_goes_so : ClientGoes W m new i place run

@@ -9,46 +9,46 @@ use Rattle.std.proofs.lemmas.List.Elements.{filter-append}
 use Rattle.hs_lists.proofs.Counts.{one_of_below, one_if as one, count_cons, count_append}
 use Rattle.hs_lists.proofs.Alls.{all_append, all_each}
 use Rattle.hs_journal.specs.declared.journal.Draw.TheVariants as draws
-use Rattle.hs_words.specs.PoolHistory.{Event, Got, Empty, Given, Missed, is_got, is_given, queue_after, MayFollow, IsHistoryBack}
-use Rattle.hs_law_journal.specs.Pooled.{PoolEvent, by_stamp, has_buffer, is_touched, answers_draw}
+use Rattle.hs_words.specs.PoolHistory.{PoolEvent, Got, Empty, Given, Missed, is_got, is_given, queue_after, MayFollow, IsHistoryBack}
+use Rattle.hs_law_journal.specs.Pooled.{StampedPoolEvent, by_stamp, has_buffer, is_touched, answers_draw}
 
 -- what happened, the latest first
-abbrev pub events_back : List PoolEvent → List Event
-events_back events = reverse (map (λ (e : PoolEvent). e.event) (by_stamp (λ (e : PoolEvent). e.stamp) (length events) events))
+abbrev pub events_back : List StampedPoolEvent → List PoolEvent
+events_back events = reverse (map (λ (e : StampedPoolEvent). e.event) (by_stamp (λ (e : StampedPoolEvent). e.stamp) (length events) events))
 
 -- and in the order of stamps
-abbrev pub history_of : List PoolEvent → List Event
-history_of events = map (λ (e : PoolEvent). e.event) (by_stamp (λ (e : PoolEvent). e.stamp) (length events) events)
+abbrev pub history_of : List StampedPoolEvent → List PoolEvent
+history_of events = map (λ (e : StampedPoolEvent). e.event) (by_stamp (λ (e : StampedPoolEvent). e.stamp) (length events) events)
 
-abbrev of_stamp : List PoolEvent → ℕ → List PoolEvent
-of_stamp events s = filter (λ (e : PoolEvent). eqb e.stamp s) events
+abbrev of_stamp : List StampedPoolEvent → ℕ → List StampedPoolEvent
+of_stamp events s = filter (λ (e : StampedPoolEvent). eqb e.stamp s) events
 
-abbrev pub IsBelow : ℕ → List PoolEvent → Type 0
-IsBelow n events = AllByRecursion (λ (e : PoolEvent). e.stamp < n) events
+abbrev pub IsBelow : ℕ → List StampedPoolEvent → Type 0
+IsBelow n events = AllByRecursion (λ (e : StampedPoolEvent). e.stamp < n) events
 
-abbrev pub stamps_of : List PoolEvent → List ℕ
-stamps_of events = map (λ (e : PoolEvent). e.stamp) events
+abbrev pub stamps_of : List StampedPoolEvent → List ℕ
+stamps_of events = map (λ (e : StampedPoolEvent). e.stamp) events
 
 abbrev pub waits : ℕ → List ℕ → ℕ
 waits buffer queue = count_by (λ b. eqb b buffer) queue
 
-abbrev pub gots : ℕ → List Event → ℕ
+abbrev pub gots : ℕ → List PoolEvent → ℕ
 gots buffer events = count_by (is_got buffer) events
 
-abbrev pub gives : ℕ → List Event → ℕ
+abbrev pub gives : ℕ → List PoolEvent → ℕ
 gives buffer events = count_by (is_given buffer) events
 
 -- ---- the events of a stamp
 
-none_case : (e : PoolEvent) (kept : List PoolEvent) (n : ℕ) (b : Bool) → eqb e.stamp n ≡ b → e.stamp < n → kept ≡ [] → cond b (e ∷ kept) kept ≡ []
+none_case : (e : StampedPoolEvent) (kept : List StampedPoolEvent) (n : ℕ) (b : Bool) → eqb e.stamp n ≡ b → e.stamp < n → kept ≡ [] → cond b (e ∷ kept) kept ≡ []
 none_case e kept n true same low h = let equal = eqb-true e.stamp n same in absurd (omega (arith, equal, low))
 none_case e kept n false same low h = h
 
-none_of : (n : ℕ) (events : List PoolEvent) → IsBelow n events → of_stamp events n ≡ []
+none_of : (n : ℕ) (events : List StampedPoolEvent) → IsBelow n events → of_stamp events n ≡ []
 none_of n [] all = refl
 none_of n (e ∷ events) all = none_case e (of_stamp events n) n (eqb e.stamp n) refl all.0 (none_of n events all.1)
 
-skip_case : (x : PoolEvent) (kept : List PoolEvent) (s n : ℕ) (b : Bool) → eqb x.stamp s ≡ b → x.stamp ≡ n → s < n → cond b (x ∷ kept) kept ≡ kept
+skip_case : (x : StampedPoolEvent) (kept : List StampedPoolEvent) (s n : ℕ) (b : Bool) → eqb x.stamp s ≡ b → x.stamp ≡ n → s < n → cond b (x ∷ kept) kept ≡ kept
 skip_case x kept s n true same next low = let equal = eqb-true x.stamp s same in absurd (omega (arith, equal, next, low))
 skip_case x kept s n false same next low = refl
 
@@ -64,15 +64,15 @@ flat_more {A = A} f start (suc count) =
     grouped [] ys zs = refl
     grouped (x ∷ xs) ys zs = ap (λ (rest : List A). x ∷ rest) (grouped xs ys zs)
 
-module _ (a b : List PoolEvent) (event : Event) where
+module _ (a b : List StampedPoolEvent) (event : PoolEvent) where
   -- the events before, and the one more
-  abbrev pub before : List PoolEvent
+  abbrev pub before : List StampedPoolEvent
   before = a ++ b
 
-  abbrev pub next : PoolEvent
+  abbrev pub next : StampedPoolEvent
   next = record { stamp = length before; event = event }
 
-  abbrev pub after : List PoolEvent
+  abbrev pub after : List StampedPoolEvent
   after = a ++ next ∷ b
 
   pub longer : length after ≡ suc (length before)
@@ -83,58 +83,58 @@ module _ (a b : List PoolEvent) (event : Event) where
 
   same_below : (s : ℕ) → s < length before → of_stamp after s ≡ of_stamp before s
   same_below s low =
-      filter-append (λ (e : PoolEvent). eqb e.stamp s) a (next ∷ b)
-      ∙ ap (λ (rest : List PoolEvent). of_stamp a s ++ rest) (skip_case next (of_stamp b s) s (length before) (eqb (length before) s) refl refl low)
-      ∙ sym (filter-append (λ (e : PoolEvent). eqb e.stamp s) a b)
+      filter-append (λ (e : StampedPoolEvent). eqb e.stamp s) a (next ∷ b)
+      ∙ ap (λ (rest : List StampedPoolEvent). of_stamp a s ++ rest) (skip_case next (of_stamp b s) s (length before) (eqb (length before) s) refl refl low)
+      ∙ sym (filter-append (λ (e : StampedPoolEvent). eqb e.stamp s) a b)
 
   flat_same : (start count : ℕ) → start + count ≤ length before → flat_map (of_stamp after) (range_with_len start count) ≡ flat_map (of_stamp before) (range_with_len start count)
   flat_same start zero low = refl
   flat_same start (suc count) low =
-      ap (λ (front : List PoolEvent). front ++ flat_map (of_stamp after) (range_with_len (start + 1) count)) (same_below start (omega (arith, low)))
-      ∙ ap (λ (rest : List PoolEvent). of_stamp before start ++ rest) (flat_same (start + 1) count (omega (arith, low)))
+      ap (λ (front : List StampedPoolEvent). front ++ flat_map (of_stamp after) (range_with_len (start + 1) count)) (same_below start (omega (arith, low)))
+      ∙ ap (λ (rest : List StampedPoolEvent). of_stamp before start ++ rest) (flat_same (start + 1) count (omega (arith, low)))
 
   module _ (low : IsBelow (length before) before) where
-    below_parts : (xs ys : List PoolEvent) (n : ℕ) → IsBelow n (xs ++ ys) → IsBelow n xs × IsBelow n ys
+    below_parts : (xs ys : List StampedPoolEvent) (n : ℕ) → IsBelow n (xs ++ ys) → IsBelow n xs × IsBelow n ys
     below_parts [] ys n all = (tt, all)
     below_parts (x ∷ xs) ys n all = let rest = below_parts xs ys n all.1 in ((all.0, rest.0), rest.1)
 
     at_next : of_stamp after (length before) ≡ next ∷ []
     at_next =
         let parts = below_parts a b (length before) low in
-        filter-append (λ (e : PoolEvent). eqb e.stamp (length before)) a (next ∷ b)
-        ∙ ap (λ (front : List PoolEvent). front ++ cond (eqb (length before) (length before)) (next ∷ of_stamp b (length before)) (of_stamp b (length before))) (none_of (length before) a parts.0)
+        filter-append (λ (e : StampedPoolEvent). eqb e.stamp (length before)) a (next ∷ b)
+        ∙ ap (λ (front : List StampedPoolEvent). front ++ cond (eqb (length before) (length before)) (next ∷ of_stamp b (length before)) (of_stamp b (length before))) (none_of (length before) a parts.0)
         ∙ ap (λ c. cond c (next ∷ of_stamp b (length before)) (of_stamp b (length before))) (eq-eqb (length before) (length before) refl)
-        ∙ ap (λ (rest : List PoolEvent). next ∷ rest) (none_of (length before) b parts.1)
+        ∙ ap (λ (rest : List StampedPoolEvent). next ∷ rest) (none_of (length before) b parts.1)
 
     -- it comes last
-    pub comes_last : by_stamp (λ (e : PoolEvent). e.stamp) (length after) after ≡ by_stamp (λ (e : PoolEvent). e.stamp) (length before) before ++ next ∷ []
+    pub comes_last : by_stamp (λ (e : StampedPoolEvent). e.stamp) (length after) after ≡ by_stamp (λ (e : StampedPoolEvent). e.stamp) (length before) before ++ next ∷ []
     comes_last =
         let zeroth : 0 + length before ≡ length before = omega arith in
         ap (λ (n : ℕ). flat_map (of_stamp after) (range_with_len 0 n)) longer
         ∙ flat_more (of_stamp after) 0 (length before)
-        ∙ ap (λ (front : List PoolEvent). front ++ of_stamp after (0 + length before)) (flat_same 0 (length before) (omega arith))
-        ∙ ap (λ (rest : List PoolEvent). flat_map (of_stamp before) (range_with_len 0 (length before)) ++ rest) (ap (of_stamp after) zeroth ∙ at_next)
+        ∙ ap (λ (front : List StampedPoolEvent). front ++ of_stamp after (0 + length before)) (flat_same 0 (length before) (omega arith))
+        ∙ ap (λ (rest : List StampedPoolEvent). flat_map (of_stamp before) (range_with_len 0 (length before)) ++ rest) (ap (of_stamp after) zeroth ∙ at_next)
 
     pub back : events_back after ≡ event ∷ events_back before
     back =
-        let ordered = by_stamp (λ (e : PoolEvent). e.stamp) (length before) before in
-        ap (λ (all : List PoolEvent). reverse (map (λ (e : PoolEvent). e.event) all)) comes_last
-        ∙ ap reverse (map-append (λ (e : PoolEvent). e.event) ordered (next ∷ []))
-        ∙ reverse-append (map (λ (e : PoolEvent). e.event) ordered) (event ∷ [])
+        let ordered = by_stamp (λ (e : StampedPoolEvent). e.stamp) (length before) before in
+        ap (λ (all : List StampedPoolEvent). reverse (map (λ (e : StampedPoolEvent). e.event) all)) comes_last
+        ∙ ap reverse (map-append (λ (e : StampedPoolEvent). e.event) ordered (next ∷ []))
+        ∙ reverse-append (map (λ (e : StampedPoolEvent). e.event) ordered) (event ∷ [])
 
     below_all : IsBelow (length after) after
     below_all =
         let parts = below_parts a b (length before) low in
         let here : length before < length after = omega (arith, longer) in
-        let up : (e : PoolEvent) → e.stamp < length before → e.stamp < length after = λ e h. omega (arith, h, longer) in
-        all_append (λ (e : PoolEvent). e.stamp < length after) a (next ∷ b)
-        (all_each (λ (e : PoolEvent). e.stamp < length before) (λ (e : PoolEvent). e.stamp < length after) a up parts.0)
-        (here, all_each (λ (e : PoolEvent). e.stamp < length before) (λ (e : PoolEvent). e.stamp < length after) b up parts.1)
+        let up : (e : StampedPoolEvent) → e.stamp < length before → e.stamp < length after = λ e h. omega (arith, h, longer) in
+        all_append (λ (e : StampedPoolEvent). e.stamp < length after) a (next ∷ b)
+        (all_each (λ (e : StampedPoolEvent). e.stamp < length before) (λ (e : StampedPoolEvent). e.stamp < length after) a up parts.0)
+        (here, all_each (λ (e : StampedPoolEvent). e.stamp < length before) (λ (e : StampedPoolEvent). e.stamp < length after) b up parts.1)
 
 -- ---- pools
 
 -- The stamps number the events, which are a history; no buffer waits twice, and none was given more often than got.
-pub record IsPooled (n : ℕ) (events : List PoolEvent) : Type 0 where
+pub record IsPooled (n : ℕ) (events : List StampedPoolEvent) : Type 0 where
   pub low : IsBelow (length events) events
   pub each : (s : ℕ) → s < length events → count_by (λ t. eqb t s) (stamps_of events) ≡ 1
   pub history : IsHistoryBack n (events_back events)
@@ -143,29 +143,29 @@ pub record IsPooled (n : ℕ) (events : List PoolEvent) : Type 0 where
   pub count : length (events_back events) ≡ length events
 
 -- The buffer that was got at this stamp is out: it does not wait, and nothing happened to it since.
-pub record IsOut (n : ℕ) (events : List PoolEvent) (buffer stamp : ℕ) : Type 0 where
+pub record IsOut (n : ℕ) (events : List StampedPoolEvent) (buffer stamp : ℕ) : Type 0 where
   pub away : waits buffer (queue_after n (events_back events)) ≡ 0
   pub owed : gives buffer (events_back events) < gots buffer (events_back events)
-  pub last : AllByRecursion (λ (e : PoolEvent). has_buffer buffer e.event ≡ true → e.stamp ≤ stamp) events
+  pub last : AllByRecursion (λ (e : StampedPoolEvent). has_buffer buffer e.event ≡ true → e.stamp ≤ stamp) events
 
 -- The buffer that was got at one stamp was given at another one, and nothing happened to it in between.
-pub record IsAnswered (events : List PoolEvent) (buffer from to : ℕ) : Type 0 where
+pub record IsAnswered (events : List StampedPoolEvent) (buffer from to : ℕ) : Type 0 where
   pub later : from < to
   pub past : to < length events
-  pub untouched : AllByRecursion (λ (e : PoolEvent). has_buffer buffer e.event ≡ true → from < e.stamp → e.stamp < to → ⊥) events
+  pub untouched : AllByRecursion (λ (e : StampedPoolEvent). has_buffer buffer e.event ≡ true → from < e.stamp → e.stamp < to → ⊥) events
 
 zero_one : (b : Bool) → one b ≡ 0 → b ≡ true → ⊥
 zero_one true h e = omega (arith, h)
 zero_one false h e = let no : false ≡ true = e in absurd cc
 
-module _ (n : ℕ) (a b : List PoolEvent) (event : Event) (p : IsPooled n (before a b event)) where
-  abbrev was : List PoolEvent
+module _ (n : ℕ) (a b : List StampedPoolEvent) (event : PoolEvent) (p : IsPooled n (before a b event)) where
+  abbrev was : List StampedPoolEvent
   was = before a b event
 
-  abbrev now : List PoolEvent
+  abbrev now : List StampedPoolEvent
   now = after a b event
 
-  abbrev events : List Event
+  abbrev events : List PoolEvent
   events = events_back was
 
   abbrev queue : List ℕ
@@ -177,23 +177,23 @@ module _ (n : ℕ) (a b : List PoolEvent) (event : Event) (p : IsPooled n (befor
   give_more : (buffer : ℕ) → gives buffer (event ∷ events) ≡ one (is_given buffer event) + gives buffer events
   give_more buffer = count_cons (is_given buffer) event events
 
-  insert_all : (P : PoolEvent → Type 0) → AllByRecursion P was → P (next a b event) → AllByRecursion P now
+  insert_all : (P : StampedPoolEvent → Type 0) → AllByRecursion P was → P (next a b event) → AllByRecursion P now
   insert_all P all here = go a all
     where
-      go : (xs : List PoolEvent) → AllByRecursion P (xs ++ b) → AllByRecursion P (xs ++ next a b event ∷ b)
+      go : (xs : List StampedPoolEvent) → AllByRecursion P (xs ++ b) → AllByRecursion P (xs ++ next a b event ∷ b)
       go [] all = (here, all)
       go (x ∷ xs) all = (all.0, go xs all.1)
 
   count_now : (s : ℕ) → count_by (λ t. eqb t s) (stamps_of now) ≡ one (eqb (length was) s) + count_by (λ t. eqb t s) (stamps_of was)
   count_now s =
-      let whole = ap (count_by (λ t. eqb t s)) (map-append (λ (e : PoolEvent). e.stamp) a (next a b event ∷ b)) in
-      let parts = ap (count_by (λ t. eqb t s)) (map-append (λ (e : PoolEvent). e.stamp) a b) in
+      let whole = ap (count_by (λ t. eqb t s)) (map-append (λ (e : StampedPoolEvent). e.stamp) a (next a b event ∷ b)) in
+      let parts = ap (count_by (λ t. eqb t s)) (map-append (λ (e : StampedPoolEvent). e.stamp) a b) in
       let one_by = count_append (λ t. eqb t s) (stamps_of a) (length was ∷ stamps_of b) in
       let two_by = count_append (λ t. eqb t s) (stamps_of a) (stamps_of b) in
       let first = count_cons (λ t. eqb t s) (length was) (stamps_of b) in
       omega (arith, whole, parts, one_by, two_by, first)
 
-  no_stamp : (es : List PoolEvent) (s : ℕ) → IsBelow s es → count_by (λ t. eqb t s) (stamps_of es) ≡ 0
+  no_stamp : (es : List StampedPoolEvent) (s : ℕ) → IsBelow s es → count_by (λ t. eqb t s) (stamps_of es) ≡ 0
   no_stamp [] s all = refl
   no_stamp (e ∷ es) s all =
       let first = count_cons (λ t. eqb t s) e.stamp (stamps_of es) in
@@ -234,8 +234,8 @@ module _ (n : ℕ) (a b : List PoolEvent) (event : Event) (p : IsPooled n (befor
         count = omega (arith, all, long, count);
         each = each_now;
         history = subst (IsHistoryBack n) (sym is) (p.history, may);
-        once = subst (λ (es : List Event). (buffer : ℕ) → waits buffer (queue_after n es) ≤ 1) (sym is) once;
-        owed = subst (λ (es : List Event). (buffer : ℕ) → gives buffer es ≤ gots buffer es) (sym is) owed;
+        once = subst (λ (es : List PoolEvent). (buffer : ℕ) → waits buffer (queue_after n es) ≤ 1) (sym is) once;
+        owed = subst (λ (es : List PoolEvent). (buffer : ℕ) → gives buffer es ≤ gots buffer es) (sym is) owed;
       }
 
   -- what was answered stays so
@@ -246,7 +246,7 @@ module _ (n : ℕ) (a b : List PoolEvent) (event : Event) (p : IsPooled n (befor
       record {
         later = h.later;
         past = omega (arith, long, past);
-        untouched = insert_all (λ (e : PoolEvent). has_buffer buffer e.event ≡ true → from < e.stamp → e.stamp < to → ⊥) h.untouched (λ own above below. omega (arith, below, past));
+        untouched = insert_all (λ (e : StampedPoolEvent). has_buffer buffer e.event ≡ true → from < e.stamp → e.stamp < to → ⊥) h.untouched (λ own above below. omega (arith, below, past));
       }
 
   -- what is out stays so, where the event is another buffer's
@@ -259,18 +259,18 @@ module _ (n : ℕ) (a b : List PoolEvent) (event : Event) (p : IsPooled n (befor
       let no_give = ap one (none_given event other) in
       let was_owed = out.owed in
       record {
-        away = subst (λ (es : List Event). waits buffer (queue_after n es) ≡ 0) (sym is) away;
-        owed = subst (λ (es : List Event). gives buffer es < gots buffer es) (sym is) (omega (arith, got, given, no_got, no_give, was_owed));
-        last = insert_all (λ (e : PoolEvent). has_buffer buffer e.event ≡ true → e.stamp ≤ stamp) out.last (λ own. let no : true ≡ false = sym own ∙ other in absurd cc);
+        away = subst (λ (es : List PoolEvent). waits buffer (queue_after n es) ≡ 0) (sym is) away;
+        owed = subst (λ (es : List PoolEvent). gives buffer es < gots buffer es) (sym is) (omega (arith, got, given, no_got, no_give, was_owed));
+        last = insert_all (λ (e : StampedPoolEvent). has_buffer buffer e.event ≡ true → e.stamp ≤ stamp) out.last (λ own. let no : true ≡ false = sym own ∙ other in absurd cc);
       }
     where
-      none_got : (event : Event) → has_buffer buffer event ≡ false → is_got buffer event ≡ false
+      none_got : (event : PoolEvent) → has_buffer buffer event ≡ false → is_got buffer event ≡ false
       none_got (Got c) h = h
       none_got Empty h = refl
       none_got (Given c) h = refl
       none_got Missed h = refl
 
-      none_given : (event : Event) → has_buffer buffer event ≡ false → is_given buffer event ≡ false
+      none_given : (event : PoolEvent) → has_buffer buffer event ≡ false → is_given buffer event ≡ false
       none_given (Got c) h = refl
       none_given Empty h = refl
       none_given (Given c) h = h
@@ -323,11 +323,11 @@ false_of : (b : Bool) → one b ≡ 0 → b ≡ false
 false_of true h = absurd (omega (arith, h))
 false_of false h = refl
 
-module _ (n : ℕ) (a b : List PoolEvent) (buffer : ℕ) (p : IsPooled n (before a b (Got buffer))) (front : slice_get (queue_after n (events_back (before a b (Got buffer)))) 0 ≡ Some buffer) where
-  abbrev was_got : List PoolEvent
+module _ (n : ℕ) (a b : List StampedPoolEvent) (buffer : ℕ) (p : IsPooled n (before a b (Got buffer))) (front : slice_get (queue_after n (events_back (before a b (Got buffer)))) 0 ≡ Some buffer) where
+  abbrev was_got : List StampedPoolEvent
   was_got = before a b (Got buffer)
 
-  abbrev past_got : List Event
+  abbrev past_got : List PoolEvent
   past_got = events_back was_got
 
   pub got_kept : IsPooled n (after a b (Got buffer))
@@ -347,11 +347,11 @@ module _ (n : ℕ) (a b : List PoolEvent) (buffer : ℕ) (p : IsPooled n (before
       let given = give_more n a b (Got buffer) p buffer in
       let owed = p.owed buffer in
       record {
-        away = subst (λ (es : List Event). waits buffer (queue_after n es) ≡ 0) (sym is) (omega (arith, q, own, few));
-        owed = subst (λ (es : List Event). gives buffer es < gots buffer es) (sym is) (omega (arith, got, given, own, owed));
+        away = subst (λ (es : List PoolEvent). waits buffer (queue_after n es) ≡ 0) (sym is) (omega (arith, q, own, few));
+        owed = subst (λ (es : List PoolEvent). gives buffer es < gots buffer es) (sym is) (omega (arith, got, given, own, owed));
         last =
-            insert_all n a b (Got buffer) p (λ (e : PoolEvent). has_buffer buffer e.event ≡ true → e.stamp ≤ length was_got)
-            (all_each (λ (e : PoolEvent). e.stamp < length was_got) (λ (e : PoolEvent). has_buffer buffer e.event ≡ true → e.stamp ≤ length was_got) was_got (λ e low own. omega (arith, low)) p.low)
+            insert_all n a b (Got buffer) p (λ (e : StampedPoolEvent). has_buffer buffer e.event ≡ true → e.stamp ≤ length was_got)
+            (all_each (λ (e : StampedPoolEvent). e.stamp < length was_got) (λ (e : StampedPoolEvent). has_buffer buffer e.event ≡ true → e.stamp ≤ length was_got) was_got (λ e low own. omega (arith, low)) p.low)
             (λ own. omega arith);
       }
 
@@ -361,7 +361,7 @@ module _ (n : ℕ) (a b : List PoolEvent) (buffer : ℕ) (p : IsPooled n (before
       let away = out.away in
       still_out n a b (Got buffer) p c stamp out (omega (arith, q, away)) (false_of (eqb buffer c) (omega (arith, q, away)))
 
-module _ (n : ℕ) (a b : List PoolEvent) (p : IsPooled n (before a b Empty)) (none : queue_after n (events_back (before a b Empty)) ≡ []) where
+module _ (n : ℕ) (a b : List StampedPoolEvent) (p : IsPooled n (before a b Empty)) (none : queue_after n (events_back (before a b Empty)) ≡ []) where
   pub empty_kept : IsPooled n (after a b Empty)
   empty_kept =
       kept n a b Empty p none p.once
@@ -372,11 +372,11 @@ module _ (n : ℕ) (a b : List PoolEvent) (p : IsPooled n (before a b Empty)) (n
 
 -- ---- a give
 
-module _ (n : ℕ) (a b : List PoolEvent) (buffer stamp : ℕ) (p : IsPooled n (before a b (Given buffer))) (out : IsOut n (before a b (Given buffer)) buffer stamp) where
-  abbrev was_given : List PoolEvent
+module _ (n : ℕ) (a b : List StampedPoolEvent) (buffer stamp : ℕ) (p : IsPooled n (before a b (Given buffer))) (out : IsOut n (before a b (Given buffer)) buffer stamp) where
+  abbrev was_given : List StampedPoolEvent
   was_given = before a b (Given buffer)
 
-  abbrev past_given : List Event
+  abbrev past_given : List PoolEvent
   past_given = events_back was_given
 
   waits_back : (c : ℕ) → waits c (queue_after n past_given ++ buffer ∷ []) ≡ waits c (queue_after n past_given) + one (eqb buffer c)
@@ -422,8 +422,8 @@ module _ (n : ℕ) (a b : List PoolEvent) (buffer stamp : ℕ) (p : IsPooled n (
         later = low;
         past = omega (arith, long);
         untouched =
-            insert_all n a b (Given buffer) p (λ (e : PoolEvent). has_buffer buffer e.event ≡ true → stamp < e.stamp → e.stamp < length was_given → ⊥)
-            (all_each (λ (e : PoolEvent). has_buffer buffer e.event ≡ true → e.stamp ≤ stamp) (λ (e : PoolEvent). has_buffer buffer e.event ≡ true → stamp < e.stamp → e.stamp < length was_given → ⊥) was_given
+            insert_all n a b (Given buffer) p (λ (e : StampedPoolEvent). has_buffer buffer e.event ≡ true → stamp < e.stamp → e.stamp < length was_given → ⊥)
+            (all_each (λ (e : StampedPoolEvent). has_buffer buffer e.event ≡ true → e.stamp ≤ stamp) (λ (e : StampedPoolEvent). has_buffer buffer e.event ≡ true → stamp < e.stamp → e.stamp < length was_given → ⊥) was_given
             (λ e last own above below. let most = last own in omega (arith, most, above)) out.last)
             (λ own above below. omega (arith, below));
       }
@@ -447,18 +447,18 @@ and_middle : (x z : Bool) → (x && false && z) ≡ false
 and_middle true z = refl
 and_middle false z = refl
 
-untouched_one : (buffer from to : ℕ) (e : PoolEvent) (x y z : Bool) → has_buffer buffer e.event ≡ x → ltb from e.stamp ≡ y → ltb e.stamp to ≡ z → (has_buffer buffer e.event ≡ true → from < e.stamp → e.stamp < to → ⊥)
+untouched_one : (buffer from to : ℕ) (e : StampedPoolEvent) (x y z : Bool) → has_buffer buffer e.event ≡ x → ltb from e.stamp ≡ y → ltb e.stamp to ≡ z → (has_buffer buffer e.event ≡ true → from < e.stamp → e.stamp < to → ⊥)
     → (has_buffer buffer e.event && ltb from e.stamp && ltb e.stamp to) ≡ false
 untouched_one buffer from to e true true true own above below never = absurd (never own (ltb-true from e.stamp above) (ltb-true e.stamp to below))
 untouched_one buffer from to e x y false own above below never = ap (λ c. has_buffer buffer e.event && ltb from e.stamp && c) below ∙ and_last (has_buffer buffer e.event) (ltb from e.stamp)
 untouched_one buffer from to e x false z own above below never = ap (λ c. has_buffer buffer e.event && c && ltb e.stamp to) above ∙ and_middle (has_buffer buffer e.event) (ltb e.stamp to)
 untouched_one buffer from to e false y z own above below never = ap (λ c. c && ltb from e.stamp && ltb e.stamp to) own
 
-untouched_none : (buffer from to : ℕ) (all : List PoolEvent) → AllByRecursion (λ (e : PoolEvent). has_buffer buffer e.event ≡ true → from < e.stamp → e.stamp < to → ⊥) all → is_touched all buffer from to ≡ false
+untouched_none : (buffer from to : ℕ) (all : List StampedPoolEvent) → AllByRecursion (λ (e : StampedPoolEvent). has_buffer buffer e.event ≡ true → from < e.stamp → e.stamp < to → ⊥) all → is_touched all buffer from to ≡ false
 untouched_none buffer from to [] each = refl
 untouched_none buffer from to (e ∷ all) each =
     ap (λ c. c || is_touched all buffer from to) (untouched_one buffer from to e (has_buffer buffer e.event) (ltb from e.stamp) (ltb e.stamp to) refl refl refl each.0)
     ∙ untouched_none buffer from to all each.1
 
-pub answer_passes : (all : List PoolEvent) (buffer from to : ℕ) → IsAnswered all buffer from to → answers_draw all to (draws.Got buffer from) ≡ true
+pub answer_passes : (all : List StampedPoolEvent) (buffer from to : ℕ) → IsAnswered all buffer from to → answers_draw all to (draws.Got buffer from) ≡ true
 answer_passes all buffer from to h = both_true (lt-ltb from to h.later) (ap not (untouched_none buffer from to all h.untouched))

@@ -14,7 +14,7 @@ use Rattle.hs_journal.specs.declared.journal.Step.TheVariants as steps
 use Rattle.hs_law_agent.specs.Laws.{count_of, given_places, PlacesMatch, ListsHaveTheirChunks, EventsGoOn, sheets_of, brought_by, noted_as, EventsAddThis}
 use Rattle.hs_law_agent.specs.Standings.{Taken, is_let_go, stands}
 use Rattle.hs_law_agent.specs.State.{AgentState, GivenPlace}
-use Rattle.hs_law_agent.specs.Stepping.{Input, Chunk, Crumbed, Triggered, Asked, Turn, Event, Took, Gave, after_event}
+use Rattle.hs_law_agent.specs.Stepping.{Input, Chunk, Crumbed, Triggered, Asked, Turn, AgentEvent, Took, Gave, after_event}
 use Rattle.hs_law_agent.specs.Stepping as model
 use Rattle.hs_records.specs.Plain.{PlainSettings}
 use Rattle.hs_law_sends.specs.Drawn.{DrawnPage, has_buffer}
@@ -23,13 +23,13 @@ use Rattle.hs_words.specs.Pages.{Sheet}
 use Rattle.hs_law_journal.specs.Following.{Chunks, Crumbs, Triggers, Asks, taken, takes, asks_to, NodeRun, next_of, event_of, perform}
 use Rattle.hs_law_journal.specs.Laws.{ComesByEvents}
 use Rattle.hs_law_journal.specs.Passes.{is_offer}
-use Rattle.hs_law_journal.specs.Pooled.{PoolEvent, drawn_event, buffer_of, page_of, given_page, given_buffer, given_event, missed_event, node_pages, pool_events}
+use Rattle.hs_law_journal.specs.Pooled.{StampedPoolEvent, drawn_event, buffer_of, page_of, given_page, given_buffer, given_event, missed_event, node_pages, pool_events}
 use Rattle.hs_law_journal.specs.Shape.{step_stamp}
 use Rattle.hs_law_lockstep.proofs.Holding.{given_as, event_at, gives_in, events_in, IsDrawn, ClientHolds, Holds, Adds, same_events, takes_keep, given_drawn, now_is, gives_keep, given_longer}
 
 -- ---- a node
 
-abbrev pub node_events : NodeRun → List PoolEvent
+abbrev pub node_events : NodeRun → List StampedPoolEvent
 node_events run = events_in run.sends (sheets_of run.state.taken) run.state.given
 
 abbrev pub HoldsAt : PlainSettings → NodeRun → Type 0
@@ -57,9 +57,9 @@ gives_are run (g ∷ givens) =
 
 pub pool_is : (run : NodeRun) → filter_map missed_event run.state.log ≡ [] → pool_events run ≡ node_events run
 pool_is run none =
-    ap (λ (missed : List PoolEvent). map drawn_event (node_pages run) ++ filter_map (given_event run) run.state.given ++ missed) none
+    ap (λ (missed : List StampedPoolEvent). map drawn_event (node_pages run) ++ filter_map (given_event run) run.state.given ++ missed) none
     ∙ append-nil (map drawn_event (node_pages run) ++ filter_map (given_event run) run.state.given)
-    ∙ ap (λ (gives : List PoolEvent). map drawn_event (node_pages run) ++ gives) (gives_are run run.state.given)
+    ∙ ap (λ (gives : List StampedPoolEvent). map drawn_event (node_pages run) ++ gives) (gives_are run run.state.given)
 
 -- ---- what was sent
 
@@ -197,14 +197,14 @@ module _ (n : ℕ) (sends : List ClientSends) (sheets : List Sheet) (given : Lis
             (chunks_rise s.drawn 0 (taken (Chunks client) log) j item later (λ k d at. let is = holds.numbers k d at in omega (arith, is)) past next_sent found_sent)
 
 -- what a step that takes is
-record TakesSo (run : NodeRun) (step : Step) (event : Event) : Type 0 where
+record TakesSo (run : NodeRun) (step : Step) (event : AgentEvent) : Type 0 where
   input : Input
   is : event ≡ Took input
   noted : noted_as event ≡ step
   adds : Adds run.sends (sheets_of run.state.taken) run.state.log (brought_by event) step
 
 module _ (settings : PlainSettings) (run : NodeRun) (h : HoldsAt settings run) where
-  chunk_so : (client : ℕ) (event : Event) (o : Option ClientSends) → slice_get run.sends client ≡ o
+  chunk_so : (client : ℕ) (event : AgentEvent) (o : Option ClientSends) → slice_get run.sends client ≡ o
       → option_and_then (λ (s : ClientSends). option_map (λ sheet. Took (Chunk client sheet)) (next_of (Chunks client) run.state s.chunks)) o ≡ Some event → TakesSo run (steps.Chunk client) event
   chunk_so client event None e met = let no : None ≡ Some event = met in absurd cc
   chunk_so client event (Some s) e met =
@@ -216,11 +216,11 @@ module _ (settings : PlainSettings) (run : NodeRun) (h : HoldsAt settings run) w
         is = sym t.2;
         noted = ap noted_as (sym t.2);
         adds =
-            subst (λ (event : Event). Adds run.sends (sheets_of run.state.taken) run.state.log (brought_by event) (steps.Chunk client)) t.2
+            subst (λ (event : AgentEvent). Adds run.sends (sheets_of run.state.taken) run.state.log (brought_by event) (steps.Chunk client)) t.2
             (subst (λ (sheet : Sheet). Adds run.sends (sheets_of run.state.taken) run.state.log (sheet ∷ []) (steps.Chunk client)) i.2 added);
       }
 
-  other_so : {A : Type 0} (step : Step) (f : A → Input) (event : Event) (o : Option A) → ((a : A) → noted_as (Took (f a)) ≡ step) → ((a : A) → brought_by (Took (f a)) ≡ []) → option_map (λ a. Took (f a)) o ≡ Some event → TakesSo run step event
+  other_so : {A : Type 0} (step : Step) (f : A → Input) (event : AgentEvent) (o : Option A) → ((a : A) → noted_as (Took (f a)) ≡ step) → ((a : A) → brought_by (Took (f a)) ≡ []) → option_map (λ a. Took (f a)) o ≡ Some event → TakesSo run step event
   other_so step f event o noted none met =
       let t = option_unmap (λ a. Took (f a)) o event met in
       record {
@@ -232,12 +232,12 @@ module _ (settings : PlainSettings) (run : NodeRun) (h : HoldsAt settings run) w
             (none_added run.sends (sheets_of run.state.taken) run.state.log step);
       }
 
-  client_so : {A : Type 0} (step : Step) (f : A → Input) (event : Event) (g : ClientSends → Option A) (o : Option ClientSends) → ((a : A) → noted_as (Took (f a)) ≡ step) → ((a : A) → brought_by (Took (f a)) ≡ [])
+  client_so : {A : Type 0} (step : Step) (f : A → Input) (event : AgentEvent) (g : ClientSends → Option A) (o : Option ClientSends) → ((a : A) → noted_as (Took (f a)) ≡ step) → ((a : A) → brought_by (Took (f a)) ≡ [])
       → option_and_then (λ (s : ClientSends). option_map (λ a. Took (f a)) (g s)) o ≡ Some event → TakesSo run step event
   client_so step f event g None noted none met = let no : None ≡ Some event = met in absurd cc
   client_so step f event g (Some s) noted none met = other_so step f event (g s) noted none met
 
-  takes_so : (heard : Messages) (step : Step) (event : Event) → is_offer step ≡ false → event_of run heard step ≡ Some event → TakesSo run step event
+  takes_so : (heard : Messages) (step : Step) (event : AgentEvent) → is_offer step ≡ false → event_of run heard step ≡ Some event → TakesSo run step event
   takes_so heard (steps.Chunk client) event quiet met = chunk_so client event (slice_get run.sends client) refl met
   takes_so heard (steps.Crumb client) event quiet met =
       client_so (steps.Crumb client) (Crumbed client) event (λ (s : ClientSends). next_of (Crumbs client) run.state s.crumbs) (slice_get run.sends client) (λ a. refl) (λ a. refl) met
@@ -250,7 +250,7 @@ module _ (settings : PlainSettings) (run : NodeRun) (h : HoldsAt settings run) w
         input = Turn;
         is = sym is;
         noted = ap noted_as (sym is);
-        adds = subst (λ (event : Event). Adds run.sends (sheets_of run.state.taken) run.state.log (brought_by event) steps.Turn) is (none_added run.sends (sheets_of run.state.taken) run.state.log steps.Turn);
+        adds = subst (λ (event : AgentEvent). Adds run.sends (sheets_of run.state.taken) run.state.log (brought_by event) steps.Turn) is (none_added run.sends (sheets_of run.state.taken) run.state.log steps.Turn);
       }
   takes_so heard (steps.Given stamp) event quiet met = let no : true ≡ false = quiet in absurd cc
   takes_so heard (steps.Missed stamp) event quiet met = let no : true ≡ false = quiet in absurd cc
@@ -279,15 +279,15 @@ quiet_missed steps.Unread e = refl
 -- ---- a step keeps what is held
 
 module _ (adds : EventsAddThis) (go_on : EventsGoOn) (places : ListsHaveTheirChunks) (settings : PlainSettings) where
-  comes_on : (run : NodeRun) (rest : List Step) (event : Event) → ComesByEvents settings run → ComesByEvents settings (perform settings rest run event)
+  comes_on : (run : NodeRun) (rest : List Step) (event : AgentEvent) → ComesByEvents settings run → ComesByEvents settings (perform settings rest run event)
   comes_on run rest event comes = ap (λ (state : AgentState). after_event settings run.node state event) comes ∙ sym (go_on settings run.node run.events (event ∷ []))
 
-  pub take_held : (heard : Messages) (run : NodeRun) (step : Step) (rest : List Step) (event : Event) → is_offer step ≡ false → event_of run heard step ≡ Some event → IsHeld settings run → IsHeld settings (perform settings rest run event)
+  pub take_held : (heard : Messages) (run : NodeRun) (step : Step) (rest : List Step) (event : AgentEvent) → is_offer step ≡ false → event_of run heard step ≡ Some event → IsHeld settings run → IsHeld settings (perform settings rest run event)
   take_held heard run step rest event quiet met h =
       let t = takes_so settings run h.holds heard step event quiet met in
       let a = adds settings run.node run.state in
       let kept = takes_keep settings.buffers run.sends (sheets_of run.state.taken) run.state.given run.state.log h.holds (brought_by event) step (quiet_stamp step quiet) (quiet_missed step quiet) t.adds in
-      let given_is : (after_event settings run.node run.state event).given ≡ run.state.given = ap (λ (event : Event). (after_event settings run.node run.state event).given) t.is ∙ a.given t.input in
+      let given_is : (after_event settings run.node run.state event).given ≡ run.state.given = ap (λ (event : AgentEvent). (after_event settings run.node run.state event).given) t.is ∙ a.given t.input in
       let log_is : (after_event settings run.node run.state event).log ≡ run.state.log ++ step ∷ [] = a.log event ∙ ap (λ (step : Step). run.state.log ++ step ∷ []) t.noted in
       record {
         comes = comes_on run rest event h.comes;
@@ -298,13 +298,13 @@ module _ (adds : EventsAddThis) (go_on : EventsGoOn) (places : ListsHaveTheirChu
       }
 
   -- and what happened at its pool
-  pub take_events : (heard : Messages) (run : NodeRun) (step : Step) (rest : List Step) (event : Event) → is_offer step ≡ false → event_of run heard step ≡ Some event → IsHeld settings run → node_events (perform settings rest run event) ≡ node_events run
+  pub take_events : (heard : Messages) (run : NodeRun) (step : Step) (rest : List Step) (event : AgentEvent) → is_offer step ≡ false → event_of run heard step ≡ Some event → IsHeld settings run → node_events (perform settings rest run event) ≡ node_events run
   take_events heard run step rest event quiet met h =
       let t = takes_so settings run h.holds heard step event quiet met in
       let a = adds settings run.node run.state in
       let sheets = sheets_of run.state.taken in
       let same = same_events settings.buffers run.sends sheets run.state.given run.state.log h.holds (brought_by event) step (quiet_stamp step quiet) (quiet_missed step quiet) t.adds in
-      let given_is : (after_event settings run.node run.state event).given ≡ run.state.given = ap (λ (event : Event). (after_event settings run.node run.state event).given) t.is ∙ a.given t.input in
+      let given_is : (after_event settings run.node run.state event).given ≡ run.state.given = ap (λ (event : AgentEvent). (after_event settings run.node run.state event).given) t.is ∙ a.given t.input in
       ap (λ (sheets : List Sheet). events_in run.sends sheets (after_event settings run.node run.state event).given) (a.chunks event) ∙ ap (events_in run.sends (sheets ++ brought_by event)) given_is ∙ sym same
 
   -- ---- the first of the hand
@@ -371,7 +371,7 @@ module _ (adds : EventsAddThis) (go_on : EventsGoOn) (places : ListsHaveTheirChu
   give_held stamp place hand run rest e h =
       let f = first_held run place hand e h.held.comes in
       let a = adds settings run.node run.state in
-      let event : Event = Gave (model.Given stamp) in
+      let event : AgentEvent = Gave (model.Given stamp) in
       let sheets = sheets_of run.state.taken in
       let give : GivenPlace = record { place = place; stamp = stamp } in
       let sheets_are : sheets_of (after_event settings run.node run.state event).taken ≡ sheets = a.chunks event ∙ append-nil sheets in
@@ -420,7 +420,7 @@ module _ (adds : EventsAddThis) (go_on : EventsGoOn) (places : ListsHaveTheirChu
   give_events stamp place hand run rest e h =
       let f = first_held run place hand e h.held.comes in
       let a = adds settings run.node run.state in
-      let event : Event = Gave (model.Given stamp) in
+      let event : AgentEvent = Gave (model.Given stamp) in
       let sheets = sheets_of run.state.taken in
       let sheets_are : sheets_of (after_event settings run.node run.state event).taken ≡ sheets = a.chunks event ∙ append-nil sheets in
       let given_is : (after_event settings run.node run.state event).given ≡ run.state.given ++ record { place = place; stamp = stamp } ∷ [] = ap (λ (hand : List ℕ). (model.give_back stamp hand run.state).given) e in
@@ -429,4 +429,4 @@ module _ (adds : EventsAddThis) (go_on : EventsGoOn) (places : ListsHaveTheirChu
       ∙ ap (events_in run.sends sheets) given_is
       ∙ ap (λ (k : ℕ). events_in run.sends sheets (run.state.given ++ record { place = place; stamp = k } ∷ [])) (sym h.events)
       ∙ sym now
-      ∙ ap (λ (es : List PoolEvent). node_events run ++ given_as (length es) (buffer_given place hand run e h.held) ∷ []) (append-nil (node_events run))
+      ∙ ap (λ (es : List StampedPoolEvent). node_events run ++ given_as (length es) (buffer_given place hand run e h.held) ∷ []) (append-nil (node_events run))

@@ -19,7 +19,7 @@ use Rattle.hs_law_sends.specs.Sending.{Sent, ClientSends, sheet_of, sent_chunks}
 use Rattle.hs_words.specs.Pages.{Sheet}
 use Rattle.hs_words.specs.PoolHistory.{Given}
 use Rattle.hs_law_journal.specs.Following.{Chunks, taken, takes}
-use Rattle.hs_law_journal.specs.Pooled.{PoolEvent, drawn_event, buffer_of, missed_event, has_buffer}
+use Rattle.hs_law_journal.specs.Pooled.{StampedPoolEvent, drawn_event, buffer_of, missed_event, has_buffer}
 use Rattle.hs_law_journal.specs.Shape.{step_stamp, log_stamps, rise_above, rise}
 use Rattle.hs_law_lockstep.proofs.Growing.{stamps_of, IsPooled, IsOut, IsAnswered, answered, given_kept, given_answers, given_stays}
 
@@ -29,20 +29,20 @@ use Rattle.hs_law_lockstep.proofs.Growing.{stamps_of, IsPooled, IsOut, IsAnswere
 abbrev pub page_in : List ClientSends → Sheet → Option DrawnPage
 page_in sends sheet = option_and_then (λ (s : ClientSends). slice_get s.drawn sheet.header.page) (slice_get sends sheet.header.client.number)
 
-abbrev pub given_as : ℕ → ℕ → PoolEvent
+abbrev pub given_as : ℕ → ℕ → StampedPoolEvent
 given_as stamp buffer = record { stamp = stamp; event = Given buffer }
 
 -- the give of a chunk, where these pages were taken
-abbrev pub event_at : List ClientSends → List Sheet → GivenPlace → Option PoolEvent
+abbrev pub event_at : List ClientSends → List Sheet → GivenPlace → Option StampedPoolEvent
 event_at sends sheets g = option_map (given_as g.stamp) (option_and_then (λ (d : DrawnPage). buffer_of d.draw) (option_and_then (page_in sends) (slice_get sheets g.place)))
 
 abbrev pub pages_in : List ClientSends → List DrawnPage
 pages_in sends = flat_map (λ (s : ClientSends). s.drawn) sends
 
-abbrev pub gives_in : List ClientSends → List Sheet → List GivenPlace → List PoolEvent
+abbrev pub gives_in : List ClientSends → List Sheet → List GivenPlace → List StampedPoolEvent
 gives_in sends sheets given = filter_map (event_at sends sheets) given
 
-abbrev pub events_in : List ClientSends → List Sheet → List GivenPlace → List PoolEvent
+abbrev pub events_in : List ClientSends → List Sheet → List GivenPlace → List StampedPoolEvent
 events_in sends sheets given = map drawn_event (pages_in sends) ++ gives_in sends sheets given
 
 -- ---- what is held
@@ -164,7 +164,7 @@ mapped_at P f (y ∷ xs) zero x all h = subst (λ z. P (f z)) (same_Some y x h) 
 mapped_at P f (y ∷ xs) (suc i) x all h = mapped_at P f xs i x all.1 h
 
 -- what holds of all events holds of that of a page
-pub at_page : (P : PoolEvent → Type 0) (sends : List ClientSends) (more : List PoolEvent) (client k : ℕ) (s : ClientSends) (d : DrawnPage) → AllByRecursion P (map drawn_event (pages_in sends) ++ more)
+pub at_page : (P : StampedPoolEvent → Type 0) (sends : List ClientSends) (more : List StampedPoolEvent) (client k : ℕ) (s : ClientSends) (d : DrawnPage) → AllByRecursion P (map drawn_event (pages_in sends) ++ more)
     → slice_get sends client ≡ Some s → slice_get s.drawn k ≡ Some d → P (drawn_event d)
 at_page P sends more client k s d all h g =
     let at = page_there sends client k s d h g in mapped_at P drawn_event (pages_in sends) at.place d (all_front P (map drawn_event (pages_in sends)) more all) at.there
@@ -202,12 +202,12 @@ count_pages s (d ∷ pages) =
     let rest = count_pages s pages in
     omega (arith, a, b, rest)
 
-pub same_page : (n : ℕ) (sends : List ClientSends) (more : List PoolEvent) → IsPooled n (map drawn_event (pages_in sends) ++ more) → (c k e l : ℕ) (s t : ClientSends) (x y : DrawnPage) → slice_get sends c ≡ Some s → slice_get s.drawn k ≡ Some x
+pub same_page : (n : ℕ) (sends : List ClientSends) (more : List StampedPoolEvent) → IsPooled n (map drawn_event (pages_in sends) ++ more) → (c k e l : ℕ) (s t : ClientSends) (x y : DrawnPage) → slice_get sends c ≡ Some s → slice_get s.drawn k ≡ Some x
     → slice_get sends e ≡ Some t → slice_get t.drawn l ≡ Some y → stamp_of x.draw ≡ stamp_of y.draw → x ≡ y
 same_page n sends more p c k e l s t x y h g i j same =
-    let low = at_page (λ (v : PoolEvent). v.stamp < length (map drawn_event (pages_in sends) ++ more)) sends more c k s x p.low h g in
+    let low = at_page (λ (v : StampedPoolEvent). v.stamp < length (map drawn_event (pages_in sends) ++ more)) sends more c k s x p.low h g in
     let once = p.each (stamp_of x.draw) low in
-    let whole = ap (count_by (λ t. eqb t (stamp_of x.draw))) (map-append (λ (v : PoolEvent). v.stamp) (map drawn_event (pages_in sends)) more) in
+    let whole = ap (count_by (λ t. eqb t (stamp_of x.draw))) (map-append (λ (v : StampedPoolEvent). v.stamp) (map drawn_event (pages_in sends)) more) in
     let both = count_append (λ t. eqb t (stamp_of x.draw)) (stamps_of (map drawn_event (pages_in sends))) (stamps_of more) in
     let pages = count_pages (stamp_of x.draw) (pages_in sends) in
     let first = page_there sends c k s x h g in
@@ -247,7 +247,7 @@ all_answers sends others sheets more given after (g ∷ givens) on all = (on g a
 module _ (n : ℕ) (sends : List ClientSends) (sheets : List Sheet) (given : List GivenPlace) (log : List Step) (h : Holds n sends sheets given log) where
   module _ (added : List Sheet) (step : Step) (quiet : step_stamp step ≡ None) (unmissed : missed_event step ≡ None) (adds : Adds sends sheets log added step) where
     pub same_events : events_in sends sheets given ≡ events_in sends (sheets ++ added) given
-    same_events = ap (λ (gives : List PoolEvent). map drawn_event (pages_in sends) ++ gives) (sym (gives_same sends sheets added given given h.answers))
+    same_events = ap (λ (gives : List StampedPoolEvent). map drawn_event (pages_in sends) ++ gives) (sym (gives_same sends sheets added given given h.answers))
 
     given_still : (client page : ℕ) → WasGiven sheets given client page → WasGiven (sheets ++ added) given client page
     given_still client page w =
@@ -275,7 +275,7 @@ module _ (n : ℕ) (sends : List ClientSends) (sheets : List Sheet) (given : Lis
       where
         still_held : (k buffer stamp : ℕ) → WasGiven sheets given client k ⊎ IsOut n (events_in sends sheets given) buffer stamp → WasGiven (sheets ++ added) given client k ⊎ IsOut n (events_in sends (sheets ++ added) given) buffer stamp
         still_held k buffer stamp (inl w) = inl (given_still client k w)
-        still_held k buffer stamp (inr o) = inr (subst (λ (es : List PoolEvent). IsOut n es buffer stamp) same_events o)
+        still_held k buffer stamp (inr o) = inr (subst (λ (es : List StampedPoolEvent). IsOut n es buffer stamp) same_events o)
 
         still_ahead : ClientHolds n sends sheets given log client s → (j : ℕ) (item : Sent Sheet) → taken (Chunks client) (log ++ step ∷ []) ≤ j → slice_get s.chunks j ≡ Some item → (q : ℕ) (sheet : Sheet)
             → sheet.header.client.number ≡ client → InFront sheets q sheet ⊎ Behind sheets added q sheet → sheet.header.page < item.item.header.page
@@ -315,7 +315,7 @@ module _ (n : ℕ) (sends : List ClientSends) (sheets : List Sheet) (given : Lis
                 sheet = a.sheet;
                 drawn = a.drawn;
                 is = get_front sheets added g.place a.sheet a.is;
-                answers = subst (λ (es : List PoolEvent). IsAnswered es a.drawn.buffer a.drawn.stamp g.stamp) same_events a.answers;
+                answers = subst (λ (es : List StampedPoolEvent). IsAnswered es a.drawn.buffer a.drawn.stamp g.stamp) same_events a.answers;
               })
               h.answers;
           drawn = λ q sheet at. taken_drawn q sheet (in_either sheets added q sheet at);
@@ -336,7 +336,7 @@ below_given n sends sheets given (g ∷ givens) all = let a = all.0 in (a.answer
 module _ (n : ℕ) (sends : List ClientSends) (sheets : List Sheet) (given : List GivenPlace) (log : List Step) (h : Holds n sends sheets given log) (place : ℕ) (sheet : Sheet) (is : slice_get sheets place ≡ Some sheet)
     (ungiven : (i : ℕ) (g : GivenPlace) → slice_get given i ≡ Some g → g.place ≡ place → ⊥)
   where
-    abbrev was : List PoolEvent
+    abbrev was : List StampedPoolEvent
     was = events_in sends sheets given
 
     abbrev stamp : ℕ
@@ -345,7 +345,7 @@ module _ (n : ℕ) (sends : List ClientSends) (sheets : List Sheet) (given : Lis
     abbrev give : GivenPlace
     give = record { place = place; stamp = stamp }
 
-    abbrev now : List PoolEvent
+    abbrev now : List StampedPoolEvent
     now = events_in sends sheets (given ++ give ∷ [])
 
     pub given_drawn : IsDrawn sends sheet
@@ -356,7 +356,7 @@ module _ (n : ℕ) (sends : List ClientSends) (sheets : List Sheet) (given : Lis
 
     page_low : given_drawn.stamp < stamp
     page_low =
-        let low = at_page (λ (e : PoolEvent). e.stamp < stamp) sends (gives_in sends sheets given) sheet.header.client.number sheet.header.page found.client given_drawn.page h.pooled.low found.there found.is in
+        let low = at_page (λ (e : StampedPoolEvent). e.stamp < stamp) sends (gives_in sends sheets given) sheet.header.client.number sheet.header.page found.client given_drawn.page h.pooled.low found.there found.is in
         let same = ap stamp_of given_drawn.got in
         omega (arith, low, same)
 
@@ -396,7 +396,7 @@ module _ (n : ℕ) (sends : List ClientSends) (sheets : List Sheet) (given : Lis
     was_is = sym (append-nil was)
 
     out_there : IsOut n (was ++ []) given_drawn.buffer given_drawn.stamp
-    out_there = subst (λ (es : List PoolEvent). IsOut n es given_drawn.buffer given_drawn.stamp) was_is out
+    out_there = subst (λ (es : List StampedPoolEvent). IsOut n es given_drawn.buffer given_drawn.stamp) was_is out
 
     pooled_there : IsPooled n (was ++ [])
     pooled_there = subst (IsPooled n) was_is h.pooled
@@ -404,26 +404,26 @@ module _ (n : ℕ) (sends : List ClientSends) (sheets : List Sheet) (given : Lis
     pub now_is : was ++ given_as (length (was ++ [])) given_drawn.buffer ∷ [] ≡ now
     now_is =
         let gives = filter_map-append (event_at sends sheets) given (give ∷ []) ∙ ap (λ o. gives_in sends sheets given ++ cons_option o []) (event_there sends sheets give sheet is given_drawn) in
-        ap (λ (es : List PoolEvent). was ++ given_as (length es) given_drawn.buffer ∷ []) (append-nil was)
+        ap (λ (es : List StampedPoolEvent). was ++ given_as (length es) given_drawn.buffer ∷ []) (append-nil was)
         ∙ append_assoc (map drawn_event (pages_in sends)) (gives_in sends sheets given) (given_as stamp given_drawn.buffer ∷ [])
-        ∙ ap (λ (gives : List PoolEvent). map drawn_event (pages_in sends) ++ gives) (sym gives)
+        ∙ ap (λ (gives : List StampedPoolEvent). map drawn_event (pages_in sends) ++ gives) (sym gives)
 
     given_answered : IsAnswered now given_drawn.buffer given_drawn.stamp stamp
     given_answered =
         let low : given_drawn.stamp < length (was ++ []) = let same = ap length was_is in let less = page_low in omega (arith, same, less) in
-        subst (λ (es : List PoolEvent). IsAnswered es given_drawn.buffer given_drawn.stamp stamp) now_is
+        subst (λ (es : List StampedPoolEvent). IsAnswered es given_drawn.buffer given_drawn.stamp stamp) now_is
         (subst (λ (t : ℕ). IsAnswered (was ++ given_as (length (was ++ [])) given_drawn.buffer ∷ []) given_drawn.buffer given_drawn.stamp t) (ap length (append-nil was))
         (given_answers n was [] given_drawn.buffer given_drawn.stamp pooled_there out_there low))
 
     still_answered : (buffer from to : ℕ) → IsAnswered was buffer from to → IsAnswered now buffer from to
     still_answered buffer from to a =
-        subst (λ (es : List PoolEvent). IsAnswered es buffer from to) now_is
-        (answered n was [] (Given given_drawn.buffer) pooled_there buffer from to (subst (λ (es : List PoolEvent). IsAnswered es buffer from to) was_is a))
+        subst (λ (es : List StampedPoolEvent). IsAnswered es buffer from to) now_is
+        (answered n was [] (Given given_drawn.buffer) pooled_there buffer from to (subst (λ (es : List StampedPoolEvent). IsAnswered es buffer from to) was_is a))
 
     still_out_now : (buffer from : ℕ) → eqb given_drawn.buffer buffer ≡ false → IsOut n was buffer from → IsOut n now buffer from
     still_out_now buffer from ne o =
-        subst (λ (es : List PoolEvent). IsOut n es buffer from) now_is
-        (given_stays n was [] given_drawn.buffer given_drawn.stamp pooled_there out_there buffer from ne (subst (λ (es : List PoolEvent). IsOut n es buffer from) was_is o))
+        subst (λ (es : List StampedPoolEvent). IsOut n es buffer from) now_is
+        (given_stays n was [] given_drawn.buffer given_drawn.stamp pooled_there out_there buffer from ne (subst (λ (es : List StampedPoolEvent). IsOut n es buffer from) was_is o))
 
     still_given : (client page : ℕ) → WasGiven sheets given client page → WasGiven sheets (given ++ give ∷ []) client page
     still_given client page w =
@@ -471,11 +471,11 @@ module _ (n : ℕ) (sends : List ClientSends) (sheets : List Sheet) (given : Lis
             same_case true e =
                 let equal = eqb-true given_drawn.buffer buffer e in
                 let most =
-                at_page (λ (v : PoolEvent). has_buffer given_drawn.buffer v.event ≡ true → v.stamp ≤ given_drawn.stamp) sends (gives_in sends sheets given) client k s d out.last there at
+                at_page (λ (v : StampedPoolEvent). has_buffer given_drawn.buffer v.event ≡ true → v.stamp ≤ given_drawn.stamp) sends (gives_in sends sheets given) client k s d out.last there at
                 (ap (λ draw. has_buffer given_drawn.buffer (drawn_event (record d { draw = draw })).event) got ∙ eq-eqb buffer given_drawn.buffer (sym equal))
                 in
                 let least =
-                at_page (λ (v : PoolEvent). has_buffer buffer v.event ≡ true → v.stamp ≤ from) sends (gives_in sends sheets given) sheet.header.client.number sheet.header.page found.client given_drawn.page o.last found.there found.is
+                at_page (λ (v : StampedPoolEvent). has_buffer buffer v.event ≡ true → v.stamp ≤ from) sends (gives_in sends sheets given) sheet.header.client.number sheet.header.page found.client given_drawn.page o.last found.there found.is
                 (ap (λ draw. has_buffer buffer (drawn_event (record given_drawn.page { draw = draw })).event) given_drawn.got ∙ e)
                 in
                 let here = ap stamp_of got in

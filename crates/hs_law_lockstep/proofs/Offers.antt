@@ -12,7 +12,7 @@ use Rattle.hs_lists.proofs.Tests.{list_all_from}
 use Rattle.hs_journal.specs.declared.journal.Step.{Step}
 use Rattle.hs_journal.specs.Views.{PlainJournal}
 use Rattle.hs_law_agent.specs.State.{AgentState}
-use Rattle.hs_law_agent.specs.Stepping.{Event, after}
+use Rattle.hs_law_agent.specs.Stepping.{AgentEvent, after}
 use Rattle.hs_records.specs.Plain.{PlainWorkload}
 use Rattle.hs_law_sends.specs.Sending.{client_sends, operations_at}
 use Rattle.hs_law_journal.specs.Extending.{node_behind, run_behind, IsOfJournal}
@@ -97,7 +97,7 @@ module _ (W : PlainWorkload) where
       in
       ap (λ (n : ℕ). (after W.settings later.node (take n later.events)).hand) count
       ∙ ap (λ (n : ℕ). (after W.settings n (take (steps_in (passes_of node.state.log) (k + 1)) later.events)).hand) l.number
-      ∙ ap (λ (events : List Event). (after W.settings node.node events).hand) events
+      ∙ ap (λ (events : List AgentEvent). (after W.settings node.node events).hand) events
       ∙ h.hands k low
 
   -- behind the last pass it stands as it does now
@@ -106,7 +106,7 @@ module _ (W : PlainWorkload) where
   last_hand later even comes empty k few =
       let count = steps_of_all later.state.log (k + 1) few in
       ap (λ (n : ℕ). (after W.settings later.node (take n later.events)).hand) count
-      ∙ ap (λ (events : List Event). (after W.settings later.node events).hand) (take_all (length later.state.log) later.events (omega (arith, even)))
+      ∙ ap (λ (events : List AgentEvent). (after W.settings later.node events).hand) (take_all (length later.state.log) later.events (omega (arith, even)))
       ∙ ap (λ (state : AgentState). state.hand) (sym comes)
       ∙ empty
 

@@ -5,7 +5,7 @@ use Rattle.std.proofs.lemmas.Option.{same_Some}
 use Rattle.hs_coord.specs.Following.{Messages}
 use Rattle.hs_journal.specs.declared.journal.Step.{Step}
 use Rattle.hs_journal.specs.declared.journal.Step.TheVariants as steps
-use Rattle.hs_law_agent.specs.Stepping.{Event}
+use Rattle.hs_law_agent.specs.Stepping.{AgentEvent}
 use Rattle.hs_records.specs.Plain.{PlainSettings}
 use Rattle.hs_law_journal.specs.Following.{NodeRun, event_of, perform}
 use Rattle.hs_law_journal.proofs.Steps.{step_from}
@@ -31,20 +31,20 @@ pub bare_is : (run : NodeRun) → run.left ≡ [] → bare run ≡ run
 bare_is run e = ap (λ (left : List Step). record run { left = left }) (sym e)
 
 -- one step first
-pub first_step : (settings : PlainSettings) (heard : Messages) (step : Step) (rest : List Step) (run : NodeRun) (event : Event) → event_of run heard step ≡ Some event
+pub first_step : (settings : PlainSettings) (heard : Messages) (step : Step) (rest : List Step) (run : NodeRun) (event : AgentEvent) → event_of run heard step ≡ Some event
     → after_steps settings heard (step ∷ rest) run ≡ after_steps settings heard rest (perform settings [] run event)
 first_step settings heard step rest run event met = ap (λ o. option_and_then (after_steps settings heard rest) (option_map (perform settings [] run) o)) met
 
 -- and back: what steps come to is what the others come to behind the first
 pub record IsFirst (settings : PlainSettings) (heard : Messages) (step : Step) (rest : List Step) (run later : NodeRun) : Type 0 where
-  pub event : Event
+  pub event : AgentEvent
   pub met : event_of run heard step ≡ Some event
   pub on : after_steps settings heard rest (perform settings [] run event) ≡ Some later
 
 pub first_of_steps : (settings : PlainSettings) (heard : Messages) (step : Step) (rest : List Step) (run later : NodeRun) → after_steps settings heard (step ∷ rest) run ≡ Some later → IsFirst settings heard step rest run later
 first_of_steps settings heard step rest run later h = go (event_of run heard step) refl h
   where
-    go : (o : Option Event) → event_of run heard step ≡ o → option_and_then (after_steps settings heard rest) (option_map (perform settings [] run) o) ≡ Some later → IsFirst settings heard step rest run later
+    go : (o : Option AgentEvent) → event_of run heard step ≡ o → option_and_then (after_steps settings heard rest) (option_map (perform settings [] run) o) ≡ Some later → IsFirst settings heard step rest run later
     go None e h = let never : None ≡ Some later = h in absurd cc
     go (Some event) e h = record { event = event; met = e; on = h }
 

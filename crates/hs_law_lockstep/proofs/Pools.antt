@@ -23,7 +23,7 @@ use Rattle.hs_law_sends.specs.Timing.{TimedPage, timed_pages}
 use Rattle.hs_words.specs.PoolHistory.{IsPoolHistory, IsHistoryBack}
 use Rattle.hs_law_journal.specs.Following.{NodeRun, followed, log_at}
 use Rattle.hs_law_journal.specs.Played.{played}
-use Rattle.hs_law_journal.specs.Pooled.{PoolEvent, drawn_event, page_of, given_page, pool_events, pool_history, answers_draw, gives_answer, has_answers}
+use Rattle.hs_law_journal.specs.Pooled.{StampedPoolEvent, drawn_event, page_of, given_page, pool_events, pool_history, answers_draw, gives_answer, has_answers}
 use Rattle.hs_law_journal.specs.Shape.{log_stamps, node_draws, draw_stamps, node_stamps, are_numbered, rise, node_has_stamps, has_stamps}
 use Rattle.hs_law_lockstep.specs.Clauses.{IsLaidOut, ScheduleHasStamps, ScheduleHasHistory, ScheduleHasAnswers}
 use Rattle.hs_law_journal.specs.Known.{Known}
@@ -40,7 +40,7 @@ use Rattle.hs_law_lockstep.proofs.Shapes.{all_timed}
 
 module _ (W : PlainWorkload) (run : NodeRun) (h : HoldsAt W.settings run) where
   pub history_there : IsPoolHistory W.settings.buffers (pool_history run)
-  history_there = subst (λ (es : List PoolEvent). IsHistoryBack W.settings.buffers (events_back es)) (sym (pool_is run h.missed)) h.pooled.history
+  history_there = subst (λ (es : List StampedPoolEvent). IsHistoryBack W.settings.buffers (events_back es)) (sym (pool_is run h.missed)) h.pooled.history
 
   give_passes : (g : GivenPlace) → GiveAnswers run.sends (sheets_of run.state.taken) run.state.given g
       → option_map_or (λ (d : DrawnPage). answers_draw (pool_events run) g.stamp d.draw) (given_page run run.state g.place) false ≡ true
@@ -49,7 +49,7 @@ module _ (W : PlainWorkload) (run : NodeRun) (h : HoldsAt W.settings run) where
       ap (λ o. option_map_or (λ (d : DrawnPage). answers_draw (pool_events run) g.stamp d.draw) o false) found
       ∙ ap (answers_draw (pool_events run) g.stamp) a.drawn.got
       ∙ answer_passes (pool_events run) a.drawn.buffer a.drawn.stamp g.stamp
-      (subst (λ (es : List PoolEvent). IsAnswered es a.drawn.buffer a.drawn.stamp g.stamp) (sym (pool_is run h.missed)) a.answers)
+      (subst (λ (es : List StampedPoolEvent). IsAnswered es a.drawn.buffer a.drawn.stamp g.stamp) (sym (pool_is run h.missed)) a.answers)
 
   answers_there : gives_answer run ≡ true
   answers_there =
@@ -123,7 +123,7 @@ module _ (k : Known) (W : PlainWorkload) where
         let first = (client_sends W J node start).drawn in
         let rest = pages_in (map (client_sends W J node) (range_with_len (start + 1) count)) in
         ap stamps_of (map-append drawn_event first rest)
-        ∙ map-append (λ (e : PoolEvent). e.stamp) (map drawn_event first) (map drawn_event rest)
+        ∙ map-append (λ (e : StampedPoolEvent). e.stamp) (map drawn_event first) (map drawn_event rest)
         ∙ ap (λ (front : List ℕ). front ++ stamps_of (map drawn_event rest)) (page_stamps first ∙ client_stamps start (omega (arith, few)))
         ∙ ap (λ (more : List ℕ). draw_stamps (draws_at J (place_of W.settings.clients node start)) ++ more) (all_stamps (start + 1) count (omega (arith, few)))
 
@@ -131,7 +131,7 @@ module _ (k : Known) (W : PlainWorkload) where
     stamps_are =
         let sheets = sheets_of run.state.taken in
         sym
-        (map-append (λ (e : PoolEvent). e.stamp) (map drawn_event (pages_in run.sends)) (gives_in run.sends sheets run.state.given)
+        (map-append (λ (e : StampedPoolEvent). e.stamp) (map drawn_event (pages_in run.sends)) (gives_in run.sends sheets run.state.given)
         ∙ ap (λ (sends : List ClientSends). stamps_of (map drawn_event (pages_in sends)) ++ stamps_of (gives_in run.sends sheets run.state.given)) sends
         ∙ ap (λ (front : List ℕ). front ++ stamps_of (gives_in run.sends sheets run.state.given)) (all_stamps 0 W.settings.clients (omega arith))
         ∙ ap (λ (gives : List ℕ). flat_map draw_stamps (node_draws W J node) ++ gives) (gives_stamped W run holds run.state.given holds.answers ∙ sym holds.stamps ∙ ap log_stamps (sym log)))
@@ -141,7 +141,7 @@ module _ (k : Known) (W : PlainWorkload) where
         subst (λ (stamps : List ℕ). are_numbered stamps ≡ true) (sym stamps_are)
         (list_all_range_below (λ s. nat_eq (count_by (λ t. eqb t s) (stamps_of (node_events run))) 1) 0 (length (stamps_of (node_events run)))
         (λ s below.
-        let long = length-map (node_events run) (λ (e : PoolEvent). e.stamp) in
+        let long = length-map (node_events run) (λ (e : StampedPoolEvent). e.stamp) in
         eq-eqb (count_by (λ t. eqb t s) (stamps_of (node_events run))) 1 (holds.pooled.each s (omega (arith, below, long)))))
 
     client_there : (client : ℕ) → client < W.settings.clients → slice_get run.sends client ≡ Some (client_sends W J node client)

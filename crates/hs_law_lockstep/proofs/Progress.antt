@@ -12,7 +12,7 @@ use Rattle.hs_journal.specs.declared.journal.Step.{Step}
 use Rattle.hs_journal.specs.declared.journal.Step.TheVariants as steps
 use Rattle.hs_law_agent.specs.Laws.{noted_as, CanReport}
 use Rattle.hs_law_agent.specs.State.{AgentState}
-use Rattle.hs_law_agent.specs.Stepping.{Event}
+use Rattle.hs_law_agent.specs.Stepping.{AgentEvent}
 use Rattle.hs_records.specs.Plain.{PlainWorkload}
 use Rattle.hs_law_sends.specs.Sending.{client_sends, node_sends}
 use Rattle.hs_law_journal.specs.Extending.{node_behind}
@@ -77,7 +77,7 @@ module _ (k : Known) (W : PlainWorkload) (laid : IsLaidOut W) (least : MIN_SIZE 
       count : length r.state.log + length r.left ≡ length node.state.log + length (pass_steps W m before node)
       works : Works k.few k.adds k.says k.reports W.settings clients node (can_at i node stands) r
 
-    taking_keeps : (i : ℕ) (node : NodeRun) (stands : slice_get before.nodes i ≡ Some node) (run : NodeRun) (step : Step) (rest : List Step) (event : Event) → run.left ≡ step ∷ rest → is_offer step ≡ false
+    taking_keeps : (i : ℕ) (node : NodeRun) (stands : slice_get before.nodes i ≡ Some node) (run : NodeRun) (step : Step) (rest : List Step) (event : AgentEvent) → run.left ≡ step ∷ rest → is_offer step ≡ false
         → event_of run before.heard step ≡ Some event → Taking i node stands run → Taking i node stands (perform W.settings rest run event)
     taking_keeps i node stands run step rest event left quiet met t =
         let log = ap length ((k.adds W.settings run.node run.state).log event) in

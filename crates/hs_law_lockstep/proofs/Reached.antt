@@ -9,7 +9,7 @@ use Rattle.hs_lists.proofs.Alls.{all_set, all_at}
 use Rattle.hs_coord.specs.Following.{Messages}
 use Rattle.hs_journal.specs.declared.journal.Step.{Step}
 use Rattle.hs_journal.specs.Views.{PlainJournal}
-use Rattle.hs_law_agent.specs.Stepping.{Event}
+use Rattle.hs_law_agent.specs.Stepping.{AgentEvent}
 use Rattle.hs_records.specs.Plain.{PlainSettings, PlainWorkload}
 use Rattle.hs_law_journal.specs.Extending.{StepsAreNoted}
 use Rattle.hs_law_journal.specs.Following.{NodeRun, Run, event_of, perform, step_of, step_node, node_start}
@@ -21,11 +21,11 @@ use Rattle.hs_law_journal.proofs.Hearing.{hear_nodes}
 record IsStep (settings : PlainSettings) (heard : Messages) (run stepped : NodeRun) : Type 0 where
   step : Step
   rest : List Step
-  event : Event
+  event : AgentEvent
   left : run.left ≡ step ∷ rest
   is : stepped ≡ perform settings rest run event
 
-step_event : (settings : PlainSettings) (heard : Messages) (run stepped : NodeRun) (step : Step) (rest : List Step) → run.left ≡ step ∷ rest → (o : Option Event)
+step_event : (settings : PlainSettings) (heard : Messages) (run stepped : NodeRun) (step : Step) (rest : List Step) → run.left ≡ step ∷ rest → (o : Option AgentEvent)
     → option_map (perform settings rest run) o ≡ Some stepped → IsStep settings heard run stepped
 step_event settings heard run stepped step rest e None h = let no : None ≡ Some stepped = h in absurd cc
 step_event settings heard run stepped step rest e (Some event) h = record { step = step; rest = rest; event = event; left = e; is = sym (same_Some (perform settings rest run event) stepped h) }
@@ -39,7 +39,7 @@ step_left settings heard run stepped (step ∷ rest) e h = step_event settings h
 -- a node later on
 pub record IsLater (node later : NodeRun) : Type 0 where
   pub number : later.node ≡ node.node
-  pub more : List Event
+  pub more : List AgentEvent
   pub events : later.events ≡ node.events ++ more
 
 -- a node has an event for each step of its log
@@ -58,7 +58,7 @@ later_on a b c x y =
     record {
       number = y.number ∙ x.number;
       more = x.more ++ y.more;
-      events = y.events ∙ ap (λ (events : List Event). events ++ y.more) x.events ∙ append_assoc a.events x.more y.more;
+      events = y.events ∙ ap (λ (events : List AgentEvent). events ++ y.more) x.events ∙ append_assoc a.events x.more y.more;
     }
 
 pub all_on : (a b c : Run) → AllLater a b → AllLater b c → AllLater a c

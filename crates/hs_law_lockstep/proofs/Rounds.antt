@@ -19,7 +19,7 @@ use Rattle.hs_law_journal.specs.Following.{NodeRun, log_at, followed}
 use Rattle.hs_law_journal.specs.Laws.{ComesByEvents}
 use Rattle.hs_law_journal.specs.Passes.{passes_of}
 use Rattle.hs_law_journal.specs.Played.{played}
-use Rattle.hs_law_journal.specs.Pooled.{PoolEvent, pool_events}
+use Rattle.hs_law_journal.specs.Pooled.{StampedPoolEvent, pool_events}
 use Rattle.hs_law_lockstep.specs.Clauses.{IsLaidOut}
 use Rattle.hs_law_journal.specs.Known.{Known}
 use Rattle.hs_law_lockstep.specs.Lockstep.{Machine, machine_start, done_at, client_goes, clients_go, pass_steps, agents_take, passes, round, rounds, closing, closing_limit}
@@ -233,7 +233,7 @@ module _ (k : Known) (W : PlainWorkload) (laid : IsLaidOut W) where
         log_later = after;
         late = λ client j s d found at.
             let low =
-            at_page (λ (v : PoolEvent). v.stamp < length (node_events middle.0)) middle.0.sends (gives_in middle.0.sends (sheets_of middle.0.state.taken) middle.0.state.given) client j s d held.pooled.low
+            at_page (λ (v : StampedPoolEvent). v.stamp < length (node_events middle.0)) middle.0.sends (gives_in middle.0.sends (sheets_of middle.0.state.taken) middle.0.state.given) client j s d held.pooled.low
             (ap (λ (all : List ClientSends). slice_get all client) there ∙ found) at
             in
             omega (arith, low, events);

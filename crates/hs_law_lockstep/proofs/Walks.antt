@@ -10,7 +10,7 @@ use Rattle.hs_coord.specs.Following.{Message, Messages, message}
 use Rattle.hs_journal.specs.declared.journal.Step.{Step}
 use Rattle.hs_journal.specs.declared.journal.Step.TheVariants as steps
 use Rattle.hs_law_agent.specs.State.{AgentState}
-use Rattle.hs_law_agent.specs.Stepping.{Event, Took, Gave, Chunk, Crumbed, Triggered, Asked, Turn, Given, give_back}
+use Rattle.hs_law_agent.specs.Stepping.{AgentEvent, Took, Gave, Chunk, Crumbed, Triggered, Asked, Turn, Given, give_back}
 use Rattle.hs_records.specs.Plain.{PlainSettings}
 use Rattle.hs_law_sends.specs.Sending.{Sent, ClientSends}
 use Rattle.hs_law_journal.specs.Extending.{StepsAreNoted}
@@ -82,10 +82,10 @@ walk_all settings run Q front (node ∷ nodes) all =
 -- ---- one step
 
 record HasEvent (run : NodeRun) (heard : Messages) (step : Step) : Type 0 where
-  event : Event
+  event : AgentEvent
   met : event_of run heard step ≡ Some event
 
-pub step_is : (settings : PlainSettings) (heard : Messages) (run : NodeRun) (step : Step) (rest : List Step) (event : Event) → run.left ≡ step ∷ rest → event_of run heard step ≡ Some event
+pub step_is : (settings : PlainSettings) (heard : Messages) (run : NodeRun) (step : Step) (rest : List Step) (event : AgentEvent) → run.left ≡ step ∷ rest → event_of run heard step ≡ Some event
     → step_node settings heard run ≡ Some (perform settings rest run event)
 step_is settings heard run step rest event e met = ap (step_of settings heard run) e ∙ ap (option_map (perform settings rest run)) met
 
@@ -95,9 +95,9 @@ step_is settings heard run step rest event e met = ap (step_of settings heard ru
 abbrev pub Enough : NodeRun → Messages → Type 0
 Enough run heard = (queue : Queue) → taken queue (run.state.log ++ run.left) ≤ supply run heard queue
 
-item_found : {A : Type 0} (f : A → Event) (queue : Queue) (pick : ClientSends → List (Sent A)) (run : NodeRun) (o : Option ClientSends)
+item_found : {A : Type 0} (f : A → AgentEvent) (queue : Queue) (pick : ClientSends → List (Sent A)) (run : NodeRun) (o : Option ClientSends)
     → taken queue run.state.log < option_map_or (λ (sends : ClientSends). length (pick sends)) o 0
-    → (event : Event) × (option_and_then (λ (sends : ClientSends). option_map f (next_of queue run.state (pick sends))) o ≡ Some event)
+    → (event : AgentEvent) × (option_and_then (λ (sends : ClientSends). option_map f (next_of queue run.state (pick sends))) o ≡ Some event)
 item_found f queue pick run None h = absurd (omega (arith, h))
 item_found {A = A} f queue pick run (Some sends) h =
     let i = get_there (pick sends) (taken queue run.state.log) h in (f i.0.item, ap (λ o. option_map f (option_map (λ (item : Sent A). item.item) o)) i.1)
@@ -155,7 +155,7 @@ module _ (noted : StepsAreNoted) (settings : PlainSettings) (heard : Messages) w
 
   -- what each step keeps is kept
   pub takes_keep : (P : NodeRun → Type 0)
-      → ((run : NodeRun) (step : Step) (rest : List Step) (event : Event) → run.left ≡ step ∷ rest → is_offer step ≡ false → event_of run heard step ≡ Some event → P run → P (perform settings rest run event))
+      → ((run : NodeRun) (step : Step) (rest : List Step) (event : AgentEvent) → run.left ≡ step ∷ rest → is_offer step ≡ false → event_of run heard step ≡ Some event → P run → P (perform settings rest run event))
       → (left : List Step) (run : NodeRun) → run.left ≡ left → AllByRecursion (λ (step : Step). is_offer step ≡ false) left → Enough run heard → P run → Walked settings heard (λ (r : NodeRun). IsThrough r × P r) run
   takes_keep P keeps [] run e all enough p = record { last = run; walks = Stands run; ends = (e, p) }
   takes_keep P keeps (step ∷ rest) run e all enough p =

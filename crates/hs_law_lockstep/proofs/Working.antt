@@ -11,7 +11,7 @@ use Rattle.hs_journal.specs.declared.journal.Step.{Step}
 use Rattle.hs_journal.specs.declared.journal.Step.TheVariants as steps
 use Rattle.hs_law_agent.specs.Laws.{borne, brought_by, noted_as, EventsAddFew, EventsAddThis, StepsSayWhatTheyTell, CanReport, TurnsReport}
 use Rattle.hs_law_agent.specs.State.{AgentState}
-use Rattle.hs_law_agent.specs.Stepping.{Input, Chunk, Crumbed, Triggered, Asked, Turn, Answered, Event, Took, Gave, told_by, after_event}
+use Rattle.hs_law_agent.specs.Stepping.{Input, Chunk, Crumbed, Triggered, Asked, Turn, Answered, AgentEvent, Took, Gave, told_by, after_event}
 use Rattle.hs_law_agent.specs.Stepping as model
 use Rattle.hs_records.specs.Plain.{PlainSettings}
 use Rattle.hs_law_sends.specs.Sending.{ClientSends}
@@ -195,7 +195,7 @@ module _ (add : EventsAddFew) (this : EventsAddThis) (says : StepsSayWhatTheyTel
     get_low (y ∷ xs) zero x h = omega arith
     get_low (y ∷ xs) (suc i) x h = let rest = get_low xs i x h in omega (arith, rest)
 
-    client_item : {A : Type 0} (run : NodeRun) (rest : List Step) (client : ℕ) (f : A → Input) (g : ClientSends → Option A) (event : Event) (o : Option ClientSends) → slice_get run.sends client ≡ o
+    client_item : {A : Type 0} (run : NodeRun) (rest : List Step) (client : ℕ) (f : A → Input) (g : ClientSends → Option A) (event : AgentEvent) (o : Option ClientSends) → slice_get run.sends client ≡ o
         → option_and_then (λ (s : ClientSends). option_map (λ a. Took (f a)) (g s)) o ≡ Some event → ((a : A) → weight (f a) ≡ 1)
         → ((a : A) → client < clients → work clients run.state.log < work clients (run.state.log ++ noted_as (Took (f a)) ∷ [])) → Works run → Works (perform settings rest run event)
     client_item run rest client f g event None e met own less w = let never : None ≡ Some event = met in absurd cc
@@ -203,9 +203,9 @@ module _ (add : EventsAddFew) (this : EventsAddThis) (says : StepsSayWhatTheyTel
         let t = option_unmap (λ a. Took (f a)) (g s) event met in
         let low = get_low run.sends client s e in
         let count = w.sends in
-        subst (λ (event : Event). Works (perform settings rest run event)) t.2 (item_works run rest (f t.0) (own t.0) (less t.0 (omega (arith, low, count))) w)
+        subst (λ (event : AgentEvent). Works (perform settings rest run event)) t.2 (item_works run rest (f t.0) (own t.0) (less t.0 (omega (arith, low, count))) w)
 
-    pub step_works : (heard : Messages) (run : NodeRun) (step : Step) (rest : List Step) (event : Event) → is_offer step ≡ false → event_of run heard step ≡ Some event → Works run → Works (perform settings rest run event)
+    pub step_works : (heard : Messages) (run : NodeRun) (step : Step) (rest : List Step) (event : AgentEvent) → is_offer step ≡ false → event_of run heard step ≡ Some event → Works run → Works (perform settings rest run event)
     step_works heard run (steps.Chunk client) rest event quiet met w =
         client_item run rest client (Chunk client) (λ (s : ClientSends). next_of (Chunks client) run.state s.chunks) event (slice_get run.sends client) refl met (λ a. refl) (λ a low. chunk_works clients run.state.log client low) w
     step_works heard run (steps.Crumb client) rest event quiet met w =
@@ -214,8 +214,8 @@ module _ (add : EventsAddFew) (this : EventsAddThis) (says : StepsSayWhatTheyTel
         client_item run rest client (Triggered client) (λ (s : ClientSends). next_of (Triggers client) run.state s.triggers) event (slice_get run.sends client) refl met (λ a. refl) (λ a low. trigger_works clients run.state.log client low) w
     step_works heard run steps.Ask rest event quiet met w =
         let t = option_unmap (λ ask. Took (Asked ask)) (slice_get (asks_to run.node heard) (taken Asks run.state.log)) event met in
-        subst (λ (event : Event). Works (perform settings rest run event)) t.2 (item_works run rest (Asked t.0) refl (ask_works clients run.state.log) w)
-    step_works heard run steps.Turn rest event quiet met w = subst (λ (event : Event). Works (perform settings rest run event)) (same_Some (Took Turn) event met) (turn_works run rest w)
+        subst (λ (event : AgentEvent). Works (perform settings rest run event)) t.2 (item_works run rest (Asked t.0) refl (ask_works clients run.state.log) w)
+    step_works heard run steps.Turn rest event quiet met w = subst (λ (event : AgentEvent). Works (perform settings rest run event)) (same_Some (Took Turn) event met) (turn_works run rest w)
     step_works heard run (steps.Given stamp) rest event quiet met w = let never : true ≡ false = quiet in absurd cc
     step_works heard run (steps.Missed stamp) rest event quiet met w = let never : true ≡ false = quiet in absurd cc
     step_works heard run steps.Unread rest event quiet met w = let never : true ≡ false = quiet in absurd cc

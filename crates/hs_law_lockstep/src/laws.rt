@@ -7,11 +7,9 @@ ghost use Rattle.hs_law_lockstep.specs.Conditions.{MachinesFit, MachinesTellWith
 ghost use Rattle.hs_law_lockstep.specs.Ending.{RoundsEnd, ClosingEnds};
 ghost use Rattle.hs_law_lockstep.specs.Clauses.{ScheduleHasShape, ScheduleHasStamps, ScheduleHasHistory, ScheduleHasAnswers, ScheduleHasPasses, ScheduleHasOffers, ScheduleIsFollowed, ScheduleHasUnreads, ScheduleHasRounds, ScheduleHasPace, ScheduleIsBare, ScheduleIsLawful, ValidWorkloadsRun};
 
-use hs_law_journal::laws::following_plays_out;
-use hs_law_journal::laws::runs_are_of_the_journal;
 use hs_law_agent::laws::crumbs_lead_below;
+use hs_law_journal::laws::{following_plays_out, known, runs_are_of_the_journal};
 use hs_records::pieces_are_counted;
-use hs_law_journal::laws::known;
 
 /// A workload has one schedule, whichever version it is written in.
 pub fn versions_have_one_schedule()

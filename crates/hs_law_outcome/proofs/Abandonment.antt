@@ -26,7 +26,7 @@ use Rattle.hs_law_agent.specs.Claiming.{claim_trace, claim_unclaimed, traces_of,
 use Rattle.hs_law_agent.specs.Abandoning.{pinned_groups, next_to_go, abandon_group, abandon_within, abandon}
 use Rattle.hs_law_agent.specs.Turning.{reported_standing, visit}
 use Rattle.hs_law_agent.specs.Messages.{has_crumb, say, told_of}
-use Rattle.hs_law_agent.specs.Stepping.{Input, Chunk, Crumbed, Triggered, Asked, Turn, Answered, Given, Missed, Unread, Event, Took, Gave, with_taken, with_indexed, with_pinned, with_abandoned, pin_chunk, with_touched, tell_late, late_crumb, admits, group_of, claim_for, note_trigger, count_admitted, admit, note, take_input, step_of, give_back, take_answer, after_event, after}
+use Rattle.hs_law_agent.specs.Stepping.{Input, Chunk, Crumbed, Triggered, Asked, Turn, Answered, Given, Missed, Unread, AgentEvent, Took, Gave, with_taken, with_indexed, with_pinned, with_abandoned, pin_chunk, with_touched, tell_late, late_crumb, admits, group_of, claim_for, note_trigger, count_admitted, admit, note, take_input, step_of, give_back, take_answer, after_event, after}
 use Rattle.hs_law_agent.specs.Laws.{TheLeastGoes, LimitsHold, EventsGoOn, MatchNextToGo, Abandons, Remains, Leaves}
 use Rattle.hs_law_journal.specs.Following.{NodeRun, followed}
 use Rattle.hs_law_journal.specs.Laws.{ComesByEvents, AgentsComeByEvents}
@@ -272,7 +272,7 @@ module _ (least : TheLeastGoes) (settings : PlainSettings) (node : ℕ) (s : Age
   answer_keeps (Missed stamp) C k = k
   answer_keeps Unread C k = k
 
-  one_event : (event : Event) → Leads settings s (λ limit. after_event (with limit) node s event)
+  one_event : (event : AgentEvent) → Leads settings s (λ limit. after_event (with limit) node s event)
   one_event (Took input) = noting (step_of input) (λ limit. take_input (with limit) node s input) (taking input)
   one_event (Gave answer) = plainly (λ limit. after_event (with limit) node s (Gave answer)) (λ limit. refl) (answer_none answer) (answer_keeps answer)
 
@@ -287,7 +287,7 @@ module _ (least : TheLeastGoes) (limits : LimitsHold) (goes : EventsGoOn) (setti
   abbrev before : ℕ → AgentState
   before n = after settings run.node (take n run.events)
 
-  module _ (n : ℕ) (event : Event) (there : slice_get run.events n ≡ Some event) where
+  module _ (n : ℕ) (event : AgentEvent) (there : slice_get run.events n ≡ Some event) where
     behind : before (suc n) ≡ after_event settings run.node (before n) event
     behind = ap (after settings run.node) (take_more run.events n event there) ∙ goes settings run.node (take n run.events) (event ∷ [])
 
@@ -310,11 +310,11 @@ module _ (least : TheLeastGoes) (limits : LimitsHold) (goes : EventsGoOn) (setti
   abbrev Chosen : Group → Type 0
   Chosen group = WasChosen settings run at_event group
 
-  keeps_at : (n : ℕ) (o : Option Event) → slice_get run.events n ≡ o → Keeps Chosen (before n) → Keeps Chosen (before (suc n))
+  keeps_at : (n : ℕ) (o : Option AgentEvent) → slice_get run.events n ≡ o → Keeps Chosen (before n) → Keeps Chosen (before (suc n))
   keeps_at n None past k =
       let all = take_all n run.events (none_there run.events n past) in
       let more = take_all (suc n) run.events (omega (arith, none_there run.events n past)) in
-      subst (λ (events : List Event). Keeps Chosen (after settings run.node events)) (all ∙ sym more) k
+      subst (λ (events : List AgentEvent). Keeps Chosen (after settings run.node events)) (all ∙ sym more) k
   keeps_at n (Some event) there k =
       let one = at_event n event there in
       goes_keep Chosen settings one.over (before (suc n)) one.goes (λ group went. record { n = n; event = event; there = there; went = went }) (keeps_over n event there Chosen k)

@@ -5,23 +5,23 @@ use Rattle.std.proofs.lemmas.List.{reverse-append}
 use Rattle.std.proofs.lemmas.List.Sorted.{sum_by-IsPermutation, IsPermutation-reverse}
 use Rattle.std.proofs.lemmas.List.Sums.{sum_by-cons, sum_by-append}
 use Rattle.hs_lists.proofs.Counts.{one_if, one_of_below}
-use Rattle.hs_words.specs.PoolHistory.{Event, Got, Empty, Given, Missed, is_got, is_given, queue_after, MayFollow, IsHistoryBack, IsPoolHistory}
+use Rattle.hs_words.specs.PoolHistory.{PoolEvent, Got, Empty, Given, Missed, is_got, is_given, queue_after, MayFollow, IsHistoryBack, IsPoolHistory}
 use Rattle.hs_law_outcome.specs.Causes.{NoBufferIsOutTwice, EmptyOnlyWhereEmpty}
 
 -- ---- a place in a history
 
 -- what came before an event, the latest first
-back_to : (n : ℕ) (front behind : List Event) (event : Event) → IsHistoryBack n (behind ++ event ∷ front) → IsHistoryBack n front × MayFollow n front event
+back_to : (n : ℕ) (front behind : List PoolEvent) (event : PoolEvent) → IsHistoryBack n (behind ++ event ∷ front) → IsHistoryBack n front × MayFollow n front event
 back_to n front [] event h = h
 back_to n front (last ∷ behind) event h = back_to n front behind event h.0
 
-reverse_split : (earlier later : List Event) (event : Event) → reverse (earlier ++ event ∷ later) ≡ reverse later ++ event ∷ reverse earlier
+reverse_split : (earlier later : List PoolEvent) (event : PoolEvent) → reverse (earlier ++ event ∷ later) ≡ reverse later ++ event ∷ reverse earlier
 reverse_split earlier later event =
     reverse-append earlier (event ∷ later)
-    ∙ ap (λ (front : List Event). front ++ reverse earlier) (reverse-append (event ∷ []) later)
+    ∙ ap (λ (front : List PoolEvent). front ++ reverse earlier) (reverse-append (event ∷ []) later)
     ∙ append_assoc (reverse later) (event ∷ []) (reverse earlier)
 
-split_at : (n : ℕ) (earlier later : List Event) (event : Event) → IsPoolHistory n (earlier ++ event ∷ later) → IsHistoryBack n (reverse earlier) × MayFollow n (reverse earlier) event
+split_at : (n : ℕ) (earlier later : List PoolEvent) (event : PoolEvent) → IsPoolHistory n (earlier ++ event ∷ later) → IsHistoryBack n (reverse earlier) × MayFollow n (reverse earlier) event
 split_at n earlier later event h = back_to n (reverse earlier) (reverse later) event (subst (IsHistoryBack n) (reverse_split earlier later event) h)
 
 pub empty_only_where_empty : EmptyOnlyWhereEmpty
@@ -33,17 +33,17 @@ module _ (buffer : ℕ) where
   abbrev waits : List ℕ → ℕ
   waits queue = count_by (λ b. eqb b buffer) queue
 
-  abbrev gots : List Event → ℕ
+  abbrev gots : List PoolEvent → ℕ
   gots events = count_by (is_got buffer) events
 
-  abbrev gives : List Event → ℕ
+  abbrev gives : List PoolEvent → ℕ
   gives events = count_by (is_given buffer) events
 
-  got_more : (event : Event) (events : List Event) → gots (event ∷ events) ≡ one_if (is_got buffer event) + gots events
-  got_more event events = sum_by-cons (λ (e : Event). one_if (is_got buffer e)) event events
+  got_more : (event : PoolEvent) (events : List PoolEvent) → gots (event ∷ events) ≡ one_if (is_got buffer event) + gots events
+  got_more event events = sum_by-cons (λ (e : PoolEvent). one_if (is_got buffer e)) event events
 
-  give_more : (event : Event) (events : List Event) → gives (event ∷ events) ≡ one_if (is_given buffer event) + gives events
-  give_more event events = sum_by-cons (λ (e : Event). one_if (is_given buffer e)) event events
+  give_more : (event : PoolEvent) (events : List PoolEvent) → gives (event ∷ events) ≡ one_if (is_given buffer event) + gives events
+  give_more event events = sum_by-cons (λ (e : PoolEvent). one_if (is_given buffer e)) event events
 
   waits_front : (queue : List ℕ) (front : ℕ) → slice_get queue 0 ≡ Some front → waits queue ≡ one_if (eqb front buffer) + waits (drop 1 queue)
   waits_front [] front h = let no : None ≡ Some front = h in absurd cc
@@ -55,7 +55,7 @@ module _ (buffer : ℕ) where
   waits_back queue back = let both = sum_by-append (λ (b : ℕ). one_if (eqb b buffer)) queue (back ∷ []) in omega (arith, both)
 
   -- what waits and what was got is what was there and what was given
-  pub record IsEven (n : ℕ) (events : List Event) : Type 0 where
+  pub record IsEven (n : ℕ) (events : List PoolEvent) : Type 0 where
     pub even : waits (queue_after n events) + gots events ≡ gives events + waits (range_with_len 0 n)
     pub behind : gives events ≤ gots events
 
@@ -63,7 +63,7 @@ module _ (buffer : ℕ) where
   given_behind true given got less low = let here = less refl in omega (arith, here)
   given_behind false given got less low = omega (arith, low)
 
-  pub evens : (n : ℕ) (events : List Event) → IsHistoryBack n events → IsEven n events
+  pub evens : (n : ℕ) (events : List PoolEvent) → IsHistoryBack n events → IsEven n events
   evens n [] h = record { even = omega arith; behind = omega arith }
   evens n (Got front ∷ events) h =
       let e = evens n events h.0 in
@@ -90,7 +90,7 @@ module _ (buffer : ℕ) where
       let less = given_behind (eqb back buffer) (gives events) (gots events) (λ same. fewer back same events h.1) low in
       record { even = omega (arith, was, queue, got, given); behind = omega (arith, less, got, given) }
     where
-      fewer : (back : ℕ) → eqb back buffer ≡ true → (events : List Event) → count_by (is_given back) events < count_by (is_got back) events → gives events < gots events
+      fewer : (back : ℕ) → eqb back buffer ≡ true → (events : List PoolEvent) → count_by (is_given back) events < count_by (is_got back) events → gives events < gots events
       fewer back same events less = subst (λ (b : ℕ). count_by (is_given b) events < count_by (is_got b) events) (eqb-true back buffer same) less
   evens n (Missed ∷ events) h =
       let e = evens n events h.0 in
@@ -123,8 +123,8 @@ module _ (buffer : ℕ) where
       omega (arith, first, case)
 
 -- backwards, the counts are the same
-pub count_back : (p : Event → Bool) (events : List Event) → count_by p (reverse events) ≡ count_by p events
-count_back p events = sum_by-IsPermutation (λ (e : Event). one_if (p e)) events (reverse events) (IsPermutation-reverse events)
+pub count_back : (p : PoolEvent → Bool) (events : List PoolEvent) → count_by p (reverse events) ≡ count_by p events
+count_back p events = sum_by-IsPermutation (λ (e : PoolEvent). one_if (p e)) events (reverse events) (IsPermutation-reverse events)
 
 pub no_buffer_is_out_twice : NoBufferIsOutTwice
 no_buffer_is_out_twice n buffer earlier later h =

@@ -11,7 +11,7 @@ use Rattle.hs_base.specs.Ids.{same_trace}
 use Rattle.hs_law_agent.specs.Laws.{EventsAddThis, EventsGoOn, ClaimsHoldForGood, NothingClaimedIsEvicted, brought_by, sheets_of}
 use Rattle.hs_law_agent.specs.Standings.{Taken, trace_of, is_evicted, stands, is_of_trace}
 use Rattle.hs_law_agent.specs.State.{AgentState, ClaimedTrace, is_claimed}
-use Rattle.hs_law_agent.specs.Stepping.{Event, after_event, after_from, after}
+use Rattle.hs_law_agent.specs.Stepping.{AgentEvent, after_event, after_from, after}
 use Rattle.hs_records.specs.Plain.{PlainSettings}
 use Rattle.hs_words.specs.Pages.{Sheet}
 use Rattle.hs_law_journal.specs.Extending.{HasMore}
@@ -48,7 +48,7 @@ any_more p [] ys h = let no : false ≡ true = h in absurd cc
 any_more p (x ∷ xs) ys h = any_case (p x) (list_any p xs) (list_any p (xs ++ ys)) h (any_more p xs ys)
 
 module _ (adds : EventsAddThis) (goes : EventsGoOn) (hold : ClaimsHoldForGood) (kept : NothingClaimedIsEvicted) (settings : PlainSettings) (node : ℕ) (trace : TraceId) (place : ℕ) where
-  claimed_later : (later earlier : List Event) → is_of_trace (after settings node earlier).taken trace place ≡ true → is_claimed (after settings node earlier).claims trace ≡ true
+  claimed_later : (later earlier : List AgentEvent) → is_of_trace (after settings node earlier).taken trace place ≡ true → is_claimed (after settings node earlier).claims trace ≡ true
       → stands is_evicted (after_from settings node (after settings node earlier) later).taken place ≡ stands is_evicted (after settings node earlier).taken place
   claimed_later [] earlier of_trace claimed = refl
   claimed_later (event ∷ later) earlier of_trace claimed =

@@ -10,7 +10,7 @@ use Rattle.hs_base.specs.declared.ids.NodeId.{NodeId}
 use Rattle.hs_coord.specs.Following.{Message, Messages, message}
 use Rattle.hs_journal.specs.declared.journal.Step.{Step}
 use Rattle.hs_journal.specs.declared.journal.Step.TheVariants as steps
-use Rattle.hs_law_agent.specs.Stepping.{Chunk, Crumbed, Triggered, Event, Took}
+use Rattle.hs_law_agent.specs.Stepping.{Chunk, Crumbed, Triggered, AgentEvent, Took}
 use Rattle.hs_records.specs.Plain.{PlainSettings}
 use Rattle.hs_law_sends.specs.Sending.{ClientSends}
 use Rattle.hs_law_journal.specs.Following.{Chunks, Crumbs, Triggers, NodeRun, Run, event_of, next_of, perform, step_of, step_node, is_from, message_of, hear, is_done}
@@ -38,7 +38,7 @@ pub record IsNamed (run : Run) : Type 0 where
 
 -- ---- one step back
 
-step_named : (run : NodeRun) (heard : Messages) (step : Step) (event : Event) → event_of run heard step ≡ Some event → NamesClient (length run.sends) step
+step_named : (run : NodeRun) (heard : Messages) (step : Step) (event : AgentEvent) → event_of run heard step ≡ Some event → NamesClient (length run.sends) step
 step_named run heard (steps.Chunk client) event h =
     let s = then_parts (λ (sends : ClientSends). option_map (λ sheet. Took (Chunk client sheet)) (next_of (Chunks client) run.state sends.chunks)) (slice_get run.sends client) event h in
     slice_get_within run.sends client s.0 s.1

@@ -4,7 +4,7 @@ use Rattle.std.specs.List.{AllByRecursion}
 use Rattle.std.proofs.lemmas.List.{length-reverse}
 use Rattle.std.proofs.lemmas.Option.{same_Some}
 use Rattle.hs_lists.proofs.Counts.{one_if, count_cons}
-use Rattle.hs_words.specs.PoolHistory.{Event, Got, Empty, Given, Missed, is_got, is_empty, is_given, is_missed, queue_after, IsHistoryBack, IsPoolHistory}
+use Rattle.hs_words.specs.PoolHistory.{PoolEvent, Got, Empty, Given, Missed, is_got, is_empty, is_given, is_missed, queue_after, IsHistoryBack, IsPoolHistory}
 use Rattle.hs_words.proofs.Waiting.{few_missed}
 use Rattle.hs_law_outcome.proofs.Buffers.{evens, count_back}
 use Rattle.hs_law_outcome.proofs.GotPages.{all_below}
@@ -13,23 +13,23 @@ use Rattle.hs_law_outcome.proofs.Stamps.{below_case}
 -- ---- buffers
 
 -- whether an event has no buffer but one of so many
-abbrev pub is_within : ℕ → Event → Bool
+abbrev pub is_within : ℕ → PoolEvent → Bool
 is_within n (Got buffer) = ltb buffer n
 is_within n Empty = true
 is_within n (Given buffer) = ltb buffer n
 is_within n Missed = true
 
-record IsWithin (n : ℕ) (events : List Event) : Type 0 where
+record IsWithin (n : ℕ) (events : List PoolEvent) : Type 0 where
   queue : AllByRecursion (λ buffer. buffer < n) (queue_after n events)
   each : AllByRecursion (λ event. is_within n event ≡ true) events
 
 -- a buffer that was got is within
-got_case : (n buffer other : ℕ) (b : Bool) (events : List Event) → eqb other buffer ≡ b → ltb other n ≡ true → 0 < one_if b + count_by (is_got buffer) events → (0 < count_by (is_got buffer) events → buffer < n)
+got_case : (n buffer other : ℕ) (b : Bool) (events : List PoolEvent) → eqb other buffer ≡ b → ltb other n ≡ true → 0 < one_if b + count_by (is_got buffer) events → (0 < count_by (is_got buffer) events → buffer < n)
     → buffer < n
 got_case n buffer other true events same low some rest = let is = eqb-true other buffer same in let below = ltb-true other n low in omega (arith, is, below)
 got_case n buffer other false events same low some rest = rest (omega (arith, some))
 
-got_within : (n buffer : ℕ) (events : List Event) → AllByRecursion (λ event. is_within n event ≡ true) events → 0 < count_by (is_got buffer) events → buffer < n
+got_within : (n buffer : ℕ) (events : List PoolEvent) → AllByRecursion (λ event. is_within n event ≡ true) events → 0 < count_by (is_got buffer) events → buffer < n
 got_within n buffer [] all some = absurd (omega (arith, some))
 got_within n buffer (Got other ∷ events) all some =
     let first = count_cons (is_got buffer) (Got other) events in
@@ -50,7 +50,7 @@ more_within : (n buffer : ℕ) (queue : List ℕ) → AllByRecursion (λ b. b < 
 more_within n buffer [] all low = (low, tt)
 more_within n buffer (first ∷ queue) all low = (all.0, more_within n buffer queue all.1 low)
 
-withins : (n : ℕ) (events : List Event) → IsHistoryBack n events → IsWithin n events
+withins : (n : ℕ) (events : List PoolEvent) → IsHistoryBack n events → IsWithin n events
 withins n [] h = record { queue = all_below 0 n n (omega arith); each = tt }
 withins n (Got buffer ∷ events) h =
     let w = withins n events h.0 in
@@ -65,20 +65,20 @@ withins n (Missed ∷ events) h = let w = withins n events h.0 in record { queue
 
 -- ---- counts
 
-abbrev pub is_get : Event → Bool
+abbrev pub is_get : PoolEvent → Bool
 is_get (Got buffer) = true
 is_get Empty = false
 is_get (Given buffer) = false
 is_get Missed = false
 
-abbrev pub is_give : Event → Bool
+abbrev pub is_give : PoolEvent → Bool
 is_give (Got buffer) = false
 is_give Empty = false
 is_give (Given buffer) = true
 is_give Missed = false
 
 -- each event is of one of four kinds
-pub kinds : (events : List Event) → length events ≡ count_by is_get events + count_by is_empty events + (count_by is_give events + count_by is_missed events)
+pub kinds : (events : List PoolEvent) → length events ≡ count_by is_get events + count_by is_empty events + (count_by is_give events + count_by is_missed events)
 kinds [] = refl
 kinds (event ∷ events) =
     let a = count_cons is_get event events in
@@ -89,26 +89,26 @@ kinds (event ∷ events) =
     let rest = kinds events in
     omega (arith, a, b, c, d, here, rest)
   where
-    one_kind : (event : Event) → 1 ≡ one_if (is_get event) + one_if (is_empty event) + (one_if (is_give event) + one_if (is_missed event))
+    one_kind : (event : PoolEvent) → 1 ≡ one_if (is_get event) + one_if (is_empty event) + (one_if (is_give event) + one_if (is_missed event))
     one_kind (Got buffer) = refl
     one_kind Empty = refl
     one_kind (Given buffer) = refl
     one_kind Missed = refl
 
 -- gets and gives of buffers below one
-abbrev gets_below : ℕ → Event → Bool
+abbrev gets_below : ℕ → PoolEvent → Bool
 gets_below n (Got buffer) = ltb buffer n
 gets_below n Empty = false
 gets_below n (Given buffer) = false
 gets_below n Missed = false
 
-abbrev gives_below : ℕ → Event → Bool
+abbrev gives_below : ℕ → PoolEvent → Bool
 gives_below n (Got buffer) = false
 gives_below n Empty = false
 gives_below n (Given buffer) = ltb buffer n
 gives_below n Missed = false
 
-below_more : (p q r : Event → Bool) → ((event : Event) → one_if (p event) ≡ one_if (q event) + one_if (r event)) → (events : List Event) → count_by p events ≡ count_by q events + count_by r events
+below_more : (p q r : PoolEvent → Bool) → ((event : PoolEvent) → one_if (p event) ≡ one_if (q event) + one_if (r event)) → (events : List PoolEvent) → count_by p events ≡ count_by q events + count_by r events
 below_more p q r each [] = refl
 below_more p q r each (event ∷ events) =
     let a = count_cons p event events in
@@ -118,19 +118,19 @@ below_more p q r each (event ∷ events) =
     let rest = below_more p q r each events in
     omega (arith, a, b, c, here, rest)
 
-get_more : (n : ℕ) (event : Event) → one_if (gets_below (n + 1) event) ≡ one_if (gets_below n event) + one_if (is_got n event)
+get_more : (n : ℕ) (event : PoolEvent) → one_if (gets_below (n + 1) event) ≡ one_if (gets_below n event) + one_if (is_got n event)
 get_more n (Got buffer) = below_case buffer n (ltb buffer (n + 1)) (ltb buffer n) (eqb buffer n) refl refl refl
 get_more n Empty = refl
 get_more n (Given buffer) = refl
 get_more n Missed = refl
 
-give_more : (n : ℕ) (event : Event) → one_if (gives_below (n + 1) event) ≡ one_if (gives_below n event) + one_if (is_given n event)
+give_more : (n : ℕ) (event : PoolEvent) → one_if (gives_below (n + 1) event) ≡ one_if (gives_below n event) + one_if (is_given n event)
 give_more n (Got buffer) = refl
 give_more n Empty = refl
 give_more n (Given buffer) = below_case buffer n (ltb buffer (n + 1)) (ltb buffer n) (eqb buffer n) refl refl refl
 give_more n Missed = refl
 
-none_given : (events : List Event) → count_by (gives_below 0) events ≡ 0
+none_given : (events : List PoolEvent) → count_by (gives_below 0) events ≡ 0
 none_given [] = refl
 none_given (event ∷ events) =
     let first = count_cons (gives_below 0) event events in
@@ -142,14 +142,14 @@ none_given (event ∷ events) =
     zero_case buffer true e = let low = ltb-true buffer 0 e in absurd (omega (arith, low))
     zero_case buffer false e = refl
 
-    none_case : (event : Event) → one_if (gives_below 0 event) ≡ 0
+    none_case : (event : PoolEvent) → one_if (gives_below 0 event) ≡ 0
     none_case (Got buffer) = refl
     none_case Empty = refl
     none_case (Given buffer) = zero_case buffer (ltb buffer 0) refl
     none_case Missed = refl
 
 -- where no buffer was given more often than got, there are no more gives than gets
-few_below : (n : ℕ) (events : List Event) → ((buffer : ℕ) → count_by (is_given buffer) events ≤ count_by (is_got buffer) events) → count_by (gives_below n) events ≤ count_by (gets_below n) events
+few_below : (n : ℕ) (events : List PoolEvent) → ((buffer : ℕ) → count_by (is_given buffer) events ≤ count_by (is_got buffer) events) → count_by (gives_below n) events ≤ count_by (gets_below n) events
 few_below zero events each = let none = none_given events in omega (arith, none)
 few_below (suc n) events each =
     let a = below_more (gets_below (n + 1)) (gets_below n) (is_got n) (get_more n) events in
@@ -161,7 +161,7 @@ few_below (suc n) events each =
     let d = ap (λ m. count_by (gets_below m) events) same in
     omega (arith, a, b, rest, here, c, d)
 
-count_less : (p q : Event → Bool) (events : List Event) → AllByRecursion (λ event. one_if (p event) ≤ one_if (q event)) events → count_by p events ≤ count_by q events
+count_less : (p q : PoolEvent → Bool) (events : List PoolEvent) → AllByRecursion (λ event. one_if (p event) ≤ one_if (q event)) events → count_by p events ≤ count_by q events
 count_less p q [] all = omega arith
 count_less p q (event ∷ events) all =
     let a = count_cons p event events in
@@ -170,14 +170,14 @@ count_less p q (event ∷ events) all =
     let rest = count_less p q events all.1 in
     omega (arith, a, b, here, rest)
 
-all_gives : (n : ℕ) (events : List Event) → AllByRecursion (λ event. is_within n event ≡ true) events → AllByRecursion (λ event. one_if (is_give event) ≤ one_if (gives_below n event)) events
+all_gives : (n : ℕ) (events : List PoolEvent) → AllByRecursion (λ event. is_within n event ≡ true) events → AllByRecursion (λ event. one_if (is_give event) ≤ one_if (gives_below n event)) events
 all_gives n [] all = tt
 all_gives n (Got buffer ∷ events) all = (omega arith, all_gives n events all.1)
 all_gives n (Empty ∷ events) all = (omega arith, all_gives n events all.1)
 all_gives n (Given buffer ∷ events) all = let here = ap one_if all.0 in (omega (arith, here), all_gives n events all.1)
 all_gives n (Missed ∷ events) all = (omega arith, all_gives n events all.1)
 
-all_gets : (n : ℕ) (events : List Event) → AllByRecursion (λ event. one_if (gets_below n event) ≤ one_if (is_get event)) events
+all_gets : (n : ℕ) (events : List PoolEvent) → AllByRecursion (λ event. one_if (gets_below n event) ≤ one_if (is_get event)) events
 all_gets n [] = tt
 all_gets n (Got buffer ∷ events) = (one_most (ltb buffer n), all_gets n events)
   where
@@ -188,7 +188,7 @@ all_gets n (Empty ∷ events) = (omega arith, all_gets n events)
 all_gets n (Given buffer ∷ events) = (omega arith, all_gets n events)
 all_gets n (Missed ∷ events) = (omega arith, all_gets n events)
 
-gives_few : (n : ℕ) (events : List Event) → IsHistoryBack n events → count_by is_give events ≤ count_by is_get events
+gives_few : (n : ℕ) (events : List PoolEvent) → IsHistoryBack n events → count_by is_give events ≤ count_by is_get events
 gives_few n events h =
     let a = count_less is_give (gives_below n) events (all_gives n events (withins n events h).each) in
     let b = few_below n events (λ buffer. (evens buffer n events h).behind) in
@@ -197,7 +197,7 @@ gives_few n events h =
 
 -- ---- a history in its order
 
-pub record IsBounded (n : ℕ) (events : List Event) : Type 0 where
+pub record IsBounded (n : ℕ) (events : List PoolEvent) : Type 0 where
   pub buffers : count_by (is_within n) events ≡ length events
   pub gives : count_by is_give events ≤ count_by is_get events
   pub misses : count_by is_missed events ≤ count_by is_empty events
@@ -210,7 +210,7 @@ all_counted p (x ∷ xs) all =
     let rest = all_counted p xs all.1 in
     omega (arith, first, here, rest)
 
-pub bounded : (n : ℕ) (events : List Event) → IsPoolHistory n events → IsBounded n events
+pub bounded : (n : ℕ) (events : List PoolEvent) → IsPoolHistory n events → IsBounded n events
 bounded n events h =
     let w = all_counted (is_within n) (reverse events) (withins n (reverse events) h).each in
     let g = gives_few n (reverse events) h in

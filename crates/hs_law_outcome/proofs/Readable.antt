@@ -27,14 +27,14 @@ use Rattle.hs_records.specs.Plain.{Operation, PlainWorkload}
 use Rattle.hs_law_sends.specs.Drawn.{DrawnPage, stamp_of}
 use Rattle.hs_law_sends.specs.Laws.{TimedPagesAreThePages}
 use Rattle.hs_law_sends.specs.Sending.{client_sends, node_sends, draws_at, place_of}
-use Rattle.hs_words.specs.PoolHistory.{Event, Got, Empty, Given, Missed, is_empty, is_missed}
+use Rattle.hs_words.specs.PoolHistory.{PoolEvent, Got, Empty, Given, Missed, is_empty, is_missed}
 use Rattle.hs_words.specs.PoolHistory as pool
 use Rattle.hs_law_journal.specs.Extending.{RunsAreOfTheJournal}
 use Rattle.hs_law_journal.specs.Following.{NodeRun, run_start, node_start, followed, log_at}
 use Rattle.hs_law_journal.specs.Gives.{GivesAreNoted}
 use Rattle.hs_law_journal.specs.Lawful.{IsLawful}
 use Rattle.hs_law_journal.specs.Orders.{FollowingPlaysOut}
-use Rattle.hs_law_journal.specs.Pooled.{PoolEvent, by_stamp, event_drawn, drawn_event, node_pages, given_buffer, given_event, missed_event, pool_events, pool_history}
+use Rattle.hs_law_journal.specs.Pooled.{StampedPoolEvent, by_stamp, event_drawn, drawn_event, node_pages, given_buffer, given_event, missed_event, pool_events, pool_history}
 use Rattle.hs_law_journal.specs.Shape.{same_counts, log_stamps, node_draws, draw_stamps, node_stamps}
 use Rattle.hs_law_outcome.specs.Origins.{HasItsClients}
 use Rattle.hs_law_outcome.specs.Readable.{HasRoom, HasShape, JournalsHaveTheShape, LawfulJournalsCanBeRead}
@@ -94,20 +94,20 @@ few_at most size (ops ∷ clients) (suc place) all none = few_at most size clien
 -- ---- the events of a pool
 
 -- no give is a draw
-no_gives : (p : Event → Bool) → ((buffer : ℕ) → p (Given buffer) ≡ false) → (run : NodeRun) (givens : List GivenPlace) → count_by p (map (λ (e : PoolEvent). e.event) (filter_map (given_event run) givens)) ≡ 0
+no_gives : (p : PoolEvent → Bool) → ((buffer : ℕ) → p (Given buffer) ≡ false) → (run : NodeRun) (givens : List GivenPlace) → count_by p (map (λ (e : StampedPoolEvent). e.event) (filter_map (given_event run) givens)) ≡ 0
 no_gives p none run [] = refl
 no_gives p none run (given ∷ givens) = by_buffer (given_buffer run given.place) (no_gives p none run givens)
   where
-    by_buffer : (o : Option ℕ) → count_by p (map (λ (e : PoolEvent). e.event) (filter_map (given_event run) givens)) ≡ 0
-        → count_by p (map (λ (e : PoolEvent). e.event) (cons_option (option_map (λ buffer. record { stamp = given.stamp; event = Given buffer }) o) (filter_map (given_event run) givens))) ≡ 0
+    by_buffer : (o : Option ℕ) → count_by p (map (λ (e : StampedPoolEvent). e.event) (filter_map (given_event run) givens)) ≡ 0
+        → count_by p (map (λ (e : StampedPoolEvent). e.event) (cons_option (option_map (λ buffer. record { stamp = given.stamp; event = Given buffer }) o) (filter_map (given_event run) givens))) ≡ 0
     by_buffer None rest = rest
     by_buffer (Some buffer) rest =
-        let first = count_cons p (Given buffer) (map (λ (e : PoolEvent). e.event) (filter_map (given_event run) givens)) in
+        let first = count_cons p (Given buffer) (map (λ (e : StampedPoolEvent). e.event) (filter_map (given_event run) givens)) in
         let here = ap one (none buffer) in
         omega (arith, first, here, rest)
 
 -- and no miss
-no_misses : (p : Event → Bool) → p Missed ≡ false → (log : List Step) → count_by p (map (λ (e : PoolEvent). e.event) (filter_map missed_event log)) ≡ 0
+no_misses : (p : PoolEvent → Bool) → p Missed ≡ false → (log : List Step) → count_by p (map (λ (e : StampedPoolEvent). e.event) (filter_map missed_event log)) ≡ 0
 no_misses p none [] = refl
 no_misses p none (steps.Chunk client ∷ log) = no_misses p none log
 no_misses p none (steps.Crumb client ∷ log) = no_misses p none log
@@ -116,15 +116,15 @@ no_misses p none (steps.Ask ∷ log) = no_misses p none log
 no_misses p none (steps.Turn ∷ log) = no_misses p none log
 no_misses p none (steps.Given stamp ∷ log) = no_misses p none log
 no_misses p none (steps.Missed stamp ∷ log) =
-    let first = count_cons p Missed (map (λ (e : PoolEvent). e.event) (filter_map missed_event log)) in
+    let first = count_cons p Missed (map (λ (e : StampedPoolEvent). e.event) (filter_map missed_event log)) in
     let here = ap one none in
     let rest = no_misses p none log in
     omega (arith, first, here, rest)
 no_misses p none (steps.Unread ∷ log) = no_misses p none log
 
-events_drawn : (pages : List DrawnPage) → map (λ (e : PoolEvent). e.event) (map drawn_event pages) ≡ map event_drawn (map (λ (d : DrawnPage). d.draw) pages)
+events_drawn : (pages : List DrawnPage) → map (λ (e : StampedPoolEvent). e.event) (map drawn_event pages) ≡ map event_drawn (map (λ (d : DrawnPage). d.draw) pages)
 events_drawn [] = refl
-events_drawn (page ∷ pages) = ap (λ (rest : List Event). event_drawn page.draw ∷ rest) (events_drawn pages)
+events_drawn (page ∷ pages) = ap (λ (rest : List PoolEvent). event_drawn page.draw ∷ rest) (events_drawn pages)
 
 -- ---- draws and steps
 
@@ -163,32 +163,32 @@ module _ (plays : FollowingPlaysOut) (runs : RunsAreOfTheJournal) (given_noted :
       omega (arith, same, few)
 
   module _ (i : ℕ) (run : NodeRun) (stands : slice_get (followed W J).nodes i ≡ Some run) where
-    abbrev events : List Event
-    events = map (λ (e : PoolEvent). e.event) (pool_events run)
+    abbrev events : List PoolEvent
+    events = map (λ (e : StampedPoolEvent). e.event) (pool_events run)
 
-    same_events : (p : Event → Bool) → count_by p (pool_history run) ≡ count_by p events
+    same_events : (p : PoolEvent → Bool) → count_by p (pool_history run) ≡ count_by p events
     same_events p =
-        let stamp = λ (e : PoolEvent). e.stamp in
-        count_map p (λ (e : PoolEvent). e.event) (by_stamp stamp (length (pool_events run)) (pool_events run))
-        ∙ by_stamp_counts stamp (λ (e : PoolEvent). p e.event) (length (pool_events run)) (pool_events run) (all_low plays runs given_noted timed W J ends lawful i run stands)
-        ∙ sym (count_map p (λ (e : PoolEvent). e.event) (pool_events run))
+        let stamp = λ (e : StampedPoolEvent). e.stamp in
+        count_map p (λ (e : StampedPoolEvent). e.event) (by_stamp stamp (length (pool_events run)) (pool_events run))
+        ∙ by_stamp_counts stamp (λ (e : StampedPoolEvent). p e.event) (length (pool_events run)) (pool_events run) (all_low plays runs given_noted timed W J ends lawful i run stands)
+        ∙ sym (count_map p (λ (e : StampedPoolEvent). e.event) (pool_events run))
 
     history_bounded : IsBounded W.settings.buffers (pool_history run)
     history_bounded = bounded W.settings.buffers (pool_history run) (all_at (λ (n : NodeRun). pool.IsPoolHistory W.settings.buffers (pool_history n)) (followed W J).nodes i run lawful.L3 stands)
 
-    abbrev drawn : List Event
-    drawn = map (λ (e : PoolEvent). e.event) (map drawn_event (node_pages run))
+    abbrev drawn : List PoolEvent
+    drawn = map (λ (e : StampedPoolEvent). e.event) (map drawn_event (node_pages run))
 
-    parts : events ≡ (drawn ++ map (λ (e : PoolEvent). e.event) (filter_map (given_event run) run.state.given)) ++ map (λ (e : PoolEvent). e.event) (filter_map missed_event run.state.log)
+    parts : events ≡ (drawn ++ map (λ (e : StampedPoolEvent). e.event) (filter_map (given_event run) run.state.given)) ++ map (λ (e : StampedPoolEvent). e.event) (filter_map missed_event run.state.log)
     parts =
-        map-append (λ (e : PoolEvent). e.event) (map drawn_event (node_pages run) ++ filter_map (given_event run) run.state.given) (filter_map missed_event run.state.log)
-        ∙ ap (λ front. front ++ map (λ (e : PoolEvent). e.event) (filter_map missed_event run.state.log)) (map-append (λ (e : PoolEvent). e.event) (map drawn_event (node_pages run)) (filter_map (given_event run) run.state.given))
+        map-append (λ (e : StampedPoolEvent). e.event) (map drawn_event (node_pages run) ++ filter_map (given_event run) run.state.given) (filter_map missed_event run.state.log)
+        ∙ ap (λ front. front ++ map (λ (e : StampedPoolEvent). e.event) (filter_map missed_event run.state.log)) (map-append (λ (e : StampedPoolEvent). e.event) (map drawn_event (node_pages run)) (filter_map (given_event run) run.state.given))
 
     -- what no give and no miss is was drawn
-    only_drawn : (p : Event → Bool) → ((buffer : ℕ) → p (Given buffer) ≡ false) → p Missed ≡ false → count_by p events ≡ count_by p drawn
+    only_drawn : (p : PoolEvent → Bool) → ((buffer : ℕ) → p (Given buffer) ≡ false) → p Missed ≡ false → count_by p events ≡ count_by p drawn
     only_drawn p gives misses =
-        let given = map (λ (e : PoolEvent). e.event) (filter_map (given_event run) run.state.given) in
-        let missed = map (λ (e : PoolEvent). e.event) (filter_map missed_event run.state.log) in
+        let given = map (λ (e : StampedPoolEvent). e.event) (filter_map (given_event run) run.state.given) in
+        let missed = map (λ (e : StampedPoolEvent). e.event) (filter_map missed_event run.state.log) in
         let whole = ap (count_by p) parts in
         let a = count_append p (drawn ++ given) missed in
         let b = count_append p drawn given in
@@ -210,7 +210,7 @@ module _ (plays : FollowingPlaysOut) (runs : RunsAreOfTheJournal) (given_noted :
 
     few_events : length (pool_events run) < 2 ^ 64
     few_events =
-        let long = sym (length-map (pool_events run) (λ (e : PoolEvent). e.event)) in
+        let long = sym (length-map (pool_events run) (λ (e : StampedPoolEvent). e.event)) in
         let all = kinds events in
         let own = kinds drawn in
         let h = history_bounded in
@@ -238,19 +238,19 @@ module _ (plays : FollowingPlaysOut) (runs : RunsAreOfTheJournal) (given_noted :
         let h = history_bounded in
         let inside = h.buffers in
         let same = same_events (is_within W.settings.buffers) in
-        let all = same_events (λ (_ : Event). true) in
+        let all = same_events (λ (_ : PoolEvent). true) in
         let whole = count_true (pool_history run) in
         let other = count_true events in
-        let given = map (λ (e : PoolEvent). e.event) (filter_map (given_event run) run.state.given) in
-        let missed = map (λ (e : PoolEvent). e.event) (filter_map missed_event run.state.log) in
+        let given = map (λ (e : StampedPoolEvent). e.event) (filter_map (given_event run) run.state.given) in
+        let missed = map (λ (e : StampedPoolEvent). e.event) (filter_map missed_event run.state.log) in
         let each_within = count_full (is_within W.settings.buffers) events (omega (arith, inside, same, all, whole, other)) in
-        let inside_of = λ (event : Event). is_within W.settings.buffers event ≡ true in
+        let inside_of = λ (event : PoolEvent). is_within W.settings.buffers event ≡ true in
         all_front inside_of drawn given (all_front inside_of (drawn ++ given) missed (subst (AllByRecursion inside_of) parts each_within))
 
     draws_there : (number : ℕ) → number < each → AllByRecursion IsDraw (draws_at J (place_of each run.node number))
     draws_there number low =
         let list = draws_at J (place_of each run.node number) in
-        let inside_of = λ (event : Event). is_within W.settings.buffers event ≡ true in
+        let inside_of = λ (event : PoolEvent). is_within W.settings.buffers event ≡ true in
         let at : slice_get (node_draws W J run.node) number ≡ Some list =
         slice_get-map (λ number. draws_at J (place_of each run.node number)) (range_with_len 0 each) number ∙ ap (option_map (λ number. draws_at J (place_of each run.node number))) (range_at 0 each number low)
         ∙ zeroth number

@@ -19,7 +19,7 @@ use Rattle.hs_journal.specs.declared.journal.Step.TheVariants as steps
 use Rattle.hs_law_agent.specs.Laws.{AllPass, IsPassed, claimed_by, EventsAddFew, StepsSayWhatTheyTell}
 use Rattle.hs_law_agent.specs.Messages.{has_crumb, told_of, late_of}
 use Rattle.hs_law_agent.specs.State.{ClaimedTrace, claim_of}
-use Rattle.hs_law_agent.specs.Stepping.{Input, Chunk, Crumbed, Triggered, Asked, Turn, Event, Took, Gave, admits, group_of, told_by}
+use Rattle.hs_law_agent.specs.Stepping.{Input, Chunk, Crumbed, Triggered, Asked, Turn, AgentEvent, Took, Gave, admits, group_of, told_by}
 use Rattle.hs_records.specs.Plain.{PlainSettings}
 use Rattle.hs_law_sends.specs.Sending.{ClientSends}
 use Rattle.hs_law_journal.specs.Following.{Chunks, Crumbs, Triggers, Asks, taken, asks_to, NodeRun, next_of, event_of, perform, step_node}
@@ -80,20 +80,20 @@ module _ (group : GroupId) where
 
   module _ (settings : PlainSettings) (heard : Messages) (run : NodeRun) where
     -- If an event takes an ask for the group, the node has one.
-    abbrev Allowed : Event → Type 0
+    abbrev Allowed : AgentEvent → Type 0
     Allowed (Took (Asked ask)) = IsHad group heard run.node ask
     Allowed _ = Unit {0}
 
-    item_allowed : {A : Type 0} (f : A → Event) (event : Event) (o : Option A) → ((a : A) → Allowed (f a)) → option_map f o ≡ Some event → Allowed event
+    item_allowed : {A : Type 0} (f : A → AgentEvent) (event : AgentEvent) (o : Option A) → ((a : A) → Allowed (f a)) → option_map f o ≡ Some event → Allowed event
     item_allowed f event o each h = let m = mapped_from f o event h in subst Allowed (sym m.is) (each m.item)
 
-    sent_allowed : {A : Type 0} (f : A → Event) (event : Event) (pick : ClientSends → Option A) (o : Option ClientSends) → ((a : A) → Allowed (f a))
+    sent_allowed : {A : Type 0} (f : A → AgentEvent) (event : AgentEvent) (pick : ClientSends → Option A) (o : Option ClientSends) → ((a : A) → Allowed (f a))
         → option_and_then (λ (sends : ClientSends). option_map f (pick sends)) o ≡ Some event → Allowed event
     sent_allowed f event pick None each h = let no : None ≡ Some event = h in absurd cc
     sent_allowed f event pick (Some sends) each h = item_allowed f event (pick sends) each h
 
     -- a step that is ready takes no other ask
-    allowed : (step : Step) (event : Event) → event_of run heard step ≡ Some event → Allowed event
+    allowed : (step : Step) (event : AgentEvent) → event_of run heard step ≡ Some event → Allowed event
     allowed (steps.Chunk client) event h =
         sent_allowed (λ sheet. Took (Chunk client sheet)) event (λ (s : ClientSends). next_of (Chunks client) run.state s.chunks) (slice_get run.sends client) (λ a. tt) h
     allowed (steps.Crumb client) event h =
@@ -151,7 +151,7 @@ module _ (group : GroupId) where
       told Turn had = tt
 
       module _ (says : StepsSayWhatTheyTell) (few : EventsAddFew) where
-        event_keeps : (rest : List Step) (event : Event) → Allowed event → KeepsToIt heard (perform settings rest run event)
+        event_keeps : (rest : List Step) (event : AgentEvent) → Allowed event → KeepsToIt heard (perform settings rest run event)
         event_keeps rest (Took input) had =
             record {
               claims = (few settings run.node run.state).claims (may_speak heard run.node) input k.claims (passed input had);

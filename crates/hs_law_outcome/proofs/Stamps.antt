@@ -23,14 +23,14 @@ use Rattle.hs_law_sends.specs.Drawn.{DrawnPage, stamp_of, drawn_from}
 use Rattle.hs_law_sends.specs.Laws.{TimedPagesAreThePages}
 use Rattle.hs_law_sends.specs.Sending.{ClientSends, client_sends, operations_at, draws_at, place_of}
 use Rattle.hs_law_sends.specs.Timing.{TimedPage, timed_pages}
-use Rattle.hs_words.specs.PoolHistory.{Event, Empty, IsPoolHistory}
+use Rattle.hs_words.specs.PoolHistory.{PoolEvent, Empty, IsPoolHistory}
 use Rattle.hs_words.specs.PoolHistory as pool
 use Rattle.hs_law_journal.specs.Extending.{IsOfJournal, RunsAreOfTheJournal}
 use Rattle.hs_law_journal.specs.Following.{NodeRun, Run, followed, log_at}
 use Rattle.hs_law_journal.specs.Gives.{given_stamp, GivesAsNoted, GivesAreNoted}
 use Rattle.hs_law_journal.specs.Lawful.{IsLawful}
 use Rattle.hs_law_journal.specs.Orders.{FollowingPlaysOut}
-use Rattle.hs_law_journal.specs.Pooled.{PoolEvent, by_stamp, event_drawn, drawn_event, node_pages, given_page, buffer_of, given_buffer, given_event, missed_event, pool_events, pool_history, answers_draw, gives_answer}
+use Rattle.hs_law_journal.specs.Pooled.{StampedPoolEvent, by_stamp, event_drawn, drawn_event, node_pages, given_page, buffer_of, given_buffer, given_event, missed_event, pool_events, pool_history, answers_draw, gives_answer}
 use Rattle.hs_law_journal.specs.Shape.{log_stamps, node_draws, draw_stamps, node_stamps, are_numbered, rise, node_has_stamps}
 use Rattle.hs_law_outcome.specs.Causes.{EmptyOnlyWhereEmpty}
 use Rattle.hs_law_outcome.specs.Nulls.{FoundNothing, NullsFoundNothing, EmptyDrawsFoundNothing}
@@ -222,12 +222,12 @@ drawn_draws client k (page ∷ timed) (draw ∷ draws) same =
     let tails : suc (length timed) ≡ suc (length draws) = same in ap (λ (rest : List Draw). draw ∷ rest) (drawn_draws client (k + 1) timed draws (omega (arith, tails)))
 
 -- so that is where their stamps are from
-stamps_drawn : (pages : List DrawnPage) → map (λ (e : PoolEvent). e.stamp) (map drawn_event pages) ≡ draw_stamps (map (λ (d : DrawnPage). d.draw) pages)
+stamps_drawn : (pages : List DrawnPage) → map (λ (e : StampedPoolEvent). e.stamp) (map drawn_event pages) ≡ draw_stamps (map (λ (d : DrawnPage). d.draw) pages)
 stamps_drawn [] = refl
 stamps_drawn (page ∷ pages) = ap (λ (rest : List ℕ). stamp_of page.draw ∷ rest) (stamps_drawn pages)
 
 abbrev missed_stamps : List Step → List ℕ
-missed_stamps log = map (λ (e : PoolEvent). e.stamp) (filter_map missed_event log)
+missed_stamps log = map (λ (e : StampedPoolEvent). e.stamp) (filter_map missed_event log)
 
 -- a log's stamps are those of its gives and those of its misses
 log_counts : (p : ℕ → Bool) (log : List Step) → count_by p (filter_map given_stamp log) + count_by p (missed_stamps log) ≡ count_by p (log_stamps log)
@@ -251,11 +251,11 @@ log_counts p (steps.Unread ∷ log) = log_counts p log
 
 -- each give of a lawful journal gives a buffer that is known
 given_case : (run : NodeRun) (given : GivenPlace) (o : Option DrawnPage) → given_page run run.state given.place ≡ o
-    → option_map_or (λ (d : DrawnPage). answers_draw (pool_events run) given.stamp d.draw) o false ≡ true → (event : PoolEvent) × (given_event run given ≡ Some event) × (event.stamp ≡ given.stamp)
+    → option_map_or (λ (d : DrawnPage). answers_draw (pool_events run) given.stamp d.draw) o false ≡ true → (event : StampedPoolEvent) × (given_event run given ≡ Some event) × (event.stamp ≡ given.stamp)
 given_case run given None e h = let no : false ≡ true = h in absurd cc
 given_case run given (Some d) e h = draw_case d.draw refl h
   where
-    draw_case : (draw : Draw) → d.draw ≡ draw → answers_draw (pool_events run) given.stamp draw ≡ true → (event : PoolEvent) × (given_event run given ≡ Some event) × (event.stamp ≡ given.stamp)
+    draw_case : (draw : Draw) → d.draw ≡ draw → answers_draw (pool_events run) given.stamp draw ≡ true → (event : StampedPoolEvent) × (given_event run given ≡ Some event) × (event.stamp ≡ given.stamp)
     draw_case (draws.Got buffer stamp) is h =
         let found : given_buffer run given.place ≡ Some buffer = ap (option_and_then (λ (d : DrawnPage). buffer_of d.draw)) e ∙ ap buffer_of is in (
           record { stamp = given.stamp; event = pool.Given buffer },
@@ -266,14 +266,14 @@ given_case run given (Some d) e h = draw_case d.draw refl h
 
 given_stamps : (run : NodeRun) (givens : List GivenPlace)
     → list_all (λ (given : GivenPlace). option_map_or (λ (d : DrawnPage). answers_draw (pool_events run) given.stamp d.draw) (given_page run run.state given.place) false) givens ≡ true
-    → map (λ (e : PoolEvent). e.stamp) (filter_map (given_event run) givens) ≡ map (λ (g : GivenPlace). g.stamp) givens
+    → map (λ (e : StampedPoolEvent). e.stamp) (filter_map (given_event run) givens) ≡ map (λ (g : GivenPlace). g.stamp) givens
 given_stamps run [] h = refl
 given_stamps run (given ∷ givens) h =
     let both = and_parts (option_map_or (λ (d : DrawnPage). answers_draw (pool_events run) given.stamp d.draw) (given_page run run.state given.place) false)
     (list_all (λ (given : GivenPlace). option_map_or (λ (d : DrawnPage). answers_draw (pool_events run) given.stamp d.draw) (given_page run run.state given.place) false) givens) h in
     let event = given_case run given (given_page run run.state given.place) refl both.0 in
-    ap (λ o. map (λ (e : PoolEvent). e.stamp) (cons_option o (filter_map (given_event run) givens))) event.1
-    ∙ ap (λ (s : ℕ). s ∷ map (λ (e : PoolEvent). e.stamp) (filter_map (given_event run) givens)) event.2
+    ap (λ o. map (λ (e : StampedPoolEvent). e.stamp) (cons_option o (filter_map (given_event run) givens))) event.1
+    ∙ ap (λ (s : ℕ). s ∷ map (λ (e : StampedPoolEvent). e.stamp) (filter_map (given_event run) givens)) event.2
     ∙ ap (λ (rest : List ℕ). given.stamp ∷ rest) (given_stamps run givens both.1)
 
 passed : {X : Type 0} (p : X → Bool) (xs : List X) → list_all p xs ≡ true → AllByRecursion (λ x. p x ≡ true) xs
@@ -324,26 +324,26 @@ module _ (plays : FollowingPlaysOut) (runs : RunsAreOfTheJournal) (given_noted :
         ∙ flat_alike (λ number. map (λ (d : DrawnPage). d.draw) (client_sends W J run.node number).drawn) (λ number. draws_at J (place_of W.settings.clients run.node number)) clients client_draws
         ∙ sym (flat_map-map (λ (drawn : List Draw). drawn) (λ number. draws_at J (place_of W.settings.clients run.node number)) clients)
 
-    pages_stamps : map (λ (e : PoolEvent). e.stamp) (map drawn_event (node_pages run)) ≡ flat_map draw_stamps (node_draws W J run.node)
+    pages_stamps : map (λ (e : StampedPoolEvent). e.stamp) (map drawn_event (node_pages run)) ≡ flat_map draw_stamps (node_draws W J run.node)
     pages_stamps = stamps_drawn (node_pages run) ∙ ap draw_stamps pages_draws ∙ map_flat (λ (drawn : List Draw). drawn) stamp_of (node_draws W J run.node)
 
-    gives_stamps : map (λ (e : PoolEvent). e.stamp) (filter_map (given_event run) run.state.given) ≡ filter_map given_stamp run.state.log
+    gives_stamps : map (λ (e : StampedPoolEvent). e.stamp) (filter_map (given_event run) run.state.given) ≡ filter_map given_stamp run.state.log
     gives_stamps =
         let answers = all_at (λ (n : NodeRun). gives_answer n ≡ true) all_run.nodes i run (passed gives_answer all_run.nodes lawful.L4) stands in
         given_stamps run run.state.given answers ∙ all_at GivesAsNoted all_run.nodes i run (given_noted W J all_run (plays W J).leads) stands
 
     abbrev event_stamps : List ℕ
-    event_stamps = map (λ (e : PoolEvent). e.stamp) (pool_events run)
+    event_stamps = map (λ (e : StampedPoolEvent). e.stamp) (pool_events run)
 
     -- each number is counted as often among the events as among the node's stamps
     same_counts_of : (p : ℕ → Bool) → count_by p event_stamps ≡ count_by p (node_stamps W J run.node)
     same_counts_of p =
-        let parts = map-append (λ (e : PoolEvent). e.stamp) (map drawn_event (node_pages run) ++ filter_map (given_event run) run.state.given) (filter_map missed_event run.state.log) in
-        let front = map-append (λ (e : PoolEvent). e.stamp) (map drawn_event (node_pages run)) (filter_map (given_event run) run.state.given) in
+        let parts = map-append (λ (e : StampedPoolEvent). e.stamp) (map drawn_event (node_pages run) ++ filter_map (given_event run) run.state.given) (filter_map missed_event run.state.log) in
+        let front = map-append (λ (e : StampedPoolEvent). e.stamp) (map drawn_event (node_pages run)) (filter_map (given_event run) run.state.given) in
         let whole = ap (count_by p) parts in
-        let a = count_append p (map (λ (e : PoolEvent). e.stamp) (map drawn_event (node_pages run) ++ filter_map (given_event run) run.state.given)) (missed_stamps run.state.log) in
+        let a = count_append p (map (λ (e : StampedPoolEvent). e.stamp) (map drawn_event (node_pages run) ++ filter_map (given_event run) run.state.given)) (missed_stamps run.state.log) in
         let b = ap (count_by p) front in
-        let c = count_append p (map (λ (e : PoolEvent). e.stamp) (map drawn_event (node_pages run))) (map (λ (e : PoolEvent). e.stamp) (filter_map (given_event run) run.state.given)) in
+        let c = count_append p (map (λ (e : StampedPoolEvent). e.stamp) (map drawn_event (node_pages run))) (map (λ (e : StampedPoolEvent). e.stamp) (filter_map (given_event run) run.state.given)) in
         let d = ap (count_by p) pages_stamps in
         let e = ap (count_by p) gives_stamps in
         let f = log_counts p run.state.log in
@@ -353,7 +353,7 @@ module _ (plays : FollowingPlaysOut) (runs : RunsAreOfTheJournal) (given_noted :
 
     pub same_long : length (pool_events run) ≡ length (node_stamps W J run.node)
     same_long =
-        sym (length-map (pool_events run) (λ (e : PoolEvent). e.stamp)) ∙ sym (count_true event_stamps) ∙ same_counts_of (λ (_ : ℕ). true) ∙ count_true (node_stamps W J run.node)
+        sym (length-map (pool_events run) (λ (e : StampedPoolEvent). e.stamp)) ∙ sym (count_true event_stamps) ∙ same_counts_of (λ (_ : ℕ). true) ∙ count_true (node_stamps W J run.node)
 
     pub numbered : are_numbered (node_stamps W J run.node) ≡ true
     numbered =
@@ -373,7 +373,7 @@ module _ (plays : FollowingPlaysOut) (runs : RunsAreOfTheJournal) (given_noted :
     pub all_low : AllByRecursion (λ s. ltb s (length (pool_events run)) ≡ true) event_stamps
     all_low =
         count_full (λ s. ltb s (length (pool_events run))) event_stamps
-        (all_below (length (pool_events run)) event_stamps each_once ∙ sym (length-map (pool_events run) (λ (e : PoolEvent). e.stamp)))
+        (all_below (length (pool_events run)) event_stamps each_once ∙ sym (length-map (pool_events run) (λ (e : StampedPoolEvent). e.stamp)))
 
     -- a draw that found nothing, at its place
     nothing_found : (empties : EmptyOnlyWhereEmpty) (k : ℕ) (page : DrawnPage) → slice_get (node_pages run) k ≡ Some page → (stamp : ℕ) → page.draw ≡ draws.Empty stamp → FoundNothing W.settings.buffers run stamp
@@ -385,21 +385,21 @@ module _ (plays : FollowingPlaysOut) (runs : RunsAreOfTheJournal) (given_noted :
         (get_first (map drawn_event (node_pages run)) (filter_map (given_event run) run.state.given) k (record { stamp = stamp; event = Empty }) among_drawn)
         in
         let low = ltb-true stamp (length (pool_events run))
-        (all_at (λ s. ltb s (length (pool_events run)) ≡ true) event_stamps k stamp all_low (slice_get-map (λ (e : PoolEvent). e.stamp) (pool_events run) k ∙ ap (option_map (λ (e : PoolEvent). e.stamp)) stands_there)) in
-        let s = stands_at (λ (e : PoolEvent). e.stamp) (pool_events run) k (record { stamp = stamp; event = Empty }) stands_there each_once low in
-        let history : pool_history run ≡ map (λ (e : PoolEvent). e.event) s.front ++ Empty ∷ map (λ (e : PoolEvent). e.event) s.behind =
-        ap (map (λ (e : PoolEvent). e.event)) s.is ∙ map-append (λ (e : PoolEvent). e.event) s.front (record { stamp = stamp; event = Empty } ∷ s.behind)
+        (all_at (λ s. ltb s (length (pool_events run)) ≡ true) event_stamps k stamp all_low (slice_get-map (λ (e : StampedPoolEvent). e.stamp) (pool_events run) k ∙ ap (option_map (λ (e : StampedPoolEvent). e.stamp)) stands_there)) in
+        let s = stands_at (λ (e : StampedPoolEvent). e.stamp) (pool_events run) k (record { stamp = stamp; event = Empty }) stands_there each_once low in
+        let history : pool_history run ≡ map (λ (e : StampedPoolEvent). e.event) s.front ++ Empty ∷ map (λ (e : StampedPoolEvent). e.event) s.behind =
+        ap (map (λ (e : StampedPoolEvent). e.event)) s.is ∙ map-append (λ (e : StampedPoolEvent). e.event) s.front (record { stamp = stamp; event = Empty } ∷ s.behind)
         in
         let lawful_here = all_at (λ (n : NodeRun). IsPoolHistory W.settings.buffers (pool_history n)) all_run.nodes i run lawful.L3 stands in
         record {
-          earlier = map (λ (e : PoolEvent). e.event) s.front;
-          later = map (λ (e : PoolEvent). e.event) s.behind;
+          earlier = map (λ (e : StampedPoolEvent). e.event) s.front;
+          later = map (λ (e : StampedPoolEvent). e.event) s.behind;
           history = history;
-          place = length-map s.front (λ (e : PoolEvent). e.event) ∙ s.place;
-          queue = empties W.settings.buffers (map (λ (e : PoolEvent). e.event) s.front) (map (λ (e : PoolEvent). e.event) s.behind) (subst (IsPoolHistory W.settings.buffers) history lawful_here);
+          place = length-map s.front (λ (e : StampedPoolEvent). e.event) ∙ s.place;
+          queue = empties W.settings.buffers (map (λ (e : StampedPoolEvent). e.event) s.front) (map (λ (e : StampedPoolEvent). e.event) s.behind) (subst (IsPoolHistory W.settings.buffers) history lawful_here);
         }
       where
-        get_first : (xs ys : List PoolEvent) (place : ℕ) (x : PoolEvent) → slice_get xs place ≡ Some x → slice_get (xs ++ ys) place ≡ Some x
+        get_first : (xs ys : List StampedPoolEvent) (place : ℕ) (x : StampedPoolEvent) → slice_get xs place ≡ Some x → slice_get (xs ++ ys) place ≡ Some x
         get_first [] ys place x h = let no : None ≡ Some x = h in absurd cc
         get_first (y ∷ xs) ys zero x h = h
         get_first (y ∷ xs) ys (suc place) x h = get_first xs ys place x h

@@ -12,7 +12,7 @@ use Rattle.hs_law_agent.specs.Abandoning.{pinned_groups, next_to_go, abandon_gro
 use Rattle.hs_law_agent.specs.Laws.{Abandons, Remains, Leaves}
 use Rattle.hs_law_agent.specs.Standings.{ChunkStanding, Indexed, Pinned, Reported, Evicted, Abandoned, Taken}
 use Rattle.hs_law_agent.specs.State.{AgentState}
-use Rattle.hs_law_agent.specs.Stepping.{Event, after_event}
+use Rattle.hs_law_agent.specs.Stepping.{AgentEvent, after_event}
 use Rattle.hs_records.specs.Plain.{PlainSettings, PlainWorkload}
 use Rattle.hs_law_journal.specs.Following.{NodeRun, followed}
 use Rattle.hs_law_journal.specs.Journals.{of_short_of_pins}
@@ -20,7 +20,7 @@ use Rattle.hs_law_journal.specs.Played.{state_behind}
 use Rattle.hs_law_journal.specs.Workloads.{short_of_pins}
 
 -- One event, from the state before it to the state behind it.
-pub record AbandonsTheLeast (settings : PlainSettings) (node : ℕ) (before : AgentState) (event : Event) (behind : AgentState) : Type 0 where
+pub record AbandonsTheLeast (settings : PlainSettings) (node : ℕ) (before : AgentState) (event : AgentEvent) (behind : AgentState) : Type 0 where
   -- where the event leads if all that it pins may be pinned
   pub over : AgentState
   pub free : (limit : ℕ) → length over.pinned ≤ limit → after_event (record settings { pins = limit }) node before event ≡ over
@@ -37,12 +37,12 @@ IsOneToGo settings s later (Leaves u last other many next rest) group = (group �
 -- how each event of a node abandons
 abbrev pub EachAbandonsTheLeast : PlainSettings → NodeRun → Type 0
 EachAbandonsTheLeast settings run =
-    (n : ℕ) (event : Event) → slice_get run.events n ≡ Some event → AbandonsTheLeast settings run.node (state_behind settings run n) event (state_behind settings run (suc n))
+    (n : ℕ) (event : AgentEvent) → slice_get run.events n ≡ Some event → AbandonsTheLeast settings run.node (state_behind settings run n) event (state_behind settings run (suc n))
 
 -- A group is one of those that went in some event of the node.
 pub record WasChosen (settings : PlainSettings) (run : NodeRun) (each : EachAbandonsTheLeast settings run) (group : Group) : Type 0 where
   pub n : ℕ
-  pub event : Event
+  pub event : AgentEvent
   pub there : slice_get run.events n ≡ Some event
   pub went : IsOneToGo settings (each n event there).over (state_behind settings run (suc n)) (each n event there).goes group
 
@@ -83,7 +83,7 @@ gone_behind n run = map (λ (group : Group). group.lead.0) (state_behind setting
 
 -- where that trigger leads if any number of chunks may be pinned
 abbrev over_at : NodeRun → Option AgentState
-over_at run = option_map (λ (event : Event). after_event (record settings { pins = 9 }) run.node (state_behind settings run 5) event) (slice_get run.events 5)
+over_at run = option_map (λ (event : AgentEvent). after_event (record settings { pins = 9 }) run.node (state_behind settings run 5) event) (slice_get run.events 5)
 
 three_are_pinned : map (λ run. option_map (λ (over : AgentState). length over.pinned) (over_at run)) nodes ≡ Some 3 ∷ Some 3 ∷ []
 three_are_pinned = refl

@@ -10,7 +10,7 @@ use Rattle.hs_law_agent.specs.Laws.{count_of, given_places, PlacesMatch, IsWithi
 use Rattle.hs_law_agent.specs.Standings.{is_evicted, is_let_go, stands, is_of_trace}
 use Rattle.hs_law_agent.specs.State.{AgentState, GivenPlace, is_claimed}
 use Rattle.hs_records.specs.Plain.{PlainSettings, PlainWorkload}
-use Rattle.hs_words.specs.PoolHistory.{Event, Got, Empty, is_got, is_given, queue_after, IsPoolHistory}
+use Rattle.hs_words.specs.PoolHistory.{PoolEvent, Got, Empty, is_got, is_given, queue_after, IsPoolHistory}
 use Rattle.hs_law_journal.specs.Following.{NodeRun, followed}
 use Rattle.hs_law_journal.specs.Played.{state_behind}
 
@@ -57,8 +57,8 @@ NothingClaimedWasEvicted = (W : PlainWorkload) (J : PlainJournal) → AllByRecur
 -- A buffer that is got was given back as often as it was got before: no second writer has it.
 abbrev pub NoBufferIsOutTwice : Type 0
 NoBufferIsOutTwice =
-    (n buffer : ℕ) (earlier later : List Event) → IsPoolHistory n (earlier ++ Got buffer ∷ later) → count_by (is_got buffer) earlier ≡ count_by (is_given buffer) earlier
+    (n buffer : ℕ) (earlier later : List PoolEvent) → IsPoolHistory n (earlier ++ Got buffer ∷ later) → count_by (is_got buffer) earlier ≡ count_by (is_given buffer) earlier
 
 -- A draw finds nothing only where no buffer waits.
 abbrev pub EmptyOnlyWhereEmpty : Type 0
-EmptyOnlyWhereEmpty = (n : ℕ) (earlier later : List Event) → IsPoolHistory n (earlier ++ Empty ∷ later) → queue_after n (reverse earlier) ≡ []
+EmptyOnlyWhereEmpty = (n : ℕ) (earlier later : List PoolEvent) → IsPoolHistory n (earlier ++ Empty ∷ later) → queue_after n (reverse earlier) ≡ []

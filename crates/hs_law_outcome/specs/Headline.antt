@@ -19,7 +19,7 @@ use Rattle.hs_law_agent.specs.State.{is_claimed}
 use Rattle.hs_law_outcome.specs.Speaking.{IsLeastClosed}
 use Rattle.hs_records.specs.Plain.{PlainWorkload}
 use Rattle.hs_words.specs.Pages.{Sheet}
-use Rattle.hs_words.specs.PoolHistory.{Event, Got, is_got, is_given, IsPoolHistory}
+use Rattle.hs_words.specs.PoolHistory.{PoolEvent, Got, is_got, is_given, IsPoolHistory}
 use Rattle.hs_workload.specs.Validity.{IsValid}
 use Rattle.hs_law_journal.specs.Following.{NodeRun, log_at, followed}
 use Rattle.hs_law_journal.specs.Journals.{of_short_of_pins, of_three_traces}
@@ -100,8 +100,8 @@ pub record AskingHolds (heard : Messages) : Type 0 where
 -- ---- buffers
 
 -- A buffer that a client gets was given back as often as it was got before: no second writer has it.
-abbrev pub HaveOneWriter : List Event → Type 0
-HaveOneWriter events = (buffer : ℕ) (earlier later : List Event) → events ≡ earlier ++ Got buffer ∷ later → count_by (is_got buffer) earlier ≡ count_by (is_given buffer) earlier
+abbrev pub HaveOneWriter : List PoolEvent → Type 0
+HaveOneWriter events = (buffer : ℕ) (earlier later : List PoolEvent) → events ≡ earlier ++ Got buffer ∷ later → count_by (is_got buffer) earlier ≡ count_by (is_given buffer) earlier
 
 pub record BuffersHold (W : PlainWorkload) (J : PlainJournal) : Type 0 where
   -- The draws and gives of a node are one history of its pool, in the order of their stamps.

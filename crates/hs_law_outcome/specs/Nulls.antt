@@ -6,7 +6,7 @@ use Rattle.hs_journal.specs.declared.journal.Draw.TheVariants as draws
 use Rattle.hs_journal.specs.Views.{PlainJournal}
 use Rattle.hs_records.specs.Plain.{PlainWorkload}
 use Rattle.hs_law_sends.specs.Drawn.{DrawnPage}
-use Rattle.hs_words.specs.PoolHistory.{Event, Empty, queue_after}
+use Rattle.hs_words.specs.PoolHistory.{PoolEvent, Empty, queue_after}
 use Rattle.hs_law_journal.specs.Following.{NodeRun, followed}
 use Rattle.hs_law_journal.specs.Lawful.{IsLawful}
 use Rattle.hs_law_journal.specs.Pooled.{node_pages, pool_history}
@@ -14,8 +14,8 @@ use Rattle.hs_law_outcome.specs.Records.{EndsItsTraces}
 
 -- The draw at this stamp is an event of the node's pool, before which the queue is empty.
 pub record FoundNothing (buffers : ℕ) (run : NodeRun) (stamp : ℕ) : Type 0 where
-  pub earlier : List Event
-  pub later : List Event
+  pub earlier : List PoolEvent
+  pub later : List PoolEvent
   pub history : pool_history run ≡ earlier ++ Empty ∷ later
   pub place : length earlier ≡ stamp
   pub queue : queue_after buffers (reverse earlier) ≡ []

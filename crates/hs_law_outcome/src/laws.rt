@@ -16,32 +16,20 @@ ghost use Rattle.hs_law_outcome.specs.Asking.{NobodyIsAskedTwice};
 ghost use Rattle.hs_law_outcome.specs.Headline.{HeadlineHolds};
 
 use hs_collect::runs_decide_the_records;
-use hs_law_journal::laws::agents_come_by_events;
-use hs_law_journal::laws::chunks_are_taken_in_order;
-use hs_law_journal::laws::following_plays_out;
-use hs_law_journal::laws::gives_are_noted;
-use hs_law_journal::laws::runs_are_of_the_journal;
-use hs_law_journal::laws::taken_pages_rise;
-use hs_law_agent::laws::chunks_stand_by_their_claim;
-use hs_law_agent::laws::claims_hold_for_good;
-use hs_law_agent::laws::clients_pages_rise;
-use hs_law_agent::laws::events_add_this;
-use hs_law_agent::laws::events_go_on;
-use hs_law_agent::laws::evicted_were_over;
-use hs_law_agent::laws::limits_hold;
-use hs_law_agent::laws::lists_have_their_chunks;
-use hs_law_agent::laws::nothing_claimed_is_evicted;
-use hs_law_agent::laws::traces_are_claimed_once;
-use hs_records::pages_carry_the_records;
-use hs_records::pages_hold_the_pieces;
-use hs_records::pieces_are_counted;
-use hs_records::pieces_join_to_the_payload;
+use hs_coord::{answers_follow_asks, asked_set_is_least};
+use hs_law_agent::laws::{
+    chunks_stand_by_their_claim, claims_hold_for_good, clients_pages_rise, events_add_few,
+    events_add_this, events_go_on, evicted_were_over, limits_hold, lists_have_their_chunks,
+    nothing_claimed_is_evicted, steps_say_what_they_tell, the_least_goes, traces_are_claimed_once,
+};
+use hs_law_journal::laws::{
+    agents_come_by_events, chunks_are_taken_in_order, following_plays_out, gives_are_noted,
+    runs_are_of_the_journal, taken_pages_rise,
+};
 use hs_law_sends::laws::timed_pages_are_the_pages;
-use hs_coord::answers_follow_asks;
-use hs_coord::asked_set_is_least;
-use hs_law_agent::laws::events_add_few;
-use hs_law_agent::laws::steps_say_what_they_tell;
-use hs_law_agent::laws::the_least_goes;
+use hs_records::{
+    pages_carry_the_records, pages_hold_the_pieces, pieces_are_counted, pieces_join_to_the_payload,
+};
 
 /// A ledger has the records of the workload, each once and in their order.
 pub fn each_record_has_one_entry()

@@ -4,7 +4,7 @@ use Rattle.std.specs.List.{AllByRecursion}
 use Rattle.std.proofs.lemmas.List.{length-map, map-append, take-map}
 use Rattle.hs_journal.specs.Views.{PlainJournal}
 use Rattle.hs_law_agent.specs.Laws.{noted_as, EventsAddThis}
-use Rattle.hs_law_agent.specs.Stepping.{Event, after}
+use Rattle.hs_law_agent.specs.Stepping.{AgentEvent, after}
 use Rattle.hs_records.specs.Plain.{PlainWorkload}
 use Rattle.hs_law_journal.specs.Passes.{passes_of, steps_in}
 use Rattle.hs_law_journal.specs.Played.{state_behind}
@@ -23,7 +23,7 @@ take_joined [] (suc k) = refl
 take_joined (x ∷ lists) (suc k) = take_behind x (joined (take k lists)) (joined lists) (take_joined lists k)
 
 -- the steps of passes, one behind another
-pub steps_joined : (passes : List (List Event)) → joined (map steps_of passes) ≡ steps_of (joined passes)
+pub steps_joined : (passes : List (List AgentEvent)) → joined (map steps_of passes) ≡ steps_of (joined passes)
 steps_joined [] = refl
 steps_joined (pass ∷ passes) = ap (λ rest. steps_of pass ++ rest) (steps_joined passes) ∙ sym (map-append noted_as pass (joined passes))
 

@@ -8,7 +8,7 @@ use Rattle.hs_journal.specs.declared.journal.Draw.{Draw}
 use Rattle.hs_journal.specs.Views.{PlainJournal}
 use Rattle.hs_law_agent.specs.Laws.{sheets_of}
 use Rattle.hs_law_agent.specs.State.{AgentState, start}
-use Rattle.hs_law_agent.specs.Stepping.{Event, after}
+use Rattle.hs_law_agent.specs.Stepping.{AgentEvent, after}
 use Rattle.hs_records.specs.Plain.{PlainWorkload}
 use Rattle.hs_law_sends.specs.Sending.{ClientSends, client_sends, sends_of, draws_at, place_of, ops_of}
 use Rattle.hs_law_sends.specs.OneMore.{items_of}
@@ -20,7 +20,7 @@ use Rattle.hs_law_journal.specs.Doings.{NodeDoings, all_events, events_in, state
 use Rattle.hs_law_journal.specs.LoopPasses.{IsPass, IsOwn, HandsReady, EndsPass}
 use Rattle.hs_law_run.specs.Facts.{TookAllOf, IsPlayable, EndOffersFrom}
 use Rattle.hs_law_journal.specs.Turns.{AreTurns}
-use Rattle.hs_law_run.specs.Ends.{GoesOn}
+use Rattle.hs_law_run.specs.Ends.{PoolEndsGoOn}
 use Rattle.hs_law_run.specs.Stories.{NodeStory, Story, added, node_doings, doings_of, draws_of, sends_at, state_by, IsQueueStory, sent_by, TakesFrom, TalksWith, PoolsWith, IsNodeStory, IsStory}
 use Rattle.hs_law_run.specs.Stories as stories
 use Rattle.hs_law_run.proofs.PoolOf.{IsDrawnFor, IsPoolOf}
@@ -85,7 +85,7 @@ module _ (W : PlainWorkload) (s : Story) (story : IsStory W s) where
         either true e =
             let high = ltb-true s.passes k e in
             let h = ap (count_by (is_from (record { 0 = node }))) (heard_beyond k (omega (arith, high))) in
-            let t = ap (λ (events : List Event). length (after W.settings node events).said) (events_beyond k (omega (arith, high))) in
+            let t = ap (λ (events : List AgentEvent). length (after W.settings node events).said) (events_beyond k (omega (arith, high))) in
             let all = (story.each node low).talks.said_before s.passes (omega arith) in
             omega (arith, h, t, all)
         either false e =
@@ -102,13 +102,13 @@ module _ (W : PlainWorkload) (s : Story) (story : IsStory W s) where
         either true e =
             let few = ltb-true k s.passes e in
             let h = ap (λ heard. length (asks_to node heard)) (heard_are k (omega (arith, few))) in
-            let t = ap (λ (events : List Event). length (asks_in events)) (events_are (suc k) (omega (arith, few))) in
+            let t = ap (λ (events : List AgentEvent). length (asks_in events)) (events_are (suc k) (omega (arith, few))) in
             let some = (story.each node low).talks.asked_before k few in
             omega (arith, h, t, some)
         either false e =
             let high = ltb-false k s.passes e in
             let h = ap (λ heard. length (asks_to node heard)) (heard_beyond k high) in
-            let t = ap (λ (events : List Event). length (asks_in events)) (events_beyond (suc k) (omega (arith, high))) in
+            let t = ap (λ (events : List AgentEvent). length (asks_in events)) (events_beyond (suc k) (omega (arith, high))) in
             let all = ap length (story.each node low).talks.asks_all in
             omega (arith, h, t, all)
 
@@ -141,7 +141,7 @@ module _ (W : PlainWorkload) (s : Story) (story : IsStory W s) where
         all_by_place (IsPass W) (node_doings s node).passes
         (λ k pass h. let at = unmapped_at (added (s.nodes node).events) s.passes k pass h in subst (IsPass W) at.is ((story.each node low).ends k at.low).is_pass)
 
-    offers_from : (place : ℕ) (passes : List (List Event)) → ((i : ℕ) (pass : List Event) → slice_get passes i ≡ Some pass → EndsPass W (state_after W.settings (node_doings s node) (suc (place + i))) pass) → EndOffersFrom W (node_doings s node) place passes
+    offers_from : (place : ℕ) (passes : List (List AgentEvent)) → ((i : ℕ) (pass : List AgentEvent) → slice_get passes i ≡ Some pass → EndsPass W (state_after W.settings (node_doings s node) (suc (place + i))) pass) → EndOffersFrom W (node_doings s node) place passes
     offers_from place [] each = tt
     offers_from place (pass ∷ passes) each =
         let zeroth : place + 0 ≡ place = omega arith in (
@@ -149,7 +149,7 @@ module _ (W : PlainWorkload) (s : Story) (story : IsStory W s) where
           offers_from (suc place) passes (λ i p h. let next : place + suc i ≡ suc place + i = omega arith in subst (λ m. EndsPass W (state_after W.settings (node_doings s node) (suc m)) p) next (each (suc i) p h)),
         )
 
-    ends_offers : (k : ℕ) (pass : List Event) → slice_get (node_doings s node).passes k ≡ Some pass → EndsPass W (state_after W.settings (node_doings s node) (suc (0 + k))) pass
+    ends_offers : (k : ℕ) (pass : List AgentEvent) → slice_get (node_doings s node).passes k ≡ Some pass → EndsPass W (state_after W.settings (node_doings s node) (suc (0 + k))) pass
     ends_offers k pass h =
         let at = unmapped_at (added (s.nodes node).events) s.passes k pass h in
         let zeroth : k ≡ 0 + k = omega arith in
@@ -171,13 +171,13 @@ module _ (W : PlainWorkload) (s : Story) (story : IsStory W s) where
           at = (s.nodes node).ends;
           enough = omega (arith, count, enough);
           new = p.new;
-          passes = λ k pass h. let at = unmapped_at (added (s.nodes node).events) s.passes k pass h in subst (λ pass. GoesOn pass ((s.nodes node).ends k) ((s.nodes node).ends (suc k))) at.is (p.passes k at.low);
+          passes = λ k pass h. let at = unmapped_at (added (s.nodes node).events) s.passes k pass h in subst (λ pass. PoolEndsGoOn pass ((s.nodes node).ends k) ((s.nodes node).ends (suc k))) at.is (p.passes k at.low);
           meets = p.meets;
           started = p.started;
           done = (story.each node low).done;
           drawn = λ client few. ap (map draw_answer) (own_draws valid node client low few) ∙ p.drawn client few;
           lents = (s.nodes node).lents;
-          turns = λ k few. subst (λ (events : List Event). AreTurns W.settings node (s.nodes node).lents events ((s.nodes node).ends k).turns) (sym (events_are k (omega (arith, few, count)))) (p.turns k (omega (arith, few, count)));
+          turns = λ k few. subst (λ (events : List AgentEvent). AreTurns W.settings node (s.nodes node).lents events ((s.nodes node).ends k).turns) (sym (events_are k (omega (arith, few, count)))) (p.turns k (omega (arith, few, count)));
           sheets = p.sheets ∙ ap (λ (state : AgentState). sheets_of state.taken) (sym state_is);
           leases = all_each (stories.IsDrawnFor W s node) (IsDrawnFor W (journal_of W (doings_of W s)) node) (s.nodes node).lents
               (λ lent d. record { client = d.client; draw = ap (λ (list : List Draw). slice_get list lent.sheet.header.page) (own_draws valid node lent.sheet.header.client.number low d.client) ∙ d.draw }) p.leases;

@@ -13,9 +13,9 @@ use Rattle.hs_journal.specs.Views.{PlainJournal}
 use Rattle.hs_records.specs.Plain.{PlainWorkload}
 use Rattle.hs_law_sends.specs.Drawn.{DrawnPage, stamp_of}
 use Rattle.hs_law_sends.specs.Sending.{ClientSends, client_sends, draws_at, place_of}
-use Rattle.hs_words.specs.Ends.{Deed, Answer, answer_to, answers_by, drawn_in, is_any_given, IsAt, IsDraw}
+use Rattle.hs_words.specs.Ends.{Deed, Answer, answer_to, answers_by, drawn_in, is_any_given, IsDeedAt, IsDraw}
 use Rattle.hs_words.specs.Ends as ends
-use Rattle.hs_words.specs.PoolHistory.{Event, is_missed}
+use Rattle.hs_words.specs.PoolHistory.{PoolEvent, is_missed}
 use Rattle.hs_words.specs.PoolHistory as pool
 use Rattle.hs_law_journal.specs.Pooled.{by_stamp}
 use Rattle.hs_law_journal.specs.Doings.{NodeDoings}
@@ -37,7 +37,7 @@ drawn_all [] = tt
 drawn_all (draws.Got buffer stamp ∷ list) = (refl, drawn_all list)
 drawn_all (draws.Empty stamp ∷ list) = (refl, drawn_all list)
 
-kind_draws_none : (e : Event) → (is_any_given e ≡ true) ⊎ (is_missed e ≡ true) → ends.draws e ≡ 0
+kind_draws_none : (e : PoolEvent) → (is_any_given e ≡ true) ⊎ (is_missed e ≡ true) → ends.draws e ≡ 0
 kind_draws_none (pool.Got b) (inl h) = let no : false ≡ true = h in absurd cc
 kind_draws_none (pool.Got b) (inr h) = let no : false ≡ true = h in absurd cc
 kind_draws_none pool.Empty (inl h) = let no : false ≡ true = h in absurd cc

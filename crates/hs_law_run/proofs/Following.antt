@@ -20,7 +20,7 @@ use Rattle.hs_journal.specs.Views.{PlainJournal}
 use Rattle.hs_law_agent.specs.Laws.{noted_as, EventsAddThis, EventsGoOn, StepsSayWhatTheyTell}
 use Rattle.hs_law_agent.specs.State.{AgentState, start}
 use Rattle.hs_law_agent.specs.State as model
-use Rattle.hs_law_agent.specs.Stepping.{Chunk, Crumbed, Triggered, Asked, Turn, Answered, Given, Missed, Unread, Event, Took, Gave, after_event, after_from, after, step_of_answer, told_by}
+use Rattle.hs_law_agent.specs.Stepping.{Chunk, Crumbed, Triggered, Asked, Turn, Answered, Given, Missed, Unread, AgentEvent, Took, Gave, after_event, after_from, after, step_of_answer, told_by}
 use Rattle.hs_records.specs.Plain.{PlainSettings, PlainWorkload}
 use Rattle.hs_law_sends.specs.Sending.{Sent, ClientSends, client_sends, node_sends}
 use Rattle.hs_law_sends.specs.OneMore.{items_of}
@@ -67,7 +67,7 @@ module _ {X : Type 0} where
 -- ---- how many items were taken
 
 -- as many items as steps
-counts_items : {A : Type 0} (queue : Queue) (f : Event → List A) → ((event : Event) → length (f event) ≡ one (takes queue (noted_as event))) → (events : List Event) → taken queue (steps_of events) ≡ length (flat_map f events)
+counts_items : {A : Type 0} (queue : Queue) (f : AgentEvent → List A) → ((event : AgentEvent) → length (f event) ≡ one (takes queue (noted_as event))) → (events : List AgentEvent) → taken queue (steps_of events) ≡ length (flat_map f events)
 counts_items queue f each [] = refl
 counts_items queue f each (event ∷ events) =
     let first = each event in
@@ -104,7 +104,7 @@ kept_length : {A : Type 0} (b : Bool) (x : A) → length (cond b (x ∷ []) []) 
 kept_length true x = refl
 kept_length false x = refl
 
-chunk_counts : (client : ℕ) (event : Event) → length (chunk_in client event) ≡ one (takes (Chunks client) (noted_as event))
+chunk_counts : (client : ℕ) (event : AgentEvent) → length (chunk_in client event) ≡ one (takes (Chunks client) (noted_as event))
 chunk_counts client (Took (Chunk other sheet)) = kept_length (nat_eq other client) sheet
 chunk_counts client (Took (Crumbed other crumb)) = refl
 chunk_counts client (Took (Triggered other trigger)) = refl
@@ -112,7 +112,7 @@ chunk_counts client (Took (Asked ask)) = refl
 chunk_counts client (Took Turn) = refl
 chunk_counts client (Gave answer) = none_offered (Chunks client) answer
 
-crumb_counts : (client : ℕ) (event : Event) → length (crumb_in client event) ≡ one (takes (Crumbs client) (noted_as event))
+crumb_counts : (client : ℕ) (event : AgentEvent) → length (crumb_in client event) ≡ one (takes (Crumbs client) (noted_as event))
 crumb_counts client (Took (Chunk other sheet)) = refl
 crumb_counts client (Took (Crumbed other crumb)) = kept_length (nat_eq other client) crumb
 crumb_counts client (Took (Triggered other trigger)) = refl
@@ -120,7 +120,7 @@ crumb_counts client (Took (Asked ask)) = refl
 crumb_counts client (Took Turn) = refl
 crumb_counts client (Gave answer) = none_offered (Crumbs client) answer
 
-trigger_counts : (client : ℕ) (event : Event) → length (trigger_in client event) ≡ one (takes (Triggers client) (noted_as event))
+trigger_counts : (client : ℕ) (event : AgentEvent) → length (trigger_in client event) ≡ one (takes (Triggers client) (noted_as event))
 trigger_counts client (Took (Chunk other sheet)) = refl
 trigger_counts client (Took (Crumbed other crumb)) = refl
 trigger_counts client (Took (Triggered other trigger)) = kept_length (nat_eq other client) trigger
@@ -128,7 +128,7 @@ trigger_counts client (Took (Asked ask)) = refl
 trigger_counts client (Took Turn) = refl
 trigger_counts client (Gave answer) = none_offered (Triggers client) answer
 
-ask_counts : (event : Event) → length (ask_in event) ≡ one (takes Asks (noted_as event))
+ask_counts : (event : AgentEvent) → length (ask_in event) ≡ one (takes Asks (noted_as event))
 ask_counts (Took (Chunk other sheet)) = refl
 ask_counts (Took (Crumbed other crumb)) = refl
 ask_counts (Took (Triggered other trigger)) = refl
@@ -136,28 +136,28 @@ ask_counts (Took (Asked ask)) = refl
 ask_counts (Took Turn) = refl
 ask_counts (Gave answer) = none_offered Asks answer
 
-pub taken_chunks : (client : ℕ) (events : List Event) → taken (Chunks client) (steps_of events) ≡ length (chunks_in client events)
+pub taken_chunks : (client : ℕ) (events : List AgentEvent) → taken (Chunks client) (steps_of events) ≡ length (chunks_in client events)
 taken_chunks client events = counts_items (Chunks client) (chunk_in client) (chunk_counts client) events
 
-pub taken_crumbs : (client : ℕ) (events : List Event) → taken (Crumbs client) (steps_of events) ≡ length (crumbs_in client events)
+pub taken_crumbs : (client : ℕ) (events : List AgentEvent) → taken (Crumbs client) (steps_of events) ≡ length (crumbs_in client events)
 taken_crumbs client events = counts_items (Crumbs client) (crumb_in client) (crumb_counts client) events
 
-pub taken_triggers : (client : ℕ) (events : List Event) → taken (Triggers client) (steps_of events) ≡ length (triggers_in client events)
+pub taken_triggers : (client : ℕ) (events : List AgentEvent) → taken (Triggers client) (steps_of events) ≡ length (triggers_in client events)
 taken_triggers client events = counts_items (Triggers client) (trigger_in client) (trigger_counts client) events
 
-pub taken_asks : (events : List Event) → taken Asks (steps_of events) ≡ length (asks_in events)
+pub taken_asks : (events : List AgentEvent) → taken Asks (steps_of events) ≡ length (asks_in events)
 taken_asks events = counts_items Asks ask_in ask_counts events
 
 -- ---- one event
 
 -- the item that comes next is the one at this place
-item_at : {A : Type 0} (f : Event → List A) (before : List Event) (event : Event) (behind : List Event) (x : A) (all : List A) → f event ≡ x ∷ [] → flat_map f (before ++ event ∷ behind) ≡ all
+item_at : {A : Type 0} (f : AgentEvent → List A) (before : List AgentEvent) (event : AgentEvent) (behind : List AgentEvent) (x : A) (all : List A) → f event ≡ x ∷ [] → flat_map f (before ++ event ∷ behind) ≡ all
     → slice_get all (length (flat_map f before)) ≡ Some x
 item_at f before event behind x all is same =
     ap (λ items. slice_get items (length (flat_map f before))) (sym same ∙ flat_map-append f before (event ∷ behind) ∙ ap (λ own. flat_map f before ++ (own ++ flat_map f behind)) is)
     ∙ get_behind (flat_map f before) (flat_map f behind) x
 
-next_item : {A : Type 0} (queue : Queue) (state : AgentState) (f : Event → List A) (before : List Event) (event : Event) (behind : List Event) (x : A) (items : List (Sent A)) → f event ≡ x ∷ [] → state.log ≡ steps_of before
+next_item : {A : Type 0} (queue : Queue) (state : AgentState) (f : AgentEvent → List A) (before : List AgentEvent) (event : AgentEvent) (behind : List AgentEvent) (x : A) (items : List (Sent A)) → f event ≡ x ∷ [] → state.log ≡ steps_of before
     → taken queue (steps_of before) ≡ length (flat_map f before) → flat_map f (before ++ event ∷ behind) ≡ items_of items → next_of queue state items ≡ Some x
 next_item queue state f before event behind x items is log count same =
     sym (slice_get-map (λ (item : Sent _). item.item) items (taken queue state.log))
@@ -176,7 +176,7 @@ module _ (adds : EventsAddThis) (on : EventsGoOn) (W : PlainWorkload) (d : Doing
   settings = W.settings
 
   -- a node that has met these events, with these steps left
-  abbrev node_at : NodeDoings → List Event → List Step → NodeRun
+  abbrev node_at : NodeDoings → List AgentEvent → List Step → NodeRun
   node_at n before left = record { node = n.node; sends = node_sends W J n.node; left = left; events = before; state = after settings n.node before }
 
   sends_at : (n : NodeDoings) (client : ℕ) → client < settings.clients → slice_get (node_sends W J n.node) client ≡ Some (client_sends W J n.node client)
@@ -186,14 +186,14 @@ module _ (adds : EventsAddThis) (on : EventsGoOn) (W : PlainWorkload) (d : Doing
       ∙ ap (option_map (client_sends W J n.node)) (range_at 0 settings.clients client low)
       ∙ ap (λ c. Some (client_sends W J n.node c)) here
 
-  hands_at : (node : ℕ) (before : List Event) (answer : Answered) (behind : List Event) (state : AgentState) → HandsReady settings node state (before ++ Gave answer ∷ behind) → IsSome (slice_get (after_from settings node state before).hand 0)
+  hands_at : (node : ℕ) (before : List AgentEvent) (answer : Answered) (behind : List AgentEvent) (state : AgentState) → HandsReady settings node state (before ++ Gave answer ∷ behind) → IsSome (slice_get (after_from settings node state before).hand 0)
   hands_at node [] answer behind state ready = ready.0
   hands_at node (Took input ∷ before) answer behind state ready = hands_at node before answer behind (after_event settings node state (Took input)) ready
   hands_at node (Gave other ∷ before) answer behind state ready = hands_at node before answer behind (after_event settings node state (Gave other)) ready.1
 
   -- the step of an event is ready
   module _ (n : NodeDoings) (p : IsPlayable W d n) (heard more : Messages) (whole : all_heard d ≡ heard ++ more) where
-    step_ready : (before : List Event) (event : Event) (behind : List Event) (left : List Step) → all_events n ≡ before ++ event ∷ behind → length (asks_in (before ++ event ∷ [])) ≤ length (asks_to n.node heard)
+    step_ready : (before : List AgentEvent) (event : AgentEvent) (behind : List AgentEvent) (left : List Step) → all_events n ≡ before ++ event ∷ behind → length (asks_in (before ++ event ∷ [])) ≤ length (asks_to n.node heard)
         → event_of (node_at n before left) heard (noted_as event) ≡ Some event
     step_ready before (Took (Chunk client sheet)) behind left all few =
         let low = (all_back (IsOwn W) before (Took (Chunk client sheet) ∷ behind) (subst (AllByRecursion (IsOwn W)) all p.own)).0 in
@@ -237,10 +237,10 @@ module _ (adds : EventsAddThis) (on : EventsGoOn) (W : PlainWorkload) (d : Doing
 
   -- ---- a node, pass by pass
 
-  one_more : (node : ℕ) (before : List Event) (event : Event) → after_event settings node (after settings node before) event ≡ after settings node (before ++ event ∷ [])
+  one_more : (node : ℕ) (before : List AgentEvent) (event : AgentEvent) → after_event settings node (after settings node before) event ≡ after settings node (before ++ event ∷ [])
   one_more node before event = sym (on settings node before (event ∷ []))
 
-  step_is : (heard : Messages) (n : NodeDoings) (before : List Event) (event : Event) (left : List Step) → event_of (node_at n before (noted_as event ∷ left)) heard (noted_as event) ≡ Some event
+  step_is : (heard : Messages) (n : NodeDoings) (before : List AgentEvent) (event : AgentEvent) (left : List Step) → event_of (node_at n before (noted_as event ∷ left)) heard (noted_as event) ≡ Some event
       → step_node settings heard (node_at n before (noted_as event ∷ left)) ≡ Some (node_at n (before ++ event ∷ []) left)
   step_is heard n before event left ready =
       ap (option_map (perform settings left (node_at n before (noted_as event ∷ left)))) ready
@@ -249,7 +249,7 @@ module _ (adds : EventsAddThis) (on : EventsGoOn) (W : PlainWorkload) (d : Doing
   abbrev with_nodes : List NodeRun → List NodeId → Messages → Run
   with_nodes nodes left heard = record { nodes = nodes; left = left; heard = heard }
 
-  leads_events : (n : NodeDoings) (p : IsPlayable W d n) (heard more : Messages) → all_heard d ≡ heard ++ more → (told : List NodeId) (front rest : List NodeRun) (es before behind : List Event) (left : List Step)
+  leads_events : (n : NodeDoings) (p : IsPlayable W d n) (heard more : Messages) → all_heard d ≡ heard ++ more → (told : List NodeId) (front rest : List NodeRun) (es before behind : List AgentEvent) (left : List Step)
       → all_events n ≡ before ++ (es ++ behind) → length (asks_in (before ++ es)) ≤ length (asks_to n.node heard)
       → Leads settings (with_nodes (front ++ node_at n before (steps_of es ++ left) ∷ rest) told heard) (with_nodes (front ++ node_at n (before ++ es) left ∷ rest) told heard)
   leads_events n p heard more whole told front rest [] before behind left all few =
@@ -289,7 +289,7 @@ module _ (adds : EventsAddThis) (on : EventsGoOn) (W : PlainWorkload) (d : Doing
   behind_passes k n = node_at n (events_in n k) (steps_of (joined (drop k n.passes)))
 
   module _ (k : ℕ) (told : List NodeId) (heard more : Messages) (whole : all_heard d ≡ heard ++ more) (is : heard ≡ heard_in d k) where
-    leads_pass : (n : NodeDoings) (p : IsPlayable W d n) (pass : List Event) → slice_get n.passes k ≡ Some pass → (front rest : List NodeRun)
+    leads_pass : (n : NodeDoings) (p : IsPlayable W d n) (pass : List AgentEvent) → slice_get n.passes k ≡ Some pass → (front rest : List NodeRun)
         → Leads settings (with_nodes (front ++ behind_passes k n ∷ rest) told heard) (with_nodes (front ++ behind_passes (suc k) n ∷ rest) told heard)
     leads_pass n p pass h front rest =
         let left = steps_of (joined (drop (suc k) n.passes)) in
@@ -336,13 +336,13 @@ module _ (adds : EventsAddThis) (on : EventsGoOn) (W : PlainWorkload) (d : Doing
   -- ---- what was said
 
   module _ (says : StepsSayWhatTheyTell) where
-    said_on : (node : ℕ) (events : List Event) (state : AgentState) → (more : List Told) × ((after_from settings node state events).said ≡ state.said ++ more)
+    said_on : (node : ℕ) (events : List AgentEvent) (state : AgentState) → (more : List Told) × ((after_from settings node state events).said ≡ state.said ++ more)
     said_on node [] state = ([], sym (append-nil state.said))
     said_on node (event ∷ events) state =
         let rest = said_on node events (after_event settings node state event) in
         let first = said_one event in (first.0 ++ rest.0, rest.1 ∙ ap (λ said. said ++ rest.0) first.1 ∙ append_assoc state.said first.0 rest.0)
       where
-        said_one : (event : Event) → (more : List Told) × ((after_event settings node state event).said ≡ state.said ++ more)
+        said_one : (event : AgentEvent) → (more : List Told) × ((after_event settings node state event).said ≡ state.said ++ more)
         said_one (Took input) = (option_to_list (told_by settings node state input), (says settings node state).inputs input)
         said_one (Gave answer) = ([], (says settings node state).answers answer ∙ sym (append-nil state.said))
 

@@ -8,7 +8,7 @@ use Rattle.hs_lists.proofs.Filters.{filter_few}
 use Rattle.hs_coord.specs.Messages.{Message}
 use Rattle.hs_law_agent.specs.Laws.{EventsAddThis}
 use Rattle.hs_law_agent.specs.State.{AgentState}
-use Rattle.hs_law_agent.specs.Stepping.{Event}
+use Rattle.hs_law_agent.specs.Stepping.{AgentEvent}
 use Rattle.hs_records.specs.Pages.{pages_of}
 use Rattle.hs_records.specs.Plain.{Operation, PlainWorkload}
 use Rattle.hs_law_sends.specs.Draws.{count_started}
@@ -54,15 +54,15 @@ module _ (known : Known) (W : PlainWorkload) (valid : IsValid W) (s : Story) (st
     within_round : {A : Type 0} (items : List (Sent A)) → sent_within (length (ops_of W node client)) items ≡ items → (k : ℕ) → length (sent_within (k * W.settings.stride) items) ≡ sent_by W node client items k
     within_round items whole k = ap length (within_all (k * W.settings.stride) (length (ops_of W node client)) items whole)
 
-    in_rounds : {A B : Type 0} (part : ClientSends → List (Sent A)) (taken : List Event → List B) → sent_within (length (ops_of W node client)) (part (sends_at W s node client)) ≡ part (sends_at W s node client)
+    in_rounds : {A B : Type 0} (part : ClientSends → List (Sent A)) (taken : List AgentEvent → List B) → sent_within (length (ops_of W node client)) (part (sends_at W s node client)) ≡ part (sends_at W s node client)
         → IsQueueStory s.rounds s.passes (λ k. length (taken ((s.nodes node).events k))) (sent_by W node client (part (sends_at W s node client))) (length (part (sends_at W s node client)))
         → IsToldInRounds W.settings (length (node_doings s node).passes) (λ k. length (taken (events_in (node_doings s node) k)))
         (λ k. length (sent_within (k * W.settings.stride) (part (client_sends W (journal_of W (doings_of W s)) node client))))
     in_rounds {A} part taken whole q =
         queue_in_rounds W.settings s.rounds s.passes (λ k. length (taken ((s.nodes node).events k))) (sent_by W node client (part (sends_at W s node client))) (length (part (sends_at W s node client))) q story.enough
         (λ k. length (taken (events_in (node_doings s node) k))) (λ k. length (sent_within (k * W.settings.stride) (part (client_sends W (journal_of W (doings_of W s)) node client))))
-        (λ k within. ap (λ (events : List Event). length (taken events)) (events_are W s story node low k within))
-        (λ k beyond. ap (λ (events : List Event). length (taken events)) (events_beyond W s story node low k beyond))
+        (λ k within. ap (λ (events : List AgentEvent). length (taken events)) (events_are W s story node low k within))
+        (λ k beyond. ap (λ (events : List AgentEvent). length (taken events)) (events_beyond W s story node low k beyond))
         (λ k. ap (λ (sends : ClientSends). length (sent_within (k * W.settings.stride) (part sends))) (own_sends W s story valid node client low few) ∙ within_round (part (sends_at W s node client)) whole k)
         (λ k. filter_few (λ (item : Sent A). nat_lt item.number (done_by W node client k)) (part (sends_at W s node client)))
         (length (node_doings s node).passes) (long W s story node low)
@@ -84,8 +84,8 @@ module _ (known : Known) (W : PlainWorkload) (valid : IsValid W) (s : Story) (st
         asks = λ k few.
             let count = long W s story node low in
             let h = ap (λ heard. length (asks_to node heard)) (heard_are W s story k (omega (arith, few, count))) in
-            let t = ap (λ (events : List Event). length (asks_in events)) (events_are W s story node low k (omega (arith, few, count))) in
-            let u = ap (λ (events : List Event). length (asks_in events)) (events_are W s story node low (suc k) (omega (arith, few, count))) in
+            let t = ap (λ (events : List AgentEvent). length (asks_in events)) (events_are W s story node low k (omega (arith, few, count))) in
+            let u = ap (λ (events : List AgentEvent). length (asks_in events)) (events_are W s story node low (suc k) (omega (arith, few, count))) in
             let is = (story.each node low).talks.asks k (omega (arith, few, count)) in
             omega (arith, h, t, u, is);
         heard = λ k few.

@@ -9,7 +9,7 @@ use Rattle.hs_lists.proofs.Places.{get_some}
 use Rattle.hs_lists.proofs.Parts.{take_length}
 use Rattle.hs_journal.specs.Views.{PlainJournal}
 use Rattle.hs_law_agent.specs.Laws.{noted_as}
-use Rattle.hs_law_agent.specs.Stepping.{Event}
+use Rattle.hs_law_agent.specs.Stepping.{AgentEvent}
 use Rattle.hs_records.specs.Plain.{PlainWorkload}
 use Rattle.hs_law_sends.specs.Drawn.{DrawnPage, stamp_of}
 use Rattle.hs_law_sends.specs.Laws.{TimedPagesAreTimely}
@@ -53,10 +53,10 @@ stands_in (p ∷ passes) (suc place) (suc k) pass h low =
     let s = stands_in passes place k pass h (omega (arith, low)) in
     record { front = p ++ s.front; back = s.back; list_is = ap (λ rest. p ++ rest) s.list_is ∙ sym (append_assoc p s.front (pass ++ s.back)) }
 
-pub stamps_both : (xs ys : List Event) → log_stamps (steps_of (xs ++ ys)) ≡ log_stamps (steps_of xs) ++ log_stamps (steps_of ys)
+pub stamps_both : (xs ys : List AgentEvent) → log_stamps (steps_of (xs ++ ys)) ≡ log_stamps (steps_of xs) ++ log_stamps (steps_of ys)
 stamps_both xs ys = ap (filter_map step_stamp) (map-append noted_as xs ys) ∙ filter_map-append step_stamp (steps_of xs) (steps_of ys)
 
-pub all_within : (P : ℕ → Type 0) (list pass : List Event) → StandsIn list pass → AllByRecursion P (log_stamps (steps_of list)) → AllByRecursion P (log_stamps (steps_of pass))
+pub all_within : (P : ℕ → Type 0) (list pass : List AgentEvent) → StandsIn list pass → AllByRecursion P (log_stamps (steps_of list)) → AllByRecursion P (log_stamps (steps_of pass))
 all_within P list pass s all =
     all_front P (log_stamps (steps_of pass)) (log_stamps (steps_of s.back))
     (subst (AllByRecursion P) (stamps_both pass s.back)
@@ -151,18 +151,18 @@ module _ (timely : TimedPagesAreTimely) (W : PlainWorkload) (fit : IsFit W) (J :
       and_both : (a b : Bool) → a ≡ true → b ≡ true → (a && b) ≡ true
       and_both a b ha hb = ap (λ x. x && b) ha ∙ hb
 
-  stamps_of_pass : (k place : ℕ) (pass : List Event) → place < k → k ≤ length n.passes → slice_get n.passes place ≡ Some pass → (bound : ℕ) → AllByRecursion (λ (a : Answer). a.stamp < bound) (answers_in (p.at k).turns)
+  stamps_of_pass : (k place : ℕ) (pass : List AgentEvent) → place < k → k ≤ length n.passes → slice_get n.passes place ≡ Some pass → (bound : ℕ) → AllByRecursion (λ (a : Answer). a.stamp < bound) (answers_in (p.at k).turns)
       → AllByRecursion (λ stamp. stamp < bound) (log_stamps (steps_of pass))
   stamps_of_pass k place pass low high there bound all = all_within (λ stamp. stamp < bound) (events_in n k) pass (stands_in n.passes place k pass there low) (stamps_below k high bound all)
 
-  given_low : (client round place : ℕ) (pass : List Event) → place < round → slice_get n.passes place ≡ Some pass → AllByRecursion (λ stamp. stamp < drawer_knows client round) (log_stamps (steps_of pass))
+  given_low : (client round place : ℕ) (pass : List AgentEvent) → place < round → slice_get n.passes place ≡ Some pass → AllByRecursion (λ stamp. stamp < drawer_knows client round) (log_stamps (steps_of pass))
   given_low client zero place pass low there = absurd (omega (arith, low))
   given_low client (suc k) place pass low there = either (nat_lt client W.settings.clients) refl (nat_lt (suc k) (suc rounds)) refl
     where
       whole_below : AllByRecursion (λ stamp. stamp < all_stamps.bound) (log_stamps (steps_of pass))
       whole_below =
           all_within (λ stamp. stamp < all_stamps.bound) (all_events n) pass
-          (subst (λ (list : List Event). StandsIn list pass) (ap joined (take_length n.passes)) (stands_in n.passes place (length n.passes) pass there (slice_get_within n.passes place pass there))) all_stamps.below
+          (subst (λ (list : List AgentEvent). StandsIn list pass) (ap joined (take_length n.passes)) (stands_in n.passes place (length n.passes) pass there (slice_get_within n.passes place pass there))) all_stamps.below
 
       either : (a : Bool) → nat_lt client W.settings.clients ≡ a → (b : Bool) → nat_lt (suc k) (suc rounds) ≡ b
           → AllByRecursion (λ stamp. stamp < cond (a && b) ((p.at (suc k)).floors client) all_stamps.bound) (log_stamps (steps_of pass))

@@ -5,7 +5,7 @@ use Rattle.hs_lists.proofs.Ranges.{range_at}
 use Rattle.hs_journal.specs.declared.journal.Step.{Step}
 use Rattle.hs_law_agent.specs.Laws.{noted_as, EventsAddThis}
 use Rattle.hs_law_agent.specs.State.{AgentState, start}
-use Rattle.hs_law_agent.specs.Stepping.{Event, after_event, after_from, after}
+use Rattle.hs_law_agent.specs.Stepping.{AgentEvent, after_event, after_from, after}
 use Rattle.hs_records.specs.Plain.{PlainSettings, PlainWorkload}
 use Rattle.hs_law_journal.specs.Following.{log_at}
 use Rattle.hs_law_journal.specs.Doings.{NodeDoings, Doings, all_events, steps_of, journal_of}
@@ -29,12 +29,12 @@ module _ (W : PlainWorkload) (d : Doings) (facts : ArePlayable W d) where
 -- ---- logs
 
 -- each event is noted
-pub log_on : EventsAddThis → (settings : PlainSettings) (node : ℕ) (events : List Event) (state : AgentState) → (after_from settings node state events).log ≡ state.log ++ steps_of events
+pub log_on : EventsAddThis → (settings : PlainSettings) (node : ℕ) (events : List AgentEvent) (state : AgentState) → (after_from settings node state events).log ≡ state.log ++ steps_of events
 log_on adds settings node [] state = sym (append-nil state.log)
 log_on adds settings node (event ∷ events) state =
     log_on adds settings node events (after_event settings node state event)
     ∙ ap (λ log. log ++ steps_of events) ((adds settings node state).log event)
     ∙ append_assoc state.log (noted_as event ∷ []) (steps_of events)
 
-pub own_log : EventsAddThis → (settings : PlainSettings) (node : ℕ) (events : List Event) → (after settings node events).log ≡ steps_of events
+pub own_log : EventsAddThis → (settings : PlainSettings) (node : ℕ) (events : List AgentEvent) → (after settings node events).log ≡ steps_of events
 own_log adds settings node events = log_on adds settings node events (start settings)

@@ -9,7 +9,7 @@ use Rattle.hs_journal.specs.declared.journal.Step.TheVariants as steps
 use Rattle.hs_journal.specs.Views.{PlainJournal}
 use Rattle.hs_law_agent.specs.Laws.{EventsAddThis}
 use Rattle.hs_law_agent.specs.State.{AgentState}
-use Rattle.hs_law_agent.specs.Stepping.{Answered, Given, Missed, Unread, Event, step_of_answer}
+use Rattle.hs_law_agent.specs.Stepping.{Answered, Given, Missed, Unread, AgentEvent, step_of_answer}
 use Rattle.hs_records.specs.Plain.{PlainWorkload}
 use Rattle.hs_law_journal.specs.Following.{NodeRun, Run}
 use Rattle.hs_law_journal.specs.Passes.{queues_of, is_offer, is_unread, but_last, last_of, steps_in, pass_ends, offers_end}
@@ -74,7 +74,7 @@ last_is log last = let long = length-append log (last ∷ []) in let less : leng
     back (step ∷ log) = back log
 
 module _ (adds : EventsAddThis) (W : PlainWorkload) (J : PlainJournal) (n : NodeDoings) where
-  all_passes : (place : ℕ) (passes : List (List Event)) → EndOffersFrom W n place passes → AllByRecursion (IsPass W) passes
+  all_passes : (place : ℕ) (passes : List (List AgentEvent)) → EndOffersFrom W n place passes → AllByRecursion (IsPass W) passes
   all_passes place [] all = tt
   all_passes place (pass ∷ passes) all = (all.0.is_pass, all_passes (suc place) passes all.1)
 
@@ -85,7 +85,7 @@ module _ (adds : EventsAddThis) (W : PlainWorkload) (J : PlainJournal) (n : Node
     abbrev cut : List (List Step)
     cut = map steps_of n.passes
 
-    ends_at : (place : ℕ) (pass : List Event) → EndsPass W (state_after W.settings n (suc place)) pass → pass_ends W.settings run cut (suc place) (steps_of pass) ≡ true
+    ends_at : (place : ℕ) (pass : List AgentEvent) → EndsPass W (state_after W.settings n (suc place)) pass → pass_ends W.settings run cut (suc place) (steps_of pass) ≡ true
     ends_at place pass e = either e.ends
       where
         quiet : NoUnread (items W pass e.is_pass)
@@ -114,7 +114,7 @@ module _ (adds : EventsAddThis) (W : PlainWorkload) (J : PlainJournal) (n : Node
             (ap (λ log. not (list_any is_unread (but_last log))) is ∙ ap (λ log. not (list_any is_unread log)) (but_last_is log steps.Unread) ∙ ap not (none_any log front))
             (ap (λ found. found || (length (state_behind W.settings run (steps_in cut (suc place))).hand == 0)) (ap (λ log. list_any is_unread (last_of log)) is ∙ ap (list_any is_unread) (last_is log steps.Unread)))
 
-    ends_from : (place : ℕ) (passes : List (List Event)) → EndOffersFrom W n place passes
+    ends_from : (place : ℕ) (passes : List (List AgentEvent)) → EndOffersFrom W n place passes
         → list_all (λ (pass : ℕ × List Step). pass_ends W.settings run cut pass.0 pass.1) (zip (range_with_len (suc place) (length (map steps_of passes))) (map steps_of passes)) ≡ true
     ends_from place [] all = refl
     ends_from place (pass ∷ passes) all =

@@ -14,7 +14,7 @@ use Rattle.hs_journal.specs.declared.journal.Step.{Step}
 use Rattle.hs_journal.specs.Views.{PlainJournal}
 use Rattle.hs_law_agent.specs.Laws.{EventsAddThis}
 use Rattle.hs_law_agent.specs.State.{AgentState}
-use Rattle.hs_law_agent.specs.Stepping.{Event}
+use Rattle.hs_law_agent.specs.Stepping.{AgentEvent}
 use Rattle.hs_records.specs.Plain.{PlainSettings, PlainWorkload}
 use Rattle.hs_law_sends.specs.Drawn.{DrawnPage, stamp_of}
 use Rattle.hs_law_sends.specs.Sending.{Sent, ClientSends, client_sends, node_sends, sent_within}
@@ -39,7 +39,7 @@ module _ (W : PlainWorkload) (J : PlainJournal) (n : NodeDoings) (m : MeetsInRou
   abbrev stride : ℕ
   stride = W.settings.stride
 
-  beside : (place : ℕ) (pass : List Event) → slice_get n.passes place ≡ Some pass → (i : ℕ) (stamp : ℕ) → slice_get (log_stamps (steps_of pass)) i ≡ Some stamp
+  beside : (place : ℕ) (pass : List AgentEvent) → slice_get n.passes place ≡ Some pass → (i : ℕ) (stamp : ℕ) → slice_get (log_stamps (steps_of pass)) i ≡ Some stamp
       → (j : ℕ) (page : DrawnPage) → slice_get (pages_at W J n.node) j ≡ Some page → is_beside stride (suc place) stamp page ≡ true
   beside place pass there i stamp at j page on = either (nat_lt round (suc place)) refl (nat_lt (suc place) round) refl
     where
@@ -64,7 +64,7 @@ module _ (W : PlainWorkload) (J : PlainJournal) (n : NodeDoings) (m : MeetsInRou
   abbrev pass_beside : ℕ × List Step → Bool
   pass_beside pass = list_all (λ stamp. list_all (is_beside stride pass.0 stamp) (pages_at W J n.node)) (log_stamps pass.1)
 
-  pass_true : (place : ℕ) (pass : List Event) → slice_get n.passes place ≡ Some pass → pass_beside (suc place, steps_of pass) ≡ true
+  pass_true : (place : ℕ) (pass : List AgentEvent) → slice_get n.passes place ≡ Some pass → pass_beside (suc place, steps_of pass) ≡ true
   pass_true place pass there =
       list_all_from (λ stamp. list_all (is_beside stride (suc place) stamp) (pages_at W J n.node)) (log_stamps (steps_of pass))
       (all_by_place (λ stamp. list_all (is_beside stride (suc place) stamp) (pages_at W J n.node) ≡ true) (log_stamps (steps_of pass))
@@ -72,7 +72,7 @@ module _ (W : PlainWorkload) (J : PlainJournal) (n : NodeDoings) (m : MeetsInRou
       list_all_from (is_beside stride (suc place) stamp) (pages_at W J n.node)
       (all_by_place (λ page. is_beside stride (suc place) stamp page ≡ true) (pages_at W J n.node) (beside place pass there i stamp at))))
 
-  passes_true : (place : ℕ) (passes : List (List Event)) → ((i : ℕ) (pass : List Event) → slice_get passes i ≡ Some pass → slice_get n.passes (place + i) ≡ Some pass)
+  passes_true : (place : ℕ) (passes : List (List AgentEvent)) → ((i : ℕ) (pass : List AgentEvent) → slice_get passes i ≡ Some pass → slice_get n.passes (place + i) ≡ Some pass)
       → list_all pass_beside (zip (range_with_len (suc place) (length (map steps_of passes))) (map steps_of passes)) ≡ true
   passes_true place [] there = refl
   passes_true place (pass ∷ passes) there =
@@ -91,7 +91,7 @@ gives_true adds W J n each m =
 -- ---- items
 
 -- what is taken only grows
-grows : {A : Type 0} (f : Event → List A) (passes : List (List Event)) (k : ℕ) → length (flat_map f (joined (take k passes))) ≤ length (flat_map f (joined (take (suc k) passes)))
+grows : {A : Type 0} (f : AgentEvent → List A) (passes : List (List AgentEvent)) (k : ℕ) → length (flat_map f (joined (take k passes))) ≤ length (flat_map f (joined (take (suc k) passes)))
 grows f [] zero = omega arith
 grows f [] (suc k) = omega arith
 grows f (pass ∷ passes) zero = let some = length-append (flat_map f (pass ++ [])) [] in omega arith
@@ -105,7 +105,7 @@ grows f (pass ∷ passes) (suc k) =
     flat_on f [] b = refl
     flat_on f (x ∷ a) b = ap (λ rest. f x ++ rest) (flat_on f a b) ∙ sym (append_assoc (f x) (flat_map f a) (flat_map f b))
 
-module _ (settings : PlainSettings) (passes : List (List Event)) where
+module _ (settings : PlainSettings) (passes : List (List AgentEvent)) where
   abbrev cut : List (List Step)
   cut = map steps_of passes
 

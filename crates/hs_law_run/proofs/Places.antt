@@ -7,7 +7,7 @@ use Rattle.hs_lists.proofs.Counts.{one_if, count_cons, count_append}
 use Rattle.hs_journal.specs.declared.journal.Step.{Step}
 use Rattle.hs_journal.specs.declared.journal.Step.TheVariants as steps
 use Rattle.hs_law_agent.specs.Laws.{noted_as}
-use Rattle.hs_law_agent.specs.Stepping.{Answered, Unread, Event, Gave, step_of_answer}
+use Rattle.hs_law_agent.specs.Stepping.{Answered, Unread, AgentEvent, Gave, step_of_answer}
 use Rattle.hs_records.specs.Plain.{PlainWorkload}
 use Rattle.hs_law_journal.specs.Following.{Queue, Chunks, Crumbs, Triggers, Asks}
 use Rattle.hs_law_journal.specs.Passes.{is_turn, is_unread, queues_of}
@@ -46,24 +46,24 @@ first_or_second (x ∷ xs) ys (b ∷ before) behind y h = either (first_or_secon
 
 -- ---- the pass of an unread offer
 
-pub record InPass (passes : List (List Event)) (before : List Event) : Type 0 where
+pub record InPass (passes : List (List AgentEvent)) (before : List AgentEvent) : Type 0 where
   pub place : ℕ
-  pub pass : List Event
+  pub pass : List AgentEvent
   pub there : slice_get passes place ≡ Some pass
-  pub front : List Event
-  pub rest : List Event
+  pub front : List AgentEvent
+  pub rest : List AgentEvent
   pub pass_is : pass ≡ front ++ Gave Unread ∷ rest
   pub before_is : before ≡ joined (take place passes) ++ front
 
-pub in_pass : (passes : List (List Event)) (before behind : List Event) → joined passes ≡ before ++ Gave Unread ∷ behind → InPass passes before
+pub in_pass : (passes : List (List AgentEvent)) (before behind : List AgentEvent) → joined passes ≡ before ++ Gave Unread ∷ behind → InPass passes before
 in_pass [] before behind h = nothing before h
   where
-    nothing : (before : List Event) → [] ≡ before ++ Gave Unread ∷ behind → InPass [] before
+    nothing : (before : List AgentEvent) → [] ≡ before ++ Gave Unread ∷ behind → InPass [] before
     nothing [] never = absurd cc
     nothing (b ∷ before) never = absurd cc
 in_pass (pass ∷ passes) before behind h = either (first_or_second pass (joined passes) before behind (Gave Unread) h) (λ further is. in_pass passes further behind is)
   where
-    either : InFirst pass before behind (Gave Unread) ⊎ InSecond pass (joined passes) before behind (Gave Unread) → ((further : List Event) → joined passes ≡ further ++ Gave Unread ∷ behind → InPass passes further)
+    either : InFirst pass before behind (Gave Unread) ⊎ InSecond pass (joined passes) before behind (Gave Unread) → ((further : List AgentEvent) → joined passes ≡ further ++ Gave Unread ∷ behind → InPass passes further)
         → InPass (pass ∷ passes) before
     either (inl s) later = record { place = 0; pass = pass; there = refl; front = before; rest = s.rest; pass_is = s.list_is; before_is = refl }
     either (inr s) later =
@@ -111,7 +111,7 @@ offered_turns : (offers : List Answered) → count_by is_turn (map step_of_answe
 offered_turns [] = refl
 offered_turns (offer ∷ offers) = no_turn (step_of_answer offer) (map step_of_answer offers) (is_no_turn offer) ∙ offered_turns offers
 
-pub pass_turns : (W : PlainWorkload) (pass : List Event) → IsPass W pass → count_by is_turn (steps_of pass) ≡ 1
+pub pass_turns : (W : PlainWorkload) (pass : List AgentEvent) → IsPass W pass → count_by is_turn (steps_of pass) ≡ 1
 pass_turns W pass is =
     let takes = flat_map (λ queue. replicate (is.counts queue) (step_from queue)) (queues_of W) in
     let all = ap (count_by is_turn) is.steps_are in
@@ -153,7 +153,7 @@ front_turns (t ∷ takes) offers (f ∷ front) rest all h = no_turn f front (ap 
     tail_of : t ∷ takes ++ steps.Turn ∷ map step_of_answer offers ≡ f ∷ front ++ steps.Unread ∷ rest → takes ++ steps.Turn ∷ map step_of_answer offers ≡ front ++ steps.Unread ∷ rest
     tail_of e = cc
 
-passes_turns : (W : PlainWorkload) (passes : List (List Event)) (k : ℕ) → AllByRecursion (IsPass W) passes → k ≤ length passes → count_by is_turn (steps_of (joined (take k passes))) ≡ k
+passes_turns : (W : PlainWorkload) (passes : List (List AgentEvent)) (k : ℕ) → AllByRecursion (IsPass W) passes → k ≤ length passes → count_by is_turn (steps_of (joined (take k passes))) ≡ k
 passes_turns W passes zero all low = refl
 passes_turns W [] (suc k) all low = absurd (omega (arith, low))
 passes_turns W (pass ∷ passes) (suc k) all low =
@@ -162,7 +162,7 @@ passes_turns W (pass ∷ passes) (suc k) all low =
     let rest = passes_turns W passes k all.1 (omega (arith, low)) in
     omega (arith, both, first, rest)
 
-pub turns_before : (W : PlainWorkload) (passes : List (List Event)) (before : List Event) (s : InPass passes before) → AllByRecursion (IsPass W) passes → s.place < length passes → IsPass W s.pass → count_by is_turn (steps_of before) ≡ suc s.place
+pub turns_before : (W : PlainWorkload) (passes : List (List AgentEvent)) (before : List AgentEvent) (s : InPass passes before) → AllByRecursion (IsPass W) passes → s.place < length passes → IsPass W s.pass → count_by is_turn (steps_of before) ≡ suc s.place
 turns_before W passes before s all low is =
     let both = ap (λ events. count_by is_turn (steps_of events)) s.before_is ∙ ap (count_by is_turn) (map-append noted_as (joined (take s.place passes)) s.front)
     ∙ count_append is_turn (steps_of (joined (take s.place passes))) (steps_of s.front) in

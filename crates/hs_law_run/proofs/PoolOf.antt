@@ -4,7 +4,7 @@ use Rattle.std.specs.List.{AllByRecursion, range_with_len}
 use Rattle.hs_journal.specs.declared.journal.Draw.TheVariants as draws
 use Rattle.hs_journal.specs.Views.{PlainJournal}
 use Rattle.hs_law_agent.specs.Laws.{sheets_of}
-use Rattle.hs_law_agent.specs.Stepping.{Event}
+use Rattle.hs_law_agent.specs.Stepping.{AgentEvent}
 use Rattle.hs_records.specs.Plain.{PlainWorkload}
 use Rattle.hs_law_sends.specs.Draws.{count_started}
 use Rattle.hs_law_sends.specs.Sending.{draws_at, place_of, ops_of}
@@ -12,7 +12,7 @@ use Rattle.hs_words.specs.Ends.{Deed, IsTogether}
 use Rattle.hs_law_journal.specs.Doings.{NodeDoings, events_in, last_state}
 use Rattle.hs_law_run.specs.Pools.{draw_answer}
 use Rattle.hs_law_journal.specs.Turns.{Lent, AreTurns}
-use Rattle.hs_law_run.specs.Ends.{done_by, Ends, GoesOn, HasMet}
+use Rattle.hs_law_run.specs.Ends.{done_by, PoolEnds, PoolEndsGoOn, PoolEndsMeet}
 
 -- The lease names the draw that the journal notes for the page.
 pub record IsDrawnFor (W : PlainWorkload) (J : PlainJournal) (node : ℕ) (lent : Lent) : Type 0 where
@@ -22,11 +22,11 @@ pub record IsDrawnFor (W : PlainWorkload) (J : PlainJournal) (node : ℕ) (lent 
 -- The pool of a node of a run of so many rounds.
 pub record IsPoolOf (W : PlainWorkload) (J : PlainJournal) (n : NodeDoings) (rounds : ℕ) : Type 0 where
   -- the ends behind so many passes
-  pub at : ℕ → Ends
+  pub at : ℕ → PoolEnds
   pub enough : rounds ≤ length n.passes
   pub new : (client : ℕ) → client < W.settings.clients → (at 0).answers client ≡ []
-  pub passes : (k : ℕ) (pass : List Event) → slice_get n.passes k ≡ Some pass → GoesOn pass (at k) (at (suc k))
-  pub meets : (k client : ℕ) → k < rounds → client < W.settings.clients → HasMet client (at k) (at (suc k))
+  pub passes : (k : ℕ) (pass : List AgentEvent) → slice_get n.passes k ≡ Some pass → PoolEndsGoOn pass (at k) (at (suc k))
+  pub meets : (k client : ℕ) → k < rounds → client < W.settings.clients → PoolEndsMeet client (at k) (at (suc k))
   -- each client drew for the pages that it started, and has done all of its operations
   pub started : (k client : ℕ) → k ≤ rounds → client < W.settings.clients → length ((at k).answers client) ≡ count_started W.settings.size (ops_of W n.node client) (done_by W n.node client k)
   pub done : (client : ℕ) → client < W.settings.clients → length (ops_of W n.node client) ≤ rounds * W.settings.stride

@@ -13,7 +13,7 @@ use Rattle.hs_journal.specs.declared.journal.Draw.TheVariants as draws
 use Rattle.hs_journal.specs.Views.{PlainJournal}
 use Rattle.hs_law_agent.specs.Laws.{EventsAddThis}
 use Rattle.hs_law_agent.specs.Standings.{Taken}
-use Rattle.hs_law_agent.specs.Stepping.{Event}
+use Rattle.hs_law_agent.specs.Stepping.{AgentEvent}
 use Rattle.hs_records.specs.Plain.{PlainWorkload}
 use Rattle.hs_law_sends.specs.Drawn.{DrawnPage}
 use Rattle.hs_law_sends.specs.Sending.{ClientSends, client_sends, draws_at, place_of, ops_of}
@@ -54,7 +54,7 @@ module _ (adds : EventsAddThis) (W : PlainWorkload) (J : PlainJournal) (n : Node
   whole = ap joined (take_length n.passes)
 
   pub last_turns : AreTurns W.settings n.node p.lents (all_events n) (p.at (length n.passes)).turns
-  last_turns = subst (λ (events : List Event). AreTurns W.settings n.node p.lents events (p.at (length n.passes)).turns) whole (p.turns (length n.passes) (omega arith))
+  last_turns = subst (λ (events : List AgentEvent). AreTurns W.settings n.node p.lents events (p.at (length n.passes)).turns) whole (p.turns (length n.passes) (omega arith))
 
   pub answers_are : (client : ℕ) → client < W.settings.clients → (p.at rounds).answers client ≡ answers_by (suc client) p.log
   answers_are client few = answers_there p.log (p.at rounds).answers 0 W.settings.clients p.together.draws client (omega arith) (omega (arith, few))

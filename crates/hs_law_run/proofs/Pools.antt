@@ -21,10 +21,10 @@ use Rattle.hs_records.specs.Plain.{PlainWorkload}
 use Rattle.hs_law_sends.specs.Drawn.{DrawnPage, stamp_of}
 use Rattle.hs_law_sends.specs.Sending.{ClientSends, client_sends, draws_at, place_of}
 use Rattle.hs_words.specs.Ends.{Deed, Answer, events_of, answer_to, answers_by, put_if, is_any_given}
-use Rattle.hs_words.specs.PoolHistory.{Event, is_missed, IsHistoryBack, IsPoolHistory}
+use Rattle.hs_words.specs.PoolHistory.{PoolEvent, is_missed, IsHistoryBack, IsPoolHistory}
 use Rattle.hs_words.specs.PoolHistory as pool
 use Rattle.hs_law_journal.specs.Following.{NodeRun, Run, log_at}
-use Rattle.hs_law_journal.specs.Pooled.{PoolEvent, by_stamp, event_drawn, drawn_event, given_page, buffer_of, given_event, missed_event, pool_events, pool_history}
+use Rattle.hs_law_journal.specs.Pooled.{StampedPoolEvent, by_stamp, event_drawn, drawn_event, given_page, buffer_of, given_event, missed_event, pool_events, pool_history}
 use Rattle.hs_law_journal.specs.Shape.{rise, log_stamps, node_draws, draw_stamps, node_stamps, are_numbered, node_has_stamps}
 use Rattle.hs_law_journal.specs.Doings.{NodeDoings, all_events, steps_of, journal_of, node_at_end}
 use Rattle.hs_law_run.specs.Playing.{DoingsAreFollowed, AreStamped, AreHistories}
@@ -114,7 +114,7 @@ are_stamped W d facts pooled =
 
 -- ---- the events of the pool
 
-abbrev pub pool_event : Answer → PoolEvent
+abbrev pub pool_event : Answer → StampedPoolEvent
 pool_event a = record { stamp = a.stamp; event = a.event }
 
 drawn_same : (draw : Draw) → pool_event (draw_answer draw) ≡ record { stamp = stamp_of draw; event = event_drawn draw }
@@ -126,7 +126,7 @@ draws_same [] = refl
 draws_same (page ∷ pages) =
     ap (λ e. e ∷ map drawn_event pages) (sym (drawn_same page.draw)) ∙ ap (λ rest. pool_event (draw_answer page.draw) ∷ rest) (draws_same pages)
 
-module _ {X : Type 0} (f : X → Option PoolEvent) (g : X → Option Answer) (same : (x : X) → f x ≡ option_map pool_event (g x)) where
+module _ {X : Type 0} (f : X → Option StampedPoolEvent) (g : X → Option Answer) (same : (x : X) → f x ≡ option_map pool_event (g x)) where
   kept_same : (xs : List X) → filter_map f xs ≡ map pool_event (filter_map g xs)
   kept_same [] = refl
   kept_same (x ∷ xs) = ap (λ o. cons_option o (filter_map f xs)) (same x) ∙ ap (cons_option (option_map pool_event (g x))) (kept_same xs) ∙ either (g x)
@@ -182,13 +182,13 @@ filters_swap p q (a ∷ list) = either (p a) refl (q a) refl (filters_swap p q l
 abbrev pub IsKind : Answer → Type 0
 IsKind a = (is_any_given a.event ≡ true) ⊎ (is_missed a.event ≡ true)
 
-not_both : (e : Event) → is_any_given e ≡ true → is_missed e ≡ false
+not_both : (e : PoolEvent) → is_any_given e ≡ true → is_missed e ≡ false
 not_both (pool.Got b) h = refl
 not_both pool.Empty h = refl
 not_both (pool.Given b) h = refl
 not_both pool.Missed h = let no : false ≡ true = h in absurd cc
 
-nor_both : (e : Event) → is_missed e ≡ true → is_any_given e ≡ false
+nor_both : (e : PoolEvent) → is_missed e ≡ true → is_any_given e ≡ false
 nor_both (pool.Got b) h = refl
 nor_both pool.Empty h = refl
 nor_both (pool.Given b) h = let no : false ≡ true = h in absurd cc
@@ -245,7 +245,7 @@ ordered_earlier s count deed earlier less =
     ∙ ap (λ own. at_stamp s (drawers 0 count earlier) ++ gives_in own ++ misses_in own) (at_earlier 0 s deed earlier less)
     ∙ sym (ordered_at s count earlier)
 
-abbrev events_at : ℕ → List Answer → List Event
+abbrev events_at : ℕ → List Answer → List PoolEvent
 events_at s list = map (λ (a : Answer). a.event) (at_stamp s list)
 
 pub range_last : (start count : ℕ) → range_with_len start (suc count) ≡ range_with_len start count ++ (start + count) ∷ []
@@ -300,24 +300,24 @@ ordered_long count log ends kinds =
     omega (arith, many, all, one, two, parts)
 
 -- events by their stamps, from the answers
-stamped_same : (s : ℕ) (list : List Answer) → filter (λ (e : PoolEvent). e.stamp == s) (map pool_event list) ≡ map pool_event (at_stamp s list)
+stamped_same : (s : ℕ) (list : List Answer) → filter (λ (e : StampedPoolEvent). e.stamp == s) (map pool_event list) ≡ map pool_event (at_stamp s list)
 stamped_same s [] = refl
 stamped_same s (a ∷ list) = either (a.stamp == s) (stamped_same s list)
   where
-    either : (b : Bool) → filter (λ (e : PoolEvent). e.stamp == s) (map pool_event list) ≡ map pool_event (at_stamp s list)
-        → cond b (pool_event a ∷ filter (λ (e : PoolEvent). e.stamp == s) (map pool_event list)) (filter (λ (e : PoolEvent). e.stamp == s) (map pool_event list)) ≡ map pool_event (cond b (a ∷ at_stamp s list) (at_stamp s list))
+    either : (b : Bool) → filter (λ (e : StampedPoolEvent). e.stamp == s) (map pool_event list) ≡ map pool_event (at_stamp s list)
+        → cond b (pool_event a ∷ filter (λ (e : StampedPoolEvent). e.stamp == s) (map pool_event list)) (filter (λ (e : StampedPoolEvent). e.stamp == s) (map pool_event list)) ≡ map pool_event (cond b (a ∷ at_stamp s list) (at_stamp s list))
     either true h = ap (λ rest. pool_event a ∷ rest) h
     either false h = h
 
-events_same : (list : List Answer) → map (λ (e : PoolEvent). e.event) (map pool_event list) ≡ map (λ (a : Answer). a.event) list
+events_same : (list : List Answer) → map (λ (e : StampedPoolEvent). e.event) (map pool_event list) ≡ map (λ (a : Answer). a.event) list
 events_same [] = refl
 events_same (a ∷ list) = ap (λ rest. a.event ∷ rest) (events_same list)
 
-by_stamps : (list : List Answer) (bound : ℕ) → map (λ (e : PoolEvent). e.event) (by_stamp (λ (e : PoolEvent). e.stamp) bound (map pool_event list)) ≡ flat_map (λ s. events_at s list) (range_with_len 0 bound)
+by_stamps : (list : List Answer) (bound : ℕ) → map (λ (e : StampedPoolEvent). e.event) (by_stamp (λ (e : StampedPoolEvent). e.stamp) bound (map pool_event list)) ≡ flat_map (λ s. events_at s list) (range_with_len 0 bound)
 by_stamps list bound =
-    map_flat (λ s. filter (λ (e : PoolEvent). e.stamp == s) (map pool_event list)) (λ (e : PoolEvent). e.event) (range_with_len 0 bound)
-    ∙ flat_range_alike (λ s. map (λ (e : PoolEvent). e.event) (filter (λ (e : PoolEvent). e.stamp == s) (map pool_event list))) (λ s. events_at s list) 0 bound
-    (λ s low. ap (map (λ (e : PoolEvent). e.event)) (stamped_same s list) ∙ events_same (at_stamp s list))
+    map_flat (λ s. filter (λ (e : StampedPoolEvent). e.stamp == s) (map pool_event list)) (λ (e : StampedPoolEvent). e.event) (range_with_len 0 bound)
+    ∙ flat_range_alike (λ s. map (λ (e : StampedPoolEvent). e.event) (filter (λ (e : StampedPoolEvent). e.stamp == s) (map pool_event list))) (λ s. events_at s list) 0 bound
+    (λ s low. ap (map (λ (e : StampedPoolEvent). e.event)) (stamped_same s list) ∙ events_same (at_stamp s list))
 
 module _ (adds : EventsAddThis) (W : PlainWorkload) (J : PlainJournal) (n : NodeDoings) (p : IsPooled W J n) where
   abbrev run : NodeRun
@@ -355,7 +355,7 @@ module _ (adds : EventsAddThis) (W : PlainWorkload) (J : PlainJournal) (n : Node
   history_there : pool_history run ≡ reverse (events_of p.log)
   history_there =
       let list = ordered W.settings.clients p.log in
-      ap (λ events. map (λ (e : PoolEvent). e.event) (by_stamp (λ (e : PoolEvent). e.stamp) (length events) events)) pool_is
+      ap (λ events. map (λ (e : StampedPoolEvent). e.event) (by_stamp (λ (e : StampedPoolEvent). e.stamp) (length events) events)) pool_is
       ∙ by_stamps list (length (map pool_event list))
       ∙ ap (λ bound. flat_map (λ s. events_at s list) (range_with_len 0 bound)) (length-map list pool_event ∙ ordered_long W.settings.clients p.log p.nobody_else p.kinds)
       ∙ history_is W.settings.clients p.log p.nobody_else p.kinds

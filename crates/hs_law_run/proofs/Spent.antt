@@ -13,12 +13,12 @@ use Rattle.hs_law_agent.specs.Laws.{EventsAddThis}
 use Rattle.hs_law_agent.specs.State.{GivenPlace}
 use Rattle.hs_records.specs.Plain.{PlainWorkload}
 use Rattle.hs_law_sends.specs.Drawn.{DrawnPage}
-use Rattle.hs_words.specs.Ends.{Deed, Answer, answer_to, is_any_given, IsAt, IsGot, Names, NoneSince, Spends, EachSpends}
-use Rattle.hs_words.specs.PoolHistory.{Event, is_missed}
+use Rattle.hs_words.specs.Ends.{Deed, Answer, answer_to, is_any_given, IsDeedAt, IsGot, Names, NoneSince, Spends, EachSpends}
+use Rattle.hs_words.specs.PoolHistory.{PoolEvent, is_missed}
 use Rattle.hs_words.specs.PoolHistory as pool
 use Rattle.hs_words.proofs.Deeds.{at_below}
 use Rattle.hs_law_journal.specs.Following.{NodeRun, Run}
-use Rattle.hs_law_journal.specs.Pooled.{PoolEvent, given_page, pool_events, has_buffer, is_touched, answers_draw, gives_answer}
+use Rattle.hs_law_journal.specs.Pooled.{StampedPoolEvent, given_page, pool_events, has_buffer, is_touched, answers_draw, gives_answer}
 use Rattle.hs_law_journal.specs.Doings.{NodeDoings, journal_of, node_at_end}
 use Rattle.hs_law_run.specs.Playing.{DoingsAreFollowed, GivesAnswer}
 use Rattle.hs_law_run.specs.Pools.{give_of, give_at, IsPooled}
@@ -31,7 +31,7 @@ use Rattle.hs_law_run.proofs.Pools.{pool_is, pool_event, ordered, gives_in, miss
 -- an answer is that of the deed at its stamp
 record IsTrue (log : List Deed) (a : Answer) : Type 0 where
   deed : Deed
-  at : IsAt log a.stamp deed
+  at : IsDeedAt log a.stamp deed
   event : a.event ≡ deed.event
   draw : a.draw ≡ deed.draw
 
@@ -71,9 +71,9 @@ record IsSpent (log : List Deed) (stamp : ℕ) (deed : Deed) : Type 0 where
   earlier : List Deed
   long : length earlier ≡ stamp
   spends : Spends earlier deed.event deed.draw
-  before : (other : ℕ) (d : Deed) → IsAt log other d → other < stamp → IsAt earlier other d
+  before : (other : ℕ) (d : Deed) → IsDeedAt log other d → other < stamp → IsDeedAt earlier other d
 
-spent_at : (log : List Deed) (stamp : ℕ) (deed : Deed) → EachSpends log → IsAt log stamp deed → IsSpent log stamp deed
+spent_at : (log : List Deed) (stamp : ℕ) (deed : Deed) → EachSpends log → IsDeedAt log stamp deed → IsSpent log stamp deed
 spent_at [] stamp deed each at = absurd at
 spent_at (last ∷ earlier) stamp deed each (inl both) =
     let is = both.0 in
@@ -84,31 +84,31 @@ spent_at (last ∷ earlier) stamp deed each (inl both) =
       before = λ other d h low. by_case other d low h;
     }
   where
-    by_case : (other : ℕ) (d : Deed) → other < stamp → IsAt (last ∷ earlier) other d → IsAt earlier other d
+    by_case : (other : ℕ) (d : Deed) → other < stamp → IsDeedAt (last ∷ earlier) other d → IsDeedAt earlier other d
     by_case other d low (inl same) = let is = both.0 in let here = same.0 in absurd (omega (arith, is, here, low))
     by_case other d low (inr h) = h
 spent_at (last ∷ earlier) stamp deed each (inr at) =
     let rest = spent_at earlier stamp deed each.1 at in
     record { earlier = rest.earlier; long = rest.long; spends = rest.spends; before = λ other d h low. rest.before other d (by_case other d low h) low }
   where
-    by_case : (other : ℕ) (d : Deed) → other < stamp → IsAt (last ∷ earlier) other d → IsAt earlier other d
+    by_case : (other : ℕ) (d : Deed) → other < stamp → IsDeedAt (last ∷ earlier) other d → IsDeedAt earlier other d
     by_case other d low (inl same) = let here = same.0 in let below = at_below earlier stamp deed at in absurd (omega (arith, here, low, below))
     by_case other d low (inr h) = h
 
-none_named : (buffer stamp : ℕ) (log : List Deed) (other : ℕ) (d : Deed) → NoneSince buffer stamp log → IsAt log other d → stamp < other → Names buffer d.event → ⊥
+none_named : (buffer stamp : ℕ) (log : List Deed) (other : ℕ) (d : Deed) → NoneSince buffer stamp log → IsDeedAt log other d → stamp < other → Names buffer d.event → ⊥
 none_named buffer stamp [] other d none at high names = at
 none_named buffer stamp (last ∷ earlier) other d none (inl both) high names = let is = both.0 in none.0 (omega (arith, is, high)) (subst (λ (d : Deed). Names buffer d.event) (sym both.1) names)
 none_named buffer stamp (last ∷ earlier) other d none (inr at) high names = none_named buffer stamp earlier other d none.1 at high names
 
 -- ---- nothing touches the buffer
 
-named : (buffer : ℕ) (e : Event) → has_buffer buffer e ≡ true → Names buffer e
+named : (buffer : ℕ) (e : PoolEvent) → has_buffer buffer e ≡ true → Names buffer e
 named buffer (pool.Got other) h = eqb-true other buffer h
 named buffer pool.Empty h = let no : false ≡ true = h in absurd cc
 named buffer (pool.Given other) h = eqb-true other buffer h
 named buffer pool.Missed h = let no : false ≡ true = h in absurd cc
 
-module _ (log : List Deed) (each : EachSpends log) (stamp : ℕ) (deed : Deed) (at : IsAt log stamp deed) (buffer draw : ℕ) (gives : deed.event ≡ pool.Given buffer) (owed : deed.draw ≡ draw) where
+module _ (log : List Deed) (each : EachSpends log) (stamp : ℕ) (deed : Deed) (at : IsDeedAt log stamp deed) (buffer draw : ℕ) (gives : deed.event ≡ pool.Given buffer) (owed : deed.draw ≡ draw) where
   spent : IsSpent log stamp deed
   spent = spent_at log stamp deed each at
 
@@ -131,8 +131,8 @@ module _ (log : List Deed) (each : EachSpends log) (stamp : ℕ) (deed : Deed) (
 
   untouched : (list : List Answer) → AllByRecursion (IsTrue log) list → is_touched (map pool_event list) buffer draw stamp ≡ false
   untouched list all =
-      list_any_none (λ (e : PoolEvent). has_buffer buffer e.event && nat_lt draw e.stamp && nat_lt e.stamp stamp) (map pool_event list)
-      (all_map (λ (e : PoolEvent). (has_buffer buffer e.event && nat_lt draw e.stamp && nat_lt e.stamp stamp) ≡ false) pool_event list
+      list_any_none (λ (e : StampedPoolEvent). has_buffer buffer e.event && nat_lt draw e.stamp && nat_lt e.stamp stamp) (map pool_event list)
+      (all_map (λ (e : StampedPoolEvent). (has_buffer buffer e.event && nat_lt draw e.stamp && nat_lt e.stamp stamp) ≡ false) pool_event list
       (all_each (IsTrue log) (λ a. (has_buffer buffer a.event && nat_lt draw a.stamp && nat_lt a.stamp stamp) ≡ false) list untouched_one all))
 
 -- ---- the gives of a node
@@ -167,7 +167,7 @@ module _ (adds : EventsAddThis) (W : PlainWorkload) (J : PlainJournal) (n : Node
       by_draw (draws.Empty stamp) e t = let no : None ≡ Some known.0 = e in absurd cc
       by_draw (draws.Got buffer stamp) e t =
           let same = same_Some (record { stamp = given.stamp; event = pool.Given buffer; draw = stamp }) known.0 e in
-          let at = subst (λ (a : Answer). IsAt p.log a.stamp t.deed) (sym same) t.at in
+          let at = subst (λ (a : Answer). IsDeedAt p.log a.stamp t.deed) (sym same) t.at in
           let event : t.deed.event ≡ pool.Given buffer = sym (ap (λ (a : Answer). a.event) same ∙ t.event) in
           let owed : t.deed.draw ≡ stamp = sym (ap (λ (a : Answer). a.draw) same ∙ t.draw) in
           and_from (nat_lt stamp given.stamp) (not (is_touched (pool_events run) buffer stamp given.stamp))

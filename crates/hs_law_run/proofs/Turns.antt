@@ -7,9 +7,9 @@ use Rattle.hs_lists.proofs.Parts.{reverse_cons}
 use Rattle.hs_lists.proofs.Alls.{all_append}
 use Rattle.hs_law_agent.specs.Laws.{noted_as, EventsAddThis}
 use Rattle.hs_law_agent.specs.State.{AgentState, GivenPlace, start}
-use Rattle.hs_law_agent.specs.Stepping.{Chunk, Crumbed, Triggered, Asked, Turn as Turned, Input, Answered, Given, Missed, Unread, Event, Took, Gave, step_of, step_of_answer, give_back, after, after_from, after_event}
+use Rattle.hs_law_agent.specs.Stepping.{Chunk, Crumbed, Triggered, Asked, Turn as Turned, Input, Answered, Given, Missed, Unread, AgentEvent, Took, Gave, step_of, step_of_answer, give_back, after, after_from, after_event}
 use Rattle.hs_records.specs.Plain.{PlainSettings}
-use Rattle.hs_words.specs.Ends.{Answer, Turn, answered, unread, met, answers_in, is_any_given}
+use Rattle.hs_words.specs.Ends.{Answer, GiverTurn, answered, unread, met, answers_in, is_any_given}
 use Rattle.hs_words.specs.PoolHistory.{is_missed}
 use Rattle.hs_words.specs.PoolHistory as pool
 use Rattle.hs_law_journal.specs.Shape.{step_stamp, log_stamps}
@@ -18,14 +18,14 @@ use Rattle.hs_law_run.specs.Pools.{miss_in}
 use Rattle.hs_law_journal.specs.Turns.{Lent, IsOffered, AreTurns, Begins, Takes, Offers, Meets}
 use Rattle.hs_law_run.proofs.Lists.{filter_map_last, last_or_earlier, StandsEarlier}
 
-pub after_last : (settings : PlainSettings) (node : ℕ) (events : List Event) (event : Event) → after settings node (events ++ event ∷ []) ≡ after_event settings node (after settings node events) event
+pub after_last : (settings : PlainSettings) (node : ℕ) (events : List AgentEvent) (event : AgentEvent) → after settings node (events ++ event ∷ []) ≡ after_event settings node (after settings node events) event
 after_last settings node events event = from (start settings) events
   where
-    from : (state : AgentState) (events : List Event) → after_from settings node state (events ++ event ∷ []) ≡ after_event settings node (after_from settings node state events) event
+    from : (state : AgentState) (events : List AgentEvent) → after_from settings node state (events ++ event ∷ []) ≡ after_event settings node (after_from settings node state events) event
     from state [] = refl
     from state (e ∷ events) = from (after_event settings node state e) events
 
-pub steps_last : (events : List Event) (event : Event) → steps_of (events ++ event ∷ []) ≡ steps_of events ++ noted_as event ∷ []
+pub steps_last : (events : List AgentEvent) (event : AgentEvent) → steps_of (events ++ event ∷ []) ≡ steps_of events ++ noted_as event ∷ []
 steps_last events event = map-append noted_as events (event ∷ [])
 
 -- ---- what inputs note
@@ -47,53 +47,53 @@ no_miss Turned = refl
 -- ---- what answers note
 
 -- the answer of a turn, if it has one
-abbrev pub answer_in : Turn → List Answer
+abbrev pub answer_in : GiverTurn → List Answer
 answer_in turn = answers_in (turn ∷ [])
 
-turn_answers : (turn : Turn) (turns : List Turn) → reverse (answers_in (turn ∷ turns)) ≡ reverse (answers_in turns) ++ answer_in turn
+turn_answers : (turn : GiverTurn) (turns : List GiverTurn) → reverse (answers_in (turn ∷ turns)) ≡ reverse (answers_in turns) ++ answer_in turn
 turn_answers (answered a) turns = reverse_cons a (answers_in turns)
 turn_answers unread turns = sym (append-nil (reverse (answers_in turns)))
 turn_answers (met stamps) turns = sym (append-nil (reverse (answers_in turns)))
 
-stamps_noted : (lents : List Lent) (state : AgentState) (answer : Answered) (turn : Turn) → IsOffered lents state answer turn → filter_map step_stamp (step_of_answer answer ∷ []) ≡ map (λ (a : Answer). a.stamp) (answer_in turn)
+stamps_noted : (lents : List Lent) (state : AgentState) (answer : Answered) (turn : GiverTurn) → IsOffered lents state answer turn → filter_map step_stamp (step_of_answer answer ∷ []) ≡ map (λ (a : Answer). a.stamp) (answer_in turn)
 stamps_noted lents state (Given stamp) turn is = ap (λ t. map (λ (a : Answer). a.stamp) (answer_in t)) (sym is.2)
 stamps_noted lents state (Missed stamp) turn is = ap (λ t. map (λ (a : Answer). a.stamp) (answer_in t)) (sym is)
 stamps_noted lents state Unread turn is = ap (λ t. map (λ (a : Answer). a.stamp) (answer_in t)) (sym is)
 
-misses_noted : (lents : List Lent) (state : AgentState) (answer : Answered) (turn : Turn) → IsOffered lents state answer turn → filter_map miss_in (step_of_answer answer ∷ []) ≡ filter (λ (a : Answer). is_missed a.event) (answer_in turn)
+misses_noted : (lents : List Lent) (state : AgentState) (answer : Answered) (turn : GiverTurn) → IsOffered lents state answer turn → filter_map miss_in (step_of_answer answer ∷ []) ≡ filter (λ (a : Answer). is_missed a.event) (answer_in turn)
 misses_noted lents state (Given stamp) turn is = ap (λ t. filter (λ (a : Answer). is_missed a.event) (answer_in t)) (sym is.2)
 misses_noted lents state (Missed stamp) turn is = ap (λ t. filter (λ (a : Answer). is_missed a.event) (answer_in t)) (sym is)
 misses_noted lents state Unread turn is = ap (λ t. filter (λ (a : Answer). is_missed a.event) (answer_in t)) (sym is)
 
 -- ---- as many turns that are no meeting as offers
 
-abbrev pub is_offered : Event → ℕ
+abbrev pub is_offered : AgentEvent → ℕ
 is_offered (Took input) = 0
 is_offered (Gave answer) = 1
 
-abbrev pub is_offer_turn : Turn → ℕ
+abbrev pub is_offer_turn : GiverTurn → ℕ
 is_offer_turn (answered a) = 1
 is_offer_turn unread = 1
 is_offer_turn (met stamps) = 0
 
-abbrev pub offers_among : List Event → ℕ
+abbrev pub offers_among : List AgentEvent → ℕ
 offers_among [] = 0
 offers_among (event ∷ events) = is_offered event + offers_among events
 
-abbrev pub offer_turns : List Turn → ℕ
+abbrev pub offer_turns : List GiverTurn → ℕ
 offer_turns [] = 0
 offer_turns (turn ∷ turns) = is_offer_turn turn + offer_turns turns
 
-pub offers_both : (xs ys : List Event) → offers_among (xs ++ ys) ≡ offers_among xs + offers_among ys
+pub offers_both : (xs ys : List AgentEvent) → offers_among (xs ++ ys) ≡ offers_among xs + offers_among ys
 offers_both [] ys = omega arith
 offers_both (x ∷ xs) ys = let rest = offers_both xs ys in omega (arith, rest)
 
-pub offer_turns_both : (xs ys : List Turn) → offer_turns (xs ++ ys) ≡ offer_turns xs + offer_turns ys
+pub offer_turns_both : (xs ys : List GiverTurn) → offer_turns (xs ++ ys) ≡ offer_turns xs + offer_turns ys
 offer_turns_both [] ys = omega arith
 offer_turns_both (x ∷ xs) ys = let rest = offer_turns_both xs ys in omega (arith, rest)
 
 module _ (settings : PlainSettings) (node : ℕ) (lents : List Lent) where
-  pub turns_stamps : (events : List Event) (turns : List Turn) → AreTurns settings node lents events turns → log_stamps (steps_of events) ≡ map (λ (a : Answer). a.stamp) (reverse (answers_in turns))
+  pub turns_stamps : (events : List AgentEvent) (turns : List GiverTurn) → AreTurns settings node lents events turns → log_stamps (steps_of events) ≡ map (λ (a : Answer). a.stamp) (reverse (answers_in turns))
   turns_stamps _ _ Begins = refl
   turns_stamps _ _ (Takes events turns input t) =
       ap (filter_map step_stamp) (steps_last events (Took input)) ∙ filter_map_last step_stamp (steps_of events) (step_of input) [] (no_stamp input) ∙ append-nil (log_stamps (steps_of events))
@@ -106,7 +106,7 @@ module _ (settings : PlainSettings) (node : ℕ) (lents : List Lent) where
       ∙ sym (ap (map (λ (a : Answer). a.stamp)) (turn_answers turn turns))
   turns_stamps _ _ (Meets events turns stamps t) = turns_stamps events turns t
 
-  pub turns_misses : (events : List Event) (turns : List Turn) → AreTurns settings node lents events turns → filter_map miss_in (steps_of events) ≡ filter (λ (a : Answer). is_missed a.event) (reverse (answers_in turns))
+  pub turns_misses : (events : List AgentEvent) (turns : List GiverTurn) → AreTurns settings node lents events turns → filter_map miss_in (steps_of events) ≡ filter (λ (a : Answer). is_missed a.event) (reverse (answers_in turns))
   turns_misses _ _ Begins = refl
   turns_misses _ _ (Takes events turns input t) =
       ap (filter_map miss_in) (steps_last events (Took input)) ∙ filter_map_last miss_in (steps_of events) (step_of input) [] (no_miss input) ∙ append-nil (filter_map miss_in (steps_of events))
@@ -122,7 +122,7 @@ module _ (settings : PlainSettings) (node : ℕ) (lents : List Lent) where
   abbrev IsGive : Answer → Type 0
   IsGive a = (is_any_given a.event ≡ true) ⊎ (is_missed a.event ≡ true)
 
-  pub turns_kinds : (events : List Event) (turns : List Turn) → AreTurns settings node lents events turns → AllByRecursion (λ (a : Answer). (is_any_given a.event ≡ true) ⊎ (is_missed a.event ≡ true)) (answers_in turns)
+  pub turns_kinds : (events : List AgentEvent) (turns : List GiverTurn) → AreTurns settings node lents events turns → AllByRecursion (λ (a : Answer). (is_any_given a.event ≡ true) ⊎ (is_missed a.event ≡ true)) (answers_in turns)
   turns_kinds _ _ Begins = tt
   turns_kinds _ _ (Takes events turns input t) = turns_kinds events turns t
   turns_kinds _ _ (Offers events turns (Given stamp) turn is t) = subst (λ x. AllByRecursion IsGive (answers_in (x ∷ turns))) (sym is.2) (inl refl, turns_kinds events turns t)
@@ -137,7 +137,7 @@ module _ (settings : PlainSettings) (node : ℕ) (lents : List Lent) where
   IsNamed give = (place : ℕ) (lent : Lent) (stamp : ℕ) → slice_get lents place ≡ Some lent → give (record { place = place; stamp = stamp }) ≡ Some (record { stamp = stamp; event = pool.Given lent.buffer; draw = lent.draw })
 
   module _ (adds : EventsAddThis) (give : GivenPlace → Option Answer) (named : IsNamed give) where
-    given_more : (state : AgentState) (answer : Answered) (turn : Turn) → IsOffered lents state answer turn
+    given_more : (state : AgentState) (answer : Answered) (turn : GiverTurn) → IsOffered lents state answer turn
         → filter_map give (after_event settings node state (Gave answer)).given ≡ filter_map give state.given ++ filter (λ (a : Answer). is_any_given a.event) (answer_in turn)
     given_more state (Missed stamp) turn is = sym (append-nil (filter_map give state.given)) ∙ ap (λ t. filter_map give state.given ++ filter (λ (a : Answer). is_any_given a.event) (answer_in t)) (sym is)
     given_more state Unread turn is = sym (append-nil (filter_map give state.given)) ∙ ap (λ t. filter_map give state.given ++ filter (λ (a : Answer). is_any_given a.event) (answer_in t)) (sym is)
@@ -155,7 +155,7 @@ module _ (settings : PlainSettings) (node : ℕ) (lents : List Lent) where
             ∙ ap (λ (o : Option Answer). filter_map give state.given ++ cons_option o [])
             (ap (λ p. give (record { place = p; stamp = stamp })) place_is ∙ named first.place lent stamp first.came)
 
-    pub turns_gives : (events : List Event) (turns : List Turn) → AreTurns settings node lents events turns
+    pub turns_gives : (events : List AgentEvent) (turns : List GiverTurn) → AreTurns settings node lents events turns
         → filter_map give (after settings node events).given ≡ filter (λ (a : Answer). is_any_given a.event) (reverse (answers_in turns))
     turns_gives _ _ Begins = refl
     turns_gives _ _ (Takes events turns input t) =
@@ -168,7 +168,7 @@ module _ (settings : PlainSettings) (node : ℕ) (lents : List Lent) where
         ∙ sym (ap (filter (λ (a : Answer). is_any_given a.event)) (turn_answers turn turns))
     turns_gives _ _ (Meets events turns stamps t) = turns_gives events turns t
 
-    known_more : (state : AgentState) (answer : Answered) (turn : Turn) → IsOffered lents state answer turn → AllByRecursion (λ (given : GivenPlace). (a : Answer) × (give given ≡ Some a)) state.given
+    known_more : (state : AgentState) (answer : Answered) (turn : GiverTurn) → IsOffered lents state answer turn → AllByRecursion (λ (given : GivenPlace). (a : Answer) × (give given ≡ Some a)) state.given
         → AllByRecursion (λ (given : GivenPlace). (a : Answer) × (give given ≡ Some a)) (after_event settings node state (Gave answer)).given
     known_more state (Missed stamp) turn is all = all
     known_more state Unread turn is all = all
@@ -183,7 +183,7 @@ module _ (settings : PlainSettings) (node : ℕ) (lents : List Lent) where
             (all_append (λ (given : GivenPlace). (a : Answer) × (give given ≡ Some a)) state.given (record { place = place; stamp = stamp } ∷ []) all
             ((record { stamp = stamp; event = pool.Given lent.buffer; draw = lent.draw }, ap (λ p. give (record { place = p; stamp = stamp })) place_is ∙ named first.place lent stamp first.came), tt))
 
-    pub turns_known : (events : List Event) (turns : List Turn) → AreTurns settings node lents events turns → AllByRecursion (λ (given : GivenPlace). (a : Answer) × (give given ≡ Some a)) (after settings node events).given
+    pub turns_known : (events : List AgentEvent) (turns : List GiverTurn) → AreTurns settings node lents events turns → AllByRecursion (λ (given : GivenPlace). (a : Answer) × (give given ≡ Some a)) (after settings node events).given
     turns_known _ _ Begins = tt
     turns_known _ _ (Takes events turns input t) =
         subst (λ (state : AgentState). AllByRecursion (λ (given : GivenPlace). (a : Answer) × (give given ≡ Some a)) state.given) (sym (after_last settings node events (Took input)))
@@ -195,46 +195,46 @@ module _ (settings : PlainSettings) (node : ℕ) (lents : List Lent) where
 
   -- ---- the turns before an unread one
 
-  pub record SplitAt (before : List Event) (turns : List Turn) : Type 0 where
-    pub later : List Turn
-    pub earlier : List Turn
+  pub record SplitAt (before : List AgentEvent) (turns : List GiverTurn) : Type 0 where
+    pub later : List GiverTurn
+    pub earlier : List GiverTurn
     pub turns_are : turns ≡ later ++ unread ∷ earlier
     pub are : AreTurns settings node lents before earlier
 
-  split_earlier : (before : List Event) (turn : Turn) (turns : List Turn) → SplitAt before turns → SplitAt before (turn ∷ turns)
+  split_earlier : (before : List AgentEvent) (turn : GiverTurn) (turns : List GiverTurn) → SplitAt before turns → SplitAt before (turn ∷ turns)
   split_earlier before turn turns s = record { later = turn ∷ s.later; earlier = s.earlier; turns_are = ap (λ rest. turn ∷ rest) s.turns_are; are = s.are }
 
-  pub turns_split : (events : List Event) (turns : List Turn) → AreTurns settings node lents events turns → (before behind : List Event) → events ≡ before ++ Gave Unread ∷ behind → SplitAt before turns
+  pub turns_split : (events : List AgentEvent) (turns : List GiverTurn) → AreTurns settings node lents events turns → (before behind : List AgentEvent) → events ≡ before ++ Gave Unread ∷ behind → SplitAt before turns
   turns_split _ _ Begins before behind is = nothing before is
     where
-      nothing : (before : List Event) → [] ≡ before ++ Gave Unread ∷ behind → SplitAt before []
+      nothing : (before : List AgentEvent) → [] ≡ before ++ Gave Unread ∷ behind → SplitAt before []
       nothing [] never = absurd cc
       nothing (b ∷ before) never = absurd cc
   turns_split _ _ (Takes events turns input t) before behind is =
       either (last_or_earlier events before behind (Took input) (Gave Unread) is) (λ rest list. turns_split events turns t before rest list)
     where
       either : ((behind ≡ []) × (events ≡ before) × (Took input ≡ Gave Unread)) ⊎ StandsEarlier events before (Gave Unread) (Took input) behind
-          → ((rest : List Event) → events ≡ before ++ Gave Unread ∷ rest → SplitAt before turns) → SplitAt before turns
+          → ((rest : List AgentEvent) → events ≡ before ++ Gave Unread ∷ rest → SplitAt before turns) → SplitAt before turns
       either (inl (none, same, never)) earlier = absurd cc
       either (inr s) earlier = earlier s.rest s.list_is
   turns_split _ _ (Offers events turns answer turn is t) before behind list =
       either (last_or_earlier events before behind (Gave answer) (Gave Unread) list) (λ rest list. turns_split events turns t before rest list)
     where
       either : ((behind ≡ []) × (events ≡ before) × (Gave answer ≡ Gave Unread)) ⊎ StandsEarlier events before (Gave Unread) (Gave answer) behind
-          → ((rest : List Event) → events ≡ before ++ Gave Unread ∷ rest → SplitAt before turns) → SplitAt before (turn ∷ turns)
+          → ((rest : List AgentEvent) → events ≡ before ++ Gave Unread ∷ rest → SplitAt before turns) → SplitAt before (turn ∷ turns)
       either (inl (none, same, last)) earlier =
           let unread_is : answer ≡ Unread = cc in
           let turn_is : turn ≡ unread = subst (λ a. IsOffered lents (after settings node events) a turn) unread_is is in
-          record { later = []; earlier = turns; turns_are = ap (λ t. t ∷ turns) turn_is; are = subst (λ (xs : List Event). AreTurns settings node lents xs turns) same t }
+          record { later = []; earlier = turns; turns_are = ap (λ t. t ∷ turns) turn_is; are = subst (λ (xs : List AgentEvent). AreTurns settings node lents xs turns) same t }
       either (inr s) earlier = split_earlier before turn turns (earlier s.rest s.list_is)
   turns_split _ _ (Meets events turns stamps t) before behind is = split_earlier before (met stamps) turns (turns_split events turns t before behind is)
 
-  one_turn : (state : AgentState) (answer : Answered) (turn : Turn) → IsOffered lents state answer turn → is_offer_turn turn ≡ 1
+  one_turn : (state : AgentState) (answer : Answered) (turn : GiverTurn) → IsOffered lents state answer turn → is_offer_turn turn ≡ 1
   one_turn state (Given stamp) turn is = ap is_offer_turn is.2
   one_turn state (Missed stamp) turn is = ap is_offer_turn is
   one_turn state Unread turn is = ap is_offer_turn is
 
-  pub turns_count : (events : List Event) (turns : List Turn) → AreTurns settings node lents events turns → offer_turns turns ≡ offers_among events
+  pub turns_count : (events : List AgentEvent) (turns : List GiverTurn) → AreTurns settings node lents events turns → offer_turns turns ≡ offers_among events
   turns_count _ _ Begins = refl
   turns_count _ _ (Takes events turns input t) = let rest = turns_count events turns t in let both = offers_both events (Took input ∷ []) in omega (arith, rest, both)
   turns_count _ _ (Offers events turns answer turn is t) =

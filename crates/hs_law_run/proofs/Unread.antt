@@ -18,8 +18,8 @@ use Rattle.hs_law_run.specs.Playing.{DoingsAreFollowed}
 use Rattle.hs_law_run.proofs.Clauses.{mapped_true}
 use Rattle.hs_records.specs.Plain.{PlainSettings, PlainWorkload}
 use Rattle.hs_law_sends.specs.Drawn.{DrawnPage, has_buffer, stamp_of, drawn_from}
-use Rattle.hs_words.specs.Ends.{Deed, Answer, answer_to, answers_in, told_in, got_by, is_any_given, IsAt, IsDraw, SpendsThe}
-use Rattle.hs_words.specs.PoolHistory.{Event}
+use Rattle.hs_words.specs.Ends.{Deed, Answer, answer_to, answers_in, told_in, got_by, is_any_given, IsDeedAt, IsDraw, SpendsThe}
+use Rattle.hs_words.specs.PoolHistory.{PoolEvent}
 use Rattle.hs_words.specs.PoolHistory as pool
 use Rattle.hs_law_journal.specs.Following.{NodeRun, Run}
 use Rattle.hs_law_journal.specs.Pooled.{by_stamp, node_pages, page_of, given_page, pool_events}
@@ -47,7 +47,7 @@ use Rattle.hs_law_run.proofs.DrawPlaces.{draws_in_order, draw_at, page_answer, c
 use Rattle.hs_law_run.proofs.Nodes.{own_log}
 use Rattle.hs_law_run.proofs.Pools.{pool_is, pool_event, ordered, ordered_long, stamp_same}
 
-abbrev buffer_in : Event → ℕ
+abbrev buffer_in : PoolEvent → ℕ
 buffer_in (pool.Got buffer) = buffer
 buffer_in _ = 0
 
@@ -161,14 +161,14 @@ in_flat P (s ∷ list) (suc c) k sends d all h g = in_flat P list c k sends d (a
 
 -- ---- the agent behind the first events
 
-after_both : (settings : PlainSettings) (node : ℕ) (some more : List stepping.Event) (state : AgentState) → after_from settings node state (some ++ more) ≡ after_from settings node (after_from settings node state some) more
+after_both : (settings : PlainSettings) (node : ℕ) (some more : List stepping.AgentEvent) (state : AgentState) → after_from settings node state (some ++ more) ≡ after_from settings node (after_from settings node state some) more
 after_both settings node [] more state = refl
 after_both settings node (event ∷ some) more state = after_both settings node some more (after_event settings node state event)
 
-abbrev brought : List stepping.Event → List Sheet
+abbrev brought : List stepping.AgentEvent → List Sheet
 brought events = flat_map brought_by events
 
-sheets_on : EventsAddThis → (settings : PlainSettings) (node : ℕ) (events : List stepping.Event) (state : AgentState) → sheets_of (after_from settings node state events).taken ≡ sheets_of state.taken ++ brought events
+sheets_on : EventsAddThis → (settings : PlainSettings) (node : ℕ) (events : List stepping.AgentEvent) (state : AgentState) → sheets_of (after_from settings node state events).taken ≡ sheets_of state.taken ++ brought events
 sheets_on adds settings node [] state = sym (append-nil (sheets_of state.taken))
 sheets_on adds settings node (event ∷ events) state =
     sheets_on adds settings node events (after_event settings node state event)
@@ -192,7 +192,7 @@ none_equal stamp list all = list_any_none (λ told. told == stamp) list (all_eac
 -- an answer of an end is one to a deed of its own
 record IsOwned (log : List Deed) (end : ℕ) (a : Answer) : Type 0 where
   deed : Deed
-  at : IsAt log a.stamp deed
+  at : IsDeedAt log a.stamp deed
   by : deed.by ≡ end
 
 owned : (end : ℕ) (log : List Deed) → AllByRecursion (IsOwned log end) (answers end log)
@@ -207,7 +207,7 @@ owned end (deed ∷ earlier) =
 
 -- ---- one offer that is unread
 
-module _ (adds : EventsAddThis) (W : PlainWorkload) (J : PlainJournal) (n : NodeDoings) (p : IsPooled W J n) (before behind : List stepping.Event) (split : all_events n ≡ before ++ behind) (some_buffers : 0 < W.settings.buffers) (u : IsUnreadAt W J n p before) where
+module _ (adds : EventsAddThis) (W : PlainWorkload) (J : PlainJournal) (n : NodeDoings) (p : IsPooled W J n) (before behind : List stepping.AgentEvent) (split : all_events n ≡ before ++ behind) (some_buffers : 0 < W.settings.buffers) (u : IsUnreadAt W J n p before) where
   abbrev at_end : NodeRun
   at_end = node_at_end W J n
 
@@ -285,7 +285,7 @@ module _ (adds : EventsAddThis) (W : PlainWorkload) (J : PlainJournal) (n : Node
 
   record IsLater (d : DrawnPage) : Type 0 where
     deed : Deed
-    at : IsAt p.log (stamp_of d.draw) deed
+    at : IsDeedAt p.log (stamp_of d.draw) deed
     by : deed.by ≡ u.unread.drawer
     above : u.unread.stamp < stamp_of d.draw
 
@@ -302,14 +302,14 @@ module _ (adds : EventsAddThis) (W : PlainWorkload) (J : PlainJournal) (n : Node
       let mine = all_at (IsOwned p.log (suc c)) list page.number (page_answer page) (owned (suc c) p.log) here in
       let its = all_at (IsOwned p.log (suc c)) list d.number (page_answer d) (owned (suc c) p.log) that in
       let stamp : (page_answer page).stamp ≡ u.unread.stamp = stamp_same page.draw ∙ stamp_is in
-      let once = at_once p.log u.unread.stamp (got_by u.unread.drawer u.unread.buffer) mine.deed (draw_is_at p.log u.unread.number u.unread.stamp (got_by u.unread.drawer u.unread.buffer) u.unread.draw) (subst (λ s. IsAt p.log s mine.deed) stamp mine.at) in
+      let once = at_once p.log u.unread.stamp (got_by u.unread.drawer u.unread.buffer) mine.deed (draw_is_at p.log u.unread.number u.unread.stamp (got_by u.unread.drawer u.unread.buffer) u.unread.draw) (subst (λ s. IsDeedAt p.log s mine.deed) stamp mine.at) in
       let drawer : u.unread.drawer ≡ suc c = ap (λ (d : Deed). d.by) once ∙ mine.by in
       let first : slice_get (stamps list) page.number ≡ Some (page_answer page).stamp = slice_get-map (λ (a : Answer). a.stamp) list page.number ∙ ap (option_map (λ (a : Answer). a.stamp)) here in
       let second : slice_get (stamps list) d.number ≡ Some (page_answer d).stamp = slice_get-map (λ (a : Answer). a.stamp) list d.number ∙ ap (option_map (λ (a : Answer). a.stamp)) that in
       let less = rising (stamps list) page.number d.number (page_answer page).stamp (page_answer d).stamp (stamps_rise (suc c) p.log) first second low in
       record {
         deed = its.deed;
-        at = subst (λ s. IsAt p.log s its.deed) (stamp_same d.draw) its.at;
+        at = subst (λ s. IsDeedAt p.log s its.deed) (stamp_same d.draw) its.at;
         by = its.by ∙ sym drawer;
         above = subst (λ s. u.unread.stamp < s) (stamp_same d.draw) (subst (λ s. s < (page_answer d).stamp) stamp less);
       }
@@ -392,7 +392,7 @@ module _ (adds : EventsAddThis) (W : PlainWorkload) (J : PlainJournal) (n : Node
 
 -- ---- all offers that are unread
 
-is_gave : (e : stepping.Event) → is_unread (noted_as e) ≡ true → e ≡ stepping.Gave stepping.Unread
+is_gave : (e : stepping.AgentEvent) → is_unread (noted_as e) ≡ true → e ≡ stepping.Gave stepping.Unread
 is_gave (stepping.Took (stepping.Chunk c sheet)) h = let no : false ≡ true = h in absurd cc
 is_gave (stepping.Took (stepping.Crumbed c crumb)) h = let no : false ≡ true = h in absurd cc
 is_gave (stepping.Took (stepping.Triggered c trigger)) h = let no : false ≡ true = h in absurd cc
@@ -402,8 +402,8 @@ is_gave (stepping.Gave (stepping.Given stamp)) h = let no : false ≡ true = h i
 is_gave (stepping.Gave (stepping.Missed stamp)) h = let no : false ≡ true = h in absurd cc
 is_gave (stepping.Gave stepping.Unread) h = refl
 
-each_asked : (P : List Step → Bool) (whole events : List stepping.Event) (start : ℕ) (front : List stepping.Event) → whole ≡ front ++ events → length front ≡ start
-    → ((before behind : List stepping.Event) → whole ≡ before ++ stepping.Gave stepping.Unread ∷ behind → P (steps_of before) ≡ true)
+each_asked : (P : List Step → Bool) (whole events : List stepping.AgentEvent) (start : ℕ) (front : List stepping.AgentEvent) → whole ≡ front ++ events → length front ≡ start
+    → ((before behind : List stepping.AgentEvent) → whole ≡ before ++ stepping.Gave stepping.Unread ∷ behind → P (steps_of before) ≡ true)
     → list_all P (map (λ (at : ℕ × Step). take at.0 (steps_of whole)) (filter (λ (at : ℕ × Step). is_unread at.1) (zip (range_with_len start (length (steps_of events))) (steps_of events)))) ≡ true
 each_asked P whole [] start front is long each = refl
 each_asked P whole (e ∷ events) start front is long each =

@@ -6,12 +6,12 @@ use Rattle.hs_lists.proofs.Alls.{all_front, all_each, all_at, all_by_place}
 use Rattle.hs_lists.proofs.Places.{get_some}
 use Rattle.hs_journal.specs.Views.{PlainJournal}
 use Rattle.hs_law_agent.specs.Laws.{EventsAddThis}
-use Rattle.hs_law_agent.specs.Stepping.{Unread, Event, Gave}
+use Rattle.hs_law_agent.specs.Stepping.{Unread, AgentEvent, Gave}
 use Rattle.hs_records.specs.Plain.{PlainWorkload}
 use Rattle.hs_law_sends.specs.Drawn.{DrawnPage, stamp_of}
 use Rattle.hs_law_sends.specs.Laws.{TimedPagesAreTimely}
 use Rattle.hs_law_sends.specs.Sending.{client_sends}
-use Rattle.hs_words.specs.Ends.{Deed, Answer, Turn, answered, unread, met, answers_in, told_in, IsUnread, EachUnread}
+use Rattle.hs_words.specs.Ends.{Deed, Answer, GiverTurn, answered, unread, met, answers_in, told_in, IsUnread, EachUnread}
 use Rattle.hs_law_journal.specs.Passes.{is_turn}
 use Rattle.hs_law_journal.specs.Shape.{log_stamps}
 use Rattle.hs_law_journal.specs.Unreads.{round_of}
@@ -32,7 +32,7 @@ use Rattle.hs_law_run.proofs.Turns.{offers_among, offer_turns, offers_both, offe
 
 -- ---- lists
 
-each_unread : (n : ℕ) (log : List Deed) (later earlier : List Turn) → EachUnread n log (later ++ unread ∷ earlier) → IsUnread n log earlier
+each_unread : (n : ℕ) (log : List Deed) (later earlier : List GiverTurn) → EachUnread n log (later ++ unread ∷ earlier) → IsUnread n log earlier
 each_unread n log [] earlier each = each.0
 each_unread n log (answered a ∷ later) earlier each = each_unread n log later earlier each
 each_unread n log (unread ∷ later) earlier each = each_unread n log later earlier each.1
@@ -46,19 +46,19 @@ any_behind q (x ∷ xs) ys h = or_right (q x) (list_any q (xs ++ ys)) (any_behin
     or_right true b h = refl
     or_right false b h = h
 
-pub told_more : (q : ℕ → Bool) (later earlier : List Turn) → list_any q (told_in earlier) ≡ true → list_any q (told_in (later ++ earlier)) ≡ true
+pub told_more : (q : ℕ → Bool) (later earlier : List GiverTurn) → list_any q (told_in earlier) ≡ true → list_any q (told_in (later ++ earlier)) ≡ true
 told_more q [] earlier h = h
 told_more q (answered a ∷ later) earlier h = told_more q later earlier h
 told_more q (unread ∷ later) earlier h = told_more q later earlier h
 told_more q (met stamps ∷ later) earlier h = any_behind q stamps (told_in (later ++ earlier)) (told_more q later earlier h)
 
 -- turns that go on from others
-record GoOn (turns earlier : List Turn) : Type 0 where
-  more : List Turn
+record GoOn (turns earlier : List GiverTurn) : Type 0 where
+  more : List GiverTurn
   turns_are : turns ≡ more ++ earlier
 
 -- what stands before an unread turn goes on from any earlier turns that have no more offers
-goes_on : (later earlier xs ys : List Turn) → later ++ unread ∷ earlier ≡ xs ++ ys → offer_turns ys ≤ offer_turns earlier → GoOn earlier ys
+goes_on : (later earlier xs ys : List GiverTurn) → later ++ unread ∷ earlier ≡ xs ++ ys → offer_turns ys ≤ offer_turns earlier → GoOn earlier ys
 goes_on [] earlier [] ys h few = let more = ap offer_turns h in absurd (omega (arith, few, more))
 goes_on [] earlier (x ∷ xs) ys h few = record { more = xs; turns_are = tail_of h }
   where
@@ -71,7 +71,7 @@ goes_on (l ∷ later) earlier (x ∷ xs) ys h few = goes_on later earlier xs ys 
     tail_of : l ∷ later ++ unread ∷ earlier ≡ x ∷ xs ++ ys → later ++ unread ∷ earlier ≡ xs ++ ys
     tail_of e = cc
 
-fewer_offers : (passes : List (List Event)) (j k : ℕ) → j ≤ k → offers_among (joined (take j passes)) ≤ offers_among (joined (take k passes))
+fewer_offers : (passes : List (List AgentEvent)) (j k : ℕ) → j ≤ k → offers_among (joined (take j passes)) ≤ offers_among (joined (take k passes))
 fewer_offers passes zero k low = omega arith
 fewer_offers passes (suc j) zero low = absurd (omega (arith, low))
 fewer_offers [] (suc j) (suc k) low = omega arith
@@ -108,7 +108,7 @@ module _ (adds : EventsAddThis) (timely : TimedPagesAreTimely) (W : PlainWorkloa
         either zero is = subst (AllByRecursion (λ (a : Answer). list_any (λ told. told == a.stamp) (told_in (p.at 0).turns) ≡ true)) (sym (p.new client few)) tt
         either (suc k) is = (p.meets k client (omega (arith, is)) few).told
 
-    module _ (before : List Event) (s : SplitAt W.settings n.node p.lents before (p.at (length n.passes)).turns) (at : InPass n.passes before) where
+    module _ (before : List AgentEvent) (s : SplitAt W.settings n.node p.lents before (p.at (length n.passes)).turns) (at : InPass n.passes before) where
       within : at.place < length n.passes
       within = slice_get_within n.passes at.place at.pass at.there
 

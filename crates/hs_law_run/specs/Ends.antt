@@ -1,10 +1,10 @@
 -- What the ends of a node's pool know, and what a pass of the agent and a meeting with a client change of it.
 use Rattle.std.specs.Prelude.{◌≡◌, ℕ, ◌*◌, ◌<◌, ◌≤◌, ◌==◌, min, true, List, ◌++◌, length}
 use Rattle.std.specs.List.{AllByRecursion, list_any}
-use Rattle.hs_law_agent.specs.Stepping.{Event}
+use Rattle.hs_law_agent.specs.Stepping.{AgentEvent}
 use Rattle.hs_records.specs.Plain.{PlainWorkload}
 use Rattle.hs_law_sends.specs.Sending.{ops_of}
-use Rattle.hs_words.specs.Ends.{Answer, Turn, answers_in, told_in}
+use Rattle.hs_words.specs.Ends.{Answer, GiverTurn, answers_in, told_in}
 use Rattle.hs_law_journal.specs.Shape.{log_stamps}
 use Rattle.hs_law_journal.specs.Doings.{steps_of}
 
@@ -13,21 +13,21 @@ abbrev pub done_by : PlainWorkload → (node client rounds : ℕ) → ℕ
 done_by W node client rounds = min (rounds * W.settings.stride) (length (ops_of W node client))
 
 -- what the ends of a pool know: the giver's turns and the answers of each client's drawer, the last of which stand first, and their floors
-pub record Ends : Type 0 where
-  pub turns : List Turn
+pub record PoolEnds : Type 0 where
+  pub turns : List GiverTurn
   pub floor : ℕ
   pub answers : ℕ → List Answer
   pub floors : ℕ → ℕ
 
 -- In a pass the giver was told of no stamp below its floor.
-pub record GoesOn (pass : List Event) (old new : Ends) : Type 0 where
-  pub more : List Turn
+pub record PoolEndsGoOn (pass : List AgentEvent) (old new : PoolEnds) : Type 0 where
+  pub more : List GiverTurn
   pub turns : new.turns ≡ more ++ old.turns
   pub high : AllByRecursion (λ stamp. old.floor ≤ stamp) (log_stamps (steps_of pass))
   pub floor : old.floor ≤ new.floor
 
 -- A client's drawer was told of no stamp below its floor, and then met the giver. Each heard of all that the other had been told.
-pub record HasMet (client : ℕ) (old new : Ends) : Type 0 where
+pub record PoolEndsMeet (client : ℕ) (old new : PoolEnds) : Type 0 where
   pub more : List Answer
   pub answers : new.answers client ≡ more ++ old.answers client
   pub high : AllByRecursion (λ (a : Answer). old.floors client ≤ a.stamp) more

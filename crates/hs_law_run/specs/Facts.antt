@@ -6,7 +6,7 @@ use Rattle.hs_base.specs.declared.limits.TheConstants.{MAX_TAKEN}
 use Rattle.hs_coord.specs.Messages.{Message, message}
 use Rattle.hs_journal.specs.Views.{PlainJournal}
 use Rattle.hs_law_agent.specs.State.{start}
-use Rattle.hs_law_agent.specs.Stepping.{Event}
+use Rattle.hs_law_agent.specs.Stepping.{AgentEvent}
 use Rattle.hs_records.specs.Pages.{pages_of}
 use Rattle.hs_records.specs.Plain.{PlainSettings, PlainWorkload}
 use Rattle.hs_law_sends.specs.Drawn.{DrawnPage, stamp_of}
@@ -67,7 +67,7 @@ HaveNothingPinned W d = AllByRecursion (λ (n : NodeDoings). length (last_state 
 
 -- ---- the offers of a pass
 
-abbrev pub EndOffersFrom : PlainWorkload → NodeDoings → ℕ → List (List Event) → Type 0
+abbrev pub EndOffersFrom : PlainWorkload → NodeDoings → ℕ → List (List AgentEvent) → Type 0
 EndOffersFrom W n place [] = Unit {0}
 EndOffersFrom W n place (pass ∷ passes) = EndsPass W (state_after W.settings n (suc place)) pass × EndOffersFrom W n (suc place) passes
 
@@ -86,8 +86,8 @@ pub record MeetsInRounds (W : PlainWorkload) (J : PlainJournal) (n : NodeDoings)
   pub giver : ℕ → ℕ
   pub drawer : ℕ → ℕ → ℕ
   pub drawn_below : (round : ℕ) → AllByRecursion (λ (page : DrawnPage). round_of W.settings.stride page.started ≤ round → stamp_of page.draw < giver round) (pages_at W J n.node)
-  pub given_above : (round place : ℕ) (pass : List Event) → round ≤ place → slice_get n.passes place ≡ Some pass → AllByRecursion (λ stamp. giver round ≤ stamp) (log_stamps (steps_of pass))
-  pub given_below : (client round place : ℕ) (pass : List Event) → place < round → slice_get n.passes place ≡ Some pass → AllByRecursion (λ stamp. stamp < drawer client round) (log_stamps (steps_of pass))
+  pub given_above : (round place : ℕ) (pass : List AgentEvent) → round ≤ place → slice_get n.passes place ≡ Some pass → AllByRecursion (λ stamp. giver round ≤ stamp) (log_stamps (steps_of pass))
+  pub given_below : (client round place : ℕ) (pass : List AgentEvent) → place < round → slice_get n.passes place ≡ Some pass → AllByRecursion (λ stamp. stamp < drawer client round) (log_stamps (steps_of pass))
   pub drawn_above : (round : ℕ) → AllByRecursion (λ (page : DrawnPage). round < round_of W.settings.stride page.started → drawer page.client.number round ≤ stamp_of page.draw) (pages_at W J n.node)
 
 -- Of a queue: what the receiver was told behind a round is what was sent by then, or as much as fits behind what was taken the round

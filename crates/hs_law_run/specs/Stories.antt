@@ -8,7 +8,7 @@ use Rattle.hs_journal.specs.declared.journal.Draw.{Draw}
 use Rattle.hs_journal.specs.declared.journal.Draw.TheVariants as draws
 use Rattle.hs_law_agent.specs.Laws.{sheets_of}
 use Rattle.hs_law_agent.specs.State.{AgentState, start}
-use Rattle.hs_law_agent.specs.Stepping.{Event, after}
+use Rattle.hs_law_agent.specs.Stepping.{AgentEvent, after}
 use Rattle.hs_records.specs.Plain.{PlainWorkload}
 use Rattle.hs_law_sends.specs.Draws.{count_started}
 use Rattle.hs_law_sends.specs.Sending.{Sent, ClientSends, sends_of, sent_within, place_of, ops_of}
@@ -19,13 +19,13 @@ use Rattle.hs_law_journal.specs.Doings.{NodeDoings, Doings, chunks_in, crumbs_in
 use Rattle.hs_law_journal.specs.LoopPasses.{IsOwn, HandsReady, EndsPass}
 use Rattle.hs_law_run.specs.Pools.{draw_answer}
 use Rattle.hs_law_journal.specs.Turns.{Lent, AreTurns}
-use Rattle.hs_law_run.specs.Ends.{done_by, Ends, GoesOn, HasMet}
+use Rattle.hs_law_run.specs.Ends.{done_by, PoolEnds, PoolEndsGoOn, PoolEndsMeet}
 
 -- A node: behind so many passes the events of its agent, and what the ends of its pool know; the chunks as they came to the agent; and all
 -- deeds at its pool.
 pub record NodeStory : Type 0 where
-  pub events : ℕ → List Event
-  pub ends : ℕ → Ends
+  pub events : ℕ → List AgentEvent
+  pub ends : ℕ → PoolEnds
   pub lents : List Lent
   pub log : List Deed
 
@@ -115,8 +115,8 @@ pub record IsDrawnFor (W : PlainWorkload) (s : Story) (node : ℕ) (lent : Lent)
 
 pub record PoolsWith (W : PlainWorkload) (s : Story) (node : ℕ) : Type 0 where
   pub new : (client : ℕ) → client < W.settings.clients → ((s.nodes node).ends 0).answers client ≡ []
-  pub passes : (k : ℕ) → k < s.passes → GoesOn (added (s.nodes node).events k) ((s.nodes node).ends k) ((s.nodes node).ends (suc k))
-  pub meets : (k client : ℕ) → k < s.rounds → client < W.settings.clients → HasMet client ((s.nodes node).ends k) ((s.nodes node).ends (suc k))
+  pub passes : (k : ℕ) → k < s.passes → PoolEndsGoOn (added (s.nodes node).events k) ((s.nodes node).ends k) ((s.nodes node).ends (suc k))
+  pub meets : (k client : ℕ) → k < s.rounds → client < W.settings.clients → PoolEndsMeet client ((s.nodes node).ends k) ((s.nodes node).ends (suc k))
   -- each client drew for the pages that it started
   pub started : (k client : ℕ) → k ≤ s.rounds → client < W.settings.clients
       → length (((s.nodes node).ends k).answers client) ≡ count_started W.settings.size (ops_of W node client) (done_by W node client k)

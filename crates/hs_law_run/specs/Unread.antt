@@ -4,10 +4,10 @@
 use Rattle.std.specs.Prelude.{◌≡◌, ◌<◌, ◌==◌, true, List, ◌∷◌, ◌++◌, map, reverse, filter, filter_map, count_by}
 use Rattle.std.specs.List.{AllByRecursion, list_any}
 use Rattle.hs_journal.specs.Views.{PlainJournal}
-use Rattle.hs_law_agent.specs.Stepping.{Unread, Event, Gave, after}
+use Rattle.hs_law_agent.specs.Stepping.{Unread, AgentEvent, Gave, after}
 use Rattle.hs_records.specs.Plain.{PlainWorkload}
 use Rattle.hs_law_sends.specs.Drawn.{DrawnPage, stamp_of}
-use Rattle.hs_words.specs.Ends.{Answer, Turn, answers_in, told_in, is_any_given, IsUnread}
+use Rattle.hs_words.specs.Ends.{Answer, GiverTurn, answers_in, told_in, is_any_given, IsUnread}
 use Rattle.hs_law_journal.specs.Passes.{is_turn}
 use Rattle.hs_law_journal.specs.Played.{played}
 use Rattle.hs_law_journal.specs.Shape.{log_stamps}
@@ -16,8 +16,8 @@ use Rattle.hs_law_journal.specs.Doings.{NodeDoings, Doings, all_events, steps_of
 use Rattle.hs_law_run.specs.Facts.{ArePlayable, pages_at}
 use Rattle.hs_law_run.specs.Pools.{give_at, IsPooled}
 
-pub record IsUnreadAt (W : PlainWorkload) (J : PlainJournal) (n : NodeDoings) (p : IsPooled W J n) (before : List Event) : Type 0 where
-  pub turns : List Turn
+pub record IsUnreadAt (W : PlainWorkload) (J : PlainJournal) (n : NodeDoings) (p : IsPooled W J n) (before : List AgentEvent) : Type 0 where
+  pub turns : List GiverTurn
   pub unread : IsUnread W.settings.buffers p.log turns
   pub stamps : log_stamps (steps_of before) ≡ map (λ (a : Answer). a.stamp) (reverse (answers_in turns))
   pub gives : filter_map (give_at (node_at_end W J n)) (after W.settings n.node before).given ≡ filter (λ (a : Answer). is_any_given a.event) (reverse (answers_in turns))
@@ -28,7 +28,7 @@ pub record IsUnreadAt (W : PlainWorkload) (J : PlainJournal) (n : NodeDoings) (p
 -- A pool as closing tells of it, each of whose unread offers is so.
 pub record IsPooledUnread (W : PlainWorkload) (J : PlainJournal) (n : NodeDoings) : Type 0 where
   pub pool : IsPooled W J n
-  pub each : (before behind : List Event) → all_events n ≡ before ++ Gave Unread ∷ behind → IsUnreadAt W J n pool before
+  pub each : (before behind : List AgentEvent) → all_events n ≡ before ++ Gave Unread ∷ behind → IsUnreadAt W J n pool before
 
 abbrev pub ArePooledUnread : PlainWorkload → Doings → Type 0
 ArePooledUnread W d = AllByRecursion (IsPooledUnread W (journal_of W d)) d.nodes

@@ -6,7 +6,7 @@ use Rattle.std.specs.Prelude.{◌≡◌, ℕ, List, [], ◌∷◌, ◌++◌, rep
 use Rattle.hs_journal.specs.declared.journal.Draw.TheVariants as draws
 use Rattle.hs_journal.specs.declared.journal.Step.TheVariants as steps
 use Rattle.hs_journal.specs.Views.{PlainJournal}
-use Rattle.hs_law_agent.specs.Stepping.{Chunk, Turn as Turned, Given, Missed, Unread, Event, Took, Gave}
+use Rattle.hs_law_agent.specs.Stepping.{Chunk, Turn as Turned, Given, Missed, Unread, AgentEvent, Took, Gave}
 use Rattle.hs_records.specs.Plain.{Point, End, PlainWorkload}
 use Rattle.hs_law_sends.specs.Samples.{settings, on_nodes, workload, begin, segment}
 use Rattle.hs_words.specs.Pages.{Sheet}
@@ -26,10 +26,10 @@ page_of client trace moment payload =
       pieces = record { moment = moment; payload = payload } ∷ [];
     }
 
-abbrev before : List Event
+abbrev before : List AgentEvent
 before = Took (Chunk 0 (page_of 0 1 1 (replicate 30 7))) ∷ Took Turned ∷ Gave (Missed 5) ∷ Gave (Missed 6) ∷ Gave (Missed 7) ∷ []
 
-abbrev second_pass : List Event
+abbrev second_pass : List AgentEvent
 second_pass = Took (Chunk 1 (page_of 1 2 5 (0xaa ∷ []))) ∷ Took Turned ∷ Gave (Given 8) ∷ Gave (Given 9) ∷ []
 
 abbrev n : NodeDoings

@@ -4,7 +4,7 @@ use Rattle.std.specs.Prelude.{◌≡◌, ℕ, zero, suc, ◌+◌, nat_lt, List, 
 use Rattle.hs_journal.specs.declared.journal.Draw.{Draw}
 use Rattle.hs_journal.specs.declared.journal.Draw.TheVariants as draws
 use Rattle.hs_records.specs.Plain.{Operation, Point, End}
-use Rattle.hs_words.specs.PoolHistory.{Event, Got, Empty, Given, queue_after}
+use Rattle.hs_words.specs.PoolHistory.{PoolEvent, Got, Empty, Given, queue_after}
 use Rattle.hs_law_sends.specs.Samples.{begin, fire}
 use Rattle.hs_law_sends.specs.Timing.{TimedPage, timed_pages}
 
@@ -15,11 +15,11 @@ next_draws (suc count) stamp [] = draws.Empty stamp ∷ next_draws count (stamp 
 next_draws (suc count) stamp (buffer ∷ queue) = draws.Got buffer stamp ∷ next_draws count (stamp + 1) queue
 
 -- so many draws behind the history of a pool with so many buffers
-abbrev pub draws_behind : (buffers : ℕ) → List Event → (count : ℕ) → List Draw
+abbrev pub draws_behind : (buffers : ℕ) → List PoolEvent → (count : ℕ) → List Draw
 draws_behind buffers history count = next_draws count (length history) (queue_after buffers (reverse history))
 
 -- a draw as an event
-abbrev pub event_drawn : Draw → Event
+abbrev pub event_drawn : Draw → PoolEvent
 event_drawn (draws.Got buffer stamp) = Got buffer
 event_drawn (draws.Empty stamp) = Empty
 

@@ -12,7 +12,7 @@ use Rattle.atomic_table.proofs.Lists.{set_here, set_else, at_last}
 use Rattle.hs_lists.proofs.Places.{elem_push_cases}
 use Rattle.hs_link.specs.declared.board.View.{View}
 use Rattle.hs_link.specs.declared.board.View.TheVariants.{Sending, Laying, Receiving, Taking}
-use Rattle.hs_link.specs.Ring.{EntryOk, Knows, Ring, looked_to_put, did_put, looked_to_take, did_take}
+use Rattle.hs_link.specs.Ring.{EntryOk, Knows, LinkRule, looked_to_put, did_put, looked_to_take, did_take}
 use Rattle.hs_link.proofs.Lists.{at_below, at_place, begins_grown, grown_begins, begins_length, shorter_begins, one_begins, apart}
 use Rattle.hs_link.proofs.Stays.{beside_sender, beside_receiver, seats_stay, unmoved}
 
@@ -30,7 +30,7 @@ module _ {T F : Type 0} (holds : F → T → Type 0) (key : F) where
   Homes = List (maybe.Option (Option T))
 
   abbrev Rule : St → Type 0
-  Rule = Ring holds key
+  Rule = LinkRule holds key
 
   -- the sender takes the slot of its next entry
   reaches : (s : St) (r : Rule s) (id i : ℕ) (k : F) (put : List T) (h : ℕ) → get_elem? s.views id ≡ some (Sending k put h) → i ≡ length put % length s.homes → length put < r.taken + length s.homes

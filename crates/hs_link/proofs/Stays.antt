@@ -8,7 +8,7 @@ use Rattle.atomic_table.proofs.Lists.{at_set}
 use Rattle.hs_lists.proofs.Places.{elem_push_cases}
 use Rattle.hs_link.specs.declared.board.View.{View}
 use Rattle.hs_link.specs.declared.board.View.TheVariants.{Nobody, Whole, Sending, Laying, Meeting, Receiving, Taking, TellsPut, TellsTaken}
-use Rattle.hs_link.specs.Ring.{Begins, Knows, Ring}
+use Rattle.hs_link.specs.Ring.{Begins, Knows, LinkRule}
 
 module _ {T F : Type 0} where
   -- a step of the sender: more may be put
@@ -63,11 +63,11 @@ module _ {T F : Type 0} (holds : F → T → Type 0) (key : F) where
   abbrev St : Type 0
   St = State (Option T) (View T F)
 
-  abbrev pub Seats : (s : St) → Ring holds key s → ℕ → View T F → Type 0
+  abbrev pub Seats : (s : St) → LinkRule holds key s → ℕ → View T F → Type 0
   Seats s r = Knows key r.log r.taken r.laying r.taking r.sender r.receiver
 
   -- only the views change
-  pub reviewed : (s : St) (r : Ring holds key s) (vs : List (View T F)) → ((j : ℕ) (v : View T F) → get_elem? vs j ≡ some v → Seats s r j v) → Ring holds key record { words = s.words; homes = s.homes; views = vs }
+  pub reviewed : (s : St) (r : LinkRule holds key s) (vs : List (View T F)) → ((j : ℕ) (v : View T F) → get_elem? vs j ≡ some v → Seats s r j v) → LinkRule holds key record { words = s.words; homes = s.homes; views = vs }
   reviewed s r vs seats = record {
     log = r.log;
     taken = r.taken;
@@ -86,6 +86,6 @@ module _ {T F : Type 0} (holds : F → T → Type 0) (key : F) where
   }
 
   -- a step that changes one view alone
-  pub unmoved : (s : St) (r : Ring holds key s) (i me : ℕ) (cs : List (ℕ × Option T)) (w : View T F) → Seats s r me w → Ring holds key (stepped s i (get_or s.words i 0) me cs w keeps)
-  unmoved s r i me cs w mine = subst (λ (ws : List ℕ). Ring holds key record { words = ws; homes = s.homes; views = set s.views me w }) (sym (set-get_or s.words i 0))
+  pub unmoved : (s : St) (r : LinkRule holds key s) (i me : ℕ) (cs : List (ℕ × Option T)) (w : View T F) → Seats s r me w → LinkRule holds key (stepped s i (get_or s.words i 0) me cs w keeps)
+  unmoved s r i me cs w mine = subst (λ (ws : List ℕ). LinkRule holds key record { words = ws; homes = s.homes; views = set s.views me w }) (sym (set-get_or s.words i 0))
       (reviewed s r (set s.views me w) (seats_stay (Seats s r) s.views me w mine (λ j v _. r.each_seat j v)))

@@ -8,7 +8,7 @@ use Rattle.atomic_table.proofs.Lists.{set_else}
 use Rattle.hs_link.specs.declared.board.View.{View}
 use Rattle.hs_link.specs.declared.board.View.TheVariants.{Nobody, Whole, Sending, Meeting, Receiving, TellsPut, TellsTaken}
 use Rattle.hs_link.specs.Contents.{IsBeginning}
-use Rattle.hs_link.specs.Ring.{Begins, Knows, Ring, first_sender, first_receiver, told_put, told_taken, heard, met, passed, settled}
+use Rattle.hs_link.specs.Ring.{Begins, Knows, LinkRule, first_sender, first_receiver, told_put, told_taken, heard, met, passed, settled}
 use Rattle.hs_link.proofs.Lists.{begins_taken}
 use Rattle.hs_link.proofs.Stays.{beside_whole, seats_stay, seats_grow, Seats, reviewed, unmoved}
 
@@ -28,7 +28,7 @@ module _ {T F : Type 0} (holds : F → T → Type 0) (key : F) where
   M = Me (Option T) V
 
   abbrev Rule : St → Type 0
-  Rule = Ring holds key
+  Rule = LinkRule holds key
 
   starts : (n : ℕ) (words : List ℕ) → 0 < n → length words ≡ 16 * n → ((i : ℕ) → i < 16 * n → get_or words i 0 ≡ 0) → Rule (opening words (replicate n None) (Whole key))
   starts n words pos wide blank = let xs : List (Option T) = replicate n None in let homes : List (maybe.Option (Option T)) = map some xs in let m : ℕ = length homes in let is : m ≡ n = length-map xs some ∙ length-replicate n None in record {

@@ -55,7 +55,7 @@ module _ {T F : Type 0} (key : F) (log : List T) (taken laying taking sender rec
   Knows (TellsPut k told) = (k ≡ key) × Begins told log
   Knows (TellsTaken k r) = (k ≡ key) × Begins r log × (length r ≤ taken)
 
-pub record Ring {T F : Type 0} (holds : F → T → Type 0) (key : F) (s : State (Option T) (View T F)) : Type 0 where
+pub record LinkRule {T F : Type 0} (holds : F → T → Type 0) (key : F) (s : State (Option T) (View T F)) : Type 0 where
   pub log : List T
   pub taken : ℕ
   pub laying : ℕ

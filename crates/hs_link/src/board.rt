@@ -42,10 +42,10 @@ pub enum View<T, F> {
 pub struct Law;
 
 impl<T, F: Fact<T>> TableRule<Option<T>, View<T, F>, F> for Law {
-    ghost use Rattle.hs_link.specs.Ring.{Ring};
+    ghost use Rattle.hs_link.specs.Ring.{LinkRule};
     ghost use Rattle.hs_link.specs.declared.board.View.TheVariants.{Whole};
 
-    ghost holds = { λ key. Ring F.holds key };
+    ghost holds = { λ key. LinkRule F.holds key };
 
     ghost first = { λ key. Whole key };
 }

@@ -7,7 +7,7 @@ use Rattle.hs_records.specs.Records.{Piece, Segment, piece_limit, payload_pieces
 use Rattle.hs_records.proofs.Payloads.{AreCut}
 use Rattle.hs_words.specs.declared.token.Drawn.{Drawn}
 use Rattle.hs_words.specs.declared.token.Drawn.TheVariants as drawn
-use Rattle.hs_words.specs.PoolHistory.{Event, Got, Empty}
+use Rattle.hs_words.specs.PoolHistory.{PoolEvent, Got, Empty}
 use Rattle.hs_words.specs.Ends.{Answer}
 use Rattle.hs_words.specs.Buffers.{Buffer}
 use Rattle.hs_client.specs.Core.{Core, after_step, closed, supplied}
@@ -57,7 +57,7 @@ spends_trans m n k a b c sum h l =
       items = omega (arith, l.items, h.items, sum);
     }
 
-drew_at : (old new : Drawing) (stamp : ℕ) (event : Event) → IsDraw event → new ≡ after_draw old stamp event → old.floor ≤ stamp → DrawsOn old new
+drew_at : (old new : Drawing) (stamp : ℕ) (event : PoolEvent) → IsDraw event → new ≡ after_draw old stamp event → old.floor ≤ stamp → DrawsOn old new
 drew_at old new stamp event draw is above =
     let floor : new.floor ≡ suc stamp = ap (λ (d : Drawing). d.floor) is in
     record {

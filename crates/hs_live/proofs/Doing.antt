@@ -18,7 +18,7 @@ use Rattle.hs_ring.specs.Parts.{Leased}
 use Rattle.hs_law_sends.specs.SoFar.{has_open_page}
 use Rattle.hs_law_sends.specs.Sending.{crumb_in, trigger_in}
 use Rattle.hs_live.specs.Keys.{Key}
-use Rattle.hs_live.specs.Live.{Live}
+use Rattle.hs_live.specs.Live.{PlainClient}
 use Rattle.hs_live.specs.Writing.{Made, Writing, IsWriting, WritesPieces, WritesEnd, writing_of}
 use Rattle.hs_live.specs.Done.{HasDone}
 use Rattle.hs_law_sends.specs.OneMore.{next_behind, AreWatching}
@@ -32,11 +32,11 @@ use Rattle.hs_live.specs.Done.{Does, DoesNothing}
 use Rattle.hs_live.specs.Calls.{IsNew, made_of, BeginsBy, EndsBy, WritesOnly, begun}
 use Rattle.hs_live.proofs.Steps.{began_trace, writing_kept, made_size}
 
-abbrev Writes : Made → List Operation → List Operation → Live → Type 0
+abbrev Writes : Made → List Operation → List Operation → PlainClient → Type 0
 Writes made all rest client =
     IsWriting made (coming made.size client.core.number client.core.trace rest) (segments_from made.size client.core.number rest) (segments_of made.size all) (writing_of client)
 
-pub record DoesNow (made : Made) (ops : List Operation) (op : Operation) (old new : Live) : Type 0 where
+pub record DoesNow (made : Made) (ops : List Operation) (op : Operation) (old new : PlainClient) : Type 0 where
   pub writes : (rest : List Operation) → Writes made (ops ++ op ∷ rest) rest new
   pub trace : new.core.trace ≡ open_behind old.core.trace op
   pub page : is_some new.core.current ≡ has_open_page (is_some old.core.current) (op ∷ [])
@@ -44,7 +44,7 @@ pub record DoesNow (made : Made) (ops : List Operation) (op : Operation) (old ne
   pub triggers : sent new.triggers ≡ sent old.triggers ++ trigger_in made.autos (reverse (numbered_of ops)) old.core.trace op
   pub autos : AreWatching made.autos (at ops old.core.trace op ∷ reverse (numbered_of ops)) new.autos
 
-pub done_now : OneMore → (made : Made) (ops : List Operation) (op : Operation) (old new : Live) → HasDone made ops old → DoesNow made ops op old new → HasDone made (ops ++ op ∷ []) new
+pub done_now : OneMore → (made : Made) (ops : List Operation) (op : Operation) (old new : PlainClient) → HasDone made ops old → DoesNow made ops op old new → HasDone made (ops ++ op ∷ []) new
 done_now laws made ops op old new h d =
     let earlier : reverse (numbered_of (ops ++ op ∷ [])) ≡ next_behind ops op ∷ reverse (numbered_of ops) = ap reverse (laws.numbered ops op) ∙ reverse-append (numbered_of ops) (next_behind ops op ∷ []) in
     record {
@@ -71,9 +71,9 @@ no_page books made pieces later all w is none =
     let book = books made.client made.size made.calls is.steps s.may in
     ap (λ (c : Core Leased). c.current) s.core ∙ book.closed (sym book.trace ∙ ap (λ (c : Core Leased). c.trace) (sym s.core) ∙ none)
 
-pub begin_done : OneMore → Books → (made : Made) (ops : List Operation) (trace : TraceId) (old new : Live) → May old.core (Began trace) → new ≡ record old { core = after_step old.core (Began trace) } → HasDone made ops old → HasDone made (ops ++ Begin trace ∷ []) new
+pub begin_done : OneMore → Books → (made : Made) (ops : List Operation) (trace : TraceId) (old new : PlainClient) → May old.core (Began trace) → new ≡ record old { core = after_step old.core (Began trace) } → HasDone made ops old → HasDone made (ops ++ Begin trace ∷ []) new
 begin_done laws books made ops trace old new may is h =
-    let begun : Live = record old { core = after_step old.core (Began trace) } in
+    let begun : PlainClient = record old { core = after_step old.core (Began trace) } in
     let none : old.core.trace ≡ None = may.1 in
     let bare : old.core.current ≡ None = no_page books made _ _ _ (writing_of old) (h.writes []) none in
     let now : DoesNow made ops (Begin trace) old begun =
@@ -91,9 +91,9 @@ begin_done laws books made ops trace old new may is h =
       triggers = sym (ap (λ (l : List Trigger). sent old.triggers ++ l) (begin_no_trigger made.autos (reverse (numbered_of ops)) trace old.core.trace) ∙ append-nil (sent old.triggers));
       autos = unseen made.autos ops (Begin trace) old.core.trace old.autos (begin_unseen trace) h.autos;
     } in
-    subst (λ (client : Live). HasDone made (ops ++ Begin trace ∷ []) client) (sym is) (done_now laws made ops (Begin trace) old begun h now)
+    subst (λ (client : PlainClient). HasDone made (ops ++ Begin trace ∷ []) client) (sym is) (done_now laws made ops (Begin trace) old begun h now)
 
-pub begins : OneMore → Books → (trace : TraceId) (answer : Called) (old new : Live) → BeginsBy old.core answer → new ≡ record old { core = begun trace answer old.core } → Does (Begin trace) answer old new
+pub begins : OneMore → Books → (trace : TraceId) (answer : Called) (old new : PlainClient) → BeginsBy old.core answer → new ≡ record old { core = begun trace answer old.core } → Does (Begin trace) answer old new
 begins laws books trace called.Done old new may is = λ made ops h. begin_done laws books made ops trace old new may is h
 begins laws books trace called.Spent old new may is = is
 begins laws books trace called.AlreadyOpen old new may is = is
@@ -102,7 +102,7 @@ begins laws books trace called.TooWide old new may is = is
 
 -- ---- point
 
-pub point_done : OneMore → (moment : ℕ) (payload : List ℕ) (old new : Live) → IsSome old.core.trace → new.core.trace ≡ old.core.trace → new.core.number ≡ old.core.number + 1 → IsSome new.core.current
+pub point_done : OneMore → (moment : ℕ) (payload : List ℕ) (old new : PlainClient) → IsSome old.core.trace → new.core.trace ≡ old.core.trace → new.core.number ≡ old.core.number + 1 → IsSome new.core.current
     → WritesPieces (record_pieces old.core.size old.core.number moment payload) (writing_of old) (writing_of new) → WritesOnly old new → Does (Point moment payload) called.Done old new
 point_done laws moment payload old new some trace number page written only = λ made ops h.
     let size = made.size in
@@ -133,7 +133,7 @@ point_done laws moment payload old new some trace number page written only = λ 
 
 -- ---- end
 
-pub end_done : OneMore → (old new : Live) → IsSome old.core.trace → new.core.trace ≡ None → new.core.current ≡ None → new.core.number ≡ old.core.number → WritesEnd (writing_of old) (writing_of new) → WritesOnly old new → Does End called.Done old new
+pub end_done : OneMore → (old new : PlainClient) → IsSome old.core.trace → new.core.trace ≡ None → new.core.current ≡ None → new.core.number ≡ old.core.number → WritesEnd (writing_of old) (writing_of new) → WritesOnly old new → Does End called.Done old new
 end_done laws old new some trace page number written only = λ made ops h.
     let size = made.size in
     let t = some_item old.core.trace some in
@@ -156,7 +156,7 @@ end_done laws old new some trace page number written only = λ made ops h.
           (unseen made.autos ops End old.core.trace old.autos end_unseen h.autos);
     })
 
-pub ends : OneMore → (answer : Called) (old new : Live) → EndsBy old.core answer → ((answer ≡ called.Done → ⊥) → new ≡ old) → (answer ≡ called.Done → new.core.trace ≡ None) → (answer ≡ called.Done → new.core.current ≡ None) → new.core.number ≡ old.core.number
+pub ends : OneMore → (answer : Called) (old new : PlainClient) → EndsBy old.core answer → ((answer ≡ called.Done → ⊥) → new ≡ old) → (answer ≡ called.Done → new.core.trace ≡ None) → (answer ≡ called.Done → new.core.current ≡ None) → new.core.number ≡ old.core.number
     → (answer ≡ called.Done → WritesEnd (writing_of old) (writing_of new)) → WritesOnly old new → Does End answer old new
 ends laws called.Done old new by refused trace page number written only = end_done laws old new by.1 (trace refl) (page refl) number (written refl) only
 ends laws called.Spent old new by refused trace page number written only = refused (λ e. cc)
@@ -166,7 +166,7 @@ ends laws called.TooWide old new by refused trace page number written only = abs
 
 -- ---- crumb and trigger
 
-pub crumb_done : OneMore → (node : NodeId) (trace : TraceId) (old : Live) (crumbs : Outgoing Crumb Key) → old.core.trace ≡ Some trace → sent crumbs ≡ sent old.crumbs ++ record { trace = trace; node = node } ∷ []
+pub crumb_done : OneMore → (node : NodeId) (trace : TraceId) (old : PlainClient) (crumbs : Outgoing Crumb Key) → old.core.trace ≡ Some trace → sent crumbs ≡ sent old.crumbs ++ record { trace = trace; node = node } ∷ []
     → Does (plain.Crumb node) called.Done old (record old { crumbs = crumbs })
 crumb_done laws node trace old crumbs some sends = λ made ops h.
     let op : Operation = plain.Crumb node in
@@ -182,7 +182,7 @@ crumb_done laws node trace old crumbs some sends = λ made ops h.
       autos = unseen made.autos ops op old.core.trace old.autos (crumb_unseen node) h.autos;
     })
 
-pub trigger_done : OneMore → (trigger : Trigger) (old : Live) (triggers : Outgoing Trigger Key) → sent triggers ≡ sent old.triggers ++ trigger ∷ [] → Does (Fire trigger) called.Done old (record old { triggers = triggers })
+pub trigger_done : OneMore → (trigger : Trigger) (old : PlainClient) (triggers : Outgoing Trigger Key) → sent triggers ≡ sent old.triggers ++ trigger ∷ [] → Does (Fire trigger) called.Done old (record old { triggers = triggers })
 trigger_done laws trigger old triggers sends = λ made ops h.
     let op : Operation = Fire trigger in
     done_now laws made ops op old (record old { triggers = triggers }) h
@@ -199,7 +199,7 @@ trigger_done laws trigger old triggers sends = λ made ops h.
 
 -- ---- nothing
 
-pub nothing_done : (old new : Live) → new.core ≡ old.core → new.autos ≡ old.autos → new.drawer.answers ≡ old.drawer.answers → new.drawer.pool ≡ old.drawer.pool → new.drawer.size ≡ old.drawer.size
+pub nothing_done : (old new : PlainClient) → new.core ≡ old.core → new.autos ≡ old.autos → new.drawer.answers ≡ old.drawer.answers → new.drawer.pool ≡ old.drawer.pool → new.drawer.size ≡ old.drawer.size
     → sent new.chunks ≡ sent old.chunks → sent new.crumbs ≡ sent old.crumbs → sent new.triggers ≡ sent old.triggers → DoesNothing old new
 nothing_done old new core autos answers pool size chunks crumbs triggers = λ made ops h.
     record {
@@ -216,7 +216,7 @@ nothing_done old new core autos answers pool size chunks crumbs triggers = λ ma
 
 -- ---- a new client
 
-pub new_done : (client : Live) → IsNew client → HasDone (made_of client) [] client
+pub new_done : (client : PlainClient) → IsNew client → HasDone (made_of client) [] client
 new_done client is =
     let size = client.core.size in
     record {

@@ -24,7 +24,7 @@ use Rattle.hs_law_sends.proofs.Sampling.{sample, fired_trigger, trigger_is, watc
 use Rattle.hs_law_sends.proofs.Adding.{OneMore}
 use Rattle.hs_live.specs.declared.called.Called.TheVariants as called
 use Rattle.hs_live.specs.Keys.{Key}
-use Rattle.hs_live.specs.Live.{Live}
+use Rattle.hs_live.specs.Live.{PlainClient}
 use Rattle.hs_live.specs.Writing.{IsWriting, writing_of}
 use Rattle.hs_live.specs.Done.{Does}
 use Rattle.hs_live.proofs.Doing.{done_now}
@@ -44,7 +44,7 @@ is_found items now place default trigger auto same =
 
 -- ---- the sample
 
-pub sample_done : OneMore → (moment place value : ℕ) (trigger : TriggerId) (lead : TraceId) (old : Live) (watch watch' : Watch) (answer : Sampled) (autos : List Watch) (triggers : Outgoing Trigger Key) → old.core.trace ≡ Some lead
+pub sample_done : OneMore → (moment place value : ℕ) (trigger : TriggerId) (lead : TraceId) (old : PlainClient) (watch watch' : Watch) (answer : Sampled) (autos : List Watch) (triggers : Outgoing Trigger Key) → old.core.trace ≡ Some lead
     → slice_get old.autos place ≡ Some watch → fired_by watch.rule ≡ trigger → ((samples : List firing.Sample) → HasSampled watch samples → answer ≡ sampled watch.rule samples (sample value lead))
     → ((samples : List firing.Sample) → HasSampled watch samples → HasSampled watch' (sample value lead ∷ samples)) → watch'.rule ≡ watch.rule → autos ≡ set old.autos place watch'
     → sent triggers ≡ sent old.triggers ++ fired_trigger moment trigger lead answer → Does (Sample moment place value) called.Done old (record old { autos = autos; triggers = triggers })

@@ -13,7 +13,7 @@ use Rattle.hs_records.specs.Records.{AreBracketed, segments_of}
 use Rattle.hs_records.specs.Pages.{PlainPage, segment_pages, pages_of}
 use Rattle.hs_records.proofs.Payloads.{nothing_comes}
 use Rattle.hs_words.specs.Pages.{Sheet}
-use Rattle.hs_words.specs.PoolHistory.{Event, Got, Empty, Given, Missed}
+use Rattle.hs_words.specs.PoolHistory.{PoolEvent, Got, Empty, Given, Missed}
 use Rattle.hs_words.specs.Ends.{Answer}
 use Rattle.hs_words.specs.Buffers.{Buffer}
 use Rattle.hs_client.specs.Core.{Core, Step, all_pages, handed}
@@ -25,11 +25,11 @@ use Rattle.hs_law_sends.specs.Drawn.{drawn_from, drawn_pages, has_buffer}
 use Rattle.hs_law_sends.specs.Sending.{Sent, sent_chunks}
 use Rattle.hs_law_sends.specs.Laws.{TimedPagesAreThePages}
 use Rattle.hs_law_sends.specs.OneMore.{open_after, items_of}
-use Rattle.hs_live.specs.Live.{Live}
+use Rattle.hs_live.specs.Live.{PlainClient}
 use Rattle.hs_live.specs.Writing.{Made, new_of, noted, draws_by, buffer_got, buffers_by}
 use Rattle.hs_live.specs.Done.{HasDone, HasSent, HasSentAll}
 
-pub has_sent : (made : Made) (ops : List Operation) (client : Live) (h : HasDone made ops client) → ((steps : List (Step Leased)) → AreSteps (new_of made) steps → IsBook (new_of made) steps) → HasSent made ops client
+pub has_sent : (made : Made) (ops : List Operation) (client : PlainClient) (h : HasDone made ops client) → ((steps : List (Step Leased)) → AreSteps (new_of made) steps → IsBook (new_of made) steps) → HasSent made ops client
 has_sent made ops client h books =
     let is = h.writes [] in
     let s = is.comes in
@@ -74,7 +74,7 @@ Agree [] (draw ∷ draws) = ⊥
 Agree (buffer ∷ buffers) [] = ⊥
 Agree (buffer ∷ buffers) (draw ∷ draws) = (has_buffer draw ≡ is_some buffer) × Agree buffers draws
 
-one_agrees : (pool : _) (size stamp : ℕ) (event : Event) → has_buffer (noted stamp event) ≡ is_some (buffer_got pool size stamp event)
+one_agrees : (pool : _) (size stamp : ℕ) (event : PoolEvent) → has_buffer (noted stamp event) ≡ is_some (buffer_got pool size stamp event)
 one_agrees pool size stamp (Got buffer) = refl
 one_agrees pool size stamp Empty = refl
 one_agrees pool size stamp (Given buffer) = refl
@@ -110,7 +110,7 @@ sheets_of client number (t ∷ timed) (b ∷ buffers) [] h = absurd h
 sheets_of client number (t ∷ timed) (None ∷ buffers) (d ∷ draws) h = rw h.0 (sheets_of client (number + 1) timed buffers draws h.1)
 sheets_of client number (t ∷ timed) (Some b ∷ buffers) (d ∷ draws) h = rw h.0 (ap (λ (l : List (Option Sheet)). Some (sheet_for client number t.page) ∷ l) (sheets_of client (number + 1) timed buffers draws h.1))
 
-pub has_sent_all : (made : Made) (ops : List Operation) (client : Live) → HasSent made ops client → TimedPagesAreThePages → AreBracketed false ops → HasSentAll made ops client
+pub has_sent_all : (made : Made) (ops : List Operation) (client : PlainClient) → HasSent made ops client → TimedPagesAreThePages → AreBracketed false ops → HasSentAll made ops client
 has_sent_all made ops client s timed bracketed =
     let none = s.closed (closes None false ops refl bracketed) in
     let nothing : option_to_list (handed client.core) ≡ [] = ap (λ (current : Option _). option_to_list (Rattle.std.specs.Option.option_and_then (λ c. c.buffer) current)) none in

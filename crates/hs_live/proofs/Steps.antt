@@ -7,7 +7,7 @@ use Rattle.hs_records.specs.Records.{Piece, Segment}
 use Rattle.hs_words.specs.declared.token.Drawn.{Drawn}
 use Rattle.hs_words.specs.declared.token.Drawn.TheVariants as drawn
 use Rattle.hs_words.specs.Chunks.{Contents}
-use Rattle.hs_words.specs.PoolHistory.{Event, Got, Empty}
+use Rattle.hs_words.specs.PoolHistory.{PoolEvent, Got, Empty}
 use Rattle.hs_words.specs.Ends.{Answer}
 use Rattle.hs_words.specs.Buffers.{Buffer, buffer_of}
 use Rattle.hs_client.specs.Core.{Core, Step, Began, Wrote, Needed, Supplied, Ended_, Refused, after_step, handed, draw_of, number_after, supplied}
@@ -68,7 +68,7 @@ needed made pieces later all old new len may core drawer chunks is =
       gives = is.gives;
     }
 
-supplied_page : (made : Made) (pieces : List Piece) (later all : List Segment) (old new : Writing) (buffer : Option (Buffer Leased)) (event : Event) (stamp moment : ℕ) (payload : List ℕ) (more : Bool)
+supplied_page : (made : Made) (pieces : List Piece) (later all : List Segment) (old new : Writing) (buffer : Option (Buffer Leased)) (event : PoolEvent) (stamp moment : ℕ) (payload : List ℕ) (more : Bool)
     → May old.core (Supplied buffer stamp moment payload more) → new.core ≡ after_step old.core (Supplied buffer stamp moment payload more)
     → new.drawer ≡ after_draw old.drawer stamp event → draw_of buffer stamp ≡ noted stamp event → buffer ≡ buffer_got old.drawer.pool old.drawer.size stamp event → sent new.chunks ≡ sent old.chunks
     → IsWriting made (piece_of old.core.number moment payload ∷ pieces) later all old → IsWriting made pieces later all new

@@ -12,13 +12,13 @@ use Rattle.hs_ring.specs.Parts.{Leased, Giving, Meets}
 use Rattle.hs_live.specs.declared.called.Called.{Called}
 use Rattle.hs_live.specs.declared.called.Called.TheVariants as called
 use Rattle.hs_live.specs.Keys.{Key}
-use Rattle.hs_live.specs.Live.{Live, Port, IsMate, MeetAt, IsEnd}
+use Rattle.hs_live.specs.Live.{PlainClient, Port, IsMate, MeetAt, IsEnd}
 use Rattle.hs_live.specs.Writing.{Made}
 
 -- ---- what a client is made of
 
 -- the link was made with this key for this client, and nothing was sent
-pub record IsUnused {T : Type 0} (client : Live) (s : Outgoing T Key) : Type 0 where
+pub record IsUnused {T : Type 0} (client : PlainClient) (s : Outgoing T Key) : Type 0 where
   pub nothing : sent s ≡ []
   pub owner : s.key.client ≡ client.core.client
   pub pool : s.key.pool ≡ client.drawer.pool
@@ -26,7 +26,7 @@ pub record IsUnused {T : Type 0} (client : Live) (s : Outgoing T Key) : Type 0 w
 
 -- Nothing was done with its parts, and the keys of its links name its client, its pool, the size of the pool's chunks, one
 -- number of nodes, and declared ids with those of the autotriggers among them.
-pub record IsNew (client : Live) : Type 0 where
+pub record IsNew (client : PlainClient) : Type 0 where
   pub core : client.core ≡ new_core client.core.client client.core.size client.core.calls
   pub autos : AllByRecursion (λ (watch : Watch). HasSampled watch []) client.autos
   pub declared : AllByRecursion (λ (watch : Watch). is_declared client.triggers.key.rules (fired_by watch.rule) ≡ true) client.autos
@@ -38,7 +38,7 @@ pub record IsNew (client : Live) : Type 0 where
   pub rooms : client.chunks.room + client.crumbs.room + client.triggers.room < 2 ^ 32
 
 -- what it was made with
-abbrev pub made_of : Live → Made
+abbrev pub made_of : PlainClient → Made
 made_of client =
     record { client = client.core.client; size = client.core.size; calls = client.core.calls; autos = map (λ (watch : Watch). watch.rule) client.autos; answers = client.drawer.answers }
 
@@ -90,13 +90,13 @@ counts calls called.NoTrace = 0
 counts calls called.TooWide = 0
 
 -- The autotrigger of this number exists, and fires this trigger id.
-abbrev pub IsAutoOf : Live → ℕ → TriggerId → Type 0
+abbrev pub IsAutoOf : PlainClient → ℕ → TriggerId → Type 0
 IsAutoOf client auto trigger = (watch : Watch) × (slice_get client.autos auto ≡ Some watch) × (fired_by watch.rule ≡ trigger)
 
 -- ---- what else changes
 
 -- Only what writes pages changed.
-pub record WritesOnly (old new : Live) : Type 0 where
+pub record WritesOnly (old new : PlainClient) : Type 0 where
   pub autos : new.autos ≡ old.autos
   pub crumbs : new.crumbs ≡ old.crumbs
   pub triggers : new.triggers ≡ old.triggers
@@ -124,14 +124,14 @@ pub record IsPort (port : Port) : Type 0 where
   pub of_triggers : AreOf port.giver port.triggers
 
 -- The client of this number has the other ends of its links, and draws from the giver's pool.
-pub record AreMates (number : ℕ) (port : Port) (client : Live) : Type 0 where
+pub record AreMates (number : ℕ) (port : Port) (client : PlainClient) : Type 0 where
   pub chunks : IsMate number port.chunks client.chunks
   pub crumbs : IsMate number port.crumbs client.crumbs
   pub triggers : IsMate number port.triggers client.triggers
   pub pool : client.drawer.pool ≡ port.giver.pool
 
 -- The ends of the three links hear of each other, and the giver and the drawer meet.
-pub record MeetsAt (number : ℕ) (port : Port) (client : Live) (port' : Port) (client' : Live) : Type 0 where
+pub record MeetsAt (number : ℕ) (port : Port) (client : PlainClient) (port' : Port) (client' : PlainClient) : Type 0 where
   pub chunks : MeetAt number port.chunks client.chunks port'.chunks client'.chunks
   pub crumbs : MeetAt number port.crumbs client.crumbs port'.crumbs client'.crumbs
   pub triggers : MeetAt number port.triggers client.triggers port'.triggers client'.triggers

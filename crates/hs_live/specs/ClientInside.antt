@@ -6,10 +6,10 @@ use Rattle.hs_base.specs.Rules.{fired_by, is_declared}
 use Rattle.hs_auto.specs.Watching.{Watch}
 use Rattle.hs_link.specs.Contents.{sent}
 use Rattle.hs_live.specs.declared.client.Client.TheInside.{Inside}
-use Rattle.hs_live.specs.Live.{Live, outgoing}
+use Rattle.hs_live.specs.Live.{PlainClient, outgoing}
 use Rattle.hs_live.specs.Inside.{IsSoundIn}
 
-abbrev pub live_of : Inside → Live
+abbrev pub live_of : Inside → PlainClient
 live_of s =
     record {
       core = s.writer.core;

@@ -18,12 +18,12 @@ use Rattle.hs_law_sends.specs.SoFar.{has_open_page}
 use Rattle.hs_law_sends.specs.Sending.{sent_chunks, sent_crumbs, sent_triggers}
 use Rattle.hs_live.specs.declared.called.Called.{Called}
 use Rattle.hs_live.specs.declared.called.Called.TheVariants as called
-use Rattle.hs_live.specs.Live.{Live}
+use Rattle.hs_live.specs.Live.{PlainClient}
 use Rattle.hs_live.specs.Writing.{Made, IsWriting, writing_of, draws_by, buffers_by}
 
 -- The client has done these operations. Whatever operations may follow, with the pieces that these add to the open trace
 -- and the segments that they begin, it has recorded the segments of all.
-pub record HasDone (made : Made) (ops : List Operation) (client : Live) : Type 0 where
+pub record HasDone (made : Made) (ops : List Operation) (client : PlainClient) : Type 0 where
   pub writes : (rest : List Operation)
       → IsWriting made (coming made.size client.core.number client.core.trace rest) (segments_from made.size client.core.number rest) (segments_of made.size (ops ++ rest)) (writing_of client)
   pub trace : client.core.trace ≡ open_after None ops
@@ -34,7 +34,7 @@ pub record HasDone (made : Made) (ops : List Operation) (client : Live) : Type 0
   pub autos : AreWatching made.autos (reverse (numbered_of ops)) client.autos
 
 -- An operation that is done joins those that were. Any other answer changes nothing, and so nothing was sent.
-abbrev pub Does : Operation → Called → Live → Live → Type 0
+abbrev pub Does : Operation → Called → PlainClient → PlainClient → Type 0
 Does op called.Done old new = (made : Made) (ops : List Operation) → HasDone made ops old → HasDone made (ops ++ op ∷ []) new
 Does op called.Spent old new = new ≡ old
 Does op called.AlreadyOpen old new = new ≡ old
@@ -42,11 +42,11 @@ Does op called.NoTrace old new = new ≡ old
 Does op called.TooWide old new = new ≡ old
 
 -- no operation was done
-abbrev pub DoesNothing : Live → Live → Type 0
+abbrev pub DoesNothing : PlainClient → PlainClient → Type 0
 DoesNothing old new = (made : Made) (ops : List Operation) → HasDone made ops old → HasDone made ops new
 
 -- What was sent, noted and kept is that of the operations, at the draws that were answered.
-pub record HasSent (made : Made) (ops : List Operation) (client : Live) : Type 0 where
+pub record HasSent (made : Made) (ops : List Operation) (client : PlainClient) : Type 0 where
   pub answers : List Answer
   pub since : client.drawer.answers ≡ answers ++ made.answers
   pub draws : client.core.draws ≡ draws_by answers
@@ -59,7 +59,7 @@ pub record HasSent (made : Made) (ops : List Operation) (client : Live) : Type 0
   pub triggers : sent client.triggers ≡ items_of (sent_triggers made.autos ops)
 
 -- The sheets in the chunks, in order, and the crumbs and the triggers are those of the operations, at the draws that are noted.
-pub record HasSentAll (made : Made) (ops : List Operation) (client : Live) : Type 0 where
+pub record HasSentAll (made : Made) (ops : List Operation) (client : PlainClient) : Type 0 where
   pub sheets : map (λ (buffer : Buffer Leased). buffer.chunk.page) (sent client.chunks) ≡ map (λ (sheet : Sheet). Some sheet) (items_of (sent_chunks (drawn_pages made.size made.client ops client.core.draws)))
   pub crumbs : sent client.crumbs ≡ items_of (sent_crumbs ops)
   pub triggers : sent client.triggers ≡ items_of (sent_triggers made.autos ops)

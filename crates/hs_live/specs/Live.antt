@@ -11,7 +11,7 @@ use Rattle.hs_link.specs.Contents.{Outgoing, Incoming, sent, IsBeginning, OneBeg
 use Rattle.hs_ring.specs.Parts.{Leased, Drawing, Giving}
 use Rattle.hs_live.specs.Keys.{Key}
 
-pub record Live : Type 0 where
+pub record PlainClient : Type 0 where
   pub core : Core Leased
   pub autos : List Watch
   pub drawer : Drawing

@@ -9,7 +9,7 @@ use Rattle.hs_records.specs.Records.{Piece, Segment}
 use Rattle.hs_journal.specs.declared.journal.Draw.{Draw}
 use Rattle.hs_journal.specs.declared.journal.Draw.TheVariants as draws
 use Rattle.hs_words.specs.Pools.{PoolName}
-use Rattle.hs_words.specs.PoolHistory.{Event, Got, Empty, Given, Missed}
+use Rattle.hs_words.specs.PoolHistory.{PoolEvent, Got, Empty, Given, Missed}
 use Rattle.hs_words.specs.Ends.{Answer}
 use Rattle.hs_words.specs.Chunks.{clear_chunk}
 use Rattle.hs_words.specs.Buffers.{Buffer}
@@ -18,7 +18,7 @@ use Rattle.hs_client.specs.Calls.{AreSteps, after, next_number, segments_of_step
 use Rattle.hs_link.specs.Contents.{Outgoing, sent}
 use Rattle.hs_ring.specs.Parts.{Leased, Drawing}
 use Rattle.hs_live.specs.Keys.{Key, IsChunkOf}
-use Rattle.hs_live.specs.Live.{Live, GoesOn}
+use Rattle.hs_live.specs.Live.{PlainClient, GoesOn}
 
 -- what a client was made with; its drawer may have drawn before
 pub record Made : Type 0 where
@@ -34,7 +34,7 @@ pub record Writing : Type 0 where
   pub drawer : Drawing
   pub chunks : Outgoing (Buffer Leased) Key
 
-abbrev pub writing_of : Live → Writing
+abbrev pub writing_of : PlainClient → Writing
 writing_of client = record { core = client.core; drawer = client.drawer; chunks = client.chunks }
 
 -- the core as it was made
@@ -44,7 +44,7 @@ new_of made = new_core made.client made.size made.calls
 -- ---- what was drawn
 
 -- what is noted of an answer to a draw
-abbrev pub noted : ℕ → Event → Draw
+abbrev pub noted : ℕ → PoolEvent → Draw
 noted stamp (Got buffer) = draws.Got buffer stamp
 noted stamp Empty = draws.Empty stamp
 noted stamp (Given buffer) = draws.Empty stamp
@@ -56,7 +56,7 @@ draws_by [] = []
 draws_by (answer ∷ earlier) = draws_by earlier ++ noted answer.stamp answer.event ∷ []
 
 -- the buffer that an answer gave, with a lease of its own
-abbrev pub buffer_got : PoolName → ℕ → ℕ → Event → Option (Buffer Leased)
+abbrev pub buffer_got : PoolName → ℕ → ℕ → PoolEvent → Option (Buffer Leased)
 buffer_got pool size stamp (Got buffer) = Some (record { chunk = clear_chunk size buffer; lease = record { pool = pool; buffer = buffer; draw = stamp } })
 buffer_got pool size stamp Empty = None
 buffer_got pool size stamp (Given buffer) = None
@@ -100,7 +100,7 @@ WritesEnd old new = (made : Made) (later all : List Segment) → IsWriting made 
 -- ---- what a call takes
 
 -- what a draw may be answered
-abbrev pub IsDraw : Event → Type 0
+abbrev pub IsDraw : PoolEvent → Type 0
 IsDraw (Got buffer) = Unit {0}
 IsDraw Empty = Unit {0}
 IsDraw (Given buffer) = ⊥

@@ -21,9 +21,9 @@ use hs_auto::{Auto, Sampled};
 use hs_base::limits::MAX_PAYLOAD;
 use hs_base::{Crumb, List, NodeId, TraceId, Trigger, TriggerId};
 use hs_client::{ClientCore, any_steps_make_the_book};
+use hs_law_sends::laws::one_operation_more;
 use hs_link::{Receiver, Sender};
 use hs_ring::{Drawer, Giver, Lease};
-use hs_law_sends::laws::one_operation_more;
 use hs_words::Held;
 use std::marker::Model;
 
@@ -37,9 +37,9 @@ pub struct Client {
 }
 
 impl Model for Client {
-    ghost use Rattle.hs_live.specs.Live.{Live};
+    ghost use Rattle.hs_live.specs.Live.{PlainClient};
 
-    ghost Value = { Live };
+    ghost Value = { PlainClient };
 
     ghost use Rattle.hs_live.specs.ClientInside.{live_of, IsClient};
 

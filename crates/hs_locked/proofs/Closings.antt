@@ -7,10 +7,10 @@ use Rattle.hs_words.specs.Plans.{Plan}
 use Rattle.hs_ring.specs.Parts.{Drawing, AreInOrder, answers_of_all}
 use Rattle.hs_ring.specs.Seats.{name_of}
 use Rattle.hs_ring.proofs.Closings.{one_table, answers_length, in_order_at}
-use Rattle.hs_locked.specs.Views.{nothing, Post, away, nobody, drawing, desk_of, post_of, having_closed}
-use Rattle.hs_locked.specs.Rule.{Locked}
-use Rattle.hs_locked.specs.Seats.{Place, IsFree, drawing_of}
-use Rattle.hs_locked.specs.Making.{closed_post}
+use Rattle.hs_locked.specs.Views.{nothing, GiverSeat, away, nobody, drawing, drawer_seat_of, giver_seat_of, having_closed}
+use Rattle.hs_locked.specs.Rule.{LockedRule}
+use Rattle.hs_locked.specs.Seats.{PoolSeat, IsFree, drawing_of}
+use Rattle.hs_locked.specs.Making.{closed_giver_seat}
 use Rattle.hs_locked.proofs.Owed.{Mine, closes_at}
 
 -- ---- names
@@ -27,23 +27,23 @@ back_name t = refl
 -- ---- the drawers, the last first
 
 -- the last drawer that is still open
-pub record IsLast (table : TableId) (seat : Place) (closed made : ℕ) : Type 0 where
+pub record IsLast (table : TableId) (seat : PoolSeat) (closed made : ℕ) : Type 0 where
   pub table_is : seat.table_id ≡ table
-  pub last : suc (desk_of seat.me.0).number + closed ≡ made
+  pub last : suc (drawer_seat_of seat.me.0).number + closed ≡ made
 
-pub is_last : (table : TableId) (seat : Place) (all xs : List Drawing) (d : Drawing) (done : List Drawing) (post first : Post) → AreInOrder (name_of table) 0 all → length all ≡ first.made
-    → (xs ++ d ∷ []) ++ done ≡ all → post ≡ closed_post first (answers_of_all done) → drawing_of seat.table_id (desk_of seat.me.0) ≡ d → IsLast table seat (length post.closed) post.made
+pub is_last : (table : TableId) (seat : PoolSeat) (all xs : List Drawing) (d : Drawing) (done : List Drawing) (post first : GiverSeat) → AreInOrder (name_of table) 0 all → length all ≡ first.made
+    → (xs ++ d ∷ []) ++ done ≡ all → post ≡ closed_giver_seat first (answers_of_all done) → drawing_of seat.table_id (drawer_seat_of seat.me.0) ≡ d → IsLast table seat (length post.closed) post.made
 is_last table seat all xs d done post first order many parts post_is view =
     let here = in_order_at (name_of table) 0 xs d done (subst (AreInOrder (name_of table) 0) (sym parts) order) in
-    let number : (desk_of seat.me.0).number ≡ 0 + length xs = ap (λ (x : Drawing). x.number) view ∙ here.1 in
-    let closed : length post.closed ≡ length done = ap (λ (p : Post). length p.closed) post_is ∙ answers_length done in
-    let made : post.made ≡ first.made = ap (λ (p : Post). p.made) post_is in
+    let number : (drawer_seat_of seat.me.0).number ≡ 0 + length xs = ap (λ (x : Drawing). x.number) view ∙ here.1 in
+    let closed : length post.closed ≡ length done = ap (λ (p : GiverSeat). length p.closed) post_is ∙ answers_length done in
+    let made : post.made ≡ first.made = ap (λ (p : GiverSeat). p.made) post_is in
     record {
       table_is = one_table seat.table_id table (ap (λ (x : Drawing). x.pool) view ∙ here.0);
       last = (let l = ap (λ (l : List Drawing). length l) parts in let a = length-append (xs ++ d ∷ []) done in let b = length-append xs (d ∷ []) in omega arith);
     }
 
-pub closes_last : (plan : Plan) (table : TableId) (s seat : Place) → IsFree s → seat.me ≡ (drawing (desk_of seat.me.0) nothing away, []) → IsLast table seat (length (post_of s.me.0).closed) (post_of s.me.0).made
-    → Joins (Locked plan) s.id s.me.0 seat.id seat.me.0 (having_closed s.me.0 seat.me.0) nobody
+pub closes_last : (plan : Plan) (table : TableId) (s seat : PoolSeat) → IsFree s → seat.me ≡ (drawing (drawer_seat_of seat.me.0) nothing away, []) → IsLast table seat (length (giver_seat_of s.me.0).closed) (giver_seat_of s.me.0).made
+    → Joins (LockedRule plan) s.id s.me.0 seat.id seat.me.0 (having_closed s.me.0 seat.me.0) nobody
 closes_last plan table s seat free idle last =
-    closes_at plan s.id s.me.0 (post_of s.me.0) seat.id seat.me.0 (desk_of seat.me.0) (ap (λ (m : Mine). m.0) free) (ap (λ (m : Mine). m.0) idle) last.last
+    closes_at plan s.id s.me.0 (giver_seat_of s.me.0) seat.id seat.me.0 (drawer_seat_of seat.me.0) (ap (λ (m : Mine). m.0) free) (ap (λ (m : Mine). m.0) idle) last.last

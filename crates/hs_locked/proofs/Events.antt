@@ -19,8 +19,8 @@ use Rattle.hs_pool.specs.Pool.{waiting}
 use Rattle.hs_ring.proofs.Spots.{now_with, still_with}
 use Rattle.hs_locked.specs.declared.store.Store.{Store}
 use Rattle.hs_locked.specs.Stored.{next_draw, GoesOn}
-use Rattle.hs_locked.specs.Views.{Desk, Hand, nothing, kept, Post, Palm, bare, holds, Stand, away, queued, inside, closing, View, drawing, giving, desk_after, hand_after, post_after, given_answer, Has, left_in, all_left, having_left}
-use Rattle.hs_locked.specs.Rule.{home, out, Facts, gots_in, StoreOk, StandOk, HandOk, PalmOk, InLine, SpotOk, DeskOk, PostOk, Knows, Kept, Locked}
+use Rattle.hs_locked.specs.Views.{DrawerSeat, Hand, nothing, kept, GiverSeat, Palm, bare, holds, Stand, away, queued, inside, closing, View, drawing, giving, drawer_seat_after, hand_after, giver_seat_after, given_answer, Has, left_in, all_left, having_left}
+use Rattle.hs_locked.specs.Rule.{home, out, Facts, gots_in, StoreOk, StandOk, HandOk, PalmOk, InLine, SpotOk, DeskOk, PostOk, Knows, Kept, LockedRule}
 use Rattle.hs_locked.specs.Steps.{did_leave}
 use Rattle.hs_locked.proofs.Updates.{put, put_cases, put_here, put_else, left_set}
 use Rattle.hs_locked.proofs.Stores.{events_are, line, lawful, goes}
@@ -93,7 +93,7 @@ module _ (plan : Plan) (s : St) (f : Facts) (k : Kept plan s f) (id : ℕ) (v w 
 
 -- ---- a drawer leaves
 
-module _ (plan : Plan) (s : St) (f : Facts) (k : Kept plan s f) (id : ℕ) (desk : Desk) (old new : Store) (at : get_elem? s.views id ≡ some (drawing desk nothing (inside old))) (some_left : 1 ≤ desk.left)
+module _ (plan : Plan) (s : St) (f : Facts) (k : Kept plan s f) (id : ℕ) (desk : DrawerSeat) (old new : Store) (at : get_elem? s.views id ≡ some (drawing desk nothing (inside old))) (some_left : 1 ≤ desk.left)
     (x : ℕ) (x_is : x ≡ suc (length f.log)) where
   abbrev d₀ : ℕ
   d₀ = desk.number
@@ -139,7 +139,7 @@ module _ (plan : Plan) (s : St) (f : Facts) (k : Kept plan s f) (id : ℕ) (desk
     after_empty = facts_after f (none_got ∷ []) f.tickets f.holder new home (put f.stands (suc d₀) away) f.spots f.hands f.palm
 
     abbrev w₁ : View
-    w₁ = drawing (desk_after desk (length f.log) Empty) nothing away
+    w₁ = drawing (drawer_seat_after desk (length f.log) Empty) nothing away
 
     empty_desk : Knows plan after_empty id w₁
     empty_desk =
@@ -207,7 +207,7 @@ module _ (plan : Plan) (s : St) (f : Facts) (k : Kept plan s f) (id : ℕ) (desk
     after_got = facts_after f (got ∷ []) f.tickets f.holder new home (put f.stands (suc d₀) away) spots' hands' f.palm
 
     abbrev w₂ : View
-    w₂ = drawing (desk_after desk stamp (Got b)) (kept b stamp) away
+    w₂ = drawing (drawer_seat_after desk stamp (Got b)) (kept b stamp) away
 
     got_desk : Knows plan after_got id w₂
     got_desk =
@@ -263,11 +263,11 @@ module _ (plan : Plan) (s : St) (f : Facts) (k : Kept plan s f) (id : ℕ) (desk
         got_spots (omega arith) (λ j _ e. cc) got_desk
 
 -- the view after a draw, by what waited and the stamp
-abbrev drawn_view : Desk → List ℕ → ℕ → View
-drawn_view desk line stamp = drawing (desk_after desk stamp (next_draw line)) (hand_after (next_draw line) stamp) away
+abbrev drawn_view : DrawerSeat → List ℕ → ℕ → View
+drawn_view desk line stamp = drawing (drawer_seat_after desk stamp (next_draw line)) (hand_after (next_draw line) stamp) away
 
-pub drawer_leaves : (plan : Plan) (slots id : ℕ) (desk : Desk) (old new : Store) → 1 ≤ desk.left → GoesOn desk.size old (next_draw (waiting old.pool)) new
-    → Allows (Locked plan) slots id (drawing desk nothing (inside old), (0, new) ∷ []) 1 (λ n. (n + 1) % 18446744073709551616)
+pub drawer_leaves : (plan : Plan) (slots id : ℕ) (desk : DrawerSeat) (old new : Store) → 1 ≤ desk.left → GoesOn desk.size old (next_draw (waiting old.pool)) new
+    → Allows (LockedRule plan) slots id (drawing desk nothing (inside old), (0, new) ∷ []) 1 (λ n. (n + 1) % 18446744073709551616)
     (did_leave (step slots 1 1 0 maybe.none) (drawing desk nothing (inside old), (0, new) ∷ []))
 drawer_leaves plan slots id desk old new some_left goes_on s (f, k) wide at small =
     let x = (get_or s.words 1 0 + 1) % 18446744073709551616 in
@@ -276,15 +276,15 @@ drawer_leaves plan slots id desk old new some_left goes_on s (f, k) wide at smal
     let ours = own plan s f k id desk old new at some_left x x_is in
     let stamp = stamp_is plan s f k id desk old new at some_left x x_is in
     let sized : GoesOn plan.size old (next_draw (waiting old.pool)) new = subst (λ (z : ℕ). GoesOn z old (next_draw (waiting old.pool)) new) ours.size goes_on in
-    let F : View → Type 0 = λ w. Locked plan (stepped s 1 x id ((0, new) ∷ []) w gives) in
+    let F : View → Type 0 = λ w. LockedRule plan (stepped s 1 x id ((0, new) ∷ []) w gives) in
     let from : (l : List ℕ) → waiting old.pool ≡ l → F (drawn_view desk l (length f.log)) → F (having_left v) =
     λ l is. subst F (sym (ap₂ (λ (q : List ℕ) (t : ℕ). drawn_view desk q t) is stamp)) in
     let by_line : (l : List ℕ) → waiting old.pool ≡ l → F (having_left v) = go s f k at x x_is sized from in
     (having_left v, gives, tt, by_line (waiting old.pool) refl, refl)
   where
     go : (s : St) (f : Facts) (k : Kept plan s f) (at : get_elem? s.views id ≡ some (drawing desk nothing (inside old))) (x : ℕ) (x_is : x ≡ suc (length f.log)) → GoesOn plan.size old (next_draw (waiting old.pool)) new
-        → ((l : List ℕ) → waiting old.pool ≡ l → Locked plan (stepped s 1 x id ((0, new) ∷ []) (drawn_view desk l (length f.log)) gives) → Locked plan (stepped s 1 x id ((0, new) ∷ []) (having_left (drawing desk nothing (inside old))) gives))
-        → (l : List ℕ) → waiting old.pool ≡ l → Locked plan (stepped s 1 x id ((0, new) ∷ []) (having_left (drawing desk nothing (inside old))) gives)
+        → ((l : List ℕ) → waiting old.pool ≡ l → LockedRule plan (stepped s 1 x id ((0, new) ∷ []) (drawn_view desk l (length f.log)) gives) → LockedRule plan (stepped s 1 x id ((0, new) ∷ []) (having_left (drawing desk nothing (inside old))) gives))
+        → (l : List ℕ) → waiting old.pool ≡ l → LockedRule plan (stepped s 1 x id ((0, new) ∷ []) (having_left (drawing desk nothing (inside old))) gives)
     go s f k at x x_is sized from [] is =
         from [] is (_, empty_kept plan s f k id desk old new at some_left x x_is (subst (λ (l : List ℕ). GoesOn plan.size old (next_draw l) new) is sized))
     go s f k at x x_is sized from (b ∷ rest) is =
@@ -292,7 +292,7 @@ drawer_leaves plan slots id desk old new some_left goes_on s (f, k) wide at smal
 
 -- ---- the giver leaves
 
-module _ (plan : Plan) (s : St) (f : Facts) (k : Kept plan s f) (id : ℕ) (post : Post) (b t : ℕ) (old new : Store) (at : get_elem? s.views id ≡ some (giving post (holds b t) (inside old)))
+module _ (plan : Plan) (s : St) (f : Facts) (k : Kept plan s f) (id : ℕ) (post : GiverSeat) (b t : ℕ) (old new : Store) (at : get_elem? s.views id ≡ some (giving post (holds b t) (inside old)))
     (x : ℕ) (x_is : x ≡ suc (length f.log)) where
   abbrev v₃ : View
   v₃ = giving post (holds b t) (inside old)
@@ -346,7 +346,7 @@ module _ (plan : Plan) (s : St) (f : Facts) (k : Kept plan s f) (id : ℕ) (post
     answer = record { stamp = length f.log; event = Given b; draw = t }
 
     abbrev w₃ : View
-    w₃ = giving (post_after post (answered answer) (suc (length f.log))) bare away
+    w₃ = giving (giver_seat_after post (answered answer) (suc (length f.log))) bare away
 
     give_post : Knows plan after_give id w₃
     give_post =
@@ -393,8 +393,8 @@ module _ (plan : Plan) (s : St) (f : Facts) (k : Kept plan s f) (id : ℕ) (post
         (λ d. hand_stays plan f (deed ∷ []) f.tickets f.holder new home (put f.stands 0 away) spots₃ f.hands bare 0 with_giver give_moves d (λ e. cc) (f.hands d) (k.each_hand d))
         tt give_spots (omega arith) (λ j _ e. cc) give_post
 
-pub giver_leaves : (plan : Plan) (slots id : ℕ) (post : Post) (b t : ℕ) (old new : Store) → GoesOn post.size old (Given b) new
-    → Allows (Locked plan) slots id (giving post (holds b t) (inside old), (0, new) ∷ []) 1 (λ n. (n + 1) % 18446744073709551616)
+pub giver_leaves : (plan : Plan) (slots id : ℕ) (post : GiverSeat) (b t : ℕ) (old new : Store) → GoesOn post.size old (Given b) new
+    → Allows (LockedRule plan) slots id (giving post (holds b t) (inside old), (0, new) ∷ []) 1 (λ n. (n + 1) % 18446744073709551616)
     (did_leave (step slots 1 1 0 maybe.none) (giving post (holds b t) (inside old), (0, new) ∷ []))
 giver_leaves plan slots id post b t old new goes_on s (f, k) wide at small =
     let x = (get_or s.words 1 0 + 1) % 18446744073709551616 in
@@ -403,5 +403,5 @@ giver_leaves plan slots id post b t old new goes_on s (f, k) wide at small =
     let mine = ours plan s f k id post b t old new at x x_is in
     let stamp = give_stamp plan s f k id post b t old new at x x_is in
     let sized : GoesOn plan.size old (Given b) new = subst (λ (z : ℕ). GoesOn z old (Given b) new) mine.size goes_on in
-    let F : ℕ → Type 0 = λ m. Locked plan (stepped s 1 x id ((0, new) ∷ []) (giving (post_after post (answered (given_answer (holds b t) m)) (suc m)) bare away) gives) in
+    let F : ℕ → Type 0 = λ m. LockedRule plan (stepped s 1 x id ((0, new) ∷ []) (giving (giver_seat_after post (answered (given_answer (holds b t) m)) (suc m)) bare away) gives) in
     (having_left v, gives, tt, subst F (sym stamp) (_, give_kept plan s f k id post b t old new at x x_is sized), refl)

@@ -9,8 +9,8 @@ use Rattle.hs_words.specs.Plans.{total, Plan}
 use Rattle.hs_words.specs.Ends.{queue_of}
 use Rattle.hs_words.specs.Seats.{AtSeat}
 use Rattle.hs_words.specs.Spots.{Spot, in_queue, with_drawer, leased, with_giver, HasLease}
-use Rattle.hs_locked.specs.Views.{Desk, Hand, nothing, kept, Post, bare, holds, away, View, nobody, drawing, leasing, giving, Has, HasStore, all_left}
-use Rattle.hs_locked.specs.Rule.{Facts, gots_in, HandOk, SpotOk, DeskOk, PostOk, Knows, Kept, Locked}
+use Rattle.hs_locked.specs.Views.{DrawerSeat, Hand, nothing, kept, GiverSeat, bare, holds, away, View, nobody, drawing, leasing, giving, Has, HasStore, all_left}
+use Rattle.hs_locked.specs.Rule.{Facts, gots_in, HandOk, SpotOk, DeskOk, PostOk, Knows, Kept, LockedRule}
 use Rattle.hs_locked.proofs.Updates.{put, put_cases, put_here, put_else, left_set, left_and}
 use Rattle.hs_locked.proofs.Spots.{spot_stays, out_stays}
 use Rattle.hs_locked.proofs.Stays.{IsEnd, drawers_end, givers_end, Moves, facts_after, hand_stays, in_palm_stays, knows_stays, reseated, seated_too}
@@ -18,7 +18,7 @@ use Rattle.hs_locked.proofs.Turns.{St}
 
 -- ---- a lease is made
 
-module _ (plan : Plan) (s : St) (f : Facts) (k : Kept plan s f) (id : ℕ) (desk : Desk) (b t : ℕ) (at : get_elem? s.views id ≡ some (drawing desk (kept b t) away)) where
+module _ (plan : Plan) (s : St) (f : Facts) (k : Kept plan s f) (id : ℕ) (desk : DrawerSeat) (b t : ℕ) (at : get_elem? s.views id ≡ some (drawing desk (kept b t) away)) where
   abbrev d₀ : ℕ
   d₀ = desk.number
 
@@ -134,12 +134,12 @@ module _ (plan : Plan) (s : St) (f : Facts) (k : Kept plan s f) (id : ℕ) (desk
         each_seat = lease_seats;
       }
 
-pub leases : (plan : Plan) (id : ℕ) (desk : Desk) (b t : ℕ) → Splits (Locked plan) id (drawing desk (kept b t) away) (drawing desk nothing away) (leasing b t)
+pub leases : (plan : Plan) (id : ℕ) (desk : DrawerSeat) (b t : ℕ) → Splits (LockedRule plan) id (drawing desk (kept b t) away) (drawing desk nothing away) (leasing b t)
 leases plan id desk b t s (f, k) at = (_, lease_kept plan s f k id desk b t at)
 
 -- ---- a lease comes back
 
-module _ (plan : Plan) (s : St) (f : Facts) (k : Kept plan s f) (id : ℕ) (post : Post) (other b t : ℕ) (at : get_elem? s.views id ≡ some (giving post bare away)) (differ : ¬ (other ≡ id))
+module _ (plan : Plan) (s : St) (f : Facts) (k : Kept plan s f) (id : ℕ) (post : GiverSeat) (other b t : ℕ) (at : get_elem? s.views id ≡ some (giving post bare away)) (differ : ¬ (other ≡ id))
     (lease_at : get_elem? (set s.views id (giving post (holds b t) away)) other ≡ some (leasing b t)) where
   abbrev n : ℕ
   n = plan.buffers
@@ -244,5 +244,5 @@ module _ (plan : Plan) (s : St) (f : Facts) (k : Kept plan s f) (id : ℕ) (post
         each_seat = take_seats;
       }
 
-pub takes_lease : (plan : Plan) (id : ℕ) (post : Post) (other b t : ℕ) → Joins (Locked plan) id (giving post bare away) other (leasing b t) (giving post (holds b t) away) nobody
+pub takes_lease : (plan : Plan) (id : ℕ) (post : GiverSeat) (other b t : ℕ) → Joins (LockedRule plan) id (giving post bare away) other (leasing b t) (giving post (holds b t) away) nobody
 takes_lease plan id post other b t s (f, k) at differ lease_at = (_, take_kept plan s f k id post other b t at differ lease_at)

@@ -13,8 +13,8 @@ use Rattle.hs_words.specs.Plans.{total, Plan, Within}
 use Rattle.hs_words.specs.Spots.{in_queue}
 use Rattle.hs_words.proofs.Plans.{total_parts}
 use Rattle.hs_locked.specs.declared.store.Store.{Store}
-use Rattle.hs_locked.specs.Views.{Desk, nothing, Post, bare, Stand, away, queued, inside, closing, View, nobody, drawing, leasing, giving, drawer_note, giver_note, with_drawer, new_drawer, having_closed, Has, HasStore, all_left}
-use Rattle.hs_locked.specs.Rule.{home, Facts, StoreOk, StandOk, DeskOk, PostOk, Knows, Kept, Locked, first_post, first_view}
+use Rattle.hs_locked.specs.Views.{DrawerSeat, nothing, GiverSeat, bare, Stand, away, queued, inside, closing, View, nobody, drawing, leasing, giving, drawer_note, giver_note, with_drawer, new_drawer, having_closed, Has, HasStore, all_left}
+use Rattle.hs_locked.specs.Rule.{home, Facts, StoreOk, StandOk, DeskOk, PostOk, Knows, Kept, LockedRule, first_giver_seat, first_view}
 use Rattle.hs_locked.proofs.Updates.{put, put_here, put_else, left_set, left_and}
 use Rattle.hs_locked.proofs.Spots.{spot_stays, out_stays}
 use Rattle.hs_locked.proofs.Stays.{reseated, seated_too}
@@ -23,7 +23,7 @@ use Rattle.hs_locked.proofs.Places.{spot_reseated}
 
 -- ---- a drawer is made
 
-module _ (plan : Plan) (s : St) (f : Facts) (k : Kept plan s f) (id : ℕ) (post : Post) (at : get_elem? s.views id ≡ some (giving post bare away)) (none_closed : post.closed ≡ []) where
+module _ (plan : Plan) (s : St) (f : Facts) (k : Kept plan s f) (id : ℕ) (post : GiverSeat) (at : get_elem? s.views id ≡ some (giving post bare away)) (none_closed : post.closed ≡ []) where
   own : PostOk plan f id post bare away
   own = k.each_seat id (giving post bare away) at
 
@@ -148,12 +148,12 @@ module _ (plan : Plan) (s : St) (f : Facts) (k : Kept plan s f) (id : ℕ) (post
         each_seat = seated_too plan f' (set s.views id w) new theirs (reseated plan f' s.views id w ours' (λ j v other seen. others j v other (k.each_seat j v seen)));
       }
 
-pub makes_drawer : (plan : Plan) (id : ℕ) (post : Post) → post.closed ≡ [] → Splits (Locked plan) id (giving post bare away) (with_drawer (giving post bare away)) (new_drawer (giving post bare away))
+pub makes_drawer : (plan : Plan) (id : ℕ) (post : GiverSeat) → post.closed ≡ [] → Splits (LockedRule plan) id (giving post bare away) (with_drawer (giving post bare away)) (new_drawer (giving post bare away))
 makes_drawer plan id post none_closed s (f, k) at = (_, made_kept plan s f k id post at none_closed)
 
 -- ---- a drawer is closed
 
-module _ (plan : Plan) (s : St) (f : Facts) (k : Kept plan s f) (id : ℕ) (post : Post) (other : ℕ) (desk : Desk) (at : get_elem? s.views id ≡ some (giving post bare away)) (differ : ¬ (other ≡ id))
+module _ (plan : Plan) (s : St) (f : Facts) (k : Kept plan s f) (id : ℕ) (post : GiverSeat) (other : ℕ) (desk : DrawerSeat) (at : get_elem? s.views id ≡ some (giving post bare away)) (differ : ¬ (other ≡ id))
     (desk_at : get_elem? (set s.views id (having_closed (giving post bare away) (drawing desk nothing away))) other ≡ some (drawing desk nothing away)) (last : suc desk.number + length post.closed ≡ post.made) where
   own₁ : PostOk plan f id post bare away
   own₁ = k.each_seat id (giving post bare away) at
@@ -272,8 +272,8 @@ module _ (plan : Plan) (s : St) (f : Facts) (k : Kept plan s f) (id : ℕ) (post
             (at_set s.views id j w₁ v seen));
       }
 
-pub closes_drawer : (plan : Plan) (id : ℕ) (post : Post) (other : ℕ) (desk : Desk) → suc desk.number + length post.closed ≡ post.made
-    → Joins (Locked plan) id (giving post bare away) other (drawing desk nothing away) (having_closed (giving post bare away) (drawing desk nothing away)) nobody
+pub closes_drawer : (plan : Plan) (id : ℕ) (post : GiverSeat) (other : ℕ) (desk : DrawerSeat) → suc desk.number + length post.closed ≡ post.made
+    → Joins (LockedRule plan) id (giving post bare away) other (drawing desk nothing away) (having_closed (giving post bare away) (drawing desk nothing away)) nobody
 closes_drawer plan id post other desk last s (f, k) at differ desk_at = (_, closed_kept plan s f k id post other desk at differ desk_at last)
 
 -- ---- the start
@@ -307,7 +307,7 @@ module _ (plan : Plan) (within : Within plan) (store : Store) (ok : StoreOk plan
         opened = 0;
       }
 
-  post₀ : PostOk plan f₀ 0 (first_post plan) bare away
+  post₀ : PostOk plan f₀ 0 (first_giver_seat plan) bare away
   post₀ =
       record {
         buffers = refl;
@@ -352,5 +352,5 @@ module _ (plan : Plan) (within : Within plan) (store : Store) (ok : StoreOk plan
         each_seat = seat₀;
       }
 
-  pub starts : Locked plan (opening (0 ∷ 0 ∷ []) (store ∷ []) (first_view plan))
+  pub starts : LockedRule plan (opening (0 ∷ 0 ∷ []) (store ∷ []) (first_view plan))
   starts = (f₀, kept₀)

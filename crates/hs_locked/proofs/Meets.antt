@@ -9,8 +9,8 @@ use Rattle.hs_ring.proofs.Spots.{still_with, with_more}
 use Rattle.hs_words.specs.Ends.{met, stamps_in}
 use Rattle.hs_words.specs.Plans.{Plan}
 use Rattle.hs_words.specs.Seats.{AtSeat}
-use Rattle.hs_locked.specs.Views.{Desk, Hand, Post, Palm, Stand, View, nobody, drawing, giving, drawer_note, giver_note, with_floor, post_after, Has, HasStore, all_left}
-use Rattle.hs_locked.specs.Rule.{Facts, DeskOk, PostOk, Knows, Kept, Locked}
+use Rattle.hs_locked.specs.Views.{DrawerSeat, Hand, GiverSeat, Palm, Stand, View, nobody, drawing, giving, drawer_note, giver_note, with_floor, giver_seat_after, Has, HasStore, all_left}
+use Rattle.hs_locked.specs.Rule.{Facts, DeskOk, PostOk, Knows, Kept, LockedRule}
 use Rattle.hs_locked.proofs.Updates.{left_set, left_and}
 use Rattle.hs_locked.proofs.Spots.{spot_stays, out_stays}
 use Rattle.hs_locked.proofs.Stays.{reseated, seated_too}
@@ -46,7 +46,7 @@ known_kept plan s f views k same has_still store_still each =
 
 -- an end writes a note
 written : (plan : Plan) (s : St) (f : Facts) (k : Kept plan s f) (id : ℕ) (v note : View) → get_elem? s.views id ≡ some v → Knows plan f (length (set s.views id v)) note
-    → all_left (set s.views id v ++ note ∷ []) ≡ all_left s.views → Locked plan record { words = s.words; homes = s.homes; views = set s.views id v ++ note ∷ [] }
+    → all_left (set s.views id v ++ note ∷ []) ≡ all_left s.views → LockedRule plan record { words = s.words; homes = s.homes; views = set s.views id v ++ note ∷ [] }
 written plan s f k id v note at known same = (
   f,
   known_kept plan s f (set s.views id v ++ note ∷ []) k same
@@ -55,13 +55,13 @@ written plan s f k id v note at known same = (
       (seated_too plan f (set s.views id v) note known (reseated plan f s.views id v (k.each_seat id v at) (λ j v' _ seen. k.each_seat j v' seen))),
 )
 
-pub drawer_writes : (plan : Plan) (id : ℕ) (desk : Desk) (hand : Hand) (stand : Stand) → Splits (Locked plan) id (drawing desk hand stand) (drawing desk hand stand) (drawer_note desk.floor (stamps_in desk.answers))
+pub drawer_writes : (plan : Plan) (id : ℕ) (desk : DrawerSeat) (hand : Hand) (stand : Stand) → Splits (LockedRule plan) id (drawing desk hand stand) (drawing desk hand stand) (drawer_note desk.floor (stamps_in desk.answers))
 drawer_writes plan id desk hand stand s (f, k) at =
     let own : DeskOk plan f id desk hand stand = k.each_seat id (drawing desk hand stand) at in
     written plan s f k id (drawing desk hand stand) (drawer_note desk.floor (stamps_in desk.answers)) at own.floor
     (let e = left_set s.views id (drawing desk hand stand) (drawing desk hand stand) at in let a = left_and (set s.views id (drawing desk hand stand)) (drawer_note desk.floor (stamps_in desk.answers)) in omega arith)
 
-pub giver_writes : (plan : Plan) (id : ℕ) (post : Post) (palm : Palm) (stand : Stand) → Splits (Locked plan) id (giving post palm stand) (giving post palm stand) (giver_note post.floor)
+pub giver_writes : (plan : Plan) (id : ℕ) (post : GiverSeat) (palm : Palm) (stand : Stand) → Splits (LockedRule plan) id (giving post palm stand) (giving post palm stand) (giver_note post.floor)
 giver_writes plan id post palm stand s (f, k) at =
     let own : PostOk plan f id post palm stand = k.each_seat id (giving post palm stand) at in
     written plan s f k id (giving post palm stand) (giver_note post.floor) at own.floor
@@ -72,13 +72,13 @@ both_seats : (plan : Plan) (s : St) (f : Facts) (k : Kept plan s f) (id other : 
 both_seats plan s f k id other w x one two =
     reseated plan f (set s.views id w) other x two (λ j v far seen. reseated plan f s.views id w one (λ j' v' _ seen'. k.each_seat j' v' seen') j v seen)
 
-pub giver_hears : (plan : Plan) (id : ℕ) (post : Post) (palm : Palm) (stand : Stand) (other floor : ℕ) (stamps : List ℕ)
-    → Joins (Locked plan) id (giving post palm stand) other (drawer_note floor stamps) (giving (post_after post (met stamps) (max post.floor floor)) palm stand) nobody
+pub giver_hears : (plan : Plan) (id : ℕ) (post : GiverSeat) (palm : Palm) (stand : Stand) (other floor : ℕ) (stamps : List ℕ)
+    → Joins (LockedRule plan) id (giving post palm stand) other (drawer_note floor stamps) (giving (giver_seat_after post (met stamps) (max post.floor floor)) palm stand) nobody
 giver_hears plan id post palm stand other floor stamps s (f, k) at differ note_at =
-    let w : View = giving (post_after post (met stamps) (max post.floor floor)) palm stand in
+    let w : View = giving (giver_seat_after post (met stamps) (max post.floor floor)) palm stand in
     let own : PostOk plan f id post palm stand = k.each_seat id (giving post palm stand) at in
     let note : floor ≤ length f.log = k.each_seat other (drawer_note floor stamps) (sym (set_else s.views id other w differ) ∙ note_at) in
-    let now : PostOk plan f id (post_after post (met stamps) (max post.floor floor)) palm stand =
+    let now : PostOk plan f id (giver_seat_after post (met stamps) (max post.floor floor)) palm stand =
     record {
       buffers = own.buffers;
       size = own.size;
@@ -100,8 +100,8 @@ giver_hears plan id post palm stand other floor stamps s (f, k) at differ note_a
           (both_seats plan s f k id other w nobody now tt),
     )
 
-pub drawer_hears : (plan : Plan) (id : ℕ) (desk : Desk) (hand : Hand) (stand : Stand) (other floor : ℕ)
-    → Joins (Locked plan) id (drawing desk hand stand) other (giver_note floor) (drawing (with_floor desk (max desk.floor floor)) hand stand) nobody
+pub drawer_hears : (plan : Plan) (id : ℕ) (desk : DrawerSeat) (hand : Hand) (stand : Stand) (other floor : ℕ)
+    → Joins (LockedRule plan) id (drawing desk hand stand) other (giver_note floor) (drawing (with_floor desk (max desk.floor floor)) hand stand) nobody
 drawer_hears plan id desk hand stand other floor s (f, k) at differ note_at =
     let w : View = drawing (with_floor desk (max desk.floor floor)) hand stand in
     let own : DeskOk plan f id desk hand stand = k.each_seat id (drawing desk hand stand) at in

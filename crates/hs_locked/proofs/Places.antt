@@ -11,7 +11,7 @@ use Rattle.hs_words.specs.Spots.{Spot, in_queue, with_drawer, leased, with_giver
 use Rattle.hs_locked.specs.declared.store.Store.{Store}
 use Rattle.hs_locked.specs.Views.{Hand, nothing, kept, Palm, bare, holds, Stand, away, queued, inside, closing, View, nobody, drawing, leasing, giving, drawer_note, giver_note, InHand, InPalm, Has, StandHas, HasStore}
 use Rattle.hs_locked.specs.Rule.{Slot, home, out, Facts, gots_in, SlotOk, OutOk, StandOk, HandOk, PalmOk, SpotOk, Kept}
-use Rattle.hs_locked.specs.Places.{Site, in_line, seat, IsStore, IsThere, IsInOnePlace}
+use Rattle.hs_locked.specs.Places.{BufferPlace, in_line, seat, IsStore, IsThere, IsInOnePlace}
 use Rattle.hs_locked.proofs.Stores.{line}
 use Rattle.hs_locked.proofs.Turns.{St}
 
@@ -55,7 +55,7 @@ module _ (plan : Plan) (s : St) (f : Facts) (k : Kept plan s f) (buffer : ℕ) w
   n = plan.buffers
 
   -- the site is that of the place
-  abbrev pub Fits : Site → Spot → Type 0
+  abbrev pub Fits : BufferPlace → Spot → Type 0
   Fits (in_line i) (in_queue number) = number ≡ gots_in f.log + i
   Fits (in_line i) (with_drawer drawer) = ⊥
   Fits (in_line i) (leased j) = ⊥
@@ -110,12 +110,12 @@ module _ (plan : Plan) (s : St) (f : Facts) (k : Kept plan s f) (buffer : ℕ) w
       ap (λ (l : List ℕ). get_elem? l i) (sym (line plan f.log f.stored k.store_ok)) ∙ subst (λ (st : Store). get_elem? (waiting st.pool) i ≡ some buffer) (one_store plan s f k store is) seen in
       subst (Fits (in_line i)) (sym (k.each_queued i buffer queued_there)) refl
 
-  fits : (site : Site) → IsThere s buffer site → Fits site (f.spots buffer)
+  fits : (site : BufferPlace) → IsThere s buffer site → Fits site (f.spots buffer)
   fits (in_line i) (store, is, seen) = line_fits i store is seen
   fits (seat j) (v, seen, has) = seat_fits j v seen has
 
   -- a place has one site
-  one_site : (spot : Spot) (a b : Site) → Fits a spot → Fits b spot → b ≡ a
+  one_site : (spot : Spot) (a b : BufferPlace) → Fits a spot → Fits b spot → b ≡ a
   one_site (in_queue number) (in_line i) (in_line i') p q = ap in_line (let e : i' ≡ i = omega arith in e)
   one_site (in_queue number) (in_line i) (seat j) p q = absurd q
   one_site (in_queue number) (seat j) b p q = absurd p
@@ -129,7 +129,7 @@ module _ (plan : Plan) (s : St) (f : Facts) (k : Kept plan s f) (buffer : ℕ) w
   one_site with_giver (seat j) (in_line i) p q = absurd q
   one_site with_giver (seat j) (seat j') p q = ap seat (sym q ∙ p)
 
-  at_site : (site : Site) → IsThere s buffer site → IsInOnePlace s buffer
+  at_site : (site : BufferPlace) → IsThere s buffer site → IsInOnePlace s buffer
   at_site site is = record { site = site; there = is; nowhere_else = λ other is'. one_site (f.spots buffer) site other (fits site is) (fits other is') }
 
   in_place : (spot : Spot) → SpotOk n f.log f.seats f.giver s.views buffer spot → IsInOnePlace s buffer

@@ -10,7 +10,7 @@ use Rattle.hs_words.proofs.Deeds.{all_of, got_more, none_more, answers_more, ans
 use Rattle.hs_words.specs.Plans.{Plan}
 use Rattle.hs_words.specs.Spots.{Spot, with_drawer, leased, with_giver, HasLease}
 use Rattle.hs_locked.specs.declared.store.Store.{Store}
-use Rattle.hs_locked.specs.Views.{Desk, Hand, nothing, kept, Post, Palm, bare, holds, Stand, View, nobody, drawing, leasing, giving, drawer_note, giver_note}
+use Rattle.hs_locked.specs.Views.{DrawerSeat, Hand, nothing, kept, GiverSeat, Palm, bare, holds, Stand, View, nobody, drawing, leasing, giving, drawer_note, giver_note}
 use Rattle.hs_locked.specs.Rule.{Slot, Facts, HandOk, PalmOk, DeskOk, PostOk, Knows}
 
 -- ---- seats
@@ -36,7 +36,7 @@ pub record IsEnd (f : Facts) (id end : ℕ) : Type 0 where
   pub no_giver : f.giver ≢ id → 0 ≢ end
   pub low : end ≤ f.opened
 
-pub drawers_end : (plan : Plan) (f : Facts) (id : ℕ) (desk : Desk) (hand : Hand) (stand : Stand) → DeskOk plan f id desk hand stand → IsEnd f id (suc desk.number)
+pub drawers_end : (plan : Plan) (f : Facts) (id : ℕ) (desk : DrawerSeat) (hand : Hand) (stand : Stand) → DeskOk plan f id desk hand stand → IsEnd f id (suc desk.number)
 drawers_end plan f id desk hand stand ok =
     record {
       no_drawer = λ d far same. far (ap f.seats (let e : d ≡ desk.number = omega arith in e) ∙ ok.seat);
@@ -44,7 +44,7 @@ drawers_end plan f id desk hand stand ok =
       low = (let a = ok.active in omega arith);
     }
 
-pub givers_end : (plan : Plan) (f : Facts) (id : ℕ) (post : Post) (palm : Palm) (stand : Stand) → PostOk plan f id post palm stand → IsEnd f id 0
+pub givers_end : (plan : Plan) (f : Facts) (id : ℕ) (post : GiverSeat) (palm : Palm) (stand : Stand) → PostOk plan f id post palm stand → IsEnd f id 0
 givers_end plan f id post palm stand ok =
     record {
       no_drawer = λ d _ e. omega arith;
@@ -110,7 +110,7 @@ module _ (plan : Plan) (f : Facts) (added : List Deed) (tickets : ℕ) (holder :
   in_palm_stays other (holds buffer draw) ok = lease_stays buffer draw with_giver other ok
 
   module _ (id : ℕ) (is_end : IsEnd f id end) (j : ℕ) (far : j ≢ id) where
-    desk_stays : (desk : Desk) (hand : Hand) (stand : Stand) → DeskOk plan f j desk hand stand → DeskOk plan after j desk hand stand
+    desk_stays : (desk : DrawerSeat) (hand : Hand) (stand : Stand) → DeskOk plan f j desk hand stand → DeskOk plan after j desk hand stand
     desk_stays desk hand stand ok =
         let other : suc desk.number ≢ end = is_end.no_drawer desk.number (λ same. far (sym ok.seat ∙ same)) in
         record {
@@ -124,7 +124,7 @@ module _ (plan : Plan) (f : Facts) (added : List Deed) (tickets : ℕ) (holder :
           floor = omega (arith, ok.floor, length-append added f.log);
         }
 
-    post_stays : (post : Post) (mine : Palm) (stand : Stand) → PostOk plan f j post mine stand → PostOk plan after j post mine stand
+    post_stays : (post : GiverSeat) (mine : Palm) (stand : Stand) → PostOk plan f j post mine stand → PostOk plan after j post mine stand
     post_stays post mine stand ok =
         let other : 0 ≢ end = is_end.no_giver (λ same. far (sym ok.seat ∙ same)) in
         record {

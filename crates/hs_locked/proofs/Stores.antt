@@ -3,7 +3,7 @@ use Rattle.std.proofs.Common.{◌≡◌, ℕ, List, [], ◌∷◌, length, rever
 use lib.ListN.{length-map}
 use Rattle.std.proofs.lemmas.List.{length-reverse, reverse-append, reverse-reverse}
 use Rattle.hs_lists.proofs.Counts.{count_cons as counted}
-use Rattle.hs_words.specs.PoolHistory.{Event, Got, Empty, Given, Missed, is_empty, is_missed, queue_after, IsHistoryBack}
+use Rattle.hs_words.specs.PoolHistory.{PoolEvent, Got, Empty, Given, Missed, is_empty, is_missed, queue_after, IsHistoryBack}
 use Rattle.hs_words.specs.Ends.{Deed, event_in, events_of, is_any_got, is_any_given, Counts, queue_of}
 use Rattle.hs_words.specs.declared.token.Tally.{Tally}
 use Rattle.hs_words.proofs.Deeds.{stamp_is}
@@ -22,10 +22,10 @@ module _ (plan : Plan) (log : List Deed) (store : Store) (ok : StoreOk plan log 
   events_are = ok.after.events ∙ length-reverse (events_of log) ∙ length-map log event_in
 
   pub lawful : IsHistoryBack plan.buffers (events_of log)
-  lawful = subst (λ (l : List Event). IsHistoryBack plan.buffers l) back (subst (λ (n : ℕ). IsHistoryBack n (reverse (reverse (events_of log)))) ok.buffers ok.after.lawful)
+  lawful = subst (λ (l : List PoolEvent). IsHistoryBack plan.buffers l) back (subst (λ (n : ℕ). IsHistoryBack n (reverse (reverse (events_of log)))) ok.buffers ok.after.lawful)
 
   pub line : waiting store.pool ≡ queue_of plan.buffers log
-  line = ok.after.queue ∙ ap (λ (l : List Event). queue_after store.pool.buffers l) back ∙ ap (λ (n : ℕ). queue_after n (events_of log)) ok.buffers
+  line = ok.after.queue ∙ ap (λ (l : List PoolEvent). queue_after store.pool.buffers l) back ∙ ap (λ (n : ℕ). queue_after n (events_of log)) ok.buffers
 
   pub is_counted : IsCounted store
   is_counted =
@@ -48,9 +48,9 @@ module _ (plan : Plan) (log : List Deed) (store : Store) (ok : StoreOk plan log 
 counts_more : (log : List Deed) (deed : Deed) (tally : Tally) → Counts log tally → Counts (deed ∷ log) (with_one deed.event tally)
 counts_more log deed tally c = go deed.event refl
   where
-    go : (event : Event) → event ≡ deed.event → Counts (deed ∷ log) (with_one deed.event tally)
+    go : (event : PoolEvent) → event ≡ deed.event → Counts (deed ∷ log) (with_one deed.event tally)
     go (Got buffer) is =
-        let F : Event → Type 0 = λ e. Counts (record { by = deed.by; event = e; draw = deed.draw } ∷ log) (with_one e tally) in
+        let F : PoolEvent → Type 0 = λ e. Counts (record { by = deed.by; event = e; draw = deed.draw } ∷ log) (with_one e tally) in
         subst F is record {
           gots = (let n = counted is_any_got (Got buffer) (events_of log) in let b = c.gots in omega arith);
           empties = (let n = counted is_empty (Got buffer) (events_of log) in let b = c.empties in omega arith);
@@ -58,7 +58,7 @@ counts_more log deed tally c = go deed.event refl
           misses = (let n = counted is_missed (Got buffer) (events_of log) in let b = c.misses in omega arith);
         }
     go Empty is =
-        let F : Event → Type 0 = λ e. Counts (record { by = deed.by; event = e; draw = deed.draw } ∷ log) (with_one e tally) in
+        let F : PoolEvent → Type 0 = λ e. Counts (record { by = deed.by; event = e; draw = deed.draw } ∷ log) (with_one e tally) in
         subst F is record {
           gots = (let n = counted is_any_got Empty (events_of log) in let b = c.gots in omega arith);
           empties = (let n = counted is_empty Empty (events_of log) in let b = c.empties in omega arith);
@@ -66,7 +66,7 @@ counts_more log deed tally c = go deed.event refl
           misses = (let n = counted is_missed Empty (events_of log) in let b = c.misses in omega arith);
         }
     go (Given buffer) is =
-        let F : Event → Type 0 = λ e. Counts (record { by = deed.by; event = e; draw = deed.draw } ∷ log) (with_one e tally) in
+        let F : PoolEvent → Type 0 = λ e. Counts (record { by = deed.by; event = e; draw = deed.draw } ∷ log) (with_one e tally) in
         subst F is record {
           gots = (let n = counted is_any_got (Given buffer) (events_of log) in let b = c.gots in omega arith);
           empties = (let n = counted is_empty (Given buffer) (events_of log) in let b = c.empties in omega arith);
@@ -74,7 +74,7 @@ counts_more log deed tally c = go deed.event refl
           misses = (let n = counted is_missed (Given buffer) (events_of log) in let b = c.misses in omega arith);
         }
     go Missed is =
-        let F : Event → Type 0 = λ e. Counts (record { by = deed.by; event = e; draw = deed.draw } ∷ log) (with_one e tally) in
+        let F : PoolEvent → Type 0 = λ e. Counts (record { by = deed.by; event = e; draw = deed.draw } ∷ log) (with_one e tally) in
         subst F is record {
           gots = (let n = counted is_any_got Missed (events_of log) in let b = c.gots in omega arith);
           empties = (let n = counted is_empty Missed (events_of log) in let b = c.empties in omega arith);
@@ -87,7 +87,7 @@ pub goes : (plan : Plan) (log : List Deed) (old new : Store) (deed : Deed) → S
 goes plan log old new deed ok g no_miss =
     record {
       buffers = g.buffers ∙ ok.buffers;
-      after = subst (λ (l : List Event). IsAfter l new.pool) (sym (reverse-append (deed.event ∷ []) (events_of log))) (g.after (reverse (events_of log)) ok.after);
+      after = subst (λ (l : List PoolEvent). IsAfter l new.pool) (sym (reverse-append (deed.event ∷ []) (events_of log))) (g.after (reverse (events_of log)) ok.after);
       sized = g.sized;
       counted = subst (Counts (deed ∷ log)) (sym g.tally) (counts_more log deed old.tally ok.counted);
       none_missed = ap (λ (t : Tally). t.misses) g.tally ∙ no_miss ∙ ok.none_missed;

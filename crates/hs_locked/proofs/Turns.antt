@@ -17,8 +17,8 @@ use Rattle.hs_words.specs.Spots.{in_queue, with_giver, HasLease}
 use Rattle.hs_pool.specs.Pool.{HasSize, IsOut, waiting}
 use Rattle.hs_ring.proofs.Spots.{now_with, still_with}
 use Rattle.hs_locked.specs.declared.store.Store.{Store}
-use Rattle.hs_locked.specs.Views.{Desk, Hand, nothing, Post, bare, holds, Stand, away, queued, inside, closing, View, drawing, giving, Has, HasStore, left_in, all_left}
-use Rattle.hs_locked.specs.Rule.{Slot, home, out, Facts, HasTheStore, SlotOk, StandOk, PalmOk, DeskOk, PostOk, Knows, Kept, Locked}
+use Rattle.hs_locked.specs.Views.{DrawerSeat, Hand, nothing, GiverSeat, bare, holds, Stand, away, queued, inside, closing, View, drawing, giving, Has, HasStore, left_in, all_left}
+use Rattle.hs_locked.specs.Rule.{Slot, home, out, Facts, HasTheStore, SlotOk, StandOk, PalmOk, DeskOk, PostOk, Knows, Kept, LockedRule}
 use Rattle.hs_locked.specs.Steps.{did_take_ticket, did_look, did_close}
 use Rattle.hs_locked.proofs.Updates.{put, put_cases, put_here, put_else, left_set}
 use Rattle.hs_locked.proofs.Stores.{events_are, line, is_counted, lawful}
@@ -108,8 +108,8 @@ module _ (plan : Plan) (s : St) (f : Facts) (k : Kept plan s f) (id : ℕ) (v w 
       }
 
 module _ (plan : Plan) (slots id : ℕ) where
-  pub drawer_takes_ticket : (desk : Desk) (held : Held) → 1 ≤ desk.left
-      → Allows (Locked plan) slots id (drawing desk nothing away, held) 0 (λ n. (n + 1) % 18446744073709551616) (did_take_ticket (step slots 0 1 0 maybe.none) (drawing desk nothing away, held))
+  pub drawer_takes_ticket : (desk : DrawerSeat) (held : Held) → 1 ≤ desk.left
+      → Allows (LockedRule plan) slots id (drawing desk nothing away, held) 0 (λ n. (n + 1) % 18446744073709551616) (did_take_ticket (step slots 0 1 0 maybe.none) (drawing desk nothing away, held))
   drawer_takes_ticket desk held some_left s (f, k) wide at small =
       let own : DeskOk plan f id desk nothing away = k.each_seat id (drawing desk nothing away) at in
       let x = (get_or s.words 0 0 + 1) % 18446744073709551616 in
@@ -134,8 +134,8 @@ module _ (plan : Plan) (slots id : ℕ) where
         ap (λ (t : ℕ). let m : View × Held = (drawing desk nothing (queued t), held) in m) (sym k.taken),
       )
 
-  pub giver_takes_ticket : (post : Post) (b d : ℕ) (held : Held)
-      → Allows (Locked plan) slots id (giving post (holds b d) away, held) 0 (λ n. (n + 1) % 18446744073709551616) (did_take_ticket (step slots 0 1 0 maybe.none) (giving post (holds b d) away, held))
+  pub giver_takes_ticket : (post : GiverSeat) (b d : ℕ) (held : Held)
+      → Allows (LockedRule plan) slots id (giving post (holds b d) away, held) 0 (λ n. (n + 1) % 18446744073709551616) (did_take_ticket (step slots 0 1 0 maybe.none) (giving post (holds b d) away, held))
   giver_takes_ticket post b d held s (f, k) wide at small =
       let own : PostOk plan f id post (holds b d) away = k.each_seat id (giving post (holds b d) away) at in
       let x = (get_or s.words 0 0 + 1) % 18446744073709551616 in
@@ -283,8 +283,8 @@ is_out plan s f k b d has = (
 )
 
 module _ (plan : Plan) (slots id : ℕ) where
-  pub drawer_looks : (desk : Desk) (t : ℕ)
-      → Allows (Locked plan) slots id (drawing desk nothing (queued t), []) 1 (λ n. n) (did_look (step slots 1 0 0 maybe.none) (drawing desk nothing (queued t), []))
+  pub drawer_looks : (desk : DrawerSeat) (t : ℕ)
+      → Allows (LockedRule plan) slots id (drawing desk nothing (queued t), []) 1 (λ n. n) (did_look (step slots 1 0 0 maybe.none) (drawing desk nothing (queued t), []))
   drawer_looks desk t s (f, k) wide at small =
       let v : View = drawing desk nothing (queued t) in
       let own : DeskOk plan f id desk nothing (queued t) = k.each_seat id v at in
@@ -334,8 +334,8 @@ module _ (plan : Plan) (slots id : ℕ) where
         ((λ same. absurd (not_now (sym k.turn ∙ same))), (λ _. refl)),
       ))
 
-  pub giver_looks : (post : Post) (b d t : ℕ)
-      → Allows (Locked plan) slots id (giving post (holds b d) (queued t), []) 1 (λ n. n) (did_look (step slots 1 0 0 maybe.none) (giving post (holds b d) (queued t), []))
+  pub giver_looks : (post : GiverSeat) (b d t : ℕ)
+      → Allows (LockedRule plan) slots id (giving post (holds b d) (queued t), []) 1 (λ n. n) (did_look (step slots 1 0 0 maybe.none) (giving post (holds b d) (queued t), []))
   giver_looks post b d t s (f, k) wide at small =
       let v : View = giving post (holds b d) (queued t) in
       let own : PostOk plan f id post (holds b d) (queued t) = k.each_seat id v at in
@@ -403,8 +403,8 @@ all_gone plan s f k none idle = go f.slot refl k.slot_ok
     go home is ok = is
     go (out e) is ok = absurd (has_not e ok)
 
-pub closes : (plan : Plan) (slots id : ℕ) (post : Post) → post.made ≡ length post.closed
-    → Allows (Locked plan) slots id (giving post bare away, []) 1 (λ n. n) (did_close (step slots 1 0 0 maybe.none) (giving post bare away, []))
+pub closes : (plan : Plan) (slots id : ℕ) (post : GiverSeat) → post.made ≡ length post.closed
+    → Allows (LockedRule plan) slots id (giving post bare away, []) 1 (λ n. n) (did_close (step slots 1 0 0 maybe.none) (giving post bare away, []))
 closes plan slots id post all s (f, k) wide at small =
     let v : View = giving post bare away in
     let own : PostOk plan f id post bare away = k.each_seat id v at in

@@ -11,29 +11,29 @@ use Rattle.hs_pool.specs.Pool.{waiting}
 use Rattle.hs_words.specs.Chunks.{clear_chunk}
 use Rattle.hs_words.specs.Seats.{AtSeat}
 use Rattle.hs_locked.specs.declared.store.Store.{Store}
-use Rattle.hs_locked.specs.Views.{nothing, inside, View, nobody, drawing, leasing, desk_of, Has, HasStore}
+use Rattle.hs_locked.specs.Views.{nothing, inside, View, nobody, drawing, leasing, drawer_seat_of, Has, HasStore}
 
 abbrev pub Table : Type 0
 Table = State Store View
 
-pub data Site : Type 0 where
-  in_line : ℕ → Site
-  seat : ℕ → Site
+pub data BufferPlace : Type 0 where
+  in_line : ℕ → BufferPlace
+  seat : ℕ → BufferPlace
 
 -- this is the store of the table
 abbrev pub IsStore : Table → Store → Type 0
 IsStore s store = (get_elem? s.homes 0 ≡ some (some store)) ⊎ ((j : ℕ) × AtSeat s.views (HasStore store) j)
 
 -- the buffer is there
-abbrev pub IsThere : Table → ℕ → Site → Type 0
+abbrev pub IsThere : Table → ℕ → BufferPlace → Type 0
 IsThere s buffer (in_line i) = (store : Store) × IsStore s store × (get_elem? (waiting store.pool) i ≡ some buffer)
 IsThere s buffer (seat j) = AtSeat s.views (Has buffer) j
 
 -- The buffer is in one place and in no other.
 pub record IsInOnePlace (s : Table) (buffer : ℕ) : Type 0 where
-  pub site : Site
+  pub site : BufferPlace
   pub there : IsThere s buffer site
-  pub nowhere_else : (other : Site) → IsThere s buffer other → other ≡ site
+  pub nowhere_else : (other : BufferPlace) → IsThere s buffer other → other ≡ site
 
 -- ---- examples
 
@@ -43,10 +43,10 @@ one_waits = record { pool = record { buffers = 2; queue = clear_chunk 64 0 ∷ [
 
 -- it does so while a drawer has the store, whose turn it is
 abbrev in_turn : Table
-in_turn = record { words = 2 ∷ 1 ∷ []; homes = maybe.none ∷ []; views = drawing (desk_of nobody) nothing (inside one_waits) ∷ leasing 1 0 ∷ [] }
+in_turn = record { words = 2 ∷ 1 ∷ []; homes = maybe.none ∷ []; views = drawing (drawer_seat_of nobody) nothing (inside one_waits) ∷ leasing 1 0 ∷ [] }
 
 the_first_waits : IsThere in_turn 0 (in_line 0)
-the_first_waits = (one_waits, inr (0, (drawing (desk_of nobody) nothing (inside one_waits), refl, refl)), refl)
+the_first_waits = (one_waits, inr (0, (drawing (drawer_seat_of nobody) nothing (inside one_waits), refl, refl)), refl)
 
 the_second_is_lent : IsThere in_turn 1 (seat 1)
 the_second_is_lent = (leasing 1 0, refl, refl)
@@ -62,7 +62,7 @@ not_in_two_places is = let both : seat 0 ≡ in_line 0 = is.nowhere_else (seat 0
 abbrev empty : Table
 empty = record { words = 1 ∷ 1 ∷ []; homes = maybe.none ∷ []; views = [] }
 
-nowhere : (site : Site) → IsThere empty 0 site → ⊥
+nowhere : (site : BufferPlace) → IsThere empty 0 site → ⊥
 nowhere (in_line i) (store, inl is, seen) = let both : some maybe.none ≡ some (some store) = is in absurd cc
 nowhere (in_line i) (store, inr (j, (v, at, has)), seen) = absurd (some-ne-none v (sym at))
 nowhere (seat j) (v, seen, has) = absurd (some-ne-none v (sym seen))

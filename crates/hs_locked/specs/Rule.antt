@@ -13,7 +13,7 @@ use Rattle.hs_words.specs.Seats.{AtSeat}
 use Rattle.hs_words.specs.Spots.{Spot, in_queue, with_drawer, leased, with_giver, HasLease}
 use Rattle.hs_pool.specs.Pool.{IsAfter, HasSize}
 use Rattle.hs_locked.specs.declared.store.Store.{Store}
-use Rattle.hs_locked.specs.Views.{Desk, Hand, nothing, kept, Post, Palm, bare, holds, Stand, away, queued, inside, closing, View, nobody, drawing, leasing, giving, drawer_note, giver_note, Has, HasStore, all_left}
+use Rattle.hs_locked.specs.Views.{DrawerSeat, Hand, nothing, kept, GiverSeat, Palm, bare, holds, Stand, away, queued, inside, closing, View, nobody, drawing, leasing, giving, drawer_note, giver_note, Has, HasStore, all_left}
 
 -- the store is in its slot, or with an end
 pub data Slot : Type 0 where
@@ -104,7 +104,7 @@ module _ (n : ℕ) (log : List Deed) (seats : ℕ → ℕ) (giver : ℕ) (views 
 
 -- what the seat j knows is true
 module _ (plan : Plan) (f : Facts) (j : ℕ) where
-  pub record DeskOk (desk : Desk) (hand : Hand) (stand : Stand) : Type 0 where
+  pub record DeskOk (desk : DrawerSeat) (hand : Hand) (stand : Stand) : Type 0 where
     pub buffers : desk.buffers ≡ plan.buffers
     pub size : desk.size ≡ plan.size
     pub active : desk.number < f.opened
@@ -114,7 +114,7 @@ module _ (plan : Plan) (f : Facts) (j : ℕ) where
     pub answers : desk.answers ≡ answers_by (suc desk.number) f.log
     pub floor : desk.floor ≤ length f.log
 
-  pub record PostOk (post : Post) (palm : Palm) (stand : Stand) : Type 0 where
+  pub record PostOk (post : GiverSeat) (palm : Palm) (stand : Stand) : Type 0 where
     pub buffers : post.buffers ≡ plan.buffers
     pub size : post.size ≡ plan.size
     pub seat : f.giver ≡ j
@@ -160,12 +160,12 @@ pub record Kept (plan : Plan) (s : State Store View) (f : Facts) : Type 0 where
   pub gone : (drawer : ℕ) → f.opened ≤ drawer → (f.hands drawer ≡ nothing) × (f.stands (suc drawer) ≡ away)
   pub each_seat : (j : ℕ) (v : View) → get_elem? s.views j ≡ some v → Knows plan f j v
 
-abbrev pub Locked : Plan → State Store View → Type 0
-Locked plan s = (f : Facts) × Kept plan s f
+abbrev pub LockedRule : Plan → State Store View → Type 0
+LockedRule plan s = (f : Facts) × Kept plan s f
 
 -- the giver's seat before any drawer is made
-abbrev pub first_post : Plan → Post
-first_post plan = record { buffers = plan.buffers; size = plan.size; spare = plan.allowances; made = 0; closed = []; floor = 0; turns = [] }
+abbrev pub first_giver_seat : Plan → GiverSeat
+first_giver_seat plan = record { buffers = plan.buffers; size = plan.size; spare = plan.allowances; made = 0; closed = []; floor = 0; turns = [] }
 
 abbrev pub first_view : Plan → View
-first_view plan = giving (first_post plan) bare away
+first_view plan = giving (first_giver_seat plan) bare away

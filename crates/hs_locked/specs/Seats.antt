@@ -9,19 +9,19 @@ use Rattle.hs_words.specs.declared.token.Given.TheVariants as given
 use Rattle.hs_ring.specs.Parts.{Leased, Drawing, Giving, AllBelow}
 use Rattle.hs_ring.specs.Seats.{name_of}
 use Rattle.hs_locked.specs.declared.store.Store.{Store}
-use Rattle.hs_locked.specs.Views.{Desk, Hand, nothing, kept, Post, Palm, bare, holds, Stand, away, queued, inside, closing, View, nobody, drawing, leasing, giving, drawer_note, giver_note, buffer_of, draw_of, desk_of, post_of}
+use Rattle.hs_locked.specs.Views.{DrawerSeat, Hand, nothing, kept, GiverSeat, Palm, bare, holds, Stand, away, queued, inside, closing, View, nobody, drawing, leasing, giving, drawer_note, giver_note, buffer_of, draw_of, drawer_seat_of, giver_seat_of}
 
-abbrev pub Place : Type 0
-Place = Seat Store View
+abbrev pub PoolSeat : Type 0
+PoolSeat = Seat Store View
 
 -- the seat is at this table, which has a word for the tickets, one for the turn, and a slot
-abbrev pub IsAt : TableId → Place → Type 0
-IsAt table s = (s.table_id ≡ table) × (table.words ≡ 2) × (table.slots ≡ 1)
+abbrev pub IsSeatAt : TableId → PoolSeat → Type 0
+IsSeatAt table s = (s.table_id ≡ table) × (table.words ≡ 2) × (table.slots ≡ 1)
 
 -- ---- what a view can do next
 
 -- a drawer may draw, and the giver has a buffer to give
-abbrev pub HandMay : Desk → Hand → Type 0
+abbrev pub HandMay : DrawerSeat → Hand → Type 0
 HandMay desk nothing = 1 ≤ desk.left
 HandMay desk (kept buffer stamp) = ⊥
 
@@ -83,14 +83,14 @@ IsLease (giver_note floor) = ⊥
 
 -- ---- between two calls
 
-abbrev pub lease_at : Place → Leased
+abbrev pub lease_at : PoolSeat → Leased
 lease_at s = record { pool = name_of s.table_id; buffer = buffer_of s.me.0; draw = draw_of s.me.0 }
 
-abbrev pub IsLeaseSeat : Place → Type 0
+abbrev pub IsLeaseSeat : PoolSeat → Type 0
 IsLeaseSeat s = s.me ≡ (leasing (buffer_of s.me.0) (draw_of s.me.0), [])
 
 -- what contracts see of a drawer whose seat knows this
-abbrev pub drawing_of : TableId → Desk → Drawing
+abbrev pub drawing_of : TableId → DrawerSeat → Drawing
 drawing_of table desk =
     record {
       pool = name_of table;
@@ -102,17 +102,17 @@ drawing_of table desk =
       answers = desk.answers;
     }
 
-abbrev pub IsIdle : Place → Type 0
-IsIdle s = s.me ≡ (drawing (desk_of s.me.0) nothing away, [])
+abbrev pub IsIdle : PoolSeat → Type 0
+IsIdle s = s.me ≡ (drawing (drawer_seat_of s.me.0) nothing away, [])
 
-pub record IsDrawerSeat (table : TableId) (s : Place) (left : ℕ) : Type 0 where
-  pub at : IsAt table s
+pub record IsDrawerSeat (table : TableId) (s : PoolSeat) (left : ℕ) : Type 0 where
+  pub at : IsSeatAt table s
   pub idle : IsIdle s
-  pub left_is : left ≡ (desk_of s.me.0).left
-  pub above : AllBelow (desk_of s.me.0).floor (desk_of s.me.0).answers
+  pub left_is : left ≡ (drawer_seat_of s.me.0).left
+  pub above : AllBelow (drawer_seat_of s.me.0).floor (drawer_seat_of s.me.0).answers
 
 -- what contracts see of a giver whose seat knows this
-abbrev pub giving_of : TableId → Post → Giving
+abbrev pub giving_of : TableId → GiverSeat → Giving
 giving_of table post =
     record {
       pool = name_of table;
@@ -123,14 +123,14 @@ giving_of table post =
       turns = post.turns;
     }
 
-abbrev pub IsFree : Place → Type 0
-IsFree s = s.me ≡ (giving (post_of s.me.0) bare away, [])
+abbrev pub IsFree : PoolSeat → Type 0
+IsFree s = s.me ≡ (giving (giver_seat_of s.me.0) bare away, [])
 
-pub record IsGiverSeat (table : TableId) (s : Place) : Type 0 where
-  pub at : IsAt table s
+pub record IsGiverSeat (table : TableId) (s : PoolSeat) : Type 0 where
+  pub at : IsSeatAt table s
   pub free : IsFree s
-  pub none_closed : (post_of s.me.0).closed ≡ []
-  pub above : AllBelow (post_of s.me.0).floor (answers_in (post_of s.me.0).turns)
+  pub none_closed : (giver_seat_of s.me.0).closed ≡ []
+  pub above : AllBelow (giver_seat_of s.me.0).floor (answers_in (giver_seat_of s.me.0).turns)
 
 -- The answer is that the chunk was given; a locked pool has no other.
 abbrev pub IsGiven : {L : Type 0} {g : _} → Answered L g → Type 0

@@ -6,7 +6,7 @@ use Rattle.hs_words.specs.Ends.{Deed, IsTogether, Counts}
 use Rattle.hs_pool.specs.Pool.{HasSize, IsOut}
 use Rattle.hs_locked.specs.declared.store.Store.{Store}
 use Rattle.hs_locked.specs.Stored.{IsCounted}
-use Rattle.hs_locked.specs.Views.{Palm, bare, holds, queued, inside, closing, View, nobody, drawing, leasing, giving, drawer_note, giver_note, size_of, floor_of, ticket_of, standing, having_left, post_of}
+use Rattle.hs_locked.specs.Views.{Palm, bare, holds, queued, inside, closing, View, nobody, drawing, leasing, giving, drawer_note, giver_note, size_of, floor_of, ticket_of, standing, having_left, giver_seat_of}
 
 abbrev pub Seated : Type 0
 Seated = Me Store View
@@ -34,7 +34,7 @@ pub record Finds (view : View) (store : Store) : Type 0 where
 
 -- what is known when all drawers were closed
 pub record IsOver (view : View) (store : Store) : Type 0 where
-  pub together : (log : List Deed) × IsTogether (post_of view).buffers (post_of view).turns (post_of view).closed log × Counts log store.tally
+  pub together : (log : List Deed) × IsTogether (giver_seat_of view).buffers (giver_seat_of view).turns (giver_seat_of view).closed log × Counts log store.tally
   pub counted : IsCounted store
 
 abbrev pub did_take_ticket : Step Store → Seated → ℕ → Seated → Type 0

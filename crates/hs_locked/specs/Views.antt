@@ -2,14 +2,14 @@
 -- answers, their floor, which is above every stamp that they know, and how they stand at the lock. A lease is a seat of its
 -- own, and so is a note that one end hands to another when they meet.
 use Rattle.std.specs.Prelude.{◌≡◌, ℕ, suc, ◌+◌, ◌-◌, ◌*◌, List, [], ◌∷◌, max}
-use Rattle.hs_words.specs.PoolHistory.{Event, Got, Empty, Given}
-use Rattle.hs_words.specs.Ends.{Answer, Turn, answered, met, stamps_in}
+use Rattle.hs_words.specs.PoolHistory.{PoolEvent, Got, Empty, Given}
+use Rattle.hs_words.specs.Ends.{Answer, GiverTurn, answered, met, stamps_in}
 use Rattle.hs_words.specs.Plans.{first_of, rest_of, total}
 use Rattle.hs_pool.specs.Pool.{waiting}
 use Rattle.hs_locked.specs.declared.store.Store.{Store}
 use Rattle.hs_locked.specs.Stored.{next_draw}
 
-pub record Desk : Type 0 where
+pub record DrawerSeat : Type 0 where
   pub buffers : ℕ
   pub size : ℕ
   pub number : ℕ
@@ -23,14 +23,14 @@ pub data Hand : Type 0 where
   kept : ℕ → ℕ → Hand
 
 -- the allowances that no drawer has yet, the drawers that were made, and the answers of those that were closed
-pub record Post : Type 0 where
+pub record GiverSeat : Type 0 where
   pub buffers : ℕ
   pub size : ℕ
   pub spare : List ℕ
   pub made : ℕ
   pub closed : List (List Answer)
   pub floor : ℕ
-  pub turns : List Turn
+  pub turns : List GiverTurn
 
 -- what the giver has in hand: nothing, or a buffer with the stamp of the draw that got it
 pub data Palm : Type 0 where
@@ -47,21 +47,21 @@ pub data Stand : Type 0 where
 
 pub data View : Type 0 where
   nobody : View
-  drawing : Desk → Hand → Stand → View
+  drawing : DrawerSeat → Hand → Stand → View
   leasing : ℕ → ℕ → View
-  giving : Post → Palm → Stand → View
+  giving : GiverSeat → Palm → Stand → View
   drawer_note : ℕ → List ℕ → View
   giver_note : ℕ → View
 
 -- ---- parts
 
-abbrev pub desk_of : View → Desk
-desk_of (drawing desk hand stand) = desk
-desk_of _ = record { buffers = 0; size = 0; number = 0; left = 0; floor = 0; answers = [] }
+abbrev pub drawer_seat_of : View → DrawerSeat
+drawer_seat_of (drawing desk hand stand) = desk
+drawer_seat_of _ = record { buffers = 0; size = 0; number = 0; left = 0; floor = 0; answers = [] }
 
-abbrev pub post_of : View → Post
-post_of (giving post palm stand) = post
-post_of _ = record { buffers = 0; size = 0; spare = []; made = 0; closed = []; floor = 0; turns = [] }
+abbrev pub giver_seat_of : View → GiverSeat
+giver_seat_of (giving post palm stand) = post
+giver_seat_of _ = record { buffers = 0; size = 0; spare = []; made = 0; closed = []; floor = 0; turns = [] }
 
 -- the buffer and the stamp of a lease
 abbrev pub buffer_of : View → ℕ
@@ -152,8 +152,8 @@ standing (drawing desk hand before) stand = drawing desk hand stand
 standing (giving post palm before) stand = giving post palm stand
 standing view stand = view
 
-abbrev pub desk_after : Desk → ℕ → Event → Desk
-desk_after desk stamp event =
+abbrev pub drawer_seat_after : DrawerSeat → ℕ → PoolEvent → DrawerSeat
+drawer_seat_after desk stamp event =
     record {
       buffers = desk.buffers;
       size = desk.size;
@@ -163,12 +163,12 @@ desk_after desk stamp event =
       answers = record { stamp = stamp; event = event; draw = 0 } ∷ desk.answers;
     }
 
-abbrev pub hand_after : Event → ℕ → Hand
+abbrev pub hand_after : PoolEvent → ℕ → Hand
 hand_after (Got buffer) stamp = kept buffer stamp
 hand_after _ stamp = nothing
 
-abbrev pub post_after : Post → Turn → ℕ → Post
-post_after post turn floor =
+abbrev pub giver_seat_after : GiverSeat → GiverTurn → ℕ → GiverSeat
+giver_seat_after post turn floor =
     record {
       buffers = post.buffers;
       size = post.size;
@@ -183,11 +183,11 @@ abbrev pub given_answer : Palm → ℕ → Answer
 given_answer palm stamp = record { stamp = stamp; event = Given (buffer_in palm); draw = draw_in palm }
 
 -- the event of an end whose turn has come
-abbrev pub drawn_from : Stand → Event
+abbrev pub drawn_from : Stand → PoolEvent
 drawn_from (inside store) = next_draw (waiting store.pool)
 drawn_from _ = Empty
 
-abbrev pub event_of : View → Event
+abbrev pub event_of : View → PoolEvent
 event_of (drawing desk hand stand) = drawn_from stand
 event_of (giving post palm stand) = Given (buffer_in palm)
 event_of _ = Empty
@@ -199,8 +199,8 @@ stamp_at _ = 0
 
 -- the view of an end after its turn
 abbrev pub having_left : View → View
-having_left (drawing desk hand stand) = drawing (desk_after desk (stamp_at stand) (drawn_from stand)) (hand_after (drawn_from stand) (stamp_at stand)) away
-having_left (giving post palm stand) = giving (post_after post (answered (given_answer palm (stamp_at stand))) (suc (stamp_at stand))) bare away
+having_left (drawing desk hand stand) = drawing (drawer_seat_after desk (stamp_at stand) (drawn_from stand)) (hand_after (drawn_from stand) (stamp_at stand)) away
+having_left (giving post palm stand) = giving (giver_seat_after post (answered (given_answer palm (stamp_at stand))) (suc (stamp_at stand))) bare away
 having_left view = view
 
 -- ---- leases are split off and joined
@@ -231,12 +231,12 @@ note_of (drawing desk hand stand) = drawer_note desk.floor (stamps_in desk.answe
 note_of (giving post palm stand) = giver_note post.floor
 note_of view = nobody
 
-abbrev pub with_floor : Desk → ℕ → Desk
+abbrev pub with_floor : DrawerSeat → ℕ → DrawerSeat
 with_floor desk floor = record { buffers = desk.buffers; size = desk.size; number = desk.number; left = desk.left; floor = floor; answers = desk.answers }
 
 abbrev pub having_heard : View → View → View
 having_heard (drawing desk hand stand) (giver_note floor) = drawing (with_floor desk (max desk.floor floor)) hand stand
-having_heard (giving post palm stand) (drawer_note floor stamps) = giving (post_after post (met stamps) (max post.floor floor)) palm stand
+having_heard (giving post palm stand) (drawer_note floor stamps) = giving (giver_seat_after post (met stamps) (max post.floor floor)) palm stand
 having_heard view note = view
 
 -- ---- drawers are made and closed

@@ -46,9 +46,9 @@ impl Model for View {
 pub struct Law;
 
 impl TableRule<Store, View, Plan> for Law {
-    ghost use Rattle.hs_locked.specs.Rule.{Locked, first_view};
+    ghost use Rattle.hs_locked.specs.Rule.{LockedRule, first_view};
 
-    ghost holds = { Locked };
+    ghost holds = { LockedRule };
 
     ghost first = { first_view };
 }

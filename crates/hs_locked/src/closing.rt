@@ -4,9 +4,9 @@ ghost use Rattle.std.specs.List.{AllByRecursion};
 ghost use Rattle.hs_words.specs.Ends.{IsTogether, Counts};
 ghost use Rattle.hs_ring.specs.Parts.{AreInOrder, AreAllEnds, Closes, answers_of_all};
 ghost use Rattle.hs_ring.specs.Seats.{name_of, IsSameSeat};
-ghost use Rattle.hs_locked.specs.Views.{post_of};
-ghost use Rattle.hs_locked.specs.Seats.{IsAt, IsFree};
-ghost use Rattle.hs_locked.specs.Making.{closed_post};
+ghost use Rattle.hs_locked.specs.Views.{giver_seat_of};
+ghost use Rattle.hs_locked.specs.Seats.{IsSeatAt, IsFree};
+ghost use Rattle.hs_locked.specs.Making.{closed_giver_seat};
 
 use crate::board::{Place, TURNS, Words};
 use crate::drawer::LockedDrawer;
@@ -18,14 +18,14 @@ use hs_words::{Held, Tally};
 
 /// Takes the drawers in, the last first.
 fn close_drawers(words: &Words, place: &mut Place, mut drawers: List<LockedDrawer>)
-    requires at { IsAt words.now.table_id place.old }
+    requires at { IsSeatAt words.now.table_id place.old }
     requires free { IsFree place.old }
     requires order { AreInOrder (name_of words.now.table_id) 0 drawers.items }
-    requires all { length drawers.items ≡ (post_of place.old.me.0).made }
-    requires none_closed { (post_of place.old.me.0).closed ≡ [] }
+    requires all { length drawers.items ≡ (giver_seat_of place.old.me.0).made }
+    requires none_closed { (giver_seat_of place.old.me.0).closed ≡ [] }
     ensures seat { IsSameSeat place.old place.new }
     ensures free { IsFree place.new }
-    ensures closed { post_of place.new.me.0 ≡ closed_post (post_of place.old.me.0) (answers_of_all drawers.items) }
+    ensures closed { giver_seat_of place.new.me.0 ≡ closed_giver_seat (giver_seat_of place.old.me.0) (answers_of_all drawers.items) }
 {
     while let Some(drawer) = drawers.pop() {
         let LockedDrawer {
@@ -39,10 +39,10 @@ fn close_drawers(words: &Words, place: &mut Place, mut drawers: List<LockedDrawe
 
 /// The tally of a pool whose drawers were taken in.
 fn take_tally(words: &Words, mut place: Place) -> Tally
-    requires at { IsAt words.now.table_id place }
+    requires at { IsSeatAt words.now.table_id place }
     requires free { IsFree place }
-    requires all { (post_of place.me.0).made ≡ length (post_of place.me.0).closed }
-    ensures together { (log : _) × IsTogether (post_of place.me.0).buffers (post_of place.me.0).turns (post_of place.me.0).closed log × Counts log result }
+    requires all { (giver_seat_of place.me.0).made ≡ length (giver_seat_of place.me.0).closed }
+    ensures together { (log : _) × IsTogether (giver_seat_of place.me.0).buffers (giver_seat_of place.me.0).turns (giver_seat_of place.me.0).closed log × Counts log result }
     ensures misses { result.misses ≡ 0 }
 {
     words.load::<TakeLast>(&mut place, TURNS);

@@ -1,7 +1,7 @@
 //! The end that draws.
 ghost use Rattle.std.specs.Prelude.{◌≡◌, ◌-◌, ◌≤◌};
 ghost use Rattle.hs_ring.specs.Parts.{Draws};
-ghost use Rattle.hs_locked.specs.Views.{desk_of};
+ghost use Rattle.hs_locked.specs.Views.{drawer_seat_of};
 ghost use Rattle.hs_ring.specs.Seats.{IsSameSeat};
 ghost use Rattle.hs_locked.specs.Seats.{IsDrawerSeat, drawing_of};
 
@@ -29,10 +29,10 @@ impl Model for LockedDrawer {
 
     ghost Value = { Drawing };
 
-    ghost use Rattle.hs_locked.specs.Views.{desk_of};
+    ghost use Rattle.hs_locked.specs.Views.{drawer_seat_of};
     ghost use Rattle.hs_locked.specs.Seats.{drawing_of, IsDrawerSeat};
 
-    ghost view = { λ s. drawing_of s.place.table_id (desk_of s.place.me.0) };
+    ghost view = { λ s. drawing_of s.place.table_id (drawer_seat_of s.place.me.0) };
 
     ghost invariant = { λ s. IsDrawerSeat (arc_value s.lock).board.shared.table_id s.place s.left };
 }
@@ -48,7 +48,7 @@ fn draw_in_turn<R: Wait>(
     requires left { 1 ≤ left }
     ensures same { IsSameSeat place.old place.new }
     ensures seat { IsDrawerSeat lock.now.board.shared.table_id place.new (left - 1) }
-    ensures drawn { Draws (drawing_of place.old.table_id (desk_of place.old.me.0)) result (drawing_of place.new.table_id (desk_of place.new.me.0)) }
+    ensures drawn { Draws (drawing_of place.old.table_id (drawer_seat_of place.old.me.0)) result (drawing_of place.new.table_id (drawer_seat_of place.new.me.0)) }
 {
     lock.enter(rt, place);
     let store = place.slot_mut(&lock.board.shared, 0);

@@ -2,8 +2,8 @@
 ghost use Rattle.std.specs.Prelude.{◌≡◌, []};
 ghost use Rattle.hs_ring.specs.Parts.{Gives, Meets};
 ghost use Rattle.hs_ring.specs.Seats.{name_of, IsSameSeat};
-ghost use Rattle.hs_locked.specs.Views.{desk_of, post_of, note_of, having_heard};
-ghost use Rattle.hs_locked.specs.Seats.{IsAt, IsIdle, IsFree, IsGiverSeat, IsGiven, giving_of};
+ghost use Rattle.hs_locked.specs.Views.{drawer_seat_of, giver_seat_of, note_of, having_heard};
+ghost use Rattle.hs_locked.specs.Seats.{IsSeatAt, IsIdle, IsFree, IsGiverSeat, IsGiven, giving_of};
 
 use crate::board::{Place, Words};
 use crate::drawer::LockedDrawer;
@@ -30,10 +30,10 @@ impl Model for LockedGiver {
 
     ghost Value = { Giving };
 
-    ghost use Rattle.hs_locked.specs.Views.{post_of};
+    ghost use Rattle.hs_locked.specs.Views.{giver_seat_of};
     ghost use Rattle.hs_locked.specs.Seats.{giving_of, IsGiverSeat};
 
-    ghost view = { λ s. giving_of s.place.table_id (post_of s.place.me.0) };
+    ghost view = { λ s. giving_of s.place.table_id (giver_seat_of s.place.me.0) };
 
     ghost invariant = { λ s. IsGiverSeat (arc_value s.lock).board.shared.table_id s.place };
 }
@@ -47,10 +47,10 @@ fn give_in_turn<R: Wait>(
 ) -> Given<LockedLease>
     requires seat { IsGiverSeat lock.now.board.shared.table_id place.old }
     requires pool { held.lease.pool ≡ name_of lock.now.board.shared.table_id }
-    requires size { held.chunk.size ≡ (post_of place.old.me.0).size }
+    requires size { held.chunk.size ≡ (giver_seat_of place.old.me.0).size }
     ensures same { IsSameSeat place.old place.new }
     ensures seat { IsGiverSeat lock.now.board.shared.table_id place.new }
-    ensures given { Gives (giving_of place.old.table_id (post_of place.old.me.0)) held result (giving_of place.new.table_id (post_of place.new.me.0)) }
+    ensures given { Gives (giving_of place.old.table_id (giver_seat_of place.old.me.0)) held result (giving_of place.new.table_id (giver_seat_of place.new.me.0)) }
     ensures always { IsGiven result }
 {
     let Held { chunk, lease } = held;
@@ -65,8 +65,8 @@ fn give_in_turn<R: Wait>(
 
 /// Each of two ends hears of what the other knows.
 fn meet_at(words: &Words, giver: &mut Place, drawer: &mut Place)
-    requires giver { IsAt words.now.table_id giver.old × IsFree giver.old }
-    requires drawer { IsAt words.now.table_id drawer.old × IsIdle drawer.old }
+    requires giver { IsSeatAt words.now.table_id giver.old × IsFree giver.old }
+    requires drawer { IsSeatAt words.now.table_id drawer.old × IsIdle drawer.old }
     ensures giver { IsSameSeat giver.old giver.new × (giver.new.me ≡ (having_heard giver.old.me.0 (note_of drawer.old.me.0), [])) }
     ensures drawer { IsSameSeat drawer.old drawer.new × (drawer.new.me ≡ (having_heard drawer.old.me.0 (note_of giver.old.me.0), [])) }
 {

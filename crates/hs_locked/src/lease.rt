@@ -2,7 +2,7 @@
 ghost use Rattle.std.specs.Prelude.{◌≡◌, []};
 ghost use Rattle.hs_locked.specs.Views.{lease_of, without_lease, with_lease};
 ghost use Rattle.hs_ring.specs.Seats.{IsSameSeat};
-ghost use Rattle.hs_locked.specs.Seats.{IsAt, CanLease, IsLease, IsFree, StandsAway, stand_of};
+ghost use Rattle.hs_locked.specs.Seats.{IsSeatAt, CanLease, IsLease, IsFree, StandsAway, stand_of};
 
 use crate::board::{Place, Words};
 use crate::plays::{MakeLease, TakeLease};
@@ -39,7 +39,7 @@ impl Token for LockedLease {
 
 /// Makes a lease of the buffer that the seat has.
 pub fn make_lease(words: &Words, place: &mut Place) -> Place
-    requires seat { IsAt words.now.table_id place.old }
+    requires seat { IsSeatAt words.now.table_id place.old }
     requires can { CanLease place.old.me.0 × StandsAway (stand_of place.old.me.0) }
     ensures seat { IsSameSeat place.old place.new }
     ensures did { place.new.me ≡ (without_lease place.old.me.0, place.old.me.1) }
@@ -50,9 +50,9 @@ pub fn make_lease(words: &Words, place: &mut Place) -> Place
 
 /// The giver takes a lease back.
 pub fn take_lease(words: &Words, place: &mut Place, lease: Place)
-    requires seat { IsAt words.now.table_id place.old }
+    requires seat { IsSeatAt words.now.table_id place.old }
     requires can { IsFree place.old }
-    requires lease { IsAt words.now.table_id lease × IsLease lease.me.0 × (lease.me.1 ≡ []) }
+    requires lease { IsSeatAt words.now.table_id lease × IsLease lease.me.0 × (lease.me.1 ≡ []) }
     ensures seat { IsSameSeat place.old place.new }
     ensures did { place.new.me ≡ (with_lease place.old.me.0 lease.me.0, place.old.me.1) }
 {

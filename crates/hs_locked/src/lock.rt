@@ -4,7 +4,7 @@ ghost use Rattle.hs_locked.specs.Views.{queued, inside, standing, ticket_of, eve
 ghost use Rattle.hs_locked.specs.Stored.{GoesOn};
 ghost use Rattle.hs_locked.specs.Steps.{Finds};
 ghost use Rattle.hs_ring.specs.Seats.{IsSameSeat};
-ghost use Rattle.hs_locked.specs.Seats.{IsAt, MayTurn, StandsAway, StandsQueued, StandsInside, stand_of};
+ghost use Rattle.hs_locked.specs.Seats.{IsSeatAt, MayTurn, StandsAway, StandsQueued, StandsInside, stand_of};
 
 use crate::board::{Board, Place, TICKETS, TURNS};
 use crate::plays::{LeaveTurn, LookAtTurn, TakeTicket};
@@ -21,7 +21,7 @@ pub struct TicketLock {
 impl TicketLock {
     /// Takes a ticket.
     fn take_ticket(&self, place: &mut Place) -> u64
-        requires at { IsAt self.now.board.shared.table_id place.old }
+        requires at { IsSeatAt self.now.board.shared.table_id place.old }
         requires can { MayTurn place.old.me.0 × StandsAway (stand_of place.old.me.0) }
         ensures same { IsSameSeat place.old place.new }
         ensures did { place.new.me ≡ (standing place.old.me.0 (queued result), place.old.me.1) }
@@ -31,7 +31,7 @@ impl TicketLock {
 
     /// Waits for the turn of the ticket.
     fn wait_for<R: Wait>(&self, rt: &R, place: &mut Place, ticket: u64)
-        requires at { IsAt self.now.board.shared.table_id place.old }
+        requires at { IsSeatAt self.now.board.shared.table_id place.old }
         requires can { MayTurn place.old.me.0 × StandsQueued (stand_of place.old.me.0) × (place.old.me.1 ≡ []) }
         requires ticket { ticket ≡ ticket_of place.old.me.0 }
         ensures same { IsSameSeat place.old place.new }
@@ -48,7 +48,7 @@ impl TicketLock {
 
     /// Takes a ticket, and waits for its turn. Then the caller has the store.
     pub fn enter<R: Wait>(&self, rt: &R, place: &mut Place)
-        requires at { IsAt self.now.board.shared.table_id place.old }
+        requires at { IsSeatAt self.now.board.shared.table_id place.old }
         requires can { MayTurn place.old.me.0 × StandsAway (stand_of place.old.me.0) × (place.old.me.1 ≡ []) }
         ensures same { IsSameSeat place.old place.new }
         ensures found { (store : _) × (place.new.me ≡ (standing place.old.me.0 (inside store), (0, store) ∷ [])) × Finds place.old.me.0 store }
@@ -59,7 +59,7 @@ impl TicketLock {
 
     /// Gives the store back after one event, and ends the turn.
     pub fn leave(&self, place: &mut Place)
-        requires at { IsAt self.now.board.shared.table_id place.old }
+        requires at { IsSeatAt self.now.board.shared.table_id place.old }
         requires can { MayTurn place.old.me.0 }
         requires one_event { (old new : Store) × StandsInside old (stand_of place.old.me.0) × (place.old.me.1 ≡ (0, new) ∷ []) × GoesOn (size_of place.old.me.0) old (event_of place.old.me.0) new }
         ensures same { IsSameSeat place.old place.new }

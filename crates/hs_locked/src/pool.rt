@@ -5,7 +5,7 @@ ghost use Rattle.hs_base.specs.declared.limits.TheConstants.{MAX_BUFFERS, MAX_OP
 ghost use Rattle.hs_words.specs.Chunks.{clear_chunks};
 ghost use Rattle.hs_ring.specs.Parts.{AreNewEnds, new_drawers};
 ghost use Rattle.hs_ring.specs.Seats.{name_of};
-ghost use Rattle.hs_locked.specs.Views.{post_of};
+ghost use Rattle.hs_locked.specs.Views.{giver_seat_of};
 ghost use Rattle.hs_locked.specs.Making.{IsMaking};
 
 use crate::board::{Place, Plan};
@@ -70,9 +70,9 @@ fn drawers_of(
     place: &mut Place,
     allowances: &[u32],
 ) -> Result<List<LockedDrawer>, Memory>
-    requires making { IsMaking (arc_value lock.now).board.shared.table_id place.old (post_of place.old.me.0).buffers (post_of place.old.me.0).size 0 allowances.now }
-    ensures making { IfOk result (λ _. IsMaking (arc_value lock.now).board.shared.table_id place.new (post_of place.old.me.0).buffers (post_of place.old.me.0).size (length allowances.now) []) }
-    ensures drawers { IfOk result (λ drawers. drawers.items ≡ new_drawers (name_of (arc_value lock.now).board.shared.table_id) (post_of place.old.me.0).buffers (post_of place.old.me.0).size 0 allowances.now) }
+    requires making { IsMaking (arc_value lock.now).board.shared.table_id place.old (giver_seat_of place.old.me.0).buffers (giver_seat_of place.old.me.0).size 0 allowances.now }
+    ensures making { IfOk result (λ _. IsMaking (arc_value lock.now).board.shared.table_id place.new (giver_seat_of place.old.me.0).buffers (giver_seat_of place.old.me.0).size (length allowances.now) []) }
+    ensures drawers { IfOk result (λ drawers. drawers.items ≡ new_drawers (name_of (arc_value lock.now).board.shared.table_id) (giver_seat_of place.old.me.0).buffers (giver_seat_of place.old.me.0).size 0 allowances.now) }
 {
     let mut drawers = List::with_room(alloc, allowances.len())?;
     for left in allowances {

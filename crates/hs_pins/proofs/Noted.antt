@@ -15,12 +15,12 @@ use Rattle.hs_base.specs.Laterals.{no_trace}
 use Rattle.hs_base.specs.NodeSets.{has_node, with_node}
 use Rattle.hs_base.specs.Ids.{same_trace}
 use Rattle.hs_pins.specs.declared.claims.Party.{Party}
-use Rattle.hs_pins.specs.declared.claims.Note.{Note}
+use Rattle.hs_pins.specs.declared.claims.ClaimNote.{ClaimNote}
 use Rattle.hs_pins.specs.Remembered.{Claim, claim_of, has_crumb, with_crumb}
 use Rattle.hs_pins.specs.ClaimsLayout.{party_at, claim_by, claim_from, AreNoted}
 
 abbrev pub Notes : Type 0
-Notes = List (TraceId × Note)
+Notes = List (TraceId × ClaimNote)
 
 -- ---- parties
 
@@ -57,7 +57,7 @@ party_same a b group laterals =
 
 -- ---- look-ups
 
-pub noted_get : {X : Type 0} (f : Claim → X) (h : Note → X) (parties : List Party) (notes : Notes) (trace : TraceId) → ((key : TraceId) (note : Note) → f (claim_from parties (key, note)) ≡ h note)
+pub noted_get : {X : Type 0} (f : Claim → X) (h : ClaimNote → X) (parties : List Party) (notes : Notes) (trace : TraceId) → ((key : TraceId) (note : ClaimNote) → f (claim_from parties (key, note)) ≡ h note)
     → option_map f (claim_of (map (claim_from parties) notes) trace) ≡ option_map h (lookup (same_trace trace) notes)
 noted_get f h parties [] trace e = refl
 noted_get f h parties (n ∷ notes) trace e = at (same_trace trace n.0) (noted_get f h parties notes trace e)
@@ -67,12 +67,12 @@ noted_get f h parties (n ∷ notes) trace e = at (same_trace trace n.0) (noted_g
     at true rest = ap Some (e n.0 n.1)
     at false rest = rest
 
-pub noted_within : (parties : List Party) (notes : Notes) (trace : TraceId) (note : Note) → AreNoted parties notes → lookup (same_trace trace) notes ≡ Some note → note.party < length parties
+pub noted_within : (parties : List Party) (notes : Notes) (trace : TraceId) (note : ClaimNote) → AreNoted parties notes → lookup (same_trace trace) notes ≡ Some note → note.party < length parties
 noted_within parties [] trace note all found = absurd cc
 noted_within parties (n ∷ notes) trace note all found = at (same_trace trace n.0) found (noted_within parties notes trace note all.1)
   where
     at : (b : Bool) → cond b (Some n.1) (lookup (same_trace trace) notes) ≡ Some note → (lookup (same_trace trace) notes ≡ Some note → note.party < length parties) → note.party < length parties
-    at true found rest = let same : n.1 ≡ note = cc in subst (λ (m : Note). m.party < length parties) same all.0
+    at true found rest = let same : n.1 ≡ note = cc in subst (λ (m : ClaimNote). m.party < length parties) same all.0
     at false found rest = rest found
 
 no_party : (parties : List Party) (place : ℕ) → place < length parties → slice_get parties place ≡ None → ⊥
@@ -80,17 +80,17 @@ no_party [] place within none = omega arith
 no_party (p ∷ parties) zero within none = cc
 no_party (p ∷ parties) (suc place) within none = no_party parties place (omega arith) none
 
-pub party_there : (parties : List Party) (notes : Notes) (trace : TraceId) (note : Note) → AreNoted parties notes → lookup (same_trace trace) notes ≡ Some note → slice_get parties note.party ≡ None → ⊥
+pub party_there : (parties : List Party) (notes : Notes) (trace : TraceId) (note : ClaimNote) → AreNoted parties notes → lookup (same_trace trace) notes ≡ Some note → slice_get parties note.party ≡ None → ⊥
 party_there parties notes trace note all found none = no_party parties note.party (noted_within parties notes trace note all found) none
 
 -- the claim of a trace by its note
-pub noted_some : {X : Type 0} (f : Claim → X) (h : Note → X) (parties : List Party) (notes : Notes) (claims : List Claim) (trace : TraceId) (note : Note) (x : X) → map (claim_from parties) notes ≡ claims
-    → ((key : TraceId) (note : Note) → f (claim_from parties (key, note)) ≡ h note) → lookup (same_trace trace) notes ≡ Some note → h note ≡ x → Some x ≡ option_map f (claim_of claims trace)
+pub noted_some : {X : Type 0} (f : Claim → X) (h : ClaimNote → X) (parties : List Party) (notes : Notes) (claims : List Claim) (trace : TraceId) (note : ClaimNote) (x : X) → map (claim_from parties) notes ≡ claims
+    → ((key : TraceId) (note : ClaimNote) → f (claim_from parties (key, note)) ≡ h note) → lookup (same_trace trace) notes ≡ Some note → h note ≡ x → Some x ≡ option_map f (claim_of claims trace)
 noted_some f h parties notes claims trace note x same e found is =
     ap Some (sym is) ∙ sym (ap (option_map h) found) ∙ sym (noted_get f h parties notes trace e) ∙ ap (λ cs. option_map f (claim_of cs trace)) same
 
-pub noted_none : {X : Type 0} (f : Claim → X) (h : Note → X) (parties : List Party) (notes : Notes) (claims : List Claim) (trace : TraceId) → map (claim_from parties) notes ≡ claims
-    → ((key : TraceId) (note : Note) → f (claim_from parties (key, note)) ≡ h note) → lookup (same_trace trace) notes ≡ None → None ≡ option_map f (claim_of claims trace)
+pub noted_none : {X : Type 0} (f : Claim → X) (h : ClaimNote → X) (parties : List Party) (notes : Notes) (claims : List Claim) (trace : TraceId) → map (claim_from parties) notes ≡ claims
+    → ((key : TraceId) (note : ClaimNote) → f (claim_from parties (key, note)) ≡ h note) → lookup (same_trace trace) notes ≡ None → None ≡ option_map f (claim_of claims trace)
 noted_none f h parties notes claims trace same e none =
     sym (ap (option_map h) none) ∙ sym (noted_get f h parties notes trace e) ∙ ap (λ cs. option_map f (claim_of cs trace)) same
 
@@ -102,7 +102,7 @@ notes_kept old new (n ∷ notes) all kept =
     let same : claim_from new n ≡ claim_from old n = ap (λ (p : Party). claim_by p n.0 n.1.crumbs) (kept n.1.party all.0) in
     (λ i. same i ∷ map (claim_from new) notes) ∙ ap (λ cs. claim_from old n ∷ cs) (notes_kept old new notes all.1 kept)
 
-pub are_noted-more : (old new : List Party) (notes : Notes) (n : TraceId × Note) → AreNoted old notes → length old ≤ length new → n.1.party < length new → AreNoted new (notes ++ n ∷ [])
+pub are_noted-more : (old new : List Party) (notes : Notes) (n : TraceId × ClaimNote) → AreNoted old notes → length old ≤ length new → n.1.party < length new → AreNoted new (notes ++ n ∷ [])
 are_noted-more old new [] n all long within = (within, tt)
 are_noted-more old new (m ∷ notes) n all long within = (let less : m.1.party < length old = all.0 in omega arith, are_noted-more old new notes n all.1 long within)
 
@@ -125,7 +125,7 @@ note_added old new notes claims trace party place crumbs all same kept there =
 pub unclaimed_note : (parties : List Party) (notes : Notes) (claims : List Claim) (trace : TraceId) → map (claim_from parties) notes ≡ claims → claim_of claims trace ≡ None → lookup (same_trace trace) notes ≡ None
 unclaimed_note parties notes claims trace same none = at (lookup (same_trace trace) notes) refl
   where
-    at : (o : Option Note) → lookup (same_trace trace) notes ≡ o → o ≡ None
+    at : (o : Option ClaimNote) → lookup (same_trace trace) notes ≡ o → o ≡ None
     at None e = refl
     at (Some note) e =
         let some = noted_some (λ claim. claim.crumbs) (λ n. n.crumbs) parties notes claims trace note note.crumbs same (λ key n. refl) e refl in
@@ -133,7 +133,7 @@ unclaimed_note parties notes claims trace same none = at (lookup (same_trace tra
 
 -- ---- a crumb more
 
-pub crumb_noted : (parties : List Party) (notes : Notes) (claims : List Claim) (trace : TraceId) (node : NodeId) (note : Note) → map (claim_from parties) notes ≡ claims → lookup (same_trace trace) notes ≡ Some note
+pub crumb_noted : (parties : List Party) (notes : Notes) (claims : List Claim) (trace : TraceId) (node : NodeId) (note : ClaimNote) → map (claim_from parties) notes ≡ claims → lookup (same_trace trace) notes ≡ Some note
     → map (claim_from parties) (set_value (same_trace trace) notes (record note { crumbs = with_node note.crumbs node })) ≡ with_crumb claims trace node
 crumb_noted parties notes claims trace node note same found = at_notes notes found ∙ ap (λ cs. with_crumb cs trace node) same
   where
@@ -148,10 +148,10 @@ crumb_noted parties notes claims trace node note same found = at_notes notes fou
             ≡ cond b (record (claim_from parties n) { crumbs = with_node n.1.crumbs node } ∷ map (claim_from parties) notes) (claim_from parties n ∷ with_crumb (map (claim_from parties) notes) trace node)
         at true found rest =
             let own : note ≡ n.1 = cc in
-            ap (λ (m : Note). claim_from parties (n.0, record m { crumbs = with_node m.crumbs node }) ∷ map (claim_from parties) notes) own
+            ap (λ (m : ClaimNote). claim_from parties (n.0, record m { crumbs = with_node m.crumbs node }) ∷ map (claim_from parties) notes) own
         at false found rest = ap (λ cs. claim_from parties n ∷ cs) (rest found)
 
-pub are_noted-set : (parties : List Party) (notes : Notes) (trace : TraceId) (old new : Note) → AreNoted parties notes → lookup (same_trace trace) notes ≡ Some old → new.party ≡ old.party → AreNoted parties (set_value (same_trace trace) notes new)
+pub are_noted-set : (parties : List Party) (notes : Notes) (trace : TraceId) (old new : ClaimNote) → AreNoted parties notes → lookup (same_trace trace) notes ≡ Some old → new.party ≡ old.party → AreNoted parties (set_value (same_trace trace) notes new)
 are_noted-set parties [] trace old new all found same = tt
 are_noted-set parties (n ∷ notes) trace old new all found same = at (same_trace trace n.0) found (λ f. are_noted-set parties notes trace old new all.1 f same)
   where
@@ -159,10 +159,10 @@ are_noted-set parties (n ∷ notes) trace old new all found same = at (same_trac
         → AreNoted parties (cond b ((n.0, new) ∷ notes) (n ∷ set_value (same_trace trace) notes new))
     at true found rest =
         let own : n.1 ≡ old = cc in
-        (let less : n.1.party < length parties = all.0 in let k = ap (λ (m : Note). m.party) own in omega arith, all.1)
+        (let less : n.1.party < length parties = all.0 in let k = ap (λ (m : ClaimNote). m.party) own in omega arith, all.1)
     at false found rest = (all.0, rest found)
 
-pub crumb_there : (parties : List Party) (notes : Notes) (claims : List Claim) (trace : TraceId) (node : ℕ) (note : Note) → map (claim_from parties) notes ≡ claims → lookup (same_trace trace) notes ≡ Some note
+pub crumb_there : (parties : List Party) (notes : Notes) (claims : List Claim) (trace : TraceId) (node : ℕ) (note : ClaimNote) → map (claim_from parties) notes ≡ claims → lookup (same_trace trace) notes ≡ Some note
     → has_crumb claims trace node ≡ has_node note.crumbs node
 crumb_there parties notes claims trace node note same found =
     let some = noted_some (λ claim. has_node claim.crumbs node) (λ n. has_node n.crumbs node) parties notes claims trace note (has_node note.crumbs node) same (λ key n. refl) found refl in

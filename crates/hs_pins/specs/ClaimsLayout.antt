@@ -5,7 +5,7 @@ use Rattle.std.specs.List.{AllByRecursion}
 use Rattle.hs_base.specs.declared.ids.TraceId.{TraceId}
 use Rattle.hs_base.specs.declared.node_set.NodeSet.{NodeSet}
 use Rattle.hs_pins.specs.declared.claims.Party.{Party}
-use Rattle.hs_pins.specs.declared.claims.Note.{Note}
+use Rattle.hs_pins.specs.declared.claims.ClaimNote.{ClaimNote}
 use Rattle.hs_pins.specs.Remembered.{Claim}
 
 -- the claims, and for how many more there is room
@@ -23,9 +23,9 @@ abbrev pub claim_by : Party → TraceId → NodeSet → Claim
 claim_by party trace crumbs = record { trace = trace; group = party.group; laterals = party.laterals; crumbs = crumbs }
 
 -- the claim that is noted so
-abbrev pub claim_from : List Party → TraceId × Note → Claim
+abbrev pub claim_from : List Party → TraceId × ClaimNote → Claim
 claim_from parties noted = claim_by (party_at parties noted.1.party) noted.0 noted.1.crumbs
 
 -- each noted party is there
-abbrev pub AreNoted : List Party → List (TraceId × Note) → Type 0
-AreNoted parties notes = AllByRecursion (λ (noted : TraceId × Note). noted.1.party < length parties) notes
+abbrev pub AreNoted : List Party → List (TraceId × ClaimNote) → Type 0
+AreNoted parties notes = AllByRecursion (λ (noted : TraceId × ClaimNote). noted.1.party < length parties) notes

@@ -21,7 +21,7 @@ pub struct Party {
 /// What is noted of a claimed trace: the place of the party that claimed it, and the nodes to which its
 /// crumbs lead.
 #[derive(Clone, Copy)]
-pub struct Note {
+pub struct ClaimNote {
     pub party: usize,
     pub crumbs: NodeSet,
 }
@@ -30,7 +30,7 @@ pub struct Note {
 /// laterals. Contracts see the claims, and for how many more there is room.
 #[derive(Drop)]
 pub struct Claims {
-    notes: IndexMap<TraceId, Note>,
+    notes: IndexMap<TraceId, ClaimNote>,
     parties: List<Party>,
 }
 
@@ -105,7 +105,7 @@ impl Claims {
         ensures { self.new.claims ≡ self.old.claims ++ claim_by party trace crumbs ∷ [] }
     {
         let party = place_of(&mut self.parties, party);
-        match self.notes.insert(trace, Note { party, crumbs }) {
+        match self.notes.insert(trace, ClaimNote { party, crumbs }) {
             Ok(_) => {}
             Err(_) => unreachable!(),
         }

@@ -6,7 +6,7 @@ use Rattle.std.proofs.lemmas.List.{reverse-append}
 use Rattle.std.proofs.lemmas.List.Sums.{sum_by-cons, sum_by-append}
 use Rattle.std.proofs.lemmas.Bool.{cases_lt}
 use Rattle.hs_lists.proofs.Counts.{count_cons}
-use Rattle.hs_words.specs.PoolHistory.{Event, Got, Empty, Given, Missed, is_got, is_given, queue_after, MayFollow, IsHistoryBack}
+use Rattle.hs_words.specs.PoolHistory.{PoolEvent, Got, Empty, Given, Missed, is_got, is_given, queue_after, MayFollow, IsHistoryBack}
 pub use Rattle.hs_words.proofs.Waiting.{is}
 use Rattle.hs_words.proofs.Waiting.{balance, none_above, once_within, at_most_one}
 use Rattle.hs_pool.specs.Pool.{Pool, IsAfter, IsOut, waiting}
@@ -39,13 +39,13 @@ within_or_none n number some =
     ⊎_elim (λ less. less) (λ above. absurd (omega (arith, none_above 0 n number (omega arith)))) (cases_lt number n)
 
 -- A buffer is out exactly where it was got more often than given.
-pub out_is_given : (pool : Pool) (history : List Event) (number : ℕ) → IsAfter history pool → IsOut pool number → MayFollow pool.buffers (reverse history) (Given number)
+pub out_is_given : (pool : Pool) (history : List PoolEvent) (number : ℕ) → IsAfter history pool → IsOut pool number → MayFollow pool.buffers (reverse history) (Given number)
 out_is_given pool history number after out =
     let earlier = reverse history in
     let none : count_by (is number) (queue_after pool.buffers earlier) ≡ 0 = subst (λ (xs : List ℕ). count_by (is number) xs ≡ 0) after.queue (none_counted number (waiting pool) out.1) in
     omega (arith, none, balance pool.buffers number earlier after.lawful, once_within 0 pool.buffers number (omega arith) (omega (arith, out.0)))
 
-pub given_is_out : (pool : Pool) (history : List Event) (number : ℕ) → IsAfter history pool → MayFollow pool.buffers (reverse history) (Given number) → IsOut pool number
+pub given_is_out : (pool : Pool) (history : List PoolEvent) (number : ℕ) → IsAfter history pool → MayFollow pool.buffers (reverse history) (Given number) → IsOut pool number
 given_is_out pool history number after may =
     let earlier = reverse history in
     let balanced = balance pool.buffers number earlier after.lawful in
@@ -56,7 +56,7 @@ given_is_out pool history number after may =
     )
 
 -- One more event that may follow.
-pub extended : (pool new : Pool) (history : List Event) (event : Event) → IsAfter history pool → MayFollow pool.buffers (reverse history) event → new.buffers ≡ pool.buffers
+pub extended : (pool new : Pool) (history : List PoolEvent) (event : PoolEvent) → IsAfter history pool → MayFollow pool.buffers (reverse history) event → new.buffers ≡ pool.buffers
     → waiting new ≡ queue_after pool.buffers (event ∷ reverse history) → new.events ≡ pool.events + 1 → IsAfter (history ++ event ∷ []) new
 extended pool new history event after may buffers queue events =
     let turned : reverse (history ++ event ∷ []) ≡ event ∷ reverse history = reverse-append history (event ∷ []) in

@@ -9,7 +9,7 @@ use Rattle.hs_words.specs.declared.token.Drawn.{Drawn}
 use Rattle.hs_words.specs.declared.token.Drawn.TheVariants as drawn
 use Rattle.hs_words.specs.declared.token.Given.{Given as Answer}
 use Rattle.hs_words.specs.declared.token.Given.TheVariants as given
-use Rattle.hs_words.specs.PoolHistory.{Event, Got, Given, IsPoolHistory, queue_after}
+use Rattle.hs_words.specs.PoolHistory.{PoolEvent, Got, Given, IsPoolHistory, queue_after}
 
 pub record Pool : Type 0 where
   pub buffers : ℕ
@@ -24,14 +24,14 @@ abbrev pub waiting : Pool → List ℕ
 waiting pool = map number_of pool.queue
 
 -- The pool is as these events leave it, of which the first stands first.
-pub record IsAfter (history : List Event) (pool : Pool) : Type 0 where
+pub record IsAfter (history : List PoolEvent) (pool : Pool) : Type 0 where
   pub lawful : IsPoolHistory pool.buffers history
   pub queue : waiting pool ≡ queue_after pool.buffers (reverse history)
   pub events : pool.events ≡ length history
 
 -- Whatever history the old pool is after, the new one is after that history and this event.
-abbrev pub Extends : Pool → Event → Pool → Type 0
-Extends old event new = (history : List Event) → IsAfter history old → IsAfter (history ++ event ∷ []) new
+abbrev pub Extends : Pool → PoolEvent → Pool → Type 0
+Extends old event new = (history : List PoolEvent) → IsAfter history old → IsAfter (history ++ event ∷ []) new
 
 -- whether a buffer with this number waits
 abbrev pub is_waiting : Pool → ℕ → Bool

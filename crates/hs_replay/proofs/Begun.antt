@@ -12,15 +12,15 @@ use Rattle.hs_law_journal.specs.Following.{asks_to, is_from, Run, node_start}
 use Rattle.hs_law_lockstep.specs.Lockstep.{machine_start, done_at}
 use Rattle.hs_law_lockstep.specs.Parts.{node_at, heard_in}
 use Rattle.hs_law_lockstep.specs.Reaching.{MachinesStartSo}
-use Rattle.hs_replay_client.specs.Places.{IsAt}
-use Rattle.hs_replay_client.specs.Playing.{Playing}
+use Rattle.hs_replay_client.specs.Places.{ReplayClientIsAt}
+use Rattle.hs_replay_client.specs.ReplayClients.{PlainReplayClient}
 use Rattle.hs_pool.specs.Pool.{Pool, IsAfter}
 use Rattle.hs_records.specs.Plain.{PlainSettings, PlainWorkload, Operation}
 use Rattle.hs_law_sends.specs.Sending.{operations_at, place_of}
 use Rattle.hs_words.specs.Chunks.{Contents, clear_chunk, clear_chunks}
-use Rattle.hs_words.specs.PoolHistory.{Event}
+use Rattle.hs_words.specs.PoolHistory.{PoolEvent}
 use Rattle.hs_replay.specs.Making.{AreNew}
-use Rattle.hs_replay.specs.Parts.{Parts}
+use Rattle.hs_replay.specs.Parts.{PlainReplayNode}
 use Rattle.hs_replay.specs.Standing.{PoolStands, NodeIsAt}
 
 -- ---- lists of nothing
@@ -57,7 +57,7 @@ module _ (starts : MachinesStartSo) (W : PlainWorkload) (n : ℕ) (low : n < W.s
   none_heard : heard_in W J ≡ []
   none_heard = ap (λ (r : Run). r.heard) (starts W).run
 
-  pub new_node : (node : Parts) → AreNew W n W.settings.clients node.players → Follows node.agent (new_run W.settings n) → PoolStands W.settings [] node.pool → node.asks ≡ [] → node.said ≡ []
+  pub new_node : (node : PlainReplayNode) → AreNew W n W.settings.clients node.players → Follows node.agent (new_run W.settings n) → PoolStands W.settings [] node.pool → node.asks ≡ [] → node.said ≡ []
       → NodeIsAt W (machine_start W) n node
   new_node node players agent pool asks said =
       record {
@@ -73,8 +73,8 @@ module _ (starts : MachinesStartSo) (W : PlainWorkload) (n : ℕ) (low : n < W.s
                     each =
                         λ client player at.
                         let place = place_of W.settings.clients n client in
-                        subst (λ (d : List Draw). IsAt W.settings (record { node = n; number = client }) (operations_at W place) d (done_at (machine_start W) place) 0 0 0 player) (sym (none_of W.clients place))
-                        (subst (λ k. IsAt W.settings (record { node = n; number = client }) (operations_at W place) [] k 0 0 0 player) (sym (zero_of W.clients place)) (players.each client player at));
+                        subst (λ (d : List Draw). ReplayClientIsAt W.settings (record { node = n; number = client }) (operations_at W place) d (done_at (machine_start W) place) 0 0 0 player) (sym (none_of W.clients place))
+                        (subst (λ k. ReplayClientIsAt W.settings (record { node = n; number = client }) (operations_at W place) [] k 0 0 0 player) (sym (zero_of W.clients place)) (players.each client player at));
                   };
               agent =
                   record {
@@ -84,7 +84,7 @@ module _ (starts : MachinesStartSo) (W : PlainWorkload) (n : ℕ) (low : n < W.s
                     lent = tt;
                     sheets = refl;
                   };
-              pool = subst (λ (h : List Event). PoolStands W.settings h node.pool) (sym ((starts W).pools n (node_start W J n) there)) pool;
+              pool = subst (λ (h : List PoolEvent). PoolStands W.settings h node.pool) (sym ((starts W).pools n (node_start W J n) there)) pool;
               asks = record { front = []; all_is = ap (asks_to n) none_heard ∙ sym asks; count = refl };
               said = record { front = []; all_is = sym said; count = sym (ap (λ (h : Messages). count_by (is_from (record { 0 = n })) h) none_heard) };
             };
@@ -92,8 +92,8 @@ module _ (starts : MachinesStartSo) (W : PlainWorkload) (n : ℕ) (low : n < W.s
 
 -- ---- its clients
 
-pub one_more_new : (W : PlainWorkload) (n client : ℕ) (players : List Playing) (player : Playing) → AreNew W n client players
-    → IsAt W.settings (record { node = n; number = client }) (operations_at W (place_of W.settings.clients n client)) [] 0 0 0 0 player → AreNew W n (client + 1) (players ++ player ∷ [])
+pub one_more_new : (W : PlainWorkload) (n client : ℕ) (players : List PlainReplayClient) (player : PlainReplayClient) → AreNew W n client players
+    → ReplayClientIsAt W.settings (record { node = n; number = client }) (operations_at W (place_of W.settings.clients n client)) [] 0 0 0 0 player → AreNew W n (client + 1) (players ++ player ∷ [])
 one_more_new W n client players player new at =
     record {
       many = let all = length-append players (player ∷ []) in let many = new.many in omega (arith, all, many);
@@ -103,17 +103,17 @@ one_more_new W n client players player new at =
             | inl h ↦ new.each other p h
             | inr h ↦
                 let same : client ≡ other = sym new.many ∙ h.0 in
-                subst (λ (q : Playing). IsAt W.settings (record { node = n; number = other }) (operations_at W (place_of W.settings.clients n other)) [] 0 0 0 0 q) h.1
-                (subst (λ i. IsAt W.settings (record { node = n; number = i }) (operations_at W (place_of W.settings.clients n i)) [] 0 0 0 0 player) same at)
+                subst (λ (q : PlainReplayClient). ReplayClientIsAt W.settings (record { node = n; number = other }) (operations_at W (place_of W.settings.clients n other)) [] 0 0 0 0 q) h.1
+                (subst (λ i. ReplayClientIsAt W.settings (record { node = n; number = i }) (operations_at W (place_of W.settings.clients n i)) [] 0 0 0 0 player) same at)
           ];
     }
 
--- what a client's player is made with
-pub player_made : (W : PlainWorkload) (n client : ℕ) (settings : PlainSettings) (ops : List Operation) (player : Playing) → settings ≡ W.settings → ops ≡ operations_at W (place_of W.settings.clients n client)
-    → IsAt settings (record { node = n; number = client }) ops [] 0 0 0 0 player → IsAt W.settings (record { node = n; number = client }) (operations_at W (place_of W.settings.clients n client)) [] 0 0 0 0 player
+-- what a client is made with
+pub player_made : (W : PlainWorkload) (n client : ℕ) (settings : PlainSettings) (ops : List Operation) (player : PlainReplayClient) → settings ≡ W.settings → ops ≡ operations_at W (place_of W.settings.clients n client)
+    → ReplayClientIsAt settings (record { node = n; number = client }) ops [] 0 0 0 0 player → ReplayClientIsAt W.settings (record { node = n; number = client }) (operations_at W (place_of W.settings.clients n client)) [] 0 0 0 0 player
 player_made W n client settings ops player e f at =
-    subst (λ (s : PlainSettings). IsAt s (record { node = n; number = client }) (operations_at W (place_of W.settings.clients n client)) [] 0 0 0 0 player) e
-    (subst (λ (o : List Operation). IsAt settings (record { node = n; number = client }) o [] 0 0 0 0 player) f at)
+    subst (λ (s : PlainSettings). ReplayClientIsAt s (record { node = n; number = client }) (operations_at W (place_of W.settings.clients n client)) [] 0 0 0 0 player) e
+    (subst (λ (o : List Operation). ReplayClientIsAt settings (record { node = n; number = client }) o [] 0 0 0 0 player) f at)
 
 -- a pool of clear buffers
 pub new_pool : (settings : PlainSettings) (pool : Pool) (chunks : List Contents) → chunks ≡ clear_chunks settings.buffers settings.size → pool.queue ≡ chunks → IsAfter [] pool → pool.buffers ≡ length chunks

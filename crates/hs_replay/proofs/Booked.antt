@@ -14,7 +14,7 @@ use Rattle.hs_lists.proofs.Parts.{take_whole}
 use Rattle.hs_lists.proofs.Numbers.{suc_le}
 use Rattle.hs_base.specs.declared.ids.NodeId.{NodeId}
 use Rattle.hs_coord.specs.Following.{Message, Messages}
-use Rattle.hs_coord.specs.Kept.{Kept, HasTaken}
+use Rattle.hs_coord.specs.Kept.{PlainCoordinator, HasTaken}
 use Rattle.hs_base.specs.declared.ids.ClientId.{ClientId}
 use Rattle.hs_client.specs.Calls.{note_of}
 use Rattle.hs_journal.specs.Books.{PlainAgentBook, PlainClientBook, agent_book_of, client_book_of}
@@ -33,7 +33,7 @@ use Rattle.hs_records.specs.Plain.{PlainWorkload}
 use Rattle.hs_law_sends.specs.Sending.{draws_at, operations_at, place_of}
 use Rattle.hs_replay.specs.All.{AllClosed}
 use Rattle.hs_replay.specs.Finishing.{HasEnded, IsBookAt, client_noted}
-use Rattle.hs_replay.specs.Parts.{Parts}
+use Rattle.hs_replay.specs.Parts.{PlainReplayNode}
 
 -- ---- lists
 
@@ -69,7 +69,7 @@ node_books W m n =
     let place = n * W.settings.clients + i in
     ap (client_noted W m n) zero_on ∙ ap (λ (c : ClientId). record { client = c; draws = draws_at m.journal place; pages = map note_of (pages_of W.settings.size (operations_at W place)) }) (client_is W.settings.clients n i low))
 
-module _ (whole : MachinesAreWhole) (W : PlainWorkload) (nodes : List Parts) (coordinator : Kept) (closed : AllClosed W nodes coordinator) where
+module _ (whole : MachinesAreWhole) (W : PlainWorkload) (nodes : List PlainReplayNode) (coordinator : PlainCoordinator) (closed : AllClosed W nodes coordinator) where
   abbrev pub last : Machine
   last = closed.last
 
@@ -77,7 +77,7 @@ module _ (whole : MachinesAreWhole) (W : PlainWorkload) (nodes : List Parts) (co
   run = followed W closed.last.journal
 
   -- a node has ended
-  pub has_ended : (n : ℕ) (node : Parts) → slice_get nodes n ≡ Some node → HasEnded W closed.last n node
+  pub has_ended : (n : ℕ) (node : PlainReplayNode) → slice_get nodes n ≡ Some node → HasEnded W closed.last n node
   has_ended n node stood =
       let at = closed.at.nodes_are.each n node stood in
       let within = slice_get_within nodes n node stood in
@@ -126,7 +126,7 @@ module _ (whole : MachinesAreWhole) (W : PlainWorkload) (nodes : List Parts) (co
       so ∙ ap (map book_at) (take_whole run.nodes k enough) ∙ ap (λ (J : PlainJournal). agent_books (followed W J)) closed.journal
 
 -- the nodes that told what the coordinator heard
-pub told_is : MachinesAreWhole → (W : PlainWorkload) (nodes : List Parts) (coordinator : Kept) (closed : AllClosed W nodes coordinator) (names : List NodeId)
+pub told_is : MachinesAreWhole → (W : PlainWorkload) (nodes : List PlainReplayNode) (coordinator : PlainCoordinator) (closed : AllClosed W nodes coordinator) (names : List NodeId)
     → ((messages : Messages) → HasTaken coordinator messages → names ≡ map (λ (m : Message). m.node) messages) → names ≡ (lockstep W).told
 told_is whole W nodes coordinator closed names log =
     log (heard_in W closed.last.journal) closed.at.coordinator_is.taken ∙ (whole W closed.at.valid closed.last closed.at.reached).told ∙ ap (λ (J : PlainJournal). J.told) closed.journal

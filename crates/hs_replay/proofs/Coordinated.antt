@@ -9,7 +9,7 @@ use Rattle.hs_lists.proofs.Counts.{count_push}
 use Rattle.hs_base.specs.declared.limits.TheConstants.{MAX_TAKEN}
 use Rattle.hs_base.specs.declared.ids.NodeId.{NodeId}
 use Rattle.hs_coord.specs.Following.{Message, Messages}
-use Rattle.hs_coord.specs.Kept.{Kept}
+use Rattle.hs_coord.specs.Kept.{PlainCoordinator}
 use Rattle.hs_records.specs.Plain.{PlainWorkload}
 use Rattle.hs_law_journal.specs.Following.{is_from, NodeRun, Run, message_of, followed}
 use Rattle.hs_law_lockstep.specs.Lockstep.{Machine, told_of, coordinator_hears}
@@ -19,7 +19,7 @@ use Rattle.hs_law_lockstep.specs.Reaching.{Hears, MachinesAreWhole}
 use Rattle.hs_law_lockstep.proofs.Standing.{message_named}
 use Rattle.hs_replay.specs.All.{HasHeard, AllAt}
 use Rattle.hs_replay.specs.Hearing.{name_of, waiting, HearsNode, HeardUpTo}
-use Rattle.hs_replay.specs.Parts.{Parts}
+use Rattle.hs_replay.specs.Parts.{PlainReplayNode}
 use Rattle.hs_replay.specs.Standing.{NodeIsHeard}
 
 -- ---- lists
@@ -78,7 +78,7 @@ module _ (whole : MachinesAreWhole) (steps : StepByStep) (W : PlainWorkload) (m 
   abbrev run : Run
   run = followed W m.journal
 
-  pub heard_none_yet : (nodes : List Parts) (coordinator : Kept) → AllAt W m nodes coordinator → HeardUpTo W m 0 nodes coordinator
+  pub heard_none_yet : (nodes : List PlainReplayNode) (coordinator : PlainCoordinator) → AllAt W m nodes coordinator → HeardUpTo W m 0 nodes coordinator
   heard_none_yet nodes coordinator all =
       record {
         next = heard_in W m.journal;
@@ -86,7 +86,7 @@ module _ (whole : MachinesAreWhole) (steps : StepByStep) (W : PlainWorkload) (m 
         all = record { valid = all.valid; reached = all.reached; nodes_are = all.nodes_are; coordinator_is = all.coordinator_is };
       }
 
-  module _ (k : ℕ) (nodes : List Parts) (coordinator : Kept) (h : HeardUpTo W m k nodes coordinator) (later : List Parts) (kept : Kept) (node : HearsNode W m h.next k later kept) where
+  module _ (k : ℕ) (nodes : List PlainReplayNode) (coordinator : PlainCoordinator) (h : HeardUpTo W m k nodes coordinator) (later : List PlainReplayNode) (kept : PlainCoordinator) (node : HearsNode W m h.next k later kept) where
     numbers : (i : ℕ) (node : NodeRun) → slice_get run.nodes i ≡ Some node → node.node ≡ 0 + i
     numbers i node at = let number = ((whole W h.all.valid m h.all.reached).each i node at).number in omega (arith, number)
 
@@ -118,7 +118,7 @@ module _ (whole : MachinesAreWhole) (steps : StepByStep) (W : PlainWorkload) (m 
         }
 
   -- all nodes were heard
-  pub heard_through : CoordinatorHearsSo → (k : ℕ) (nodes : List Parts) (coordinator : Kept) → length nodes ≤ k → HeardUpTo W m k nodes coordinator → AllAt W (coordinator_hears W m) nodes coordinator
+  pub heard_through : CoordinatorHearsSo → (k : ℕ) (nodes : List PlainReplayNode) (coordinator : PlainCoordinator) → length nodes ≤ k → HeardUpTo W m k nodes coordinator → AllAt W (coordinator_hears W m) nodes coordinator
   heard_through hears k nodes coordinator low h =
       let new = coordinator_hears W m in
       let c = hears W h.all.valid m h.all.reached in
@@ -135,7 +135,7 @@ module _ (whole : MachinesAreWhole) (steps : StepByStep) (W : PlainWorkload) (m 
         coordinator_is = subst (λ (heard : Messages). HasHeard W heard coordinator) is h.all.coordinator_is;
       }
     where
-      moved : (n : ℕ) (node : Parts) → (followed W (coordinator_hears W m).journal).nodes ≡ run.nodes → NodeIsHeard W m h.next n node → NodeIsHeard W (coordinator_hears W m) h.next n node
+      moved : (n : ℕ) (node : PlainReplayNode) → (followed W (coordinator_hears W m).journal).nodes ≡ run.nodes → NodeIsHeard W m h.next n node → NodeIsHeard W (coordinator_hears W m) h.next n node
       moved n node same i =
           let s = i.stands in
           record {

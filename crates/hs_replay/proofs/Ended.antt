@@ -10,12 +10,12 @@ use Rattle.hs_law_journal.specs.Following.{Chunks, Crumbs, Triggers, taken}
 use Rattle.hs_law_lockstep.specs.Lockstep.{Machine}
 use Rattle.hs_law_agent.specs.Books.{book_of}
 use Rattle.hs_law_agent.specs.State.{AgentState}
-use Rattle.hs_replay_client.specs.Places.{IsAt, IsDone, Notes}
-use Rattle.hs_replay_client.specs.Playing.{Playing}
+use Rattle.hs_replay_client.specs.Places.{ReplayClientIsAt, IsDone, Notes}
+use Rattle.hs_replay_client.specs.ReplayClients.{PlainReplayClient}
 use Rattle.hs_records.specs.Plain.{PlainWorkload}
 use Rattle.hs_law_sends.specs.Sending.{draws_at, operations_at, place_of}
 use Rattle.hs_replay.specs.Finishing.{HasEnded, HaveEnded, IsBookAt, client_noted}
-use Rattle.hs_replay.specs.Parts.{Parts}
+use Rattle.hs_replay.specs.Parts.{PlainReplayNode}
 use Rattle.hs_replay.specs.Standing.{run_of}
 use Rattle.hs_replay.proofs.LeftOver.{player_at}
 
@@ -28,7 +28,7 @@ range_more f start (suc count) =
 -- ---- clients
 
 -- a client that is to be noted has done all
-pub is_done : (W : PlainWorkload) (m : Machine) (n : ℕ) (players : List Playing) (place : ℕ) (player : Playing) → HaveEnded W m n players → slice_get players place ≡ Some player → IsDone player
+pub is_done : (W : PlainWorkload) (m : Machine) (n : ℕ) (players : List PlainReplayClient) (place : ℕ) (player : PlainReplayClient) → HaveEnded W m n players → slice_get players place ≡ Some player → IsDone player
 is_done W m n players place player ended stood =
     let at = ended.each place player stood in
     record {
@@ -43,7 +43,7 @@ is_done W m n players place player ended stood =
     }
 
 -- the books with one more
-pub noted_more : (W : PlainWorkload) (m : Machine) (n : ℕ) (players : List Playing) (seen : List Playing) (player : Playing) (before books : List ClientBook) (book : ClientBook) → HaveEnded W m n players
+pub noted_more : (W : PlainWorkload) (m : Machine) (n : ℕ) (players : List PlainReplayClient) (seen : List PlainReplayClient) (player : PlainReplayClient) (before books : List ClientBook) (book : ClientBook) → HaveEnded W m n players
     → slice_get players (length seen) ≡ Some player → Notes player (client_book_of book)
     → map client_book_of books ≡ map client_book_of before ++ map (client_noted W m n) (range_with_len 0 (length seen))
     → map client_book_of (books ++ book ∷ []) ≡ map client_book_of before ++ map (client_noted W m n) (range_with_len 0 (length (seen ++ player ∷ [])))
@@ -61,7 +61,7 @@ noted_more W m n players seen player before books book ended stood notes so =
 
 -- ---- the node
 
-pub have_ended : (W : PlainWorkload) (m : Machine) (n : ℕ) (node : Parts) → HasEnded W m n node → HaveEnded W m n node.players
+pub have_ended : (W : PlainWorkload) (m : Machine) (n : ℕ) (node : PlainReplayNode) → HasEnded W m n node → HaveEnded W m n node.players
 have_ended W m n node ended =
     record {
       count = ended.at.stands.players.count;
@@ -73,17 +73,17 @@ have_ended W m n node ended =
             taken (Chunks client) ended.at.run.state.log,
             taken (Crumbs client) ended.at.run.state.log,
             taken (Triggers client) ended.at.run.state.log,
-            subst (λ k. IsAt W.settings (record { node = n; number = client }) (operations_at W place) (draws_at m.journal place) k (taken (Chunks client) ended.at.run.state.log) (taken (Crumbs client) ended.at.run.state.log)
+            subst (λ k. ReplayClientIsAt W.settings (record { node = n; number = client }) (operations_at W place) (draws_at m.journal place) k (taken (Chunks client) ended.at.run.state.log) (taken (Crumbs client) ended.at.run.state.log)
                 (taken (Triggers client) ended.at.run.state.log) player) (ended.done client (omega (arith, within, count))) (player_at W m n client node player ended.at stood),
           );
     }
 
-pub may_finish : (W : PlainWorkload) (m : Machine) (n : ℕ) (node : Parts) → HasEnded W m n node → Knows node.agent (λ run. ((state_of run).pinned ≡ []) × (run.offered ≡ None))
+pub may_finish : (W : PlainWorkload) (m : Machine) (n : ℕ) (node : PlainReplayNode) → HasEnded W m n node → Knows node.agent (λ run. ((state_of run).pinned ≡ []) × (run.offered ≡ None))
 may_finish W m n node ended =
     λ working.
     let at = ended.at.stands.agent in
     (run_of W.settings ended.at.run at.buffers None, at.follows, (ap (λ (s : AgentState). s.pinned) (sym at.comes) ∙ ended.none, refl))
 
-pub book_at : (W : PlainWorkload) (m : Machine) (n : ℕ) (node : Parts) (ended : HasEnded W m n node) (book : PlainAgentBook)
+pub book_at : (W : PlainWorkload) (m : Machine) (n : ℕ) (node : PlainReplayNode) (ended : HasEnded W m n node) (book : PlainAgentBook)
     → book ≡ book_of ended.at.run.node (state_of (run_of W.settings ended.at.run ended.at.stands.agent.buffers None)) → IsBookAt W m n book
 book_at W m n node ended book e = record { run = ended.at.run; at = ended.at.at; is = e ∙ ap (book_of ended.at.run.node) (sym ended.at.stands.agent.comes) }

@@ -5,7 +5,7 @@ use Rattle.std.specs.List.{range_with_len}
 use Rattle.std.specs.Option.{option_and_then}
 use Rattle.std.proofs.lemmas.Bool.{cases_lt}
 use Rattle.std.proofs.lemmas.Option.{same_Some}
-use Rattle.hs_agent.specs.Keeping.{Keeping}
+use Rattle.hs_agent.specs.Keeping.{PlainAgent}
 use Rattle.std.proofs.lemmas.List.{length-drop}
 use Rattle.hs_lists.proofs.Parts.{length_map, take_whole}
 use Rattle.hs_lists.proofs.Alls.{all_at, all_each}
@@ -23,7 +23,7 @@ use Rattle.hs_law_journal.specs.Performing.{after_steps, StepByStep}
 use Rattle.hs_law_agent.specs.Laws.{EventsGoOn, EventsAddThis, StepsSayWhatTheyTell, sheets_of}
 use Rattle.hs_law_agent.specs.Standings.{Taken}
 use Rattle.hs_law_agent.specs.State.{AgentState}
-use Rattle.hs_law_agent.specs.Stepping.{Event, Gave, Given, after_event}
+use Rattle.hs_law_agent.specs.Stepping.{AgentEvent, Gave, Given, after_event}
 use Rattle.hs_pool.specs.Pool.{Pool, IsAfter, IsGiven, IsOut, HasSize}
 use Rattle.hs_words.specs.declared.token.Given.{Given as Answer}
 use Rattle.hs_words.specs.declared.token.Given.TheVariants as answers
@@ -33,16 +33,16 @@ use Rattle.hs_words.specs.Buffers.{Buffer}
 use Rattle.hs_words.specs.Pages.{Sheet}
 use Rattle.hs_words.specs.PoolHistory as pools
 use Rattle.hs_base.specs.declared.told.Told.{Told}
-use Rattle.hs_replay.specs.Parts.{Parts}
+use Rattle.hs_replay.specs.Parts.{PlainReplayNode}
 use Rattle.hs_replay.specs.Passing.{StandsStill, IsGiving, GivesNextOf}
-use Rattle.hs_replay.specs.Standing.{Remain, PlayersStand, NodeIsAt, IsLent, run_of}
+use Rattle.hs_replay.specs.Standing.{Remain, ReplayClientsStand, NodeIsAt, IsLent, run_of}
 use Rattle.hs_replay.proofs.Readying.{none_moves}
 use Rattle.hs_replay.proofs.Passed.{with_steps_stand, restand}
 use Rattle.hs_replay.proofs.Taken.{one_more}
 
 -- what the pool's law says
 abbrev pub WhatIsOut : Type 0
-WhatIsOut = (pool : Pool) (history : List pools.Event) (number : ℕ) → IsAfter history pool → (IsOut pool number ↔ pools.MayFollow pool.buffers (reverse history) (pools.Given number))
+WhatIsOut = (pool : Pool) (history : List pools.PoolEvent) (number : ℕ) → IsAfter history pool → (IsOut pool number ↔ pools.MayFollow pool.buffers (reverse history) (pools.Given number))
 
 -- ---- lists
 
@@ -79,7 +79,7 @@ taken_there (b ∷ buffers) (chunk ∷ taken_chunks) zero buffer e at f =
     ap f (sym first) ∙ ap (λ (x : Buffer (Unit {0})). f (sheet_in x)) (same_Some b buffer at)
 taken_there (b ∷ buffers) (chunk ∷ taken_chunks) (suc place) buffer e at f = let rest : map sheet_in buffers ≡ sheets_of taken_chunks = cc in taken_there buffers taken_chunks place buffer rest at f
 
-module _ (W : PlainWorkload) (m : Machine) (n : ℕ) (start : NodeRun) (given : ℕ) (old : Parts) (giving : IsGiving W m n start given old) where
+module _ (W : PlainWorkload) (m : Machine) (n : ℕ) (start : NodeRun) (given : ℕ) (old : PlainReplayNode) (giving : IsGiving W m n start given old) where
   abbrev pub now : NodeRun
   now = giving.run
 
@@ -110,7 +110,7 @@ module _ (W : PlainWorkload) (m : Machine) (n : ℕ) (start : NodeRun) (given : 
       ]
 
   -- the agent and all other parts stand where they stood when nothing was offered
-  pub none_offered : AgentsGiveSo → (agent : Keeping (Unit {0})) → Follows agent (after_offer before_offer) → (state_of before_offer).hand ≡ [] → IsGiving W m n start given (record old { agent = agent }) × (given ≡ length start.state.hand)
+  pub none_offered : AgentsGiveSo → (agent : PlainAgent (Unit {0})) → Follows agent (after_offer before_offer) → (state_of before_offer).hand ≡ [] → IsGiving W m n start given (record old { agent = agent }) × (given ≡ length start.state.hand)
   none_offered so agent follows empty =
       let none : first_place (state_of before_offer) ≡ None = ap (λ (l : List ℕ). slice_get l 0) empty in (
         record {
@@ -204,13 +204,13 @@ module _ (W : PlainWorkload) (m : Machine) (n : ℕ) (start : NodeRun) (given : 
     pub few_events : old.pool.events < 2 ^ 64 - 1
     few_events = let few = g.few in let events = giving.stands.pool.after.events in omega (arith, few, events)
 
-    pub was_offered : (agent : Keeping (Unit {0})) → Follows agent (after_offer before_offer) → Knows agent (λ r. IsSome r.offered)
+    pub was_offered : (agent : PlainAgent (Unit {0})) → Follows agent (after_offer before_offer) → Knows agent (λ r. IsSome r.offered)
     was_offered agent follows = λ working. (after_offer before_offer, follows, subst (λ (o : Option ℕ). IsSome o) (sym (ap (λ (l : List ℕ). slice_get l 0) hand_is ∙ g.first)) refl)
 
     abbrev stamp : ℕ
     stamp = length (pool_events start) + given
 
-    abbrev event : Event
+    abbrev event : AgentEvent
     event = Gave (Given stamp)
 
     abbrev next : NodeRun
@@ -219,7 +219,7 @@ module _ (W : PlainWorkload) (m : Machine) (n : ℕ) (start : NodeRun) (given : 
     ready : event_of now (heard_in W m.journal) (steps.Given stamp) ≡ Some event
     ready = ap (option_map (λ _. Gave (Given stamp))) g.first
 
-    module _ (by_steps : StepByStep) (go_on : EventsGoOn) (adds : EventsAddThis) (says : StepsSayWhatTheyTell) (agent : Keeping (Unit {0})) (pool : Pool) (answered : ℕ) (stamped : answered ≡ old.pool.events)
+    module _ (by_steps : StepByStep) (go_on : EventsGoOn) (adds : EventsAddThis) (says : StepsSayWhatTheyTell) (agent : PlainAgent (Unit {0})) (pool : Pool) (answered : ℕ) (stamped : answered ≡ old.pool.events)
         (follows : Follows agent (run_of W.settings (perform W.settings [] now (Gave (Given answered))) held None)) (after_give : IsAfter (pool_history now ++ pools.Given buffer.chunk.number ∷ []) pool)
         (buffers : pool.buffers ≡ old.pool.buffers) (size : HasSize W.settings.size old.pool → buffer.chunk.size ≡ W.settings.size → HasSize W.settings.size pool) where
       stamp_is : answered ≡ stamp
@@ -250,7 +250,7 @@ module _ (W : PlainWorkload) (m : Machine) (n : ℕ) (start : NodeRun) (given : 
                 record {
                   sends = giving.stands.sends;
                   players =
-                      subst (λ (log : List Step). PlayersStand W m now.node log old.players) (sym log_is)
+                      subst (λ (log : List Step). ReplayClientsStand W m now.node log old.players) (sym log_is)
                       (none_moves W m now.node now.state.log (steps.Given stamp) old.players (λ client. (refl, refl, refl)) giving.stands.players);
                   agent =
                       record {
@@ -262,7 +262,7 @@ module _ (W : PlainWorkload) (m : Machine) (n : ℕ) (start : NodeRun) (given : 
                       };
                   pool =
                       record {
-                        after = subst (λ (h : List pools.Event). IsAfter h pool) (sym history_is) after_give;
+                        after = subst (λ (h : List pools.PoolEvent). IsAfter h pool) (sym history_is) after_give;
                         buffers = buffers ∙ giving.stands.pool.buffers;
                         size = size giving.stands.pool.size is_lent.size;
                       };
@@ -285,7 +285,7 @@ given_so (answers.Unread back) at is = absurd is
 -- ---- the whole
 
 -- nothing is given yet
-pub begun : (W : PlainWorkload) (m : Machine) (n : ℕ) (node : Parts) (still : StandsStill W m n node) → IsGiving W m n still.at.run 0 node
+pub begun : (W : PlainWorkload) (m : Machine) (n : ℕ) (node : PlainReplayNode) (still : StandsStill W m n node) → IsGiving W m n still.at.run 0 node
 begun W m n node still =
     record {
       valid = still.valid;
@@ -298,7 +298,7 @@ begun W m n node still =
       stands = still.at.stands;
     }
 
-pub gave_all : AgentsGiveSo → (W : PlainWorkload) (m : Machine) (n : ℕ) (start : NodeRun) (given : ℕ) (node : Parts) (giving : IsGiving W m n start given node) → given ≡ length start.state.hand → NodeIsAt W (agents_give W m) n node
+pub gave_all : AgentsGiveSo → (W : PlainWorkload) (m : Machine) (n : ℕ) (start : NodeRun) (given : ℕ) (node : PlainReplayNode) (giving : IsGiving W m n start given node) → given ≡ length start.state.hand → NodeIsAt W (agents_give W m) n node
 gave_all so W m n start given node giving all =
     let law : AgentGives W m (agents_give W m) n start = so W giving.valid m giving.reached n start giving.at in
     let count : length (give_steps start) ≤ given = let every = count_gives start in omega (arith, all, every) in
@@ -314,9 +314,9 @@ gave_all so W m n start given node giving all =
     }
 
 -- what a flag says
-pub gave_one : (W : PlainWorkload) (m : Machine) (n : ℕ) (start : NodeRun) (given : ℕ) (node : Parts) (flag : Bool) → flag ≡ true → GivesNextOf W m n start given node flag → IsGiving W m n start (given + 1) node
+pub gave_one : (W : PlainWorkload) (m : Machine) (n : ℕ) (start : NodeRun) (given : ℕ) (node : PlainReplayNode) (flag : Bool) → flag ≡ true → GivesNextOf W m n start given node flag → IsGiving W m n start (given + 1) node
 gave_one W m n start given node flag e gives = subst (GivesNextOf W m n start given node) e gives
 
-pub gave_none : (W : PlainWorkload) (m : Machine) (n : ℕ) (start : NodeRun) (given : ℕ) (node : Parts) (flag : Bool) → flag ≡ false → GivesNextOf W m n start given node flag
+pub gave_none : (W : PlainWorkload) (m : Machine) (n : ℕ) (start : NodeRun) (given : ℕ) (node : PlainReplayNode) (flag : Bool) → flag ≡ false → GivesNextOf W m n start given node flag
     → IsGiving W m n start given node × (given ≡ length start.state.hand)
 gave_none W m n start given node flag e gives = subst (GivesNextOf W m n start given node) e gives

@@ -25,8 +25,8 @@ use Rattle.hs_law_journal.specs.Following.{Chunks, Crumbs, Triggers, Asks, taken
 use Rattle.hs_law_journal.specs.Pooled.{buffer_of, event_drawn, page_of, pool_history}
 use Rattle.hs_law_lockstep.specs.Lockstep.{Machine, done_at, client_goes, next_draws}
 use Rattle.hs_law_lockstep.specs.Parts.{next_done, next_drawn, next_pages, sending, ClientGoes, ClientsGoSo}
-use Rattle.hs_replay_client.specs.Places.{IsAt, IsWithin, Goes as PlayerGoes, KeepsPool, Went}
-use Rattle.hs_replay_client.specs.Playing.{Playing}
+use Rattle.hs_replay_client.specs.Places.{ReplayClientIsAt, IsWithin, Goes as PlayerGoes, KeepsPool, Went}
+use Rattle.hs_replay_client.specs.ReplayClients.{PlainReplayClient}
 use Rattle.hs_pool.specs.Pool.{Pool, IsAfter}
 use Rattle.hs_records.specs.Plain.{PlainWorkload}
 use Rattle.hs_law_sends.specs.Drawn.{DrawnPage, drawn_from, drawn_pages}
@@ -34,11 +34,11 @@ use Rattle.hs_law_sends.specs.Sending.{ClientSends, client_sends, node_sends, dr
 use Rattle.hs_law_sends.specs.Timing.{TimedPage, timed_pages}
 use Rattle.hs_words.specs.Buffers.{Buffer}
 use Rattle.hs_words.specs.Pages.{Sheet}
-use Rattle.hs_words.specs.PoolHistory.{Event, queue_after}
+use Rattle.hs_words.specs.PoolHistory.{PoolEvent, queue_after}
 use Rattle.hs_replay.specs.Going.{node_goes, AreOf, IsOneOf}
-use Rattle.hs_replay.specs.Parts.{Parts}
+use Rattle.hs_replay.specs.Parts.{PlainReplayNode}
 use Rattle.hs_replay.specs.Passing.{StandsStill}
-use Rattle.hs_replay.specs.Standing.{Remain, PlayerStands, PlayersStand, IsLent, NodeIsAt}
+use Rattle.hs_replay.specs.Standing.{Remain, ReplayClientStands, ReplayClientsStand, IsLent, NodeIsAt}
 
 -- ---- pages
 
@@ -68,7 +68,7 @@ drawn_in_page : (page : Option DrawnPage) (number : ℕ) → option_and_then (λ
 drawn_in_page None number e = let none : None ≡ Some number = e in absurd cc
 drawn_in_page (Some d) number e = (d, refl, e)
 
-module _ (W : PlainWorkload) (m : Machine) (n client : ℕ) (old : Parts) (still : StandsStill W m n old) (low : client < W.settings.clients) (so : ClientsGoSo) where
+module _ (W : PlainWorkload) (m : Machine) (n client : ℕ) (old : PlainReplayNode) (still : StandsStill W m n old) (low : client < W.settings.clients) (so : ClientsGoSo) where
   abbrev pub run : NodeRun
   run = still.at.run
 
@@ -81,16 +81,16 @@ module _ (W : PlainWorkload) (m : Machine) (n client : ℕ) (old : Parts) (still
   abbrev law : ClientGoes W m (client_goes W m (place_of W.settings.clients n client)) n (place_of W.settings.clients n client) run
   law = so W still.valid m still.reached n client still.at.run low still.at.at
 
-  -- the players by the number of the node
-  players_at : PlayersStand W m n run.state.log old.players
-  players_at = subst (λ i. PlayersStand W m i run.state.log old.players) still.at.number still.at.stands.players
+  -- the clients by the number of the node
+  players_at : ReplayClientsStand W m n run.state.log old.players
+  players_at = subst (λ i. ReplayClientsStand W m i run.state.log old.players) still.at.number still.at.stands.players
 
   -- ---- what the call asks
 
   pub is_low : client < length old.players
   is_low = let count = still.at.stands.players.count in omega (arith, count, low)
 
-  pub is_within : (player : Playing) → slice_get old.players client ≡ Some player → IsWithin W.settings.autos (operations_at W place) old.pool player
+  pub is_within : (player : PlainReplayClient) → slice_get old.players client ≡ Some player → IsWithin W.settings.autos (operations_at W place) old.pool player
   is_within player stood =
       record {
         settings = W.settings;
@@ -139,7 +139,7 @@ module _ (W : PlainWorkload) (m : Machine) (n client : ℕ) (old : Parts) (still
       ∙ drawn_still (record { node = n; number = other }) 0 (timed_pages W.settings.size (operations_at W (place_of W.settings.clients n other))) (draws_at m.journal (place_of W.settings.clients n other)) more.0 k page drawn in
       ap (option_and_then (λ (c : ClientSends). slice_get c.drawn k)) (sent_at W new_machine.journal n other low') ∙ still_there
 
-  module _ (pool : Pool) (new : List Playing) (ch : ChangesAt client old.players new (λ before now. PlayerGoes W.settings.stride (operations_at W place) before old.pool now pool)) (keeps : KeepsPool old.pool pool) where
+  module _ (pool : Pool) (new : List PlainReplayClient) (ch : ChangesAt client old.players new (λ before now. PlayerGoes W.settings.stride (operations_at W place) before old.pool now pool)) (keeps : KeepsPool old.pool pool) where
     -- what it drew where the pool has so many buffers
     abbrev drawn_by : ℕ → List Draw
     drawn_by buffers = next_draws (next_pages W m place) (length (pool_history run)) (queue_after buffers (reverse (pool_history run)))
@@ -150,25 +150,25 @@ module _ (W : PlainWorkload) (m : Machine) (n client : ℕ) (old : Parts) (still
         ch.became W.settings (record { node = n; number = client }) (draws_at m.journal place) (done_at m place) (taken (Chunks client) run.state.log) (taken (Crumbs client) run.state.log) (taken (Triggers client) run.state.log)
         (pool_history run) (players_at.each client ch.before ch.stood) still.at.stands.pool.after
 
-    -- each player of the node
-    each_there : (other : ℕ) (p : Playing) → slice_get new other ≡ Some p → PlayerStands W new_machine n run.state.log other p
+    -- each client of the node
+    each_there : (other : ℕ) (p : PlainReplayClient) → slice_get new other ≡ Some p → ReplayClientStands W new_machine n run.state.log other p
     each_there other p at =
-        elim (get_set_cases old.players client other ch.before ch.now p ch.stood (ap (λ (l : List Playing). slice_get l other) (sym ch.set) ∙ at)) [
+        elim (get_set_cases old.players client other ch.before ch.now p ch.stood (ap (λ (l : List PlainReplayClient). slice_get l other) (sym ch.set) ∙ at)) [
           | inl h ↦
-              let moved : PlayerStands W new_machine n run.state.log client ch.now =
-              subst (λ (d : List Draw). IsAt W.settings (record { node = n; number = client }) (operations_at W place) d (done_at new_machine place) (taken (Chunks client) run.state.log) (taken (Crumbs client) run.state.log)
+              let moved : ReplayClientStands W new_machine n run.state.log client ch.now =
+              subst (λ (d : List Draw). ReplayClientIsAt W.settings (record { node = n; number = client }) (operations_at W place) d (done_at new_machine place) (taken (Chunks client) run.state.log) (taken (Crumbs client) run.state.log)
               (taken (Triggers client) run.state.log) ch.now) (sym law.draws)
-              (subst (λ k. IsAt W.settings (record { node = n; number = client }) (operations_at W place) (draws_at m.journal place ++ next_drawn W m place run) k (taken (Chunks client) run.state.log) (taken (Crumbs client) run.state.log)
+              (subst (λ k. ReplayClientIsAt W.settings (record { node = n; number = client }) (operations_at W place) (draws_at m.journal place ++ next_drawn W m place run) k (taken (Chunks client) run.state.log) (taken (Crumbs client) run.state.log)
               (taken (Triggers client) run.state.log) ch.now) (sym law.done)
-              (subst (λ b. IsAt W.settings (record { node = n; number = client }) (operations_at W place) (draws_at m.journal place ++ drawn_by b) (next_done W m place) (taken (Chunks client) run.state.log) (taken (Crumbs client) run.state.log)
+              (subst (λ b. ReplayClientIsAt W.settings (record { node = n; number = client }) (operations_at W place) (draws_at m.journal place ++ drawn_by b) (next_done W m place) (taken (Chunks client) run.state.log) (taken (Crumbs client) run.state.log)
               (taken (Triggers client) run.state.log) ch.now) still.at.stands.pool.buffers went.at)) in
-              subst (λ (q : Playing). PlayerStands W new_machine n run.state.log other q) h.1 (subst (λ c. PlayerStands W new_machine n run.state.log c ch.now) h.0 moved)
+              subst (λ (q : PlainReplayClient). ReplayClientStands W new_machine n run.state.log other q) h.1 (subst (λ c. ReplayClientStands W new_machine n run.state.log c ch.now) h.0 moved)
           | inr h ↦
               let apart = apart_places W.settings.clients n client other h.0 in
               let there = place_of W.settings.clients n other in
-              subst (λ (d : List Draw). IsAt W.settings (record { node = n; number = other }) (operations_at W there) d (done_at new_machine there) (taken (Chunks other) run.state.log) (taken (Crumbs other) run.state.log)
+              subst (λ (d : List Draw). ReplayClientIsAt W.settings (record { node = n; number = other }) (operations_at W there) d (done_at new_machine there) (taken (Chunks other) run.state.log) (taken (Crumbs other) run.state.log)
               (taken (Triggers other) run.state.log) p) (sym (law.others_draws there apart))
-              (subst (λ k. IsAt W.settings (record { node = n; number = other }) (operations_at W there) (draws_at m.journal there) k (taken (Chunks other) run.state.log) (taken (Crumbs other) run.state.log)
+              (subst (λ k. ReplayClientIsAt W.settings (record { node = n; number = other }) (operations_at W there) (draws_at m.journal there) k (taken (Chunks other) run.state.log) (taken (Crumbs other) run.state.log)
               (taken (Triggers other) run.state.log) p) (sym (law.others_done there apart)) (players_at.each other p h.1))
         ]
 
@@ -187,7 +187,7 @@ module _ (W : PlainWorkload) (m : Machine) (n client : ℕ) (old : Parts) (still
               record {
                 sends = ap (node_sends W new_machine.journal) (sym still.at.number);
                 players =
-                    subst (λ i. PlayersStand W new_machine i run.state.log new) (sym still.at.number)
+                    subst (λ i. ReplayClientsStand W new_machine i run.state.log new) (sym still.at.number)
                     (record { count = ap length ch.set ∙ length-set old.players client ch.now ∙ still.at.stands.players.count; each = each_there });
                 agent =
                     record {
@@ -200,7 +200,7 @@ module _ (W : PlainWorkload) (m : Machine) (n client : ℕ) (old : Parts) (still
                 pool =
                     record {
                       after =
-                          subst (λ (h : List Event). IsAfter h pool) (sym law.history)
+                          subst (λ (h : List PoolEvent). IsAfter h pool) (sym law.history)
                           (subst (λ b. IsAfter (pool_history run ++ map event_drawn (drawn_by b)) pool) still.at.stands.pool.buffers went.after);
                       buffers = keeps.0 ∙ still.at.stands.pool.buffers;
                       size = keeps.1 W.settings.size still.at.stands.pool.size;
@@ -242,7 +242,7 @@ one_of W n settings clients client item ops are low e f =
     }
 
 -- the node behind one client more
-pub still_more : MachinesAreWhole → (W : PlainWorkload) (m : Machine) (n count : ℕ) (old new : Parts) (still : StandsStill W (node_goes W m n count) n old) → count < W.settings.clients
+pub still_more : MachinesAreWhole → (W : PlainWorkload) (m : Machine) (n count : ℕ) (old new : PlainReplayNode) (still : StandsStill W (node_goes W m n count) n old) → count < W.settings.clients
     → NodeIsAt W (client_goes W (node_goes W m n count) (place_of W.settings.clients n count)) n new → StandsStill W (node_goes W m n (count + 1)) n new
 still_more whole W m n count old new still low at =
     let now = node_goes W m n count in

@@ -13,7 +13,7 @@ use Rattle.hs_base.specs.declared.told.Ask.{Ask}
 use Rattle.hs_base.specs.declared.told.Told.{Told}
 use Rattle.hs_base.specs.Changing.{ChangesAt}
 use Rattle.hs_coord.specs.Following.{Message, Messages, message, first_of, is_newly_asked, AreAsks}
-use Rattle.hs_coord.specs.Kept.{Kept, HasTaken}
+use Rattle.hs_coord.specs.Kept.{PlainCoordinator, HasTaken}
 use Rattle.hs_coord.specs.declared.asks.Asks.{Asks}
 use Rattle.hs_records.specs.Plain.{PlainWorkload}
 use Rattle.hs_law_sends.specs.Sending.{node_sends}
@@ -28,8 +28,8 @@ use Rattle.hs_law_agent.specs.Leading.{IsToldBelow}
 use Rattle.hs_workload.specs.declared.word.Setting.TheVariants as settings
 use Rattle.hs_replay.specs.All.{AllHeard}
 use Rattle.hs_replay.specs.Hearing.{with_ask, with_told, TellsNext, asked_by, AreAsked, name_of, HeardOf, IsHeardOut, waiting, HearsNode}
-use Rattle.hs_replay.specs.Parts.{Parts}
-use Rattle.hs_replay.specs.Standing.{Remain, PlayersStand, AgentStands, PoolStands, NodeIsHeard}
+use Rattle.hs_replay.specs.Parts.{PlainReplayNode}
+use Rattle.hs_replay.specs.Standing.{Remain, ReplayClientsStand, ReplayAgentStands, PoolStands, NodeIsHeard}
 use Rattle.hs_replay.proofs.Taken.{more_remain}
 
 -- ---- lists
@@ -54,13 +54,13 @@ module _ {X : Type 0} where
 -- ---- one node
 
 -- A node between a message and its asks: it was asked for by these messages, and these were heard.
-record IsBetween (W : PlainWorkload) (m : Machine) (asked told : Messages) (n : ℕ) (node : Parts) : Type 0 where
+record IsBetween (W : PlainWorkload) (m : Machine) (asked told : Messages) (n : ℕ) (node : PlainReplayNode) : Type 0 where
   run : NodeRun
   at : node_at W m.journal n ≡ Some run
   number : run.node ≡ n
   sends : run.sends ≡ node_sends W m.journal run.node
-  players : PlayersStand W m run.node run.state.log node.players
-  agent : AgentStands W.settings run None node.agent
+  players : ReplayClientsStand W m run.node run.state.log node.players
+  agent : ReplayAgentStands W.settings run None node.agent
   pool : PoolStands W.settings (pool_history run) node.pool
   asks : Remain (taken AskQueue run.state.log) (asks_to run.node asked) node.asks
   said : Remain (count_by (is_from (record { 0 = run.node })) told) run.state.said node.said
@@ -73,7 +73,7 @@ module _ (W : PlainWorkload) (m : Machine) (heard : Messages) (n : ℕ) where
       let own = ap {B = ℕ} (λ b. cond b 1 0) (eq-eqb n run.node (sym number)) in
       omega (arith, all, own)
 
-  told_node : (told : Told) (node : Parts) → NodeIsHeard W m heard n (with_told told node) → IsBetween W m heard (heard ++ message (name_of n) told ∷ []) n node
+  told_node : (told : Told) (node : PlainReplayNode) → NodeIsHeard W m heard n (with_told told node) → IsBetween W m heard (heard ++ message (name_of n) told ∷ []) n node
   told_node told node h =
       let s = h.stands in
       record {
@@ -100,7 +100,7 @@ module _ (W : PlainWorkload) (m : Machine) (heard : Messages) (n : ℕ) where
       other true e = absurd (ne (eqb-true from run.node e ∙ number))
       other false e = refl
 
-  other_node : (from : ℕ) (told : Told) (node : Parts) → from ≢ n → NodeIsHeard W m heard n node → IsBetween W m heard (heard ++ message (name_of from) told ∷ []) n node
+  other_node : (from : ℕ) (told : Told) (node : PlainReplayNode) → from ≢ n → NodeIsHeard W m heard n node → IsBetween W m heard (heard ++ message (name_of from) told ∷ []) n node
   other_node from told node ne h =
       let s = h.stands in
       record {
@@ -116,14 +116,14 @@ module _ (W : PlainWorkload) (m : Machine) (heard : Messages) (n : ℕ) where
       }
 
   -- the message is the next one of its node
-  next_message : (told : Told) (node : Parts) → NodeIsHeard W m heard n (with_told told node) → message_of (followed W m.journal).nodes heard (name_of n) ≡ Some (message (name_of n) told)
+  next_message : (told : Told) (node : PlainReplayNode) → NodeIsHeard W m heard n (with_told told node) → message_of (followed W m.journal).nodes heard (name_of n) ≡ Some (message (name_of n) told)
   next_message told node h =
       let first = remain_first (count_by (is_from (record { 0 = h.run.node })) heard) h.run.state.said node.said told h.stands.said in
       ap (option_and_then (λ (run : NodeRun). option_map (message (name_of n)) (slice_get run.state.said (count_by (is_from (name_of n)) heard)))) h.at
       ∙ ap (λ (k : ℕ). option_map (message (name_of n)) (slice_get h.run.state.said (count_by (is_from (name_of k)) heard))) (sym h.number)
       ∙ ap (option_map (message (name_of n))) first
 
-  no_message : (node : Parts) → node.said ≡ [] → NodeIsHeard W m heard n node → message_of (followed W m.journal).nodes heard (name_of n) ≡ None
+  no_message : (node : PlainReplayNode) → node.said ≡ [] → NodeIsHeard W m heard n node → message_of (followed W m.journal).nodes heard (name_of n) ≡ None
   no_message node none h =
       let gone = count_by (is_from (record { 0 = h.run.node })) heard in
       let past = remain_none gone h.run.state.said (subst (Remain gone h.run.state.said) none h.stands.said) in
@@ -142,17 +142,17 @@ module _ (steps : StepByStep) (W : PlainWorkload) (m : Machine) (heard : Message
       ap (λ group. record { group = group; laterals = asks.ask.laterals }) are.group
       ∙ ap (λ laterals. record { group = (first_of heard msg).told.group; laterals = laterals }) are.laterals
 
-  with_asks : Parts → List Ask → Parts
+  with_asks : PlainReplayNode → List Ask → PlainReplayNode
   with_asks node more = record node { asks = node.asks ++ more }
 
-  asked_case : (node : Parts) (b : Bool) → cond b (with_ask asks.ask node) node ≡ record node { asks = node.asks ++ cond b (the_ask ∷ []) [] }
+  asked_case : (node : PlainReplayNode) (b : Bool) → cond b (with_ask asks.ask node) node ≡ record node { asks = node.asks ++ cond b (the_ask ∷ []) [] }
   asked_case node true = ap (λ (ask : Ask). record node { asks = node.asks ++ ask ∷ [] }) ask_is
   asked_case node false = ap (λ (list : List Ask). record node { asks = list }) (sym (append-nil node.asks))
 
-  asked_is : (n : ℕ) (node : Parts) → asked_by asks n node ≡ record node { asks = node.asks ++ ask_by n heard msg }
+  asked_is : (n : ℕ) (node : PlainReplayNode) → asked_by asks n node ≡ record node { asks = node.asks ++ ask_by n heard msg }
   asked_is n node = ap (λ b. cond b (with_ask asks.ask node) node) (are.to n) ∙ asked_case node (is_newly_asked heard msg n)
 
-  asked_node : (n : ℕ) (node : Parts) → IsBetween W m heard (heard ++ msg ∷ []) n node → NodeIsHeard W m (heard ++ msg ∷ []) n (asked_by asks n node)
+  asked_node : (n : ℕ) (node : PlainReplayNode) → IsBetween W m heard (heard ++ msg ∷ []) n node → NodeIsHeard W m (heard ++ msg ∷ []) n (asked_by asks n node)
   asked_node n node b =
       let more = ask_by n heard msg in
       let asks_are : asks_to b.run.node heard ++ more ≡ asks_to b.run.node (heard ++ msg ∷ []) =
@@ -177,11 +177,11 @@ module _ (steps : StepByStep) (W : PlainWorkload) (m : Machine) (heard : Message
 -- ---- all nodes
 
 -- there are few nodes
-pub few_nodes : (W : PlainWorkload) (m : Machine) (heard : Messages) (nodes : List Parts) (coordinator : Kept) → AllHeard W m heard nodes coordinator → length nodes ≤ MAX_NODES
+pub few_nodes : (W : PlainWorkload) (m : Machine) (heard : Messages) (nodes : List PlainReplayNode) (coordinator : PlainCoordinator) → AllHeard W m heard nodes coordinator → length nodes ≤ MAX_NODES
 few_nodes W m heard nodes coordinator all = let count = all.nodes_are.count in let most = (all.valid.head settings.Nodes).1 in omega (arith, count, most)
 
 -- what a node tells leads to nodes that there are
-pub tells_below : MachinesTellWithin → (W : PlainWorkload) (m : Machine) (heard : Messages) (from : ℕ) (nodes later : List Parts) (coordinator : Kept) (told : Told) → AllHeard W m heard nodes coordinator
+pub tells_below : MachinesTellWithin → (W : PlainWorkload) (m : Machine) (heard : Messages) (from : ℕ) (nodes later : List PlainReplayNode) (coordinator : PlainCoordinator) (told : Told) → AllHeard W m heard nodes coordinator
     → ChangesAt from nodes later (λ old new. TellsNext old (Some told) new) → (n : ℕ) → has_node told.crumbs n ≡ true → n < coordinator.nodes
 tells_below within W m heard from nodes later coordinator told all changes n has =
     let node = subst (NodeIsHeard W m heard from) changes.became (all.nodes_are.each from changes.before changes.stood) in
@@ -191,8 +191,8 @@ tells_below within W m heard from nodes later coordinator told all changes n has
     let nodes_are = all.coordinator_is.nodes in
     omega (arith, low, nodes_are)
 
-module _ (steps : StepByStep) (W : PlainWorkload) (m : Machine) (heard : Messages) (from : ℕ) (nodes : List Parts) (coordinator : Kept) (all : AllHeard W m heard nodes coordinator) where
-  module _ (told : Told) (later : List Parts) (changes : ChangesAt from nodes later (λ old new. TellsNext old (Some told) new)) where
+module _ (steps : StepByStep) (W : PlainWorkload) (m : Machine) (heard : Messages) (from : ℕ) (nodes : List PlainReplayNode) (coordinator : PlainCoordinator) (all : AllHeard W m heard nodes coordinator) where
+  module _ (told : Told) (later : List PlainReplayNode) (changes : ChangesAt from nodes later (λ old new. TellsNext old (Some told) new)) where
     abbrev msg : Message
     msg = message (name_of from) told
 
@@ -203,8 +203,8 @@ module _ (steps : StepByStep) (W : PlainWorkload) (m : Machine) (heard : Message
     pub heard_next : message_of (followed W m.journal).nodes heard (name_of from) ≡ Some msg
     heard_next = next_message W m heard from told changes.now from_node
 
-    between : (n : ℕ) (node : Parts) → slice_get later n ≡ Some node → IsBetween W m heard (heard ++ msg ∷ []) n node
-    between n node at = either (get_set_cases nodes from n changes.before changes.now node changes.stood (ap (λ (l : List Parts). slice_get l n) (sym changes.set) ∙ at))
+    between : (n : ℕ) (node : PlainReplayNode) → slice_get later n ≡ Some node → IsBetween W m heard (heard ++ msg ∷ []) n node
+    between n node at = either (get_set_cases nodes from n changes.before changes.now node changes.stood (ap (λ (l : List PlainReplayNode). slice_get l n) (sym changes.set) ∙ at))
       where
         either : ((from ≡ n) × (changes.now ≡ node)) ⊎ ((from ≡ n → ⊥) × (slice_get nodes n ≡ Some node)) → IsBetween W m heard (heard ++ msg ∷ []) n node
         either (inl e) =
@@ -214,7 +214,7 @@ module _ (steps : StepByStep) (W : PlainWorkload) (m : Machine) (heard : Message
     count_later : length later ≡ length nodes
     count_later = ap length changes.set ∙ length-set nodes from changes.now
 
-    pub heard_all : (asks : Asks) → AreAsks heard msg asks → (last : List Parts) → AreAsked asks (length later) later last → (kept : Kept) → HasTaken kept (heard ++ msg ∷ []) → kept.nodes ≡ coordinator.nodes → AllHeard W m (heard ++ msg ∷ []) last kept
+    pub heard_all : (asks : Asks) → AreAsks heard msg asks → (last : List PlainReplayNode) → AreAsked asks (length later) later last → (kept : PlainCoordinator) → HasTaken kept (heard ++ msg ∷ []) → kept.nodes ≡ coordinator.nodes → AllHeard W m (heard ++ msg ∷ []) last kept
     heard_all asks are last asked kept taken same =
         record {
           valid = all.valid;
@@ -232,7 +232,7 @@ module _ (steps : StepByStep) (W : PlainWorkload) (m : Machine) (heard : Message
           coordinator_is = record { taken = taken; nodes = same ∙ all.coordinator_is.nodes };
         }
 
-    pub heard_one : (asks : Asks) → AreAsks heard msg asks → (last : List Parts) → AreAsked asks (length later) later last → (kept : Kept) → HasTaken kept (heard ++ msg ∷ []) → kept.nodes ≡ coordinator.nodes → HeardOf W m heard from 1 last kept
+    pub heard_one : (asks : Asks) → AreAsks heard msg asks → (last : List PlainReplayNode) → AreAsked asks (length later) later last → (kept : PlainCoordinator) → HasTaken kept (heard ++ msg ∷ []) → kept.nodes ≡ coordinator.nodes → HeardOf W m heard from 1 last kept
     heard_one asks are last asked kept taken same =
         record {
           next = heard ++ msg ∷ [];
@@ -241,7 +241,7 @@ module _ (steps : StepByStep) (W : PlainWorkload) (m : Machine) (heard : Message
         }
 
   -- where there is none, all stays
-  pub heard_none : (later : List Parts) → ChangesAt from nodes later (λ old new. TellsNext old None new) → IsHeardOut W m heard from later coordinator
+  pub heard_none : (later : List PlainReplayNode) → ChangesAt from nodes later (λ old new. TellsNext old None new) → IsHeardOut W m heard from later coordinator
   heard_none later changes =
       let node = all.nodes_are.each from changes.before changes.stood in
       record {
@@ -253,13 +253,13 @@ module _ (steps : StepByStep) (W : PlainWorkload) (m : Machine) (heard : Message
               nodes_are =
                   record {
                     count = ap length changes.set ∙ length-set nodes from changes.now ∙ all.nodes_are.count;
-                    each = λ n node at. either n node (get_set_cases nodes from n changes.before changes.now node changes.stood (ap (λ (l : List Parts). slice_get l n) (sym changes.set) ∙ at));
+                    each = λ n node at. either n node (get_set_cases nodes from n changes.before changes.now node changes.stood (ap (λ (l : List PlainReplayNode). slice_get l n) (sym changes.set) ∙ at));
                   };
               coordinator_is = all.coordinator_is;
             };
       }
     where
-      either : (n : ℕ) (node : Parts) → ((from ≡ n) × (changes.now ≡ node)) ⊎ ((from ≡ n → ⊥) × (slice_get nodes n ≡ Some node)) → NodeIsHeard W m heard n node
+      either : (n : ℕ) (node : PlainReplayNode) → ((from ≡ n) × (changes.now ≡ node)) ⊎ ((from ≡ n → ⊥) × (slice_get nodes n ≡ Some node)) → NodeIsHeard W m heard n node
       either n node (inl e) = all.nodes_are.each n node (ap (slice_get nodes) (sym e.0) ∙ changes.stood ∙ ap Some (sym changes.became.1 ∙ e.1))
       either n node (inr o) = all.nodes_are.each n node o.1
 
@@ -282,7 +282,7 @@ names_counted runs n (suc k) heard next h = go (message_of runs heard (name_of n
         omega (arith, rest, last, own, same)
 
 module _ (steps : StepByStep) (W : PlainWorkload) (m : Machine) (heard : Messages) (n : ℕ) where
-  pub heard_more : (count : ℕ) (nodes : List Parts) (coordinator : Kept) (h : HeardOf W m heard n count nodes coordinator) (later : List Parts) (kept : Kept) → HeardOf W m h.next n 1 later kept → HeardOf W m heard n (count + 1) later kept
+  pub heard_more : (count : ℕ) (nodes : List PlainReplayNode) (coordinator : PlainCoordinator) (h : HeardOf W m heard n count nodes coordinator) (later : List PlainReplayNode) (kept : PlainCoordinator) → HeardOf W m h.next n 1 later kept → HeardOf W m heard n (count + 1) later kept
   heard_more count nodes coordinator h later kept one =
       let runs = (followed W m.journal).nodes in
       record {
@@ -295,11 +295,11 @@ module _ (steps : StepByStep) (W : PlainWorkload) (m : Machine) (heard : Message
         all = one.all;
       }
 
-  pub heard_nothing : (nodes : List Parts) (coordinator : Kept) → AllHeard W m heard nodes coordinator → HeardOf W m heard n 0 nodes coordinator
+  pub heard_nothing : (nodes : List PlainReplayNode) (coordinator : PlainCoordinator) → AllHeard W m heard nodes coordinator → HeardOf W m heard n 0 nodes coordinator
   heard_nothing nodes coordinator all = record { next = heard; by = refl; all = all }
 
   -- no more was heard than was said
-  module _ (count : ℕ) (nodes : List Parts) (coordinator : Kept) (h : HeardOf W m heard n count nodes coordinator) (low : n < length nodes) where
+  module _ (count : ℕ) (nodes : List PlainReplayNode) (coordinator : PlainCoordinator) (h : HeardOf W m heard n count nodes coordinator) (low : n < length nodes) where
     node_there : NodeIsHeard W m h.next n (get_there nodes n low).0
     node_there = let there = get_there nodes n low in h.all.nodes_are.each n there.0 there.1
 
@@ -322,7 +322,7 @@ module _ (steps : StepByStep) (W : PlainWorkload) (m : Machine) (heard : Message
         let same : count ≡ waiting heard n run_there = omega (arith, full, enough) in
         record { run = run_there; at = node_there.at; heard_of = subst (λ (k : ℕ). HeardOf W m heard n k nodes coordinator) same h }
 
-    pub heard_out : count < MAX_TAKEN → (later : List Parts) (kept : Kept) → IsHeardOut W m h.next n later kept → HearsNode W m heard n later kept
+    pub heard_out : count < MAX_TAKEN → (later : List PlainReplayNode) (kept : PlainCoordinator) → IsHeardOut W m h.next n later kept → HearsNode W m heard n later kept
     heard_out few later kept out =
         let enough = said_enough in
         let counted = names_counted (followed W m.journal).nodes n count heard h.next h.by in

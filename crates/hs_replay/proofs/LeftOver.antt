@@ -12,8 +12,8 @@ use Rattle.hs_lists.proofs.Places.{zipped_at}
 use Rattle.hs_law_journal.specs.Ends.{took_all}
 use Rattle.hs_law_journal.specs.Following.{Chunks, Crumbs, Triggers, Asks, taken, asks_to, is_from, NodeRun, followed}
 use Rattle.hs_law_lockstep.specs.Lockstep.{Machine}
-use Rattle.hs_replay_client.specs.Places.{IsAt, TellsLeft, TellsBare}
-use Rattle.hs_replay_client.specs.Playing.{Playing}
+use Rattle.hs_replay_client.specs.Places.{ReplayClientIsAt, TellsLeft, TellsBare}
+use Rattle.hs_replay_client.specs.ReplayClients.{PlainReplayClient}
 use Rattle.hs_records.specs.Plain.{Operation, PlainWorkload}
 use Rattle.hs_law_sends.specs.Sending.{ClientSends, client_sends, draws_at, operations_at, place_of, sent_within}
 use Rattle.hs_law_sends.specs.SoFar.{AllChunksAreSent, AllCrumbsAreSent, AllTriggersAreSent}
@@ -21,8 +21,8 @@ use Rattle.hs_records.specs.Records.{AreBracketed}
 use Rattle.hs_workload.specs.Validity.{IsValid, IsClient}
 use Rattle.hs_workload.specs.declared.word.Setting.TheVariants as settings
 use Rattle.hs_replay.specs.Left.{done_of, all_of, are_clients_bare}
-use Rattle.hs_replay.specs.Parts.{Parts}
-use Rattle.hs_replay.specs.Standing.{Remain, NodeIsAt, PlayersStand}
+use Rattle.hs_replay.specs.Parts.{PlainReplayNode}
+use Rattle.hs_replay.specs.Standing.{Remain, NodeIsAt, ReplayClientsStand}
 
 -- the agent took all that a client of its run sent
 abbrev pub AllTaken : NodeRun → ℕ → Type 0
@@ -39,16 +39,16 @@ all_at P (x ∷ xs) (suc place) default all low = all_at P xs place default all.
 pub client_there : (W : PlainWorkload) → IsValid W → (place : ℕ) → place < length W.clients → IsClient W.version W.settings (operations_at W place)
 client_there W valid place low = all_at (IsClient W.version W.settings) W.clients place [] valid.each low
 
--- ---- players
+-- ---- clients
 
--- a player of the node, by the node's number
-pub player_at : (W : PlainWorkload) (m : Machine) (n client : ℕ) (node : Parts) (player : Playing) (at : NodeIsAt W m n node) → slice_get node.players client ≡ Some player
-    → IsAt W.settings (record { node = n; number = client }) (operations_at W (place_of W.settings.clients n client)) (draws_at m.journal (place_of W.settings.clients n client)) (done_of W m n client)
+-- a client of the node, by the node's number
+pub player_at : (W : PlainWorkload) (m : Machine) (n client : ℕ) (node : PlainReplayNode) (player : PlainReplayClient) (at : NodeIsAt W m n node) → slice_get node.players client ≡ Some player
+    → ReplayClientIsAt W.settings (record { node = n; number = client }) (operations_at W (place_of W.settings.clients n client)) (draws_at m.journal (place_of W.settings.clients n client)) (done_of W m n client)
     (taken (Chunks client) at.run.state.log) (taken (Crumbs client) at.run.state.log) (taken (Triggers client) at.run.state.log) player
-player_at W m n client node player at stood = (subst (λ i. PlayersStand W m i at.run.state.log node.players) at.number at.stands.players).each client player stood
+player_at W m n client node player at stood = (subst (λ i. ReplayClientsStand W m i at.run.state.log node.players) at.number at.stands.players).each client player stood
 
 -- what its flag says of a client
-pub left_is : (W : PlainWorkload) (m : Machine) (n client : ℕ) (node : Parts) (player : Playing) (ops : List Operation) (flag : Bool) → NodeIsAt W m n node → slice_get node.players client ≡ Some player
+pub left_is : (W : PlainWorkload) (m : Machine) (n client : ℕ) (node : PlainReplayNode) (player : PlainReplayClient) (ops : List Operation) (flag : Bool) → NodeIsAt W m n node → slice_get node.players client ≡ Some player
     → ops ≡ operations_at W (place_of W.settings.clients n client) → TellsLeft ops player flag → IsTrue flag ↔ (done_of W m n client < all_of W n client)
 left_is W m n client node player ops flag at stood e tells =
     let place = place_of W.settings.clients n client in
@@ -56,7 +56,7 @@ left_is W m n client node player ops flag at stood e tells =
     all W.settings (record { node = n; number = client }) (draws_at m.journal place) (done_of W m n client) (taken (Chunks client) at.run.state.log) (taken (Crumbs client) at.run.state.log) (taken (Triggers client) at.run.state.log)
     (player_at W m n client node player at stood)
 
-pub none_left : (W : PlainWorkload) (m : Machine) (n client : ℕ) (node : Parts) (player : Playing) (ops : List Operation) (flag : Bool) → NodeIsAt W m n node → slice_get node.players client ≡ Some player
+pub none_left : (W : PlainWorkload) (m : Machine) (n client : ℕ) (node : PlainReplayNode) (player : PlainReplayClient) (ops : List Operation) (flag : Bool) → NodeIsAt W m n node → slice_get node.players client ≡ Some player
     → ops ≡ operations_at W (place_of W.settings.clients n client) → TellsLeft ops player flag → flag ≡ false → done_of W m n client ≡ all_of W n client
 none_left W m n client node player ops flag at stood e tells off =
     let within = (player_at W m n client node player at stood).within in
@@ -68,7 +68,7 @@ none_left W m n client node player ops flag at stood e tells off =
 
 -- ---- what was taken
 
-module _ (W : PlainWorkload) (m : Machine) (n : ℕ) (node : Parts) (at : NodeIsAt W m n node) (client : ℕ) (player : Playing) (stood : slice_get node.players client ≡ Some player)
+module _ (W : PlainWorkload) (m : Machine) (n : ℕ) (node : PlainReplayNode) (at : NodeIsAt W m n node) (client : ℕ) (player : PlainReplayClient) (stood : slice_get node.players client ≡ Some player)
     (chunks : AllChunksAreSent) (crumbs : AllCrumbsAreSent) (triggers : AllTriggersAreSent) (valid : IsValid W) (low : client < W.settings.clients) (whole : place_of W.settings.clients n client < length W.clients)
     (done : done_of W m n client ≡ all_of W n client) (flag : Bool) (tells : TellsBare player flag) where
   abbrev place : ℕ
@@ -144,13 +144,13 @@ pub bare_is_so : (a b c d : Bool) (a' b' c' d' : Bool) → a ≡ a' → b ≡ b'
 bare_is_so a b c d a' b' c' d' e f g h = ap (λ x. x && b && c && d) e ∙ ap (λ x. a' && x && c && d) f ∙ ap (λ x. a' && b' && x && d) g ∙ ap (λ x. a' && b' && c' && x) h
 
 -- a client that is not bare keeps its node from being so
-pub not_bare : (W : PlainWorkload) (m : Machine) (n : ℕ) (node : Parts) (at : NodeIsAt W m n node) (client : ℕ) (flag : Bool) → client < W.settings.clients → flag ≡ took_all at.run.state.log client (client_sends W m.journal n client)
+pub not_bare : (W : PlainWorkload) (m : Machine) (n : ℕ) (node : PlainReplayNode) (at : NodeIsAt W m n node) (client : ℕ) (flag : Bool) → client < W.settings.clients → flag ≡ took_all at.run.state.log client (client_sends W m.journal n client)
     → flag ≡ false → are_clients_bare at.run ≡ false
 not_bare W m n node at client flag low is off =
     client_not_bare at.run client (client_sends W m.journal n client)
     (sends_there W m at.run client at.stands.sends low ∙ ap (λ i. Some (client_sends W m.journal i client)) at.number) (sym is ∙ off)
 
-pub count_sends : (W : PlainWorkload) (m : Machine) (n : ℕ) (node : Parts) (at : NodeIsAt W m n node) → length at.run.sends ≡ W.settings.clients
+pub count_sends : (W : PlainWorkload) (m : Machine) (n : ℕ) (node : PlainReplayNode) (at : NodeIsAt W m n node) → length at.run.sends ≡ W.settings.clients
 count_sends W m n node at = ap length at.stands.sends ∙ length-map-range_with_len (client_sends W m.journal at.run.node) 0 W.settings.clients
 
 -- ---- flags

@@ -16,7 +16,7 @@ use Rattle.hs_law_lockstep.proofs.Items.{taken_both}
 use Rattle.hs_records.specs.Plain.{PlainWorkload}
 use Rattle.hs_replay.specs.declared.queue.Queue.{Queue}
 use Rattle.hs_replay.specs.declared.queue.Queue.TheVariants as queues
-use Rattle.hs_replay.specs.Parts.{Parts}
+use Rattle.hs_replay.specs.Parts.{PlainReplayNode}
 use Rattle.hs_replay.specs.Passing.{IsAmid, IsDrained, WentBy, TookOne, TookSome, TakesNext, sent_to, takes_by, takes_of_client, takes_first}
 use Rattle.hs_replay.specs.Queues.{queue_of, step_from, IsQueueOf}
 
@@ -46,7 +46,7 @@ taken_replicate queue (suc count) step own =
 -- ---- going on
 
 -- steps behind steps
-abbrev pub went_on : StepByStep → (W : PlainWorkload) (m : Machine) (n : ℕ) (run : NodeRun) (steps more : List Step) (node node' : Parts) (w : WentBy W m n run steps node) → WentBy W m n w.next more node'
+abbrev pub went_on : StepByStep → (W : PlainWorkload) (m : Machine) (n : ℕ) (run : NodeRun) (steps more : List Step) (node node' : PlainReplayNode) (w : WentBy W m n run steps node) → WentBy W m n w.next more node'
     → WentBy W m n run (steps ++ more) node'
 went_on by_steps W m n run steps more node node' w v =
     record {
@@ -56,11 +56,11 @@ went_on by_steps W m n run steps more node node' w v =
       amid = v.amid;
     }
 
-pub went_nowhere : (W : PlainWorkload) (m : Machine) (n : ℕ) (run : NodeRun) (node : Parts) → IsAmid W m n run node → WentBy W m n run [] node
+pub went_nowhere : (W : PlainWorkload) (m : Machine) (n : ℕ) (run : NodeRun) (node : PlainReplayNode) → IsAmid W m n run node → WentBy W m n run [] node
 went_nowhere W m n run node amid = record { next = run; by = refl; log = sym (append-nil run.state.log); amid = amid }
 
 module _ (W : PlainWorkload) (m : Machine) (n : ℕ) (queue : Queue) (run : NodeRun) where
-  pub took_none : (node : Parts) → IsAmid W m n run node → TookSome W m n queue run 0 node
+  pub took_none : (node : PlainReplayNode) → IsAmid W m n run node → TookSome W m n queue run 0 node
   took_none node amid = record { went = went_nowhere W m n run node amid; few = omega arith }
 
   -- the queue is the same for each run of the node
@@ -74,8 +74,8 @@ module _ (W : PlainWorkload) (m : Machine) (n : ℕ) (queue : Queue) (run : Node
       let some = taken_replicate (queue_of queue) count (step_from queue) (own_step queue) in
       omega (arith, all, both, some)
 
-  module _ (number : run.node ≡ n) (count : ℕ) (node : Parts) (took : TookSome W m n queue run count node) where
-    pub took_more : StepByStep → (node' : Parts) → TookOne W m n queue took.went.next node' → TookSome W m n queue run (count + 1) node'
+  module _ (number : run.node ≡ n) (count : ℕ) (node : PlainReplayNode) (took : TookSome W m n queue run count node) where
+    pub took_more : StepByStep → (node' : PlainReplayNode) → TookOne W m n queue took.went.next node' → TookSome W m n queue run (count + 1) node'
     took_more by_steps node' more =
         record {
           went =
@@ -88,7 +88,7 @@ module _ (W : PlainWorkload) (m : Machine) (n : ℕ) (queue : Queue) (run : Node
               omega (arith, same, so, within);
         }
 
-    pub took_all : count ≤ MAX_TAKEN → (node' : Parts) → IsDrained W m n queue took.went.next node' → WentBy W m n run (takes_by W m run queue) node'
+    pub took_all : count ≤ MAX_TAKEN → (node' : PlainReplayNode) → IsDrained W m n queue took.went.next node' → WentBy W m n run (takes_by W m run queue) node'
     took_all low node' drained =
         let same = same_sent took.went.next took.went.amid.comes.number number in
         let so = taken_so count took.went.next took.went.log in
@@ -103,15 +103,15 @@ module _ (W : PlainWorkload) (m : Machine) (n : ℕ) (queue : Queue) (run : Node
         subst (λ k. WentBy W m n run (replicate k (step_from queue)) node) exact took.went
 
 -- a queue of a client that there is
-pub queue_there : (W : PlainWorkload) (m : Machine) (n : ℕ) (run next : NodeRun) (old node : Parts) (queue : Queue) → IsAmid W m n run old → IsAmid W m n next node → IsQueueOf (length old.players) queue
+pub queue_there : (W : PlainWorkload) (m : Machine) (n : ℕ) (run next : NodeRun) (old node : PlainReplayNode) (queue : Queue) → IsAmid W m n run old → IsAmid W m n next node → IsQueueOf (length old.players) queue
     → IsQueueOf (length node.players) queue
 queue_there W m n run next old node queue amid now fits = subst (λ k. IsQueueOf k queue) (amid.stands.players.count ∙ sym now.stands.players.count) fits
 
 -- what a flag says of the next item
-pub was_taken : (W : PlainWorkload) (m : Machine) (n : ℕ) (queue : Queue) (run : NodeRun) (node : Parts) (flag : Bool) → flag ≡ true → TakesNext W m n queue run node flag → TookOne W m n queue run node
+pub was_taken : (W : PlainWorkload) (m : Machine) (n : ℕ) (queue : Queue) (run : NodeRun) (node : PlainReplayNode) (flag : Bool) → flag ≡ true → TakesNext W m n queue run node flag → TookOne W m n queue run node
 was_taken W m n queue run node flag e took = subst (TakesNext W m n queue run node) e took
 
-pub was_drained : (W : PlainWorkload) (m : Machine) (n : ℕ) (queue : Queue) (run : NodeRun) (node : Parts) (flag : Bool) → flag ≡ false → TakesNext W m n queue run node flag → IsDrained W m n queue run node
+pub was_drained : (W : PlainWorkload) (m : Machine) (n : ℕ) (queue : Queue) (run : NodeRun) (node : PlainReplayNode) (flag : Bool) → flag ≡ false → TakesNext W m n queue run node flag → IsDrained W m n queue run node
 was_drained W m n queue run node flag e took = subst (TakesNext W m n queue run node) e took
 
 -- ---- what other queues' steps leave
@@ -229,7 +229,7 @@ same_client W m run next client steps number log spares =
     ∙ ap (λ (l : List Step). takes_by W m run (queues.Chunks client) ++ takes_by W m run (queues.Crumbs client) ++ l) c
 
 -- the agent took from the three queues of a client
-pub client_taken : StepByStep → (W : PlainWorkload) (m : Machine) (n : ℕ) (client : ℕ) (run : NodeRun) (a b c : Parts) → run.node ≡ n → (w : WentBy W m n run (takes_by W m run (queues.Chunks client)) a)
+pub client_taken : StepByStep → (W : PlainWorkload) (m : Machine) (n : ℕ) (client : ℕ) (run : NodeRun) (a b c : PlainReplayNode) → run.node ≡ n → (w : WentBy W m n run (takes_by W m run (queues.Chunks client)) a)
     → (v : WentBy W m n w.next (takes_by W m w.next (queues.Crumbs client)) b) → WentBy W m n v.next (takes_by W m v.next (queues.Triggers client)) c → WentBy W m n run (takes_of_client W m run client) c
 client_taken by_steps W m n client run a b c number w v u =
     let A = takes_by W m run (queues.Chunks client) in
@@ -244,7 +244,7 @@ client_taken by_steps W m n client run a b c number w v u =
     subst (λ (l : List Step). WentBy W m n run l c) all three
 
 -- one client more
-pub one_client_more : StepByStep → (W : PlainWorkload) (m : Machine) (n : ℕ) (count : ℕ) (run : NodeRun) (a b : Parts) → run.node ≡ n → (w : WentBy W m n run (takes_first W m run count) a)
+pub one_client_more : StepByStep → (W : PlainWorkload) (m : Machine) (n : ℕ) (count : ℕ) (run : NodeRun) (a b : PlainReplayNode) → run.node ≡ n → (w : WentBy W m n run (takes_first W m run count) a)
     → WentBy W m n w.next (takes_of_client W m w.next count) b → WentBy W m n run (takes_first W m run (count + 1)) b
 one_client_more by_steps W m n count run a b number w v =
     let own = same_client W m run w.next count (takes_first W m run count) (w.amid.comes.number ∙ sym number) w.log (first_spares W m run count) in
@@ -255,7 +255,7 @@ one_client_more by_steps W m n count run a b number w v =
 abbrev pub takes_in_pass : PlainWorkload → Machine → NodeRun → List Step
 takes_in_pass W m run = takes_first W m run W.settings.clients ++ takes_by W m run queues.Asks ++ steps.Turn ∷ []
 
-pub pass_taken : StepByStep → (W : PlainWorkload) (m : Machine) (n : ℕ) (run : NodeRun) (a b c : Parts) → run.node ≡ n → (w : WentBy W m n run (takes_first W m run W.settings.clients) a)
+pub pass_taken : StepByStep → (W : PlainWorkload) (m : Machine) (n : ℕ) (run : NodeRun) (a b c : PlainReplayNode) → run.node ≡ n → (w : WentBy W m n run (takes_first W m run W.settings.clients) a)
     → (v : WentBy W m n w.next (takes_by W m w.next queues.Asks) b) → WentBy W m n v.next (steps.Turn ∷ []) c → WentBy W m n run (takes_in_pass W m run) c
 pass_taken by_steps W m n run a b c number w v u =
     let A = takes_first W m run W.settings.clients in

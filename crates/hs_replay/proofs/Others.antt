@@ -12,15 +12,15 @@ use Rattle.hs_base.specs.declared.limits.TheConstants.{MAX_NODES, MAX_CLIENTS}
 use Rattle.hs_base.specs.Listing.{Listing}
 use Rattle.hs_base.specs.Changing.{ChangesAt}
 use Rattle.hs_coord.specs.Following.{Messages}
-use Rattle.hs_coord.specs.Kept.{Kept}
+use Rattle.hs_coord.specs.Kept.{PlainCoordinator}
 use Rattle.hs_journal.specs.declared.journal.Draw.{Draw}
 use Rattle.hs_law_journal.specs.Following.{Chunks, Crumbs, Triggers, taken, NodeRun, followed}
 use Rattle.hs_law_lockstep.specs.Lockstep.{Machine, client_goes, clients_go, agents_take, agents_give, done_at}
 use Rattle.hs_law_lockstep.specs.Parts.{node_at, heard_in, ClientGoes, ClientsGoSo, AgentsTakeSo, AgentsGiveSo}
 use Rattle.hs_law_lockstep.specs.Reaching as reaching
 use Rattle.hs_law_lockstep.specs.Reaching.{IsReached, MachinesAreWhole}
-use Rattle.hs_replay_client.specs.Places.{IsAt}
-use Rattle.hs_replay_client.specs.Playing.{Playing}
+use Rattle.hs_replay_client.specs.Places.{ReplayClientIsAt}
+use Rattle.hs_replay_client.specs.ReplayClients.{PlainReplayClient}
 use Rattle.hs_records.specs.Plain.{PlainWorkload}
 use Rattle.hs_law_sends.specs.Sending.{draws_at, node_sends, operations_at, place_of}
 use Rattle.hs_workload.specs.Validity.{IsValid}
@@ -31,8 +31,8 @@ use Rattle.hs_workload.specs.declared.operation.Op.{Op}
 use Rattle.hs_workload.proofs.Sizes.{product_few, last_low, operations_sliced}
 use Rattle.hs_replay.specs.All.{HasHeard, AllAt, NodesAt, clients_gone, NodesBetween}
 use Rattle.hs_replay.specs.Going.{node_goes, AreOf}
-use Rattle.hs_replay.specs.Parts.{Parts}
-use Rattle.hs_replay.specs.Standing.{PlayerStands, NodeIsHeard, NodeIsAt}
+use Rattle.hs_replay.specs.Parts.{PlainReplayNode}
+use Rattle.hs_replay.specs.Standing.{ReplayClientStands, NodeIsHeard, NodeIsAt}
 
 -- ---- lists
 
@@ -70,7 +70,7 @@ module _ (whole : MachinesAreWhole) (goes : ClientsGoSo) (W : PlainWorkload) (va
     other_place : (other number : ℕ) → n ≢ other → number < each → place ≢ place_of each other number
     other_place other number ne below e = ne (sym (div-mul-add n each client low) ∙ ap (λ (p : ℕ). p / each) e ∙ div-mul-add other each number below)
 
-    stays : (other : ℕ) (node : Parts) → n ≢ other → NodeIsAt W m other node → NodeIsAt W new other node
+    stays : (other : ℕ) (node : PlainReplayNode) → n ≢ other → NodeIsAt W m other node → NodeIsAt W new other node
     stays other node ne h =
         let s = h.stands in
         let at = gone.others other ne ∙ h.at in
@@ -91,7 +91,7 @@ module _ (whole : MachinesAreWhole) (goes : ClientsGoSo) (W : PlainWorkload) (va
               };
         })
       where
-        player_stays : (number : ℕ) (player : Playing) → number < length node.players → PlayerStands W m h.run.node h.run.state.log number player → PlayerStands W new h.run.node h.run.state.log number player
+        player_stays : (number : ℕ) (player : PlainReplayClient) → number < length node.players → ReplayClientStands W m h.run.node h.run.state.log number player → ReplayClientStands W new h.run.node h.run.state.log number player
         player_stays number player below p =
             let count = h.stands.players.count in
             let number_low : number < each = omega (arith, below, count) in
@@ -99,12 +99,12 @@ module _ (whole : MachinesAreWhole) (goes : ClientsGoSo) (W : PlainWorkload) (va
             let apart : place ≢ there = λ e. other_place other number ne number_low (e ∙ ap (λ (k : ℕ). place_of each k number) h.number) in
             subst
             (λ (done : ℕ).
-            IsAt W.settings (record { node = h.run.node; number = number }) (operations_at W there) (draws_at new.journal there) done (taken (Chunks number) h.run.state.log) (taken (Crumbs number) h.run.state.log)
+            ReplayClientIsAt W.settings (record { node = h.run.node; number = number }) (operations_at W there) (draws_at new.journal there) done (taken (Chunks number) h.run.state.log) (taken (Crumbs number) h.run.state.log)
             (taken (Triggers number) h.run.state.log) player)
             (sym (gone.others_done there apart))
             (subst
             (λ (draws : List Draw).
-            IsAt W.settings (record { node = h.run.node; number = number }) (operations_at W there) draws (done_at m there) (taken (Chunks number) h.run.state.log) (taken (Crumbs number) h.run.state.log)
+            ReplayClientIsAt W.settings (record { node = h.run.node; number = number }) (operations_at W there) draws (done_at m there) (taken (Chunks number) h.run.state.log) (taken (Crumbs number) h.run.state.log)
             (taken (Triggers number) h.run.state.log) player)
             (sym (gone.others_draws there apart)) p)
 
@@ -123,7 +123,7 @@ module _ (whole : MachinesAreWhole) (goes : ClientsGoSo) (W : PlainWorkload) (va
       let reached_next = reaching.Goes m (place_of each n number) (low_place n number node_low (omega (arith, few))) r in
       subst (λ (p : ℕ). IsReached W (fold (client_goes W) next (range_with_len p count))) (sym (next_place n number)) (all_reached n (number + 1) count next reached_next node_low (omega (arith, few)))
 
-  all_stay : (n number count : ℕ) (m : Machine) (r : IsReached W m) → n < W.settings.nodes → number + count ≤ each → (other : ℕ) (node : Parts) → n ≢ other → NodeIsAt W m other node → NodeIsAt W (gone_from m n number count) other node
+  all_stay : (n number count : ℕ) (m : Machine) (r : IsReached W m) → n < W.settings.nodes → number + count ≤ each → (other : ℕ) (node : PlainReplayNode) → n ≢ other → NodeIsAt W m other node → NodeIsAt W (gone_from m n number count) other node
   all_stay n number zero m r node_low few other node ne h = h
   all_stay n number (suc count) m r node_low few other node ne h =
       let low : number < each = omega (arith, few) in
@@ -136,11 +136,11 @@ module _ (whole : MachinesAreWhole) (goes : ClientsGoSo) (W : PlainWorkload) (va
 
   -- ---- node after node
 
-  module _ (m : Machine) (n : ℕ) (nodes : List Parts) (at : NodesAt W m nodes) (low : n < length nodes) where
+  module _ (m : Machine) (n : ℕ) (nodes : List PlainReplayNode) (at : NodesAt W m nodes) (low : n < length nodes) where
     node_low_here : n < W.settings.nodes
     node_low_here = let count = at.nodes_are.count in omega (arith, count, low)
 
-    pub node_gone : (later : List Parts) → ChangesAt n nodes later (λ old now. NodeIsAt W (node_goes W m n each) n now) → NodesAt W (node_goes W m n each) later
+    pub node_gone : (later : List PlainReplayNode) → ChangesAt n nodes later (λ old now. NodeIsAt W (node_goes W m n each) n now) → NodesAt W (node_goes W m n each) later
     node_gone later changes =
         record {
           valid = at.valid;
@@ -148,11 +148,11 @@ module _ (whole : MachinesAreWhole) (goes : ClientsGoSo) (W : PlainWorkload) (va
           nodes_are =
               record {
                 count = ap length changes.set ∙ length-set nodes n changes.now ∙ at.nodes_are.count;
-                each = λ other node found. either other node (get_set_cases nodes n other changes.before changes.now node changes.stood (ap (λ (l : List Parts). slice_get l other) (sym changes.set) ∙ found));
+                each = λ other node found. either other node (get_set_cases nodes n other changes.before changes.now node changes.stood (ap (λ (l : List PlainReplayNode). slice_get l other) (sym changes.set) ∙ found));
               };
         }
       where
-        either : (other : ℕ) (node : Parts) → ((n ≡ other) × (changes.now ≡ node)) ⊎ ((n ≡ other → ⊥) × (slice_get nodes other ≡ Some node)) → NodeIsAt W (node_goes W m n each) other node
+        either : (other : ℕ) (node : PlainReplayNode) → ((n ≡ other) × (changes.now ≡ node)) ⊎ ((n ≡ other → ⊥) × (slice_get nodes other ≡ Some node)) → NodeIsAt W (node_goes W m n each) other node
         either other node (inl e) = subst (λ (k : ℕ). NodeIsAt W (node_goes W m n each) k node) e.0 (subst (NodeIsAt W (node_goes W m n each) n) e.1 changes.became)
         either other node (inr o) = subst (λ (next : Machine). NodeIsAt W next other node) (from_zero m n) (all_stay n 0 each m at.reached node_low_here (omega arith) other node o.0 (at.nodes_are.each other node o.1))
 
@@ -176,7 +176,7 @@ module _ (W : PlainWorkload) where
 -- ---- passes
 
 module _ (W : PlainWorkload) (m next : Machine) where
-  pub between_start : (nodes : List Parts) → NodesAt W m nodes → NodesBetween W m next 0 nodes
+  pub between_start : (nodes : List PlainReplayNode) → NodesAt W m nodes → NodesBetween W m next 0 nodes
   between_start nodes at =
       record {
         valid = at.valid;
@@ -186,7 +186,7 @@ module _ (W : PlainWorkload) (m next : Machine) where
         behind = λ n node found low. at.nodes_are.each n node found;
       }
 
-  pub between_more : (first : ℕ) (nodes later : List Parts) → NodesBetween W m next first nodes → ChangesAt first nodes later (λ old now. NodeIsAt W next first now) → NodesBetween W m next (first + 1) later
+  pub between_more : (first : ℕ) (nodes later : List PlainReplayNode) → NodesBetween W m next first nodes → ChangesAt first nodes later (λ old now. NodeIsAt W next first now) → NodesBetween W m next (first + 1) later
   between_more first nodes later b changes =
       record {
         valid = b.valid;
@@ -196,10 +196,10 @@ module _ (W : PlainWorkload) (m next : Machine) where
         behind = λ n node found low. behind_case n node low (there n node found);
       }
     where
-      there : (n : ℕ) (node : Parts) → slice_get later n ≡ Some node → ((first ≡ n) × (changes.now ≡ node)) ⊎ ((first ≡ n → ⊥) × (slice_get nodes n ≡ Some node))
-      there n node found = get_set_cases nodes first n changes.before changes.now node changes.stood (ap (λ (l : List Parts). slice_get l n) (sym changes.set) ∙ found)
+      there : (n : ℕ) (node : PlainReplayNode) → slice_get later n ≡ Some node → ((first ≡ n) × (changes.now ≡ node)) ⊎ ((first ≡ n → ⊥) × (slice_get nodes n ≡ Some node))
+      there n node found = get_set_cases nodes first n changes.before changes.now node changes.stood (ap (λ (l : List PlainReplayNode). slice_get l n) (sym changes.set) ∙ found)
 
-      before_case : (n : ℕ) (node : Parts) → n < first + 1 → ((first ≡ n) × (changes.now ≡ node)) ⊎ ((first ≡ n → ⊥) × (slice_get nodes n ≡ Some node)) → NodeIsAt W next n node
+      before_case : (n : ℕ) (node : PlainReplayNode) → n < first + 1 → ((first ≡ n) × (changes.now ≡ node)) ⊎ ((first ≡ n → ⊥) × (slice_get nodes n ≡ Some node)) → NodeIsAt W next n node
       before_case n node low (inl e) = subst (λ (k : ℕ). NodeIsAt W next k node) e.0 (subst (NodeIsAt W next first) e.1 changes.became)
       before_case n node low (inr o) = b.before n node o.1 (apart first n low o.0)
         where
@@ -209,11 +209,11 @@ module _ (W : PlainWorkload) (m next : Machine) where
           apart (suc first) zero low ne = omega arith
           apart (suc first) (suc n) low ne = let rest = apart first n (omega (arith, low)) (λ e. ne (ap suc e)) in omega (arith, rest)
 
-      behind_case : (n : ℕ) (node : Parts) → first + 1 ≤ n → ((first ≡ n) × (changes.now ≡ node)) ⊎ ((first ≡ n → ⊥) × (slice_get nodes n ≡ Some node)) → NodeIsAt W m n node
+      behind_case : (n : ℕ) (node : PlainReplayNode) → first + 1 ≤ n → ((first ≡ n) × (changes.now ≡ node)) ⊎ ((first ≡ n → ⊥) × (slice_get nodes n ≡ Some node)) → NodeIsAt W m n node
       behind_case n node low (inl e) = let same = e.0 in absurd (omega (arith, low, same))
       behind_case n node low (inr o) = b.behind n node o.1 (omega (arith, low))
 
-  pub between_end : IsReached W next → (first : ℕ) (nodes : List Parts) → length nodes ≤ first → NodesBetween W m next first nodes → NodesAt W next nodes
+  pub between_end : IsReached W next → (first : ℕ) (nodes : List PlainReplayNode) → length nodes ≤ first → NodesBetween W m next first nodes → NodesAt W next nodes
   between_end reached first nodes all b =
       record {
         valid = b.valid;
@@ -264,11 +264,11 @@ clients_are w valid n low given same count is =
 
 -- ---- with the coordinator
 
-pub nodes_only : (W : PlainWorkload) (m : Machine) (nodes : List Parts) (coordinator : Kept) → AllAt W m nodes coordinator → NodesAt W m nodes
+pub nodes_only : (W : PlainWorkload) (m : Machine) (nodes : List PlainReplayNode) (coordinator : PlainCoordinator) → AllAt W m nodes coordinator → NodesAt W m nodes
 nodes_only W m nodes coordinator all = record { valid = all.valid; reached = all.reached; nodes_are = all.nodes_are }
 
 -- the coordinator stays where it is as long as nothing more is heard
-pub all_still : (W : PlainWorkload) (m next : Machine) (nodes later : List Parts) (coordinator : Kept) → AllAt W m nodes coordinator → heard_in W next.journal ≡ heard_in W m.journal → NodesAt W next later → AllAt W next later coordinator
+pub all_still : (W : PlainWorkload) (m next : Machine) (nodes later : List PlainReplayNode) (coordinator : PlainCoordinator) → AllAt W m nodes coordinator → heard_in W next.journal ≡ heard_in W m.journal → NodesAt W next later → AllAt W next later coordinator
 all_still W m next nodes later coordinator all same at =
     record {
       valid = at.valid;
@@ -277,7 +277,7 @@ all_still W m next nodes later coordinator all same at =
       coordinator_is = subst (λ (heard : Messages). HasHeard W heard coordinator) (sym same) all.coordinator_is;
     }
 
-pub all_passed : AgentsTakeSo → AgentsGiveSo → MachinesAreWhole → (W : PlainWorkload) (m : Machine) (nodes : List Parts) (coordinator : Kept) → AllAt W m nodes coordinator → (later : List Parts)
+pub all_passed : AgentsTakeSo → AgentsGiveSo → MachinesAreWhole → (W : PlainWorkload) (m : Machine) (nodes : List PlainReplayNode) (coordinator : PlainCoordinator) → AllAt W m nodes coordinator → (later : List PlainReplayNode)
     → NodesAt W (agents_give W (agents_take W m)) later → AllAt W (agents_give W (agents_take W m)) later coordinator
 all_passed takes gives whole W m nodes coordinator all later at =
     all_still W m (agents_give W (agents_take W m)) nodes later coordinator all (heard_still takes gives whole W all.valid (are_few W all.valid).some m all.reached) at

@@ -12,15 +12,15 @@ use Rattle.hs_law_lockstep.specs.Parts.{heard_in, AgentTakes, AgentsTakeSo}
 use Rattle.hs_law_journal.specs.Performing.{after_steps}
 use Rattle.hs_records.specs.Plain.{PlainWorkload}
 use Rattle.hs_law_sends.specs.Sending.{ClientSends, client_sends, place_of}
-use Rattle.hs_words.specs.PoolHistory.{Event}
+use Rattle.hs_words.specs.PoolHistory.{PoolEvent}
 use Rattle.hs_replay.specs.declared.queue.Queue.TheVariants as queues
-use Rattle.hs_replay.specs.Parts.{Parts}
+use Rattle.hs_replay.specs.Parts.{PlainReplayNode}
 use Rattle.hs_replay.specs.Passing.{IsAmid, WentBy, StandsStill, takes_by, takes_first}
-use Rattle.hs_replay.specs.Standing.{NodeIsAt, Stands}
+use Rattle.hs_replay.specs.Standing.{NodeIsAt, ReplayNodeStands}
 use Rattle.hs_replay.proofs.Looping.{takes_in_pass}
 
 -- a node that stands still, before its pass
-abbrev pub began : (W : PlainWorkload) (m : Machine) (n : ℕ) (node : Parts) (still : StandsStill W m n node) → IsAmid W m n still.at.run node
+abbrev pub began : (W : PlainWorkload) (m : Machine) (n : ℕ) (node : PlainReplayNode) (still : StandsStill W m n node) → IsAmid W m n still.at.run node
 began W m n node still =
     record {
       comes =
@@ -54,8 +54,8 @@ pass_is W m run e = ap (λ (l : List Step). l ++ takes_by W m run queues.Asks ++
 -- ---- what stands
 
 -- steps more in the logs leave what clients did and drew
-pub with_steps_stand : (W : PlainWorkload) (m : Machine) (new : List (List Step)) (heard : Messages) (history : List Event) (run : NodeRun) (log : List Step) (node : Parts) → Stands W m heard history run log node
-    → Stands W (with_steps m new) heard history run log node
+pub with_steps_stand : (W : PlainWorkload) (m : Machine) (new : List (List Step)) (heard : Messages) (history : List PoolEvent) (run : NodeRun) (log : List Step) (node : PlainReplayNode) → ReplayNodeStands W m heard history run log node
+    → ReplayNodeStands W (with_steps m new) heard history run log node
 with_steps_stand W m new heard history run log node stands =
     record {
       sends = stands.sends;
@@ -66,13 +66,13 @@ with_steps_stand W m new heard history run log node stands =
       said = stands.said;
     }
 
-pub restand : (W : PlainWorkload) (m : Machine) (heard heard' : Messages) (history history' : List Event) (run run' : NodeRun) (node : Parts) → heard ≡ heard' → history ≡ history' → run ≡ run'
-    → Stands W m heard history run run.state.log node → Stands W m heard' history' run' run'.state.log node
+pub restand : (W : PlainWorkload) (m : Machine) (heard heard' : Messages) (history history' : List PoolEvent) (run run' : NodeRun) (node : PlainReplayNode) → heard ≡ heard' → history ≡ history' → run ≡ run'
+    → ReplayNodeStands W m heard history run run.state.log node → ReplayNodeStands W m heard' history' run' run'.state.log node
 restand W m heard heard' history history' run run' node a b c stands =
-    subst (λ (r : NodeRun). Stands W m heard' history' r r.state.log node) c
-    (subst (λ (h : List Event). Stands W m heard' h run run.state.log node) b (subst (λ (h : Messages). Stands W m h history run run.state.log node) a stands))
+    subst (λ (r : NodeRun). ReplayNodeStands W m heard' history' r r.state.log node) c
+    (subst (λ (h : List PoolEvent). ReplayNodeStands W m heard' h run run.state.log node) b (subst (λ (h : Messages). ReplayNodeStands W m h history run run.state.log node) a stands))
 
-pub passed : (W : PlainWorkload) (m : Machine) (n : ℕ) (old new : Parts) (still : StandsStill W m n old) → AgentsTakeSo → WentBy W m n still.at.run (takes_in_pass W m still.at.run) new → NodeIsAt W (agents_take W m) n new
+pub passed : (W : PlainWorkload) (m : Machine) (n : ℕ) (old new : PlainReplayNode) (still : StandsStill W m n old) → AgentsTakeSo → WentBy W m n still.at.run (takes_in_pass W m still.at.run) new → NodeIsAt W (agents_take W m) n new
 passed W m n old new still so w =
     let run = still.at.run in
     let law : AgentTakes W m (agents_take W m) n run = so W still.valid m still.reached n run still.at.at in

@@ -15,33 +15,33 @@ use Rattle.hs_law_journal.specs.Pooled.{page_of, buffer_of as buffer_in_draw}
 use Rattle.hs_law_journal.proofs.Logs.{taken_still}
 use Rattle.hs_law_lockstep.specs.Lockstep.{Machine, done_at}
 use Rattle.hs_law_lockstep.specs.Parts.{heard_in}
-use Rattle.hs_law_agent.specs.Stepping.{Event, Took, Chunk, Crumbed, Triggered}
-use Rattle.hs_replay_client.specs.Places.{IsAt, IsChunkAt}
-use Rattle.hs_replay_client.specs.Playing.{Playing, Unleased}
+use Rattle.hs_law_agent.specs.Stepping.{AgentEvent, Took, Chunk, Crumbed, Triggered}
+use Rattle.hs_replay_client.specs.Places.{ReplayClientIsAt, IsChunkAt}
+use Rattle.hs_replay_client.specs.ReplayClients.{PlainReplayClient, Unleased}
 use Rattle.hs_records.specs.Plain.{PlainWorkload}
 use Rattle.hs_law_sends.specs.Drawn.{DrawnPage}
 use Rattle.hs_law_sends.specs.Sending.{Sent, ClientSends, client_sends, node_sends, draws_at, operations_at, place_of}
 use Rattle.hs_words.specs.Pages.{Sheet}
-use Rattle.hs_replay.specs.Standing.{PlayerStands, PlayersStand, IsLent}
+use Rattle.hs_replay.specs.Standing.{ReplayClientStands, ReplayClientsStand, IsLent}
 use Rattle.hs_replay.proofs.Counting.{taken_once}
 
--- ---- players
+-- ---- clients
 
--- the same player where the log took as much of each of its queues
-pub as_much : (W : PlainWorkload) (m : Machine) (node : ℕ) (log log' : List Step) (client : ℕ) (player : Playing) → taken (Chunks client) log' ≡ taken (Chunks client) log
-    → taken (Crumbs client) log' ≡ taken (Crumbs client) log → taken (Triggers client) log' ≡ taken (Triggers client) log → PlayerStands W m node log client player
-    → PlayerStands W m node log' client player
+-- the same client where the log took as much of each of its queues
+pub as_much : (W : PlainWorkload) (m : Machine) (node : ℕ) (log log' : List Step) (client : ℕ) (player : PlainReplayClient) → taken (Chunks client) log' ≡ taken (Chunks client) log
+    → taken (Crumbs client) log' ≡ taken (Crumbs client) log → taken (Triggers client) log' ≡ taken (Triggers client) log → ReplayClientStands W m node log client player
+    → ReplayClientStands W m node log' client player
 as_much W m node log log' client player k l t stands =
     let place = place_of W.settings.clients node client in
-    let At : ℕ → ℕ → ℕ → Type 0 = λ k l t. IsAt W.settings (record { node = node; number = client }) (operations_at W place) (draws_at m.journal place) (done_at m place) k l t player in
+    let At : ℕ → ℕ → ℕ → Type 0 = λ k l t. ReplayClientIsAt W.settings (record { node = node; number = client }) (operations_at W place) (draws_at m.journal place) (done_at m place) k l t player in
     subst (λ a. At a (taken (Crumbs client) log') (taken (Triggers client) log')) (sym k)
     (subst (λ a. At (taken (Chunks client) log) a (taken (Triggers client) log')) (sym l)
     (subst (λ a. At (taken (Chunks client) log) (taken (Crumbs client) log) a) (sym t) stands))
 
--- a step that takes from no client leaves the players where they are
-pub none_moves : (W : PlainWorkload) (m : Machine) (node : ℕ) (log : List Step) (step : Step) (players : List Playing)
+-- a step that takes from no client leaves the clients where they are
+pub none_moves : (W : PlainWorkload) (m : Machine) (node : ℕ) (log : List Step) (step : Step) (players : List PlainReplayClient)
     → ((client : ℕ) → (takes (Chunks client) step ≡ false) × (takes (Crumbs client) step ≡ false) × (takes (Triggers client) step ≡ false))
-    → PlayersStand W m node log players → PlayersStand W m node (log ++ step ∷ []) players
+    → ReplayClientsStand W m node log players → ReplayClientsStand W m node (log ++ step ∷ []) players
 none_moves W m node log step players none stand =
     record {
       count = stand.count;
@@ -55,18 +55,18 @@ none_moves W m node log step players none stand =
 length_set : {A : Type 0} (xs : List A) (place : ℕ) (x : A) → length (set xs place x) ≡ length xs
 length_set xs place x = length-set xs place x
 
--- a client's player moved, and no step took from the others
-pub one_moves : (W : PlainWorkload) (m : Machine) (node : ℕ) (log log' : List Step) (client : ℕ) (players : List Playing) (before now : Playing)
+-- a client moved, and no step took from the others
+pub one_moves : (W : PlainWorkload) (m : Machine) (node : ℕ) (log log' : List Step) (client : ℕ) (players : List PlainReplayClient) (before now : PlainReplayClient)
     → slice_get players client ≡ Some before
     → ((other : ℕ) → (client ≡ other → ⊥) → (taken (Chunks other) log' ≡ taken (Chunks other) log) × (taken (Crumbs other) log' ≡ taken (Crumbs other) log) × (taken (Triggers other) log' ≡ taken (Triggers other) log))
-    → PlayerStands W m node log' client now → PlayersStand W m node log players → PlayersStand W m node log' (set players client now)
+    → ReplayClientStands W m node log' client now → ReplayClientsStand W m node log players → ReplayClientsStand W m node log' (set players client now)
 one_moves W m node log log' client players before now stood others moved stand =
     record {
       count = length_set players client now ∙ stand.count;
       each =
           λ other player at.
           elim (get_set_cases players client other before now player stood at) [
-            | inl h ↦ subst (λ (p : Playing). PlayerStands W m node log' other p) h.1 (subst (λ (c : ℕ). PlayerStands W m node log' c now) h.0 moved)
+            | inl h ↦ subst (λ (p : PlainReplayClient). ReplayClientStands W m node log' other p) h.1 (subst (λ (c : ℕ). ReplayClientStands W m node log' c now) h.0 moved)
             | inr h ↦ let same = others other h.0 in as_much W m node log log' other player same.0 same.1 same.2 (stand.each other player h.1)
           ];
     }
@@ -79,7 +79,7 @@ sends_there W m run client e low =
     let zero_on : 0 + client ≡ client = omega arith in
     ap (λ (s : List ClientSends). slice_get s client) e ∙ map_range_from (client_sends W m.journal run.node) 0 W.settings.clients client low ∙ ap (λ c. Some (client_sends W m.journal run.node c)) zero_on
 
-event_there : {A : Type 0} (f : A → Event) (queue : Queue) (pick : ClientSends → List (Sent A)) (run : NodeRun) (client : ℕ) (sends : ClientSends) (item : Sent A) → slice_get run.sends client ≡ Some sends
+event_there : {A : Type 0} (f : A → AgentEvent) (queue : Queue) (pick : ClientSends → List (Sent A)) (run : NodeRun) (client : ℕ) (sends : ClientSends) (item : Sent A) → slice_get run.sends client ≡ Some sends
     → slice_get (pick sends) (taken queue run.state.log) ≡ Some item
     → option_and_then (λ (s : ClientSends). option_map f (next_of queue run.state (pick s))) (slice_get run.sends client) ≡ Some (f item.item)
 event_there {A = A} f queue pick run client sends item there found =
@@ -148,44 +148,44 @@ module _ (W : PlainWorkload) (m : Machine) (run : NodeRun) (log : List Step) (cl
   triggers_else other apart =
       (taken_still (Chunks other) log (steps.Trigger client) refl, taken_still (Crumbs other) log (steps.Trigger client) refl, taken_still (Triggers other) log (steps.Trigger client) (ne_eqb client other apart))
 
-  abbrev At : (k l t : ℕ) → Playing → Type 0
+  abbrev At : (k l t : ℕ) → PlainReplayClient → Type 0
   At k l t player =
       let place = place_of W.settings.clients run.node client in
-      IsAt W.settings (record { node = run.node; number = client }) (operations_at W place) (draws_at m.journal place) (done_at m place) k l t player
+      ReplayClientIsAt W.settings (record { node = run.node; number = client }) (operations_at W place) (draws_at m.journal place) (done_at m place) k l t player
 
-  at_counts : (k k' l l' t t' : ℕ) (player : Playing) → k ≡ k' → l ≡ l' → t ≡ t' → At k l t player → At k' l' t' player
+  at_counts : (k k' l l' t t' : ℕ) (player : PlainReplayClient) → k ≡ k' → l ≡ l' → t ≡ t' → At k l t player → At k' l' t' player
   at_counts k k' l l' t t' player ek el et at = subst (λ a. At a l' t' player) ek (subst (λ a. At k a t' player) el (subst (λ a. At k l a player) et at))
 
-  pub chunk_moved : (player : Playing) → At (taken (Chunks client) log + 1) (taken (Crumbs client) log) (taken (Triggers client) log) player
-      → PlayerStands W m run.node (log ++ steps.Chunk client ∷ []) client player
+  pub chunk_moved : (player : PlainReplayClient) → At (taken (Chunks client) log + 1) (taken (Crumbs client) log) (taken (Triggers client) log) player
+      → ReplayClientStands W m run.node (log ++ steps.Chunk client ∷ []) client player
   chunk_moved player at =
       at_counts (taken (Chunks client) log + 1) (taken (Chunks client) (log ++ steps.Chunk client ∷ [])) (taken (Crumbs client) log) (taken (Crumbs client) (log ++ steps.Chunk client ∷ []))
       (taken (Triggers client) log) (taken (Triggers client) (log ++ steps.Chunk client ∷ [])) player (sym (taken_once (Chunks client) log (steps.Chunk client) own))
       (sym (taken_still (Crumbs client) log (steps.Chunk client) refl)) (sym (taken_still (Triggers client) log (steps.Chunk client) refl)) at
 
-  pub crumb_moved : (player : Playing) → At (taken (Chunks client) log) (taken (Crumbs client) log + 1) (taken (Triggers client) log) player
-      → PlayerStands W m run.node (log ++ steps.Crumb client ∷ []) client player
+  pub crumb_moved : (player : PlainReplayClient) → At (taken (Chunks client) log) (taken (Crumbs client) log + 1) (taken (Triggers client) log) player
+      → ReplayClientStands W m run.node (log ++ steps.Crumb client ∷ []) client player
   crumb_moved player at =
       at_counts (taken (Chunks client) log) (taken (Chunks client) (log ++ steps.Crumb client ∷ [])) (taken (Crumbs client) log + 1) (taken (Crumbs client) (log ++ steps.Crumb client ∷ []))
       (taken (Triggers client) log) (taken (Triggers client) (log ++ steps.Crumb client ∷ [])) player (sym (taken_still (Chunks client) log (steps.Crumb client) refl))
       (sym (taken_once (Crumbs client) log (steps.Crumb client) own)) (sym (taken_still (Triggers client) log (steps.Crumb client) refl)) at
 
-  pub trigger_moved : (player : Playing) → At (taken (Chunks client) log) (taken (Crumbs client) log) (taken (Triggers client) log + 1) player
-      → PlayerStands W m run.node (log ++ steps.Trigger client ∷ []) client player
+  pub trigger_moved : (player : PlainReplayClient) → At (taken (Chunks client) log) (taken (Crumbs client) log) (taken (Triggers client) log + 1) player
+      → ReplayClientStands W m run.node (log ++ steps.Trigger client ∷ []) client player
   trigger_moved player at =
       at_counts (taken (Chunks client) log) (taken (Chunks client) (log ++ steps.Trigger client ∷ [])) (taken (Crumbs client) log) (taken (Crumbs client) (log ++ steps.Trigger client ∷ []))
       (taken (Triggers client) log + 1) (taken (Triggers client) (log ++ steps.Trigger client ∷ [])) player (sym (taken_still (Chunks client) log (steps.Trigger client) refl))
       (sym (taken_still (Crumbs client) log (steps.Trigger client) refl)) (sym (taken_once (Triggers client) log (steps.Trigger client) own)) at
 
-  -- the players when this client's moved
-  pub players_set : (step : Step) (players new : List Playing) (before now : Playing) → slice_get players client ≡ Some before → new ≡ set players client now
+  -- the clients when this one moved
+  pub players_set : (step : Step) (players new : List PlainReplayClient) (before now : PlainReplayClient) → slice_get players client ≡ Some before → new ≡ set players client now
       → ((other : ℕ) → (client ≡ other → ⊥) → (taken (Chunks other) (log ++ step ∷ []) ≡ taken (Chunks other) log) × (taken (Crumbs other) (log ++ step ∷ []) ≡ taken (Crumbs other) log)
-      × (taken (Triggers other) (log ++ step ∷ []) ≡ taken (Triggers other) log)) → PlayerStands W m run.node (log ++ step ∷ []) client now → PlayersStand W m run.node log players
-      → PlayersStand W m run.node (log ++ step ∷ []) new
+      × (taken (Triggers other) (log ++ step ∷ []) ≡ taken (Triggers other) log)) → ReplayClientStands W m run.node (log ++ step ∷ []) client now → ReplayClientsStand W m run.node log players
+      → ReplayClientsStand W m run.node (log ++ step ∷ []) new
   players_set step players new before now stood e others moved stand =
-      subst (PlayersStand W m run.node (log ++ step ∷ [])) (sym e) (one_moves W m run.node log (log ++ step ∷ []) client players before now stood others moved stand)
+      subst (ReplayClientsStand W m run.node (log ++ step ∷ [])) (sym e) (one_moves W m run.node log (log ++ step ∷ []) client players before now stood others moved stand)
 
-  pub players_same : (players new : List Playing) (before now : Playing) → slice_get players client ≡ Some before → new ≡ set players client now → PlayerStands W m run.node log client now
-      → PlayersStand W m run.node log players → PlayersStand W m run.node log new
+  pub players_same : (players new : List PlainReplayClient) (before now : PlainReplayClient) → slice_get players client ≡ Some before → new ≡ set players client now → ReplayClientStands W m run.node log client now
+      → ReplayClientsStand W m run.node log players → ReplayClientsStand W m run.node log new
   players_same players new before now stood e moved stand =
-      subst (PlayersStand W m run.node log) (sym e) (one_moves W m run.node log log client players before now stood (λ other apart. (refl, refl, refl)) moved stand)
+      subst (ReplayClientsStand W m run.node log) (sym e) (one_moves W m run.node log log client players before now stood (λ other apart. (refl, refl, refl)) moved stand)

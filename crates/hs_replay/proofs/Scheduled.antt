@@ -6,7 +6,7 @@ use Rattle.std.proofs.lemmas.Bool.{cases_lt}
 use Rattle.std.proofs.lemmas.Option.{slice_get_within}
 use Rattle.hs_lists.proofs.Tests.{list_all_fails, list_all_by_place}
 use Rattle.hs_base.specs.Listing.{Listing}
-use Rattle.hs_coord.specs.Kept.{Kept}
+use Rattle.hs_coord.specs.Kept.{PlainCoordinator}
 use Rattle.hs_law_journal.specs.Ends.{is_left_bare, is_bare, rounds_of}
 use Rattle.hs_law_journal.specs.Following.{NodeRun, followed}
 use Rattle.hs_law_journal.specs.Played.{played}
@@ -23,7 +23,7 @@ use Rattle.hs_workload.specs.declared.operation.Op.{Op}
 use Rattle.hs_workload.specs.declared.operation.Workload.{Workload}
 use Rattle.hs_replay.specs.All.{NodesAt, AllAt, TellsLeft, AllClosed}
 use Rattle.hs_replay.specs.Left.{HasClients, IsNodeDone, TellsNodeLeft}
-use Rattle.hs_replay.specs.Parts.{Parts}
+use Rattle.hs_replay.specs.Parts.{PlainReplayNode}
 use Rattle.hs_replay.specs.Passing.{StandsStill}
 use Rattle.hs_replay.proofs.Others.{place_below, gone, clients_are, all_still}
 
@@ -79,7 +79,7 @@ pub bare_all : (W : PlainWorkload) (m : Machine) → ((n : ℕ) (run : NodeRun) 
 bare_all W m each = list_all_by_place (is_left_bare (followed W m.journal)) (followed W m.journal).nodes each
 
 -- a node that stands still
-pub still_at : (W : PlainWorkload) (m : Machine) (nodes : List Parts) → NodesAt W m nodes → (n : ℕ) (node : Parts) → slice_get nodes n ≡ Some node → StandsStill W m n node
+pub still_at : (W : PlainWorkload) (m : Machine) (nodes : List PlainReplayNode) → NodesAt W m nodes → (n : ℕ) (node : PlainReplayNode) → slice_get nodes n ≡ Some node → StandsStill W m n node
 still_at W m nodes at n node there = record { valid = at.valid; reached = at.reached; at = at.nodes_are.each n node there }
 
 pub node_low : MachinesAreWhole → (W : PlainWorkload) → IsValid W → (m : Machine) → IsReached W m → (n : ℕ) (run : NodeRun) → node_at W m.journal n ≡ Some run → n < W.settings.nodes
@@ -103,7 +103,7 @@ heard_by_clients whole goes W valid start (suc places) m r few =
     one : (n : ℕ) × (number : ℕ) × (n < W.settings.nodes) × (number < W.settings.clients) × (place_of W.settings.clients n number ≡ start) → heard_in W (client_goes W m start).journal ≡ heard_in W m.journal
     one (n, number, node, client, is) = ap (λ (p : ℕ). heard_in W (client_goes W m p).journal) (sym is) ∙ (gone whole goes W valid m r n number node client).heard
 
-pub round_gone : (whole : MachinesAreWhole) (goes : ClientsGoSo) (W : PlainWorkload) (m : Machine) (nodes later : List Parts) (coordinator : Kept) → AllAt W m nodes coordinator → NodesAt W (clients_go W m) later → AllAt W (clients_go W m) later coordinator
+pub round_gone : (whole : MachinesAreWhole) (goes : ClientsGoSo) (W : PlainWorkload) (m : Machine) (nodes later : List PlainReplayNode) (coordinator : PlainCoordinator) → AllAt W m nodes coordinator → NodesAt W (clients_go W m) later → AllAt W (clients_go W m) later coordinator
 round_gone whole goes W m nodes later coordinator all at = all_still W m (clients_go W m) nodes later coordinator all (heard_by_clients whole goes W all.valid 0 (length W.clients) m all.reached (omega arith)) at
 
 -- ---- the closing
@@ -128,7 +128,7 @@ rounds_through W n h few all =
     let same : n ≡ rounds_of W = omega (arith, few, enough) in
     ap (λ (k : ℕ). rounds k W (machine_start W)) same
 
-pub round_more : (W : PlainWorkload) (n : ℕ) (nodes : List Parts) (coordinator : Kept) → HasRounds W n → AllAt W (round W (rounds n W (machine_start W))) nodes coordinator → AllAt W (rounds (n + 1) W (machine_start W)) nodes coordinator
+pub round_more : (W : PlainWorkload) (n : ℕ) (nodes : List PlainReplayNode) (coordinator : PlainCoordinator) → HasRounds W n → AllAt W (round W (rounds n W (machine_start W))) nodes coordinator → AllAt W (rounds (n + 1) W (machine_start W)) nodes coordinator
 round_more W n nodes coordinator h at = subst (λ (m : Machine). AllAt W m nodes coordinator) (sym h.more) at
 
 pub closing_done : (W : PlainWorkload) (n : ℕ) → HasRounds W (rounds_of W) → AllDone W (passed n W (behind_rounds W))
@@ -144,10 +144,10 @@ pass_left W n closing few off = either (cases_lt n closing.count)
         let bare = subst (λ (k : ℕ). is_bare (played W (passed k W (behind_rounds W)).journal) ≡ true) same closing.ends in
         let never : true ≡ false = sym bare ∙ off in absurd cc
 
-pub pass_more : (W : PlainWorkload) (n : ℕ) (nodes : List Parts) (coordinator : Kept) → AllAt W (passes W (passed n W (behind_rounds W))) nodes coordinator → AllAt W (passed (n + 1) W (behind_rounds W)) nodes coordinator
+pub pass_more : (W : PlainWorkload) (n : ℕ) (nodes : List PlainReplayNode) (coordinator : PlainCoordinator) → AllAt W (passes W (passed n W (behind_rounds W))) nodes coordinator → AllAt W (passed (n + 1) W (behind_rounds W)) nodes coordinator
 pass_more W n nodes coordinator at = let e : suc n ≡ n + 1 = omega arith in subst (λ (k : ℕ). AllAt W (passed k W (behind_rounds W)) nodes coordinator) e at
 
-pub closed_at : (W : PlainWorkload) (n : ℕ) (closing : HasClosing W) (nodes : List Parts) (coordinator : Kept) → HasRounds W (rounds_of W) → n ≤ closing.count → is_bare (played W (passed n W (behind_rounds W)).journal) ≡ true
+pub closed_at : (W : PlainWorkload) (n : ℕ) (closing : HasClosing W) (nodes : List PlainReplayNode) (coordinator : PlainCoordinator) → HasRounds W (rounds_of W) → n ≤ closing.count → is_bare (played W (passed n W (behind_rounds W)).journal) ≡ true
     → AllAt W (passed n W (behind_rounds W)) nodes coordinator → AllClosed W nodes coordinator
 closed_at W n closing nodes coordinator h few bare at = either (cases_lt n closing.count)
   where

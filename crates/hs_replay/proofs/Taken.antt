@@ -6,7 +6,7 @@ use Rattle.std.specs.Option.{option_and_then, option_to_list}
 use Rattle.hs_lists.proofs.Alls.{all_each, all_append}
 use Rattle.hs_agent.specs.declared.input.Input.{Input}
 use Rattle.hs_agent.specs.declared.input.Input.TheVariants as inputs
-use Rattle.hs_agent.specs.Keeping.{Keeping}
+use Rattle.hs_agent.specs.Keeping.{PlainAgent}
 use Rattle.hs_agent.specs.Points.{sheet_in}
 use Rattle.hs_agent.specs.Runs.{Follows, IsTakable, Knows, after_input, buffers_in, input_of, point_of, told_in}
 use Rattle.hs_agent.proofs.Brought.{sheets_brought}
@@ -21,15 +21,15 @@ use Rattle.hs_law_lockstep.specs.Parts.{heard_in}
 use Rattle.hs_law_journal.specs.Performing.{after_steps, StepByStep}
 use Rattle.hs_law_agent.specs.Laws.{EventsGoOn, EventsAddThis, StepsSayWhatTheyTell, sheets_of}
 use Rattle.hs_law_agent.specs.State.{AgentState}
-use Rattle.hs_law_agent.specs.Stepping.{Event, Took, after, after_event, told_by}
+use Rattle.hs_law_agent.specs.Stepping.{AgentEvent, Took, after, after_event, told_by}
 use Rattle.hs_records.specs.Plain.{PlainSettings, PlainWorkload}
 use Rattle.hs_words.specs.Buffers.{Buffer}
 use Rattle.hs_words.specs.Pages.{Sheet}
-use Rattle.hs_replay.specs.Parts.{Parts}
+use Rattle.hs_replay.specs.Parts.{PlainReplayNode}
 use Rattle.hs_replay.specs.Passing.{IsAmid, IsReady, IsThere, TookOne, WentBy, FitsChunk}
 use Rattle.hs_replay.specs.Queues.{step_from}
 use Rattle.hs_replay.specs.declared.queue.Queue.{Queue}
-use Rattle.hs_replay.specs.Standing.{Remain, PlayersStand, AgentStands, IsLent, run_of}
+use Rattle.hs_replay.specs.Standing.{Remain, ReplayClientsStand, ReplayAgentStands, IsLent, run_of}
 
 -- ---- lists
 
@@ -40,11 +40,11 @@ more_remain gone all rest more r = record { front = r.front; all_is = ap (λ l. 
 -- ---- runs
 
 -- one step more
-pub one_more : StepByStep → (settings : PlainSettings) (heard : Messages) (steps : List Step) (step : Step) (start run : NodeRun) (event : Event) → after_steps settings heard steps start ≡ Some run
+pub one_more : StepByStep → (settings : PlainSettings) (heard : Messages) (steps : List Step) (step : Step) (start run : NodeRun) (event : AgentEvent) → after_steps settings heard steps start ≡ Some run
     → event_of run heard step ≡ Some event → after_steps settings heard (steps ++ step ∷ []) start ≡ Some (perform settings [] run event)
 one_more by_steps settings heard steps step start run event came ready =
     by_steps.steps settings heard steps (step ∷ []) start ∙ ap (option_and_then (after_steps settings heard (step ∷ []))) came
-    ∙ ap (λ (o : Option Event). option_and_then (after_steps settings heard []) (option_map (perform settings [] run) o)) ready
+    ∙ ap (λ (o : Option AgentEvent). option_and_then (after_steps settings heard []) (option_map (perform settings [] run) o)) ready
 
 -- ---- inputs
 
@@ -65,8 +65,8 @@ may_take settings run buffers state (inputs.Trigger client trigger) comes fits m
 may_take settings run buffers state (inputs.Ask ask) comes fits may = may
 may_take settings run buffers state inputs.Turn comes fits may = tt
 
-module _ (W : PlainWorkload) (m : Machine) (n : ℕ) (run : NodeRun) (step : Step) {g : _} (input : Input (Unit {0}) g) (old : Parts) (ready : IsReady W m n run step input old) where
-  abbrev pub stood : AgentStands W.settings run None old.agent
+module _ (W : PlainWorkload) (m : Machine) (n : ℕ) (run : NodeRun) (step : Step) {g : _} (input : Input (Unit {0}) g) (old : PlainReplayNode) (ready : IsReady W m n run step input old) where
+  abbrev pub stood : ReplayAgentStands W.settings run None old.agent
   stood = ready.stands.agent
 
   pub takable : MachinesFit → Knows old.agent (λ r. IsTakable (point_of r) input)
@@ -77,7 +77,7 @@ module _ (W : PlainWorkload) (m : Machine) (n : ℕ) (run : NodeRun) (step : Ste
       let here : MayTake W.settings run.node run.state (input_of input) = subst (λ i. MayTake W.settings i run.state (input_of input)) (sym ready.comes.number) may in
       (run_of W.settings run stood.buffers None, stood.follows, may_take W.settings run stood.buffers run.state input stood.comes ready.chunk here)
 
-  abbrev pub event : Event
+  abbrev pub event : AgentEvent
   event = Took (input_of input)
 
   abbrev pub next : NodeRun
@@ -90,9 +90,9 @@ module _ (W : PlainWorkload) (m : Machine) (n : ℕ) (run : NodeRun) (step : Ste
     next_comes : next.state ≡ after W.settings next.node next.events
     next_comes = ap (λ (s : AgentState). after_event W.settings run.node s event) stood.comes ∙ sym (go_on W.settings run.node run.events (event ∷ []))
 
-    module _ (agent : Keeping (Unit {0})) (told : Option Told) (said : List Told) (follows : Follows agent (after_input (run_of W.settings run stood.buffers None) input))
+    module _ (agent : PlainAgent (Unit {0})) (told : Option Told) (said : List Told) (follows : Follows agent (after_input (run_of W.settings run stood.buffers None) input))
         (tells : told ≡ told_in (run_of W.settings run stood.buffers None) input) (joins : said ≡ old.said ++ option_to_list told) where
-      next_agent : AgentStands W.settings next None agent
+      next_agent : ReplayAgentStands W.settings next None agent
       next_agent =
           record {
             buffers = stood.buffers ++ buffers_in input;
@@ -131,7 +131,7 @@ module _ (W : PlainWorkload) (m : Machine) (n : ℕ) (run : NodeRun) (step : Ste
             stands =
                 record {
                   sends = ready.stands.sends;
-                  players = subst (λ (log : List Step). PlayersStand W m run.node log old.players) (sym (next_log adds)) ready.stands.players;
+                  players = subst (λ (log : List Step). ReplayClientsStand W m run.node log old.players) (sym (next_log adds)) ready.stands.players;
                   agent = next_agent;
                   pool = ready.stands.pool;
                   asks = subst (λ (log : List Step). Remain (taken Asks log) (asks_to run.node (heard_in W m.journal)) old.asks) (sym (next_log adds)) ready.stands.asks;
@@ -142,17 +142,17 @@ module _ (W : PlainWorkload) (m : Machine) (n : ℕ) (run : NodeRun) (step : Ste
           }
 
 -- the agent took what was ready
-pub went_one : EventsAddThis → (W : PlainWorkload) (m : Machine) (n : ℕ) (step : Step) (run : NodeRun) {g : _} (input : Input (Unit {0}) g) (old new : Parts) → IsReady W m n run step input old
+pub went_one : EventsAddThis → (W : PlainWorkload) (m : Machine) (n : ℕ) (step : Step) (run : NodeRun) {g : _} (input : Input (Unit {0}) g) (old new : PlainReplayNode) → IsReady W m n run step input old
     → IsAmid W m n (perform W.settings [] run (Took (input_of input))) new → WentBy W m n run (step ∷ []) new
 went_one adds W m n step run input old new ready amid =
     record {
       next = perform W.settings [] run (Took (input_of input));
-      by = ap (λ (o : Option Event). option_and_then (after_steps W.settings (heard_in W m.journal) []) (option_map (perform W.settings [] run) o)) ready.ready;
+      by = ap (λ (o : Option AgentEvent). option_and_then (after_steps W.settings (heard_in W m.journal) []) (option_map (perform W.settings [] run) o)) ready.ready;
       log = next_log W m n run step input old ready adds;
       amid = amid;
     }
 
 -- the agent took an item that was there
-pub took_one : EventsAddThis → (W : PlainWorkload) (m : Machine) (n : ℕ) (queue : Queue) (run : NodeRun) {g : _} (input : Input (Unit {0}) g) (old new : Parts) → IsThere W m n queue run input old
+pub took_one : EventsAddThis → (W : PlainWorkload) (m : Machine) (n : ℕ) (queue : Queue) (run : NodeRun) {g : _} (input : Input (Unit {0}) g) (old new : PlainReplayNode) → IsThere W m n queue run input old
     → IsAmid W m n (perform W.settings [] run (Took (input_of input))) new → TookOne W m n queue run new
 took_one adds W m n queue run input old new there amid = record { went = went_one adds W m n (step_from queue) run input old new there.ready amid; within = there.within }

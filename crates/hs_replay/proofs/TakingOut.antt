@@ -16,7 +16,7 @@ use Rattle.hs_law_lockstep.specs.Lockstep.{Machine, done_at}
 use Rattle.hs_law_lockstep.specs.Parts.{heard_in}
 use Rattle.hs_law_agent.specs.Stepping.{Took, Chunk, Crumbed, Triggered, Asked}
 use Rattle.hs_replay_client.specs.Places.{TakesChunk, TakesCrumb, TakesTrigger}
-use Rattle.hs_replay_client.specs.Playing.{Playing}
+use Rattle.hs_replay_client.specs.ReplayClients.{PlainReplayClient}
 use Rattle.hs_records.specs.Plain.{PlainWorkload}
 use Rattle.hs_law_sends.specs.Sending.{draws_at, operations_at, place_of}
 use Rattle.hs_words.specs.declared.token.Held.{Held}
@@ -26,16 +26,16 @@ use Rattle.hs_law_journal.specs.Pooled.{pool_history}
 use Rattle.hs_law_journal.proofs.Logs.{taken_still}
 use Rattle.hs_words.specs.Pages.{Sheet}
 use Rattle.hs_replay.specs.declared.queue.Queue.TheVariants as queues
-use Rattle.hs_replay.specs.Parts.{Parts}
+use Rattle.hs_replay.specs.Parts.{PlainReplayNode}
 use Rattle.hs_replay.specs.Passing.{IsAmid, IsReady, IsDrained, IsThere}
-use Rattle.hs_replay.specs.Standing.{Remain, PlayersStand, Stands}
+use Rattle.hs_replay.specs.Standing.{Remain, ReplayClientsStand, ReplayNodeStands}
 use Rattle.hs_replay.proofs.Counting.{taken_once}
 use Rattle.hs_replay.proofs.Readying.{none_moves, sheet_is, chunk_ready, crumb_ready, trigger_ready, chunk_lent, chunk_moved, crumb_moved, trigger_moved, players_set, players_same, chunks_else, crumbs_else, triggers_else}
 
-module _ (W : PlainWorkload) (m : Machine) (n : ℕ) (run : NodeRun) (old : Parts) (amid : IsAmid W m n run old) where
-  -- all but the players and the asks stand where they stood
-  others_stand : (log : List Step) (players : List Playing) (asks : List Ask) → PlayersStand W m run.node log players → Remain (taken Asks log) (asks_to run.node (heard_in W m.journal)) asks
-      → Stands W m (heard_in W m.journal) (pool_history amid.comes.start) run log (record old { players = players; asks = asks })
+module _ (W : PlainWorkload) (m : Machine) (n : ℕ) (run : NodeRun) (old : PlainReplayNode) (amid : IsAmid W m n run old) where
+  -- all but the clients and the asks stand where they stood
+  others_stand : (log : List Step) (players : List PlainReplayClient) (asks : List Ask) → ReplayClientsStand W m run.node log players → Remain (taken Asks log) (asks_to run.node (heard_in W m.journal)) asks
+      → ReplayNodeStands W m (heard_in W m.journal) (pool_history amid.comes.start) run log (record old { players = players; asks = asks })
   others_stand log players asks playing asking =
       record {
         sends = amid.stands.sends;
@@ -52,7 +52,7 @@ module _ (W : PlainWorkload) (m : Machine) (n : ℕ) (run : NodeRun) (old : Part
 
   -- ---- clients
 
-  module _ (client : ℕ) (low : client < length old.players) (new : List Playing) where
+  module _ (client : ℕ) (low : client < length old.players) (new : List PlainReplayClient) where
     inside : client < W.settings.clients
     inside = let count = amid.stands.players.count in omega (arith, count)
 
@@ -181,7 +181,7 @@ module _ (W : PlainWorkload) (m : Machine) (n : ℕ) (run : NodeRun) (old : Part
 
   -- a step that takes from no client
   spares : (step : Step) → ((client : ℕ) → (takes (Chunks client) step ≡ false) × (takes (Crumbs client) step ≡ false) × (takes (Triggers client) step ≡ false))
-      → PlayersStand W m run.node (run.state.log ++ step ∷ []) old.players
+      → ReplayClientsStand W m run.node (run.state.log ++ step ∷ []) old.players
   spares step none = none_moves W m run.node run.state.log step old.players none amid.stands.players
 
   pub ask_out : {g : _} (ask : Ask) (rest : List Ask) → old.asks ≡ ask ∷ rest → IsReady {g = g} W m n run steps.Ask (inputs.Ask ask) (record old { asks = rest })

@@ -13,7 +13,7 @@ use Rattle.hs_journal.specs.declared.journal.Step.TheVariants as steps
 use Rattle.hs_replay.specs.All.{clients_gone}
 use Rattle.hs_replay.specs.declared.queue.Queue.TheVariants as queues
 use Rattle.hs_replay.specs.Hearing.{with_ask, with_told, asked_by, TellsNext, AreAsked, waiting}
-use Rattle.hs_replay.specs.Parts.{Parts}
+use Rattle.hs_replay.specs.Parts.{PlainReplayNode}
 use Rattle.hs_replay.specs.Queues.{queue_of, step_from}
 use Rattle.hs_replay.specs.Standing.{Remain}
 
@@ -40,25 +40,25 @@ own_asks : (takes (queue_of queues.Asks) (step_from queues.Asks) ≡ true) × (t
 own_asks = (refl, refl)
 
 -- the message that waits before the others is told next, and a node without one tells nothing
-tells_first : (told : Told) (node : Parts) → TellsNext (with_told told node) (Some told) node
+tells_first : (told : Told) (node : PlainReplayNode) → TellsNext (with_told told node) (Some told) node
 tells_first told node = refl
 
-tells_nothing : (node : Parts) → node.said ≡ [] → TellsNext node None node
+tells_nothing : (node : PlainReplayNode) → node.said ≡ [] → TellsNext node None node
 tells_nothing node none = (none, refl)
 
 -- an ask that goes to the node 1 alone, when two nodes were passed
 abbrev to_the_second : Ask → Asks
 to_the_second ask = record { ask = ask; to = record { 0 = 2 } }
 
-second_is_asked : (ask : Ask) (a b : Parts) → AreAsked (to_the_second ask) 2 (a ∷ b ∷ []) (a ∷ with_ask ask b ∷ [])
+second_is_asked : (ask : Ask) (a b : PlainReplayNode) → AreAsked (to_the_second ask) 2 (a ∷ b ∷ []) (a ∷ with_ask ask b ∷ [])
 second_is_asked ask a b = record { count = refl; before = λ n node there low. before n node there; behind = λ n node there high. behind n node there high }
   where
-    before : (n : ℕ) (node : Parts) → slice_get (a ∷ b ∷ []) n ≡ Some node → slice_get (a ∷ with_ask ask b ∷ []) n ≡ Some (asked_by (to_the_second ask) n node)
+    before : (n : ℕ) (node : PlainReplayNode) → slice_get (a ∷ b ∷ []) n ≡ Some node → slice_get (a ∷ with_ask ask b ∷ []) n ≡ Some (asked_by (to_the_second ask) n node)
     before zero node there = there
     before (suc zero) node there = ap (option_map (with_ask ask)) there
     before (suc (suc n)) node there = let no : None ≡ Some node = there in absurd cc
 
-    behind : (n : ℕ) (node : Parts) → slice_get (a ∷ b ∷ []) n ≡ Some node → 2 ≤ n → slice_get (a ∷ with_ask ask b ∷ []) n ≡ Some node
+    behind : (n : ℕ) (node : PlainReplayNode) → slice_get (a ∷ b ∷ []) n ≡ Some node → 2 ≤ n → slice_get (a ∷ with_ask ask b ∷ []) n ≡ Some node
     behind zero node there high = absurd (omega arith)
     behind (suc zero) node there high = absurd (omega arith)
     behind (suc (suc n)) node there high = let no : None ≡ Some node = there in absurd cc

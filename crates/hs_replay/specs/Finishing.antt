@@ -6,17 +6,17 @@ use Rattle.hs_law_journal.specs.Following.{NodeRun}
 use Rattle.hs_law_lockstep.specs.Lockstep.{Machine}
 use Rattle.hs_law_lockstep.specs.Parts.{node_at}
 use Rattle.hs_law_agent.specs.Books.{book_of}
-use Rattle.hs_replay_client.specs.Places.{IsAt}
-use Rattle.hs_replay_client.specs.Playing.{Playing}
+use Rattle.hs_replay_client.specs.Places.{ReplayClientIsAt}
+use Rattle.hs_replay_client.specs.ReplayClients.{PlainReplayClient}
 use Rattle.hs_records.specs.Pages.{pages_of}
 use Rattle.hs_records.specs.Plain.{PlainWorkload}
 use Rattle.hs_law_sends.specs.Sending.{draws_at, operations_at, place_of}
 use Rattle.hs_replay.specs.Left.{IsNodeDone}
-use Rattle.hs_replay.specs.Parts.{Parts}
+use Rattle.hs_replay.specs.Parts.{PlainReplayNode}
 use Rattle.hs_replay.specs.Standing.{NodeIsAt}
 
 -- The node is where the machine says, its clients have done all of their operations, and nothing is pinned.
-pub record HasEnded (W : PlainWorkload) (m : Machine) (n : ℕ) (node : Parts) : Type 0 where
+pub record HasEnded (W : PlainWorkload) (m : Machine) (n : ℕ) (node : PlainReplayNode) : Type 0 where
   pub at : NodeIsAt W m n node
   pub done : IsNodeDone W m n
   pub none : at.run.state.pinned ≡ []
@@ -38,9 +38,9 @@ client_noted W m n client =
     }
 
 -- These are the clients of the node, which have done all of their operations.
-pub record HaveEnded (W : PlainWorkload) (m : Machine) (n : ℕ) (players : List Playing) : Type 0 where
+pub record HaveEnded (W : PlainWorkload) (m : Machine) (n : ℕ) (players : List PlainReplayClient) : Type 0 where
   pub count : length players ≡ W.settings.clients
-  pub each : (client : ℕ) (player : Playing) → slice_get players client ≡ Some player
+  pub each : (client : ℕ) (player : PlainReplayClient) → slice_get players client ≡ Some player
       → (k : ℕ) × (l : ℕ) × (t : ℕ)
-      × IsAt W.settings (record { node = n; number = client }) (operations_at W (place_of W.settings.clients n client)) (draws_at m.journal (place_of W.settings.clients n client))
+      × ReplayClientIsAt W.settings (record { node = n; number = client }) (operations_at W (place_of W.settings.clients n client)) (draws_at m.journal (place_of W.settings.clients n client))
       (length (operations_at W (place_of W.settings.clients n client))) k l t player

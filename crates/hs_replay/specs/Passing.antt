@@ -18,9 +18,9 @@ use Rattle.hs_words.specs.Buffers.{buffer_of}
 use Rattle.hs_workload.specs.Validity.{IsValid}
 use Rattle.hs_replay.specs.declared.queue.Queue.{Queue}
 use Rattle.hs_replay.specs.declared.queue.Queue.TheVariants as queues
-use Rattle.hs_replay.specs.Parts.{Parts}
+use Rattle.hs_replay.specs.Parts.{PlainReplayNode}
 use Rattle.hs_replay.specs.Queues.{queue_of, step_from}
-use Rattle.hs_replay.specs.Standing.{IsLent, Stands, NodeIsAt}
+use Rattle.hs_replay.specs.Standing.{IsLent, ReplayNodeStands, NodeIsAt}
 
 -- The run of the node came by these steps since the machine.
 pub record ComesFrom (W : PlainWorkload) (m : Machine) (n : ℕ) (run : NodeRun) : Type 0 where
@@ -33,9 +33,9 @@ pub record ComesFrom (W : PlainWorkload) (m : Machine) (n : ℕ) (run : NodeRun)
   pub number : run.node ≡ n
 
 -- The parts stand where this run does, and nothing happened at the pool.
-pub record IsAmid (W : PlainWorkload) (m : Machine) (n : ℕ) (run : NodeRun) (node : Parts) : Type 0 where
+pub record IsAmid (W : PlainWorkload) (m : Machine) (n : ℕ) (run : NodeRun) (node : PlainReplayNode) : Type 0 where
   pub comes : ComesFrom W m n run
-  pub stands : Stands W m (heard_in W m.journal) (pool_history comes.start) run run.state.log node
+  pub stands : ReplayNodeStands W m (heard_in W m.journal) (pool_history comes.start) run run.state.log node
 
 -- ---- taking
 
@@ -48,9 +48,9 @@ FitsChunk settings run (inputs.Ask ask) = Unit {0}
 FitsChunk settings run inputs.Turn = Unit {0}
 
 -- The next item of a queue was taken out for the agent, which has not taken it yet.
-pub record IsReady {g : _} (W : PlainWorkload) (m : Machine) (n : ℕ) (run : NodeRun) (step : Step) (input : Input (Unit {0}) g) (node : Parts) : Type 0 where
+pub record IsReady {g : _} (W : PlainWorkload) (m : Machine) (n : ℕ) (run : NodeRun) (step : Step) (input : Input (Unit {0}) g) (node : PlainReplayNode) : Type 0 where
   pub comes : ComesFrom W m n run
-  pub stands : Stands W m (heard_in W m.journal) (pool_history comes.start) run (run.state.log ++ step ∷ []) node
+  pub stands : ReplayNodeStands W m (heard_in W m.journal) (pool_history comes.start) run (run.state.log ++ step ∷ []) node
   pub ready : event_of run (heard_in W m.journal) step ≡ Some (Took (input_of input))
   pub noted : step_of (input_of input) ≡ step
   pub chunk : FitsChunk W.settings run input
@@ -63,29 +63,29 @@ sent_to W m n (queues.Triggers client) = length (sent_within (done_at m (place_o
 sent_to W m n queues.Asks = length (asks_to n (heard_in W m.journal))
 
 -- All that was sent to the queue was taken.
-pub record IsDrained (W : PlainWorkload) (m : Machine) (n : ℕ) (queue : Queue) (run : NodeRun) (node : Parts) : Type 0 where
+pub record IsDrained (W : PlainWorkload) (m : Machine) (n : ℕ) (queue : Queue) (run : NodeRun) (node : PlainReplayNode) : Type 0 where
   pub amid : IsAmid W m n run node
   pub none : taken (queue_of queue) run.state.log ≡ sent_to W m run.node queue
 
 -- An item was taken out that was sent.
-pub record IsThere {g : _} (W : PlainWorkload) (m : Machine) (n : ℕ) (queue : Queue) (run : NodeRun) (input : Input (Unit {0}) g) (node : Parts) : Type 0 where
+pub record IsThere {g : _} (W : PlainWorkload) (m : Machine) (n : ℕ) (queue : Queue) (run : NodeRun) (input : Input (Unit {0}) g) (node : PlainReplayNode) : Type 0 where
   pub ready : IsReady W m n run (step_from queue) input node
   pub within : taken (queue_of queue) run.state.log < sent_to W m run.node queue
 
 -- The node performed these steps behind a run.
-pub record WentBy (W : PlainWorkload) (m : Machine) (n : ℕ) (run : NodeRun) (steps : List Step) (node : Parts) : Type 0 where
+pub record WentBy (W : PlainWorkload) (m : Machine) (n : ℕ) (run : NodeRun) (steps : List Step) (node : PlainReplayNode) : Type 0 where
   pub next : NodeRun
   pub by : after_steps W.settings (heard_in W m.journal) steps run ≡ Some next
   pub log : next.state.log ≡ run.state.log ++ steps
   pub amid : IsAmid W m n next node
 
 -- The agent took the next item of a queue.
-pub record TookOne (W : PlainWorkload) (m : Machine) (n : ℕ) (queue : Queue) (run : NodeRun) (node : Parts) : Type 0 where
+pub record TookOne (W : PlainWorkload) (m : Machine) (n : ℕ) (queue : Queue) (run : NodeRun) (node : PlainReplayNode) : Type 0 where
   pub went : WentBy W m n run (step_from queue ∷ []) node
   pub within : taken (queue_of queue) run.state.log < sent_to W m run.node queue
 
 -- The agent took the next item of a queue, where there was one.
-abbrev pub TakesNext : PlainWorkload → Machine → ℕ → Queue → NodeRun → Parts → Bool → Type 0
+abbrev pub TakesNext : PlainWorkload → Machine → ℕ → Queue → NodeRun → PlainReplayNode → Bool → Type 0
 TakesNext W m n queue run node true = TookOne W m n queue run node
 TakesNext W m n queue run node false = IsDrained W m n queue run node
 
@@ -94,7 +94,7 @@ abbrev pub takes_by : PlainWorkload → Machine → NodeRun → Queue → List S
 takes_by W m run queue = takes_from run (queue_of queue) (step_from queue) (sent_to W m run.node queue)
 
 -- The agent took so many items of a queue, which were there.
-pub record TookSome (W : PlainWorkload) (m : Machine) (n : ℕ) (queue : Queue) (run : NodeRun) (count : ℕ) (node : Parts) : Type 0 where
+pub record TookSome (W : PlainWorkload) (m : Machine) (n : ℕ) (queue : Queue) (run : NodeRun) (count : ℕ) (node : PlainReplayNode) : Type 0 where
   pub went : WentBy W m n run (replicate count (step_from queue)) node
   pub few : count ≤ sent_to W m run.node queue - taken (queue_of queue) run.state.log
 
@@ -107,11 +107,11 @@ abbrev pub takes_first : PlainWorkload → Machine → NodeRun → ℕ → List 
 takes_first W m run count = flat_map (takes_of_client W m run) (range_with_len 0 count)
 
 -- The agent took what waited in the queues of a client.
-abbrev pub WentOf : PlainWorkload → Machine → ℕ → NodeRun → ℕ → Parts → Type 0
+abbrev pub WentOf : PlainWorkload → Machine → ℕ → NodeRun → ℕ → PlainReplayNode → Type 0
 WentOf W m n run client node = WentBy W m n run (takes_of_client W m run client) node
 
 -- A node that is where a machine says, on the way through the schedule of a valid workload.
-pub record StandsStill (W : PlainWorkload) (m : Machine) (n : ℕ) (node : Parts) : Type 0 where
+pub record StandsStill (W : PlainWorkload) (m : Machine) (n : ℕ) (node : PlainReplayNode) : Type 0 where
   pub valid : IsValid W
   pub reached : IsReached W m
   pub at : NodeIsAt W m n node
@@ -119,7 +119,7 @@ pub record StandsStill (W : PlainWorkload) (m : Machine) (n : ℕ) (node : Parts
 -- ---- giving
 
 -- The node gave so many buffers since the machine stood still.
-pub record IsGiving (W : PlainWorkload) (m : Machine) (n : ℕ) (start : NodeRun) (given : ℕ) (node : Parts) : Type 0 where
+pub record IsGiving (W : PlainWorkload) (m : Machine) (n : ℕ) (start : NodeRun) (given : ℕ) (node : PlainReplayNode) : Type 0 where
   pub valid : IsValid W
   pub reached : IsReached W m
   pub at : node_at W m.journal n ≡ Some start
@@ -127,9 +127,9 @@ pub record IsGiving (W : PlainWorkload) (m : Machine) (n : ℕ) (start : NodeRun
   pub run : NodeRun
   pub by : after_steps W.settings (heard_in W m.journal) (take given (give_steps start)) start ≡ Some run
   pub number : run.node ≡ n
-  pub stands : Stands W m (heard_in W m.journal) (pool_history run) run run.state.log node
+  pub stands : ReplayNodeStands W m (heard_in W m.journal) (pool_history run) run run.state.log node
 
 -- The first of the hand was given, where there was one.
-abbrev pub GivesNextOf : PlainWorkload → Machine → ℕ → NodeRun → ℕ → Parts → Bool → Type 0
+abbrev pub GivesNextOf : PlainWorkload → Machine → ℕ → NodeRun → ℕ → PlainReplayNode → Bool → Type 0
 GivesNextOf W m n start given node true = IsGiving W m n start (given + 1) node
 GivesNextOf W m n start given node false = IsGiving W m n start given node × (given ≡ length start.state.hand)

@@ -4,7 +4,7 @@
 use Rattle.std.specs.Prelude.{◌≡◌, ℕ, List, ◌++◌, length, map, slice_get, Option, Some, None, count_by}
 use Rattle.std.specs.List.{AllByRecursion}
 use Rattle.std.specs.Option.{option_and_then}
-use Rattle.hs_agent.specs.Keeping.{Keeping}
+use Rattle.hs_agent.specs.Keeping.{PlainAgent}
 use Rattle.hs_agent.specs.Points.{sheet_in}
 use Rattle.hs_agent.specs.Runs as agents
 use Rattle.hs_coord.specs.Following.{Messages}
@@ -15,15 +15,15 @@ use Rattle.hs_law_lockstep.specs.Lockstep.{Machine, done_at}
 use Rattle.hs_law_lockstep.specs.Parts.{node_at, heard_in}
 use Rattle.hs_law_agent.specs.Laws.{sheets_of}
 use Rattle.hs_law_agent.specs.Stepping.{after}
-use Rattle.hs_replay_client.specs.Places.{IsAt}
-use Rattle.hs_replay_client.specs.Playing.{Playing}
+use Rattle.hs_replay_client.specs.Places.{ReplayClientIsAt}
+use Rattle.hs_replay_client.specs.ReplayClients.{PlainReplayClient}
 use Rattle.hs_pool.specs.Pool.{Pool, IsAfter, HasSize}
 use Rattle.hs_records.specs.Plain.{PlainSettings, PlainWorkload}
 use Rattle.hs_law_sends.specs.Drawn.{DrawnPage}
 use Rattle.hs_law_sends.specs.Sending.{draws_at, node_sends, operations_at, place_of}
 use Rattle.hs_words.specs.Buffers.{Buffer}
-use Rattle.hs_words.specs.PoolHistory.{Event}
-use Rattle.hs_replay.specs.Parts.{Parts}
+use Rattle.hs_words.specs.PoolHistory.{PoolEvent}
+use Rattle.hs_replay.specs.Parts.{PlainReplayNode}
 
 -- ---- queues
 
@@ -36,15 +36,15 @@ pub record Remain {A : Type 0} (gone : ℕ) (all rest : List A) : Type 0 where
 -- ---- clients
 
 -- the client of this number at a node whose agent has this log
-abbrev pub PlayerStands : PlainWorkload → Machine → ℕ → List Step → ℕ → Playing → Type 0
-PlayerStands W m node log client player =
+abbrev pub ReplayClientStands : PlainWorkload → Machine → ℕ → List Step → ℕ → PlainReplayClient → Type 0
+ReplayClientStands W m node log client player =
     let place = place_of W.settings.clients node client in
-    IsAt W.settings (record { node = node; number = client }) (operations_at W place) (draws_at m.journal place) (done_at m place)
+    ReplayClientIsAt W.settings (record { node = node; number = client }) (operations_at W place) (draws_at m.journal place) (done_at m place)
     (taken (Chunks client) log) (taken (Crumbs client) log) (taken (Triggers client) log) player
 
-pub record PlayersStand (W : PlainWorkload) (m : Machine) (node : ℕ) (log : List Step) (players : List Playing) : Type 0 where
+pub record ReplayClientsStand (W : PlainWorkload) (m : Machine) (node : ℕ) (log : List Step) (players : List PlainReplayClient) : Type 0 where
   pub count : length players ≡ W.settings.clients
-  pub each : (client : ℕ) (player : Playing) → slice_get players client ≡ Some player → PlayerStands W m node log client player
+  pub each : (client : ℕ) (player : PlainReplayClient) → slice_get players client ≡ Some player → ReplayClientStands W m node log client player
 
 -- ---- the agent
 
@@ -62,7 +62,7 @@ pub record IsLent (settings : PlainSettings) (run : NodeRun) (buffer : Buffer (U
   pub size : buffer.chunk.size ≡ settings.size
 
 -- The agent follows the events of the node's run, and each chunk that it took came in the buffer of its page's draw.
-pub record AgentStands (settings : PlainSettings) (run : NodeRun) (offered : Option ℕ) (agent : Keeping (Unit {0})) : Type 0 where
+pub record ReplayAgentStands (settings : PlainSettings) (run : NodeRun) (offered : Option ℕ) (agent : PlainAgent (Unit {0})) : Type 0 where
   pub buffers : List (Buffer (Unit {0}))
   pub follows : agents.Follows agent (run_of settings run buffers offered)
   pub comes : run.state ≡ after settings run.node run.events
@@ -71,7 +71,7 @@ pub record AgentStands (settings : PlainSettings) (run : NodeRun) (offered : Opt
 
 -- ---- the pool
 
-pub record PoolStands (settings : PlainSettings) (history : List Event) (pool : Pool) : Type 0 where
+pub record PoolStands (settings : PlainSettings) (history : List PoolEvent) (pool : Pool) : Type 0 where
   pub after : IsAfter history pool
   pub buffers : pool.buffers ≡ settings.buffers
   pub size : HasSize settings.size pool
@@ -79,21 +79,21 @@ pub record PoolStands (settings : PlainSettings) (history : List Event) (pool : 
 -- ---- the node
 
 -- Where a node's run stands so and the coordinator heard these messages: what has this log taken, the parts are where they belong.
-pub record Stands (W : PlainWorkload) (m : Machine) (heard : Messages) (history : List Event) (run : NodeRun) (log : List Step) (node : Parts) : Type 0 where
+pub record ReplayNodeStands (W : PlainWorkload) (m : Machine) (heard : Messages) (history : List PoolEvent) (run : NodeRun) (log : List Step) (node : PlainReplayNode) : Type 0 where
   pub sends : run.sends ≡ node_sends W m.journal run.node
-  pub players : PlayersStand W m run.node log node.players
-  pub agent : AgentStands W.settings run None node.agent
+  pub players : ReplayClientsStand W m run.node log node.players
+  pub agent : ReplayAgentStands W.settings run None node.agent
   pub pool : PoolStands W.settings history node.pool
   pub asks : Remain (taken Asks log) (asks_to run.node heard) node.asks
   pub said : Remain (count_by (is_from (record { 0 = run.node })) heard) run.state.said node.said
 
 -- The node of this number is where the machine says, when the coordinator has heard these messages.
-pub record NodeIsHeard (W : PlainWorkload) (m : Machine) (heard : Messages) (n : ℕ) (node : Parts) : Type 0 where
+pub record NodeIsHeard (W : PlainWorkload) (m : Machine) (heard : Messages) (n : ℕ) (node : PlainReplayNode) : Type 0 where
   pub run : NodeRun
   pub at : node_at W m.journal n ≡ Some run
   pub number : run.node ≡ n
-  pub stands : Stands W m heard (pool_history run) run run.state.log node
+  pub stands : ReplayNodeStands W m heard (pool_history run) run run.state.log node
 
 -- The node of this number is where the machine says.
-abbrev pub NodeIsAt : PlainWorkload → Machine → ℕ → Parts → Type 0
+abbrev pub NodeIsAt : PlainWorkload → Machine → ℕ → PlainReplayNode → Type 0
 NodeIsAt W m n node = NodeIsHeard W m (heard_in W m.journal) n node

@@ -15,18 +15,16 @@ ghost use Rattle.hs_replay.specs.Passing.{StandsStill};
 ghost use Rattle.hs_replay.specs.Standing.{NodeIsAt};
 
 use crate::coordinator::coordinate;
-use crate::node::Node;
+use crate::node::ReplayNode;
 use hs_base::{List, Memory};
 use hs_coord::Coordinator;
-use hs_law_lockstep::laws::agents_give_so;
-use hs_law_lockstep::laws::agents_take_so;
-use hs_law_lockstep::laws::clients_go_so;
-use hs_law_lockstep::laws::machines_are_whole;
-use hs_law_lockstep::laws::machines_lead_on;
+use hs_law_lockstep::laws::{
+    agents_give_so, agents_take_so, clients_go_so, machines_are_whole, machines_lead_on,
+};
 use hs_workload::Workload;
 
 /// Each client of each node does its next operations.
-pub fn go_all(nodes: &mut List<Node>, workload: &Workload) -> Result<(), Memory>
+pub fn go_all(nodes: &mut List<ReplayNode>, workload: &Workload) -> Result<(), Memory>
     requires { (m : Machine) × NodesAt (workload_of workload.now) m nodes.old.items }
     ensures { (m : Machine) → NodesAt (workload_of workload.now) m nodes.old.items
         → OnOk result (NodesAt (workload_of workload.now) (clients_go (workload_of workload.now) m) nodes.new.items) }
@@ -39,7 +37,7 @@ pub fn go_all(nodes: &mut List<Node>, workload: &Workload) -> Result<(), Memory>
 }
 
 /// The clients of a node do their next operations.
-fn go_at(nodes: &mut List<Node>, workload: &Workload, node: usize) -> Result<(), Memory>
+fn go_at(nodes: &mut List<ReplayNode>, workload: &Workload, node: usize) -> Result<(), Memory>
     requires node { node < length nodes.old.items }
     requires at { (m : Machine) × NodesAt (workload_of workload.now) m nodes.old.items }
     ensures { (m : Machine) → NodesAt (workload_of workload.now) m nodes.old.items
@@ -54,7 +52,7 @@ fn go_at(nodes: &mut List<Node>, workload: &Workload, node: usize) -> Result<(),
 }
 
 /// Whether a client has operations left.
-pub fn has_left(nodes: &List<Node>, workload: &Workload) -> bool
+pub fn has_left(nodes: &List<ReplayNode>, workload: &Workload) -> bool
     requires { (m : Machine) × NodesAt (workload_of workload.now) m nodes.now.items }
     ensures { (m : Machine) → NodesAt (workload_of workload.now) m nodes.now.items → TellsLeft (workload_of workload.now) m result }
 {
@@ -67,7 +65,7 @@ pub fn has_left(nodes: &List<Node>, workload: &Workload) -> bool
 }
 
 /// Whether a client of a node has operations left.
-fn has_left_at(nodes: &List<Node>, workload: &Workload, node: usize) -> bool
+fn has_left_at(nodes: &List<ReplayNode>, workload: &Workload, node: usize) -> bool
     requires node { node < length nodes.now.items }
     requires at { (m : Machine) × NodesAt (workload_of workload.now) m nodes.now.items }
     ensures { (m : Machine) → NodesAt (workload_of workload.now) m nodes.now.items → TellsNodeLeft (workload_of workload.now) m node result }
@@ -79,7 +77,7 @@ fn has_left_at(nodes: &List<Node>, workload: &Workload, node: usize) -> bool
 }
 
 /// Whether nothing waits at any node and nothing is pinned, where all clients are through.
-pub fn is_bare(nodes: &List<Node>) -> bool
+pub fn is_bare(nodes: &List<ReplayNode>) -> bool
     requires { (W : PlainWorkload) × (m : Machine) × NodesAt W m nodes.now.items × AllDone W m }
     ensures { (W : PlainWorkload) (m : Machine) → NodesAt W m nodes.now.items → AllDone W m → result ≡ is_bare (played W m.journal) }
 {
@@ -93,7 +91,7 @@ pub fn is_bare(nodes: &List<Node>) -> bool
 }
 
 /// A pass of every agent, and then the coordinator's.
-pub fn pass(coordinator: &mut Coordinator, nodes: &mut List<Node>) -> Result<(), Memory>
+pub fn pass(coordinator: &mut Coordinator, nodes: &mut List<ReplayNode>) -> Result<(), Memory>
     requires { (W : PlainWorkload) × (m : Machine) × AllAt W m nodes.old.items coordinator.old }
     ensures { (W : PlainWorkload) (m : Machine) → AllAt W m nodes.old.items coordinator.old
         → OnOk result (AllAt W (passes W m) nodes.new.items coordinator.new) }
@@ -106,7 +104,7 @@ pub fn pass(coordinator: &mut Coordinator, nodes: &mut List<Node>) -> Result<(),
 }
 
 /// A pass of every agent.
-fn pass_all(nodes: &mut List<Node>) -> Result<(), Memory>
+fn pass_all(nodes: &mut List<ReplayNode>) -> Result<(), Memory>
     requires { (W : PlainWorkload) × (m : Machine) × NodesAt W m nodes.old.items }
     ensures { (W : PlainWorkload) (m : Machine) → NodesAt W m nodes.old.items
         → OnOk result (NodesAt W (agents_give W (agents_take W m)) nodes.new.items) }
@@ -119,7 +117,7 @@ fn pass_all(nodes: &mut List<Node>) -> Result<(), Memory>
 }
 
 /// A pass of an agent.
-fn pass_at(nodes: &mut List<Node>, node: usize) -> Result<(), Memory>
+fn pass_at(nodes: &mut List<ReplayNode>, node: usize) -> Result<(), Memory>
     requires node { node < length nodes.old.items }
     requires between { (W : PlainWorkload) × (m : Machine) × NodesBetween W m (agents_give W (agents_take W m)) node nodes.old.items }
     ensures { (W : PlainWorkload) (m : Machine) → NodesBetween W m (agents_give W (agents_take W m)) node nodes.old.items

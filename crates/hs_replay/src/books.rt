@@ -1,15 +1,15 @@
 //! What clients and agents noted.
 
 ghost use Rattle.std.specs.Prelude.{IfOk};
-ghost use Rattle.hs_coord.specs.Kept.{Kept};
+ghost use Rattle.hs_coord.specs.Kept.{PlainCoordinator};
 ghost use Rattle.hs_records.specs.Plain.{PlainWorkload};
 ghost use Rattle.hs_replay.specs.All.{AllClosed};
 ghost use Rattle.hs_replay.specs.Noted.{AreNoted};
 
+use crate::node::ReplayNode;
 use hs_base::{List, Memory};
 use hs_journal::{AgentBook, ClientBook};
 use hs_law_lockstep::laws::machines_are_whole;
-use crate::node::Node;
 use std::alloc::Global;
 
 /// The books of all clients, in the order of node and number, and those of all agents, in the order of node.
@@ -20,9 +20,9 @@ pub(crate) struct Noted {
 }
 
 /// The books of all nodes, where the schedule has ended.
-pub(crate) fn books_of(alloc: Global, nodes: List<Node>) -> Result<Noted, Memory>
-    requires { (W : PlainWorkload) × (coordinator : Kept) × AllClosed W nodes.items coordinator }
-    ensures { (W : PlainWorkload) (coordinator : Kept) → AllClosed W nodes.items coordinator → IfOk result (λ noted. AreNoted W noted) }
+pub(crate) fn books_of(alloc: Global, nodes: List<ReplayNode>) -> Result<Noted, Memory>
+    requires { (W : PlainWorkload) × (coordinator : PlainCoordinator) × AllClosed W nodes.items coordinator }
+    ensures { (W : PlainWorkload) (coordinator : PlainCoordinator) → AllClosed W nodes.items coordinator → IfOk result (λ noted. AreNoted W noted) }
 {
     machines_are_whole();
     let mut clients = List::new(alloc);

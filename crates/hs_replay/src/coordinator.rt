@@ -9,18 +9,17 @@ ghost use Rattle.hs_replay.specs.All.{AllHeard, AllAt};
 ghost use Rattle.hs_base.specs.Changing.{ChangesAt};
 ghost use Rattle.hs_replay.specs.Hearing.{TellsNext, with_ask, asked_by, AreAsked, HearsNext, HearsNode};
 
-use crate::node::Node;
+use crate::node::ReplayNode;
 use hs_base::limits::MAX_TAKEN;
 use hs_base::{Ask, List, Memory, NodeId, Told};
 use hs_coord::{Asks, Coordinator};
-use hs_law_lockstep::laws::coordinator_hears_so;
-use hs_law_lockstep::laws::machines_are_whole;
-use hs_law_lockstep::laws::machines_lead_on;
-use hs_law_lockstep::laws::machines_tell_within;
 use hs_law_journal::laws::step_by_step;
+use hs_law_lockstep::laws::{
+    coordinator_hears_so, machines_are_whole, machines_lead_on, machines_tell_within,
+};
 
 /// The coordinator's pass: of each node in turn it hears what waits, at most 64 messages, and what it asks goes to the nodes.
-pub fn coordinate(coordinator: &mut Coordinator, nodes: &mut List<Node>) -> Result<(), Memory>
+pub fn coordinate(coordinator: &mut Coordinator, nodes: &mut List<ReplayNode>) -> Result<(), Memory>
     requires { (W : PlainWorkload) × (m : Machine) × AllAt W m nodes.old.items coordinator.old }
     ensures { (W : PlainWorkload) (m : Machine) → AllAt W m nodes.old.items coordinator.old
         → OnOk result (AllAt W (coordinator_hears W m) nodes.new.items coordinator.new) }
@@ -39,7 +38,7 @@ pub fn coordinate(coordinator: &mut Coordinator, nodes: &mut List<Node>) -> Resu
 /// Hears what waits of a node, at most 64 messages.
 fn hear_node(
     coordinator: &mut Coordinator,
-    nodes: &mut List<Node>,
+    nodes: &mut List<ReplayNode>,
     node: usize,
 ) -> Result<(), Memory>
     requires node { node < length nodes.old.items }
@@ -57,7 +56,11 @@ fn hear_node(
 }
 
 /// Hears the next message of a node. Answers whether there was one.
-fn hear(coordinator: &mut Coordinator, nodes: &mut List<Node>, node: usize) -> Result<bool, Memory>
+fn hear(
+    coordinator: &mut Coordinator,
+    nodes: &mut List<ReplayNode>,
+    node: usize,
+) -> Result<bool, Memory>
     requires node { node < length nodes.old.items }
     requires all { (W : PlainWorkload) × (m : Machine) × (heard : Messages) × AllHeard W m heard nodes.old.items coordinator.old }
     ensures { (W : PlainWorkload) (m : Machine) (heard : Messages) → AllHeard W m heard nodes.old.items coordinator.old
@@ -74,7 +77,7 @@ fn hear(coordinator: &mut Coordinator, nodes: &mut List<Node>, node: usize) -> R
 }
 
 /// Takes out the next message of a node.
-fn next_told(nodes: &mut List<Node>, node: usize) -> Option<Told>
+fn next_told(nodes: &mut List<ReplayNode>, node: usize) -> Option<Told>
     requires { node < length nodes.old.items }
     ensures { ChangesAt node nodes.old.items nodes.new.items (λ old new. TellsNext old result new) }
 {
@@ -82,7 +85,7 @@ fn next_told(nodes: &mut List<Node>, node: usize) -> Option<Told>
 }
 
 /// Sends an ask to all nodes to which it goes.
-fn ask_all(nodes: &mut List<Node>, asks: &Asks) -> Result<(), Memory>
+fn ask_all(nodes: &mut List<ReplayNode>, asks: &Asks) -> Result<(), Memory>
     requires { length nodes.old.items ≤ MAX_NODES }
     ensures { OnOk result (AreAsked asks.now (length nodes.old.items) nodes.old.items nodes.new.items) }
 {
@@ -94,7 +97,7 @@ fn ask_all(nodes: &mut List<Node>, asks: &Asks) -> Result<(), Memory>
 }
 
 /// Sends an ask to a node, where it goes there.
-fn ask_if(nodes: &mut List<Node>, node: usize, asks: &Asks) -> Result<(), Memory>
+fn ask_if(nodes: &mut List<ReplayNode>, node: usize, asks: &Asks) -> Result<(), Memory>
     requires node { node < length nodes.old.items }
     requires few { node < MAX_NODES }
     ensures { OnOk result (ChangesAt node nodes.old.items nodes.new.items (λ old new. new ≡ asked_by asks.now node old)) }
@@ -107,7 +110,7 @@ fn ask_if(nodes: &mut List<Node>, node: usize, asks: &Asks) -> Result<(), Memory
 }
 
 /// Sends an ask to a node.
-fn ask(nodes: &mut List<Node>, node: usize, ask: Ask) -> Result<(), Memory>
+fn ask(nodes: &mut List<ReplayNode>, node: usize, ask: Ask) -> Result<(), Memory>
     requires { node < length nodes.old.items }
     ensures { OnOk result (ChangesAt node nodes.old.items nodes.new.items (λ old new. new ≡ with_ask ask old)) }
 {

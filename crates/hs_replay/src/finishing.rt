@@ -8,12 +8,12 @@ ghost use Rattle.hs_law_agent.specs.Books.{book_of};
 ghost use Rattle.hs_records.specs.Plain.{PlainWorkload};
 ghost use Rattle.hs_replay.specs.Finishing.{HasEnded, HaveEnded, IsBookAt, client_noted};
 
-use crate::node::Node;
+use crate::node::ReplayNode;
 use hs_base::{List, Memory};
 use hs_journal::{AgentBook, ClientBook};
-use hs_replay_client::Player;
+use hs_replay_client::ReplayClient;
 
-impl Node {
+impl ReplayNode {
     /// The book of the agent. The books of the clients go behind these. All operations are done, and nothing is pinned.
     pub fn finish(self, clients: &mut List<ClientBook>) -> Result<AgentBook, Memory>
         requires { (W : PlainWorkload) × (m : Machine) × (n : ℕ) × HasEnded W m n self }
@@ -21,7 +21,7 @@ impl Node {
         ensures clients { (W : PlainWorkload) (m : Machine) (n : ℕ) → HasEnded W m n self → OnOk result (map client_book_of clients.new.items
             ≡ map client_book_of clients.old.items ++ map (client_noted W m n) (range_with_len 0 W.settings.clients)) }
     {
-        let Node {
+        let ReplayNode {
             pool: _,
             players,
             agent,
@@ -34,7 +34,7 @@ impl Node {
 }
 
 /// The books of these clients go behind the others.
-fn note_players(players: List<Player>, clients: &mut List<ClientBook>) -> Result<(), Memory>
+fn note_players(players: List<ReplayClient>, clients: &mut List<ClientBook>) -> Result<(), Memory>
     requires { (W : PlainWorkload) × (m : Machine) × (n : ℕ) × HaveEnded W m n players.items }
     ensures { (W : PlainWorkload) (m : Machine) (n : ℕ) → HaveEnded W m n players.items → OnOk result (map client_book_of clients.new.items
         ≡ map client_book_of clients.old.items ++ map (client_noted W m n) (range_with_len 0 W.settings.clients)) }

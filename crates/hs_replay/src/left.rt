@@ -10,13 +10,13 @@ ghost use Rattle.hs_replay.specs.Left.{HasClients, IsNodeDone, TellsNodeLeft, ar
 ghost use Rattle.hs_replay.specs.Passing.{StandsStill};
 ghost use Rattle.hs_replay.specs.Standing.{NodeIsAt};
 
-use crate::node::Node;
+use crate::node::ReplayNode;
 use hs_base::List;
 use hs_law_lockstep::laws::machines_are_whole;
 use hs_law_sends::laws::all_is_sent_in_the_end;
 use hs_workload::Op;
 
-impl Node {
+impl ReplayNode {
     /// Whether one of the clients, which have these operations, has operations left.
     pub fn has_left(&self, clients: &[List<Op>]) -> bool
         requires { (W : PlainWorkload) × (m : Machine) × (n : ℕ) × NodeIsAt W m n self.now × HasClients W n clients.now }

@@ -6,26 +6,26 @@ ghost use Rattle.hs_records.specs.Plain.{PlainWorkload};
 ghost use Rattle.hs_replay.specs.Making.{IsNewNode, AreNew};
 ghost use Rattle.hs_replay.specs.Standing.{NodeIsAt};
 
-use crate::node::Node;
+use crate::node::ReplayNode;
 use hs_agent::Agent;
 use hs_base::{ClientId, List, Memory, NodeId, Settings};
 use hs_law_lockstep::laws::machines_start_so;
-use hs_replay_client::Player;
 use hs_law_sends::laws::valid_clients_may_be_played;
 use hs_pool::PlainPool;
+use hs_replay_client::ReplayClient;
 use hs_words::Stock;
 use hs_workload::Op;
 use std::alloc::Global;
 use std::collections::VecDeque;
 
-impl Node {
+impl ReplayNode {
     /// A node where nothing was done, with these operations of its clients.
     pub fn make(
         alloc: Global,
         node: u16,
         settings: &Settings,
         clients: &[List<Op>],
-    ) -> Result<Node, Memory>
+    ) -> Result<ReplayNode, Memory>
         requires { (W : PlainWorkload) × IsNewNode W node settings.now clients.now }
         ensures { (W : PlainWorkload) → IsNewNode W node settings.now clients.now → IfOk result (NodeIsAt W (machine_start W) node) }
     {
@@ -34,7 +34,7 @@ impl Node {
         let stock = Stock::make(alloc, settings.buffers, settings.size)?;
         let pool = PlainPool::make(alloc, stock)?;
         let agent = Agent::make(alloc, NodeId(node), settings)?;
-        Ok(Node {
+        Ok(ReplayNode {
             pool,
             players,
             agent,
@@ -50,7 +50,7 @@ fn players_of(
     node: u16,
     settings: &Settings,
     clients: &[List<Op>],
-) -> Result<List<Player>, Memory>
+) -> Result<List<ReplayClient>, Memory>
     requires { (W : PlainWorkload) × IsNewNode W node settings.now clients.now }
     ensures { (W : PlainWorkload) → IsNewNode W node settings.now clients.now → IfOk result (λ players. AreNew W node W.settings.clients players.items) }
 {
@@ -59,7 +59,7 @@ fn players_of(
     for client in 0..clients.len() {
         let number = client as u16;
         let operations = clients[client].as_slice();
-        let player = Player::make(alloc, ClientId { node, number }, settings, operations)?;
+        let player = ReplayClient::make(alloc, ClientId { node, number }, settings, operations)?;
         players.push(player);
     }
     Ok(players)

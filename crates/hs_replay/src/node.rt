@@ -10,7 +10,7 @@ ghost use Rattle.hs_journal.specs.declared.journal.Step.{Step};
 ghost use Rattle.hs_journal.specs.declared.journal.Step.TheVariants.{Turn};
 ghost use Rattle.hs_records.specs.Plain.{PlainWorkload};
 ghost use Rattle.hs_words.specs.Buffers.{buffer_in};
-ghost use Rattle.hs_replay_client.specs.Playing.{Playing};
+ghost use Rattle.hs_replay_client.specs.ReplayClients.{PlainReplayClient};
 ghost use Rattle.hs_law_sends.specs.Sending.{place_of};
 ghost use Rattle.hs_workload.specs.Views.{operation_of};
 ghost use Rattle.hs_replay.specs.Going.{node_goes, AreOf, IsOneOf};
@@ -24,17 +24,13 @@ use crate::queue::Queue;
 use hs_agent::{Agent, Input, few_are_admitted};
 use hs_base::limits::{MAX_OPERATIONS, MAX_TAKEN};
 use hs_base::{Ask, AutoRule, Crumb, List, Memory, Settings, Told, Trigger};
-use hs_law_lockstep::laws::agents_give_so;
-use hs_law_lockstep::laws::agents_take_so;
-use hs_law_lockstep::laws::clients_go_so;
-use hs_law_lockstep::laws::machines_are_whole;
-use hs_law_lockstep::laws::machines_fit;
+use hs_law_agent::laws::{events_add_this, events_go_on, steps_say_what_they_tell};
 use hs_law_journal::laws::step_by_step;
-use hs_law_agent::laws::events_add_this;
-use hs_law_agent::laws::events_go_on;
-use hs_law_agent::laws::steps_say_what_they_tell;
-use hs_replay_client::Player;
+use hs_law_lockstep::laws::{
+    agents_give_so, agents_take_so, clients_go_so, machines_are_whole, machines_fit,
+};
 use hs_pool::{PlainPool, what_is_out_may_be_given};
+use hs_replay_client::ReplayClient;
 use hs_words::Held;
 use hs_workload::Op;
 use std::collections::VecDeque;
@@ -42,25 +38,25 @@ use std::marker::Model;
 
 /// A node of a replay. Where a call answers that memory is wanted, the node is of no more use.
 #[derive(Drop)]
-pub struct Node {
+pub struct ReplayNode {
     pub(crate) pool: PlainPool,
-    pub(crate) players: List<Player>,
+    pub(crate) players: List<ReplayClient>,
     pub(crate) agent: Agent<()>,
     pub(crate) asks: VecDeque<Ask>,
     pub(crate) said: VecDeque<Told>,
 }
 
-impl Model for Node {
-    ghost use Rattle.hs_replay.specs.Parts.{Parts};
+impl Model for ReplayNode {
+    ghost use Rattle.hs_replay.specs.Parts.{PlainReplayNode};
 
-    ghost Value = { Parts };
+    ghost Value = { PlainReplayNode };
 
-    ghost use Rattle.hs_replay.specs.NodeLayout.{parts_in};
+    ghost use Rattle.hs_replay.specs.NodeLayout.{replay_node_in};
 
-    ghost view = { parts_in };
+    ghost view = { replay_node_in };
 }
 
-impl Node {
+impl ReplayNode {
     /// The agent takes an input, and what it tells waits for the coordinator.
     fn take(&mut self, input: Input<()>) -> Result<(), Memory>
         requires { (W : PlainWorkload) × (m : Machine) × (n : ℕ) × (run : NodeRun) × (step : Step) × IsReady W m n run step input self.old }
@@ -325,7 +321,7 @@ impl Node {
 
 /// A client does its next operations.
 fn go_at(
-    players: &mut List<Player>,
+    players: &mut List<ReplayClient>,
     pool: &mut PlainPool,
     client: usize,
     rules: &[AutoRule],
@@ -333,7 +329,7 @@ fn go_at(
     stride: u32,
 ) -> Result<(), Memory>
     requires client { client < length players.old.items }
-    requires within { (player : Playing) → slice_get players.old.items client ≡ Some player
+    requires within { (player : PlainReplayClient) → slice_get players.old.items client ≡ Some player
         → IsWithin rules.now (map operation_of operations.now) pool.old player }
     requires stamps { pool.old.events + MAX_OPERATIONS < 2 ^ 64 }
     ensures goes { OnOk result (ChangesAt client players.old.items players.new.items
@@ -344,7 +340,7 @@ fn go_at(
 }
 
 /// The next chunk of a client.
-fn next_chunk(players: &mut List<Player>, client: u16) -> Option<Held<()>>
+fn next_chunk(players: &mut List<ReplayClient>, client: u16) -> Option<Held<()>>
     requires { client < length players.old.items }
     ensures { ChangesAt client players.old.items players.new.items (λ old new. TakesChunk old (buffer_in result) new) }
 {
@@ -352,7 +348,7 @@ fn next_chunk(players: &mut List<Player>, client: u16) -> Option<Held<()>>
 }
 
 /// The next crumb of a client.
-fn next_crumb(players: &mut List<Player>, client: u16) -> Option<Crumb>
+fn next_crumb(players: &mut List<ReplayClient>, client: u16) -> Option<Crumb>
     requires { client < length players.old.items }
     ensures { ChangesAt client players.old.items players.new.items (λ old new. TakesCrumb old result new) }
 {
@@ -360,7 +356,7 @@ fn next_crumb(players: &mut List<Player>, client: u16) -> Option<Crumb>
 }
 
 /// The next trigger of a client.
-fn next_trigger(players: &mut List<Player>, client: u16) -> Option<Trigger>
+fn next_trigger(players: &mut List<ReplayClient>, client: u16) -> Option<Trigger>
     requires { client < length players.old.items }
     ensures { ChangesAt client players.old.items players.new.items (λ old new. TakesTrigger old result new) }
 {

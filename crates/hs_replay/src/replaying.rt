@@ -7,13 +7,10 @@ ghost use Rattle.hs_workload.specs.Validity.{IsValid};
 ghost use Rattle.hs_workload.specs.Views.{workload_of};
 
 use crate::books::{Noted, books_of};
+use crate::schedule::{close, rounds};
+use crate::start::{make_coordinator, make_nodes};
 use hs_base::{List, Memory};
-use hs_law_lockstep::laws::machines_are_whole;
-use hs_law_lockstep::laws::schedule_is_lawful;
-use crate::schedule::close;
-use crate::start::make_coordinator;
-use crate::start::make_nodes;
-use crate::schedule::rounds;
+use hs_law_lockstep::laws::{machines_are_whole, schedule_is_lawful};
 use hs_report::{Books, Outcome, gather};
 use hs_workload::Workload;
 use std::alloc::Global;

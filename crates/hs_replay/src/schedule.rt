@@ -7,19 +7,16 @@ ghost use Rattle.hs_workload.specs.Views.{workload_of};
 ghost use Rattle.hs_replay.specs.All.{AllAt, AllClosed};
 
 use crate::all::{go_all, has_left, is_bare, pass};
-use crate::node::Node;
+use crate::node::ReplayNode;
 use hs_base::{List, Memory};
 use hs_coord::Coordinator;
-use hs_law_lockstep::laws::clients_go_so;
-use hs_law_lockstep::laws::closing_ends;
-use hs_law_lockstep::laws::machines_are_whole;
-use hs_law_lockstep::laws::rounds_end;
+use hs_law_lockstep::laws::{clients_go_so, closing_ends, machines_are_whole, rounds_end};
 use hs_workload::Workload;
 
 /// All rounds, as long as operations are left: the clients' turns, the agents' passes, and the coordinator's.
 pub fn rounds(
     coordinator: &mut Coordinator,
-    nodes: &mut List<Node>,
+    nodes: &mut List<ReplayNode>,
     workload: &Workload,
 ) -> Result<(), Memory>
     requires { AllAt (workload_of workload.now) (machine_start (workload_of workload.now)) nodes.old.items coordinator.old }
@@ -40,7 +37,7 @@ pub fn rounds(
 /// The closing: passes, as long as anything waits.
 pub fn close(
     coordinator: &mut Coordinator,
-    nodes: &mut List<Node>,
+    nodes: &mut List<ReplayNode>,
     workload: &Workload,
 ) -> Result<(), Memory>
     requires { AllAt (workload_of workload.now) (behind_rounds (workload_of workload.now)) nodes.old.items coordinator.old }

@@ -7,7 +7,7 @@ ghost use Rattle.hs_workload.specs.Views.{workload_of};
 ghost use Rattle.hs_replay.specs.All.{AllAt, NodesAt};
 ghost use Rattle.hs_replay.specs.Standing.{NodeIsAt};
 
-use crate::node::Node;
+use crate::node::ReplayNode;
 use hs_base::{List, Memory};
 use hs_coord::Coordinator;
 use hs_law_lockstep::laws::machines_start_so;
@@ -15,7 +15,7 @@ use hs_workload::Workload;
 use std::alloc::Global;
 
 /// The nodes of a valid workload.
-pub fn make_nodes(alloc: Global, workload: &Workload) -> Result<List<Node>, Memory>
+pub fn make_nodes(alloc: Global, workload: &Workload) -> Result<List<ReplayNode>, Memory>
     requires { IsValid (workload_of workload.now) }
     ensures { IfOk result (λ nodes. NodesAt (workload_of workload.now) (machine_start (workload_of workload.now)) nodes.items) }
 {
@@ -29,7 +29,7 @@ pub fn make_nodes(alloc: Global, workload: &Workload) -> Result<List<Node>, Memo
 }
 
 /// A node of a valid workload.
-fn make_at(alloc: Global, workload: &Workload, node: usize) -> Result<Node, Memory>
+fn make_at(alloc: Global, workload: &Workload, node: usize) -> Result<ReplayNode, Memory>
     requires valid { IsValid (workload_of workload.now) }
     requires low { node < workload.now.settings.nodes }
     ensures { IfOk result (NodeIsAt (workload_of workload.now) (machine_start (workload_of workload.now)) node) }
@@ -38,13 +38,13 @@ fn make_at(alloc: Global, workload: &Workload, node: usize) -> Result<Node, Memo
     let first = node * each;
     let clients = &workload.clients.as_slice()[first..first + each];
     let number = node as u16;
-    Node::make(alloc, number, &workload.settings, clients)
+    ReplayNode::make(alloc, number, &workload.settings, clients)
 }
 
 /// The coordinator of these nodes.
 pub fn make_coordinator(
     alloc: Global,
-    nodes: &List<Node>,
+    nodes: &List<ReplayNode>,
     workload: &Workload,
 ) -> Result<Coordinator, Memory>
     requires { NodesAt (workload_of workload.now) (machine_start (workload_of workload.now)) nodes.now.items }

@@ -3,10 +3,10 @@
 ghost use Rattle.std.specs.Prelude.{◌≡◌, OnOk};
 ghost use Rattle.hs_replay.specs.Hearing.{TellsNext, with_ask};
 
-use crate::node::Node;
+use crate::node::ReplayNode;
 use hs_base::{Ask, Memory, Told};
 
-impl Node {
+impl ReplayNode {
     /// Takes out the next message to the coordinator, where one waits.
     pub fn next_told(&mut self) -> Option<Told>
         ensures { TellsNext self.old result self.new }

@@ -16,7 +16,7 @@ use Rattle.hs_law_sends.specs.Timing.{timed_pages}
 use Rattle.hs_law_sends.proofs.Order.{page_at}
 use Rattle.hs_words.specs.Chunks.{Contents, with_page, clear_chunk}
 use Rattle.hs_words.specs.Pages.{Sheet}
-use Rattle.hs_replay_client.specs.Playing.{Unleased}
+use Rattle.hs_replay_client.specs.ReplayClients.{Unleased}
 use Rattle.hs_law_sends.specs.Playable.{IsPlayable}
 use Rattle.hs_replay_client.specs.Places.{IsChunkAt, chunk_by, chunk_of, chunks_within}
 use Rattle.hs_replay_client.proofs.Fronts.{drawn_within}

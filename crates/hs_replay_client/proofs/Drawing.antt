@@ -5,7 +5,7 @@ use Rattle.hs_journal.specs.declared.journal.Draw.{Draw}
 use Rattle.hs_journal.specs.declared.journal.Draw.TheVariants as noted
 use Rattle.hs_words.specs.declared.token.Drawn.{Drawn}
 use Rattle.hs_words.specs.declared.token.Drawn.TheVariants as drawn
-use Rattle.hs_words.specs.PoolHistory.{Event, Got, Empty, queue_after}
+use Rattle.hs_words.specs.PoolHistory.{PoolEvent, Got, Empty, queue_after}
 use Rattle.hs_words.specs.PoolAnswers as answers
 use Rattle.hs_pool.specs.Pool.{Pool, IsAfter, Extends, Draws, number_of}
 use Rattle.hs_law_sends.specs.Draws.{next_draws, draws_behind, event_drawn}
@@ -35,23 +35,23 @@ next_more (suc m) n stamp (buffer ∷ queue) =
     ∙ ap (λ (l : List Draw). noted.Got buffer stamp ∷ l) (next_more m n (stamp + 1) queue ∙ ap (λ s. next_draws m (stamp + 1) queue ++ next_draws n s (drop m queue)) place)
 
 -- the queue behind so many draws
-queue_behind : (buffers count stamp : ℕ) (history : List Event) (queue : List ℕ) → queue_after buffers (reverse history) ≡ queue
+queue_behind : (buffers count stamp : ℕ) (history : List PoolEvent) (queue : List ℕ) → queue_after buffers (reverse history) ≡ queue
     → queue_after buffers (reverse (history ++ map event_drawn (next_draws count stamp queue))) ≡ drop count queue
-queue_behind buffers zero stamp history queue is = ap (λ (h : List Event). queue_after buffers (reverse h)) (append-nil history) ∙ is
+queue_behind buffers zero stamp history queue is = ap (λ (h : List PoolEvent). queue_after buffers (reverse h)) (append-nil history) ∙ is
 queue_behind buffers (suc count) stamp history [] is =
     let later = map event_drawn (next_draws count (stamp + 1) []) in
     let now : queue_after buffers (reverse (history ++ Empty ∷ [])) ≡ [] = ap (queue_after buffers) (reverse-append history (Empty ∷ [])) ∙ is in
-    ap (λ (h : List Event). queue_after buffers (reverse h)) (sym (append_assoc history (Empty ∷ []) later)) ∙ queue_behind buffers count (stamp + 1) (history ++ Empty ∷ []) [] now ∙ drop_none count
+    ap (λ (h : List PoolEvent). queue_after buffers (reverse h)) (sym (append_assoc history (Empty ∷ []) later)) ∙ queue_behind buffers count (stamp + 1) (history ++ Empty ∷ []) [] now ∙ drop_none count
 queue_behind buffers (suc count) stamp history (buffer ∷ queue) is =
     let later = map event_drawn (next_draws count (stamp + 1) queue) in
     let now : queue_after buffers (reverse (history ++ Got buffer ∷ [])) ≡ queue = ap (queue_after buffers) (reverse-append history (Got buffer ∷ [])) ∙ ap (drop 1) is in
-    ap (λ (h : List Event). queue_after buffers (reverse h)) (sym (append_assoc history (Got buffer ∷ []) later)) ∙ queue_behind buffers count (stamp + 1) (history ++ Got buffer ∷ []) queue now
+    ap (λ (h : List PoolEvent). queue_after buffers (reverse h)) (sym (append_assoc history (Got buffer ∷ []) later)) ∙ queue_behind buffers count (stamp + 1) (history ++ Got buffer ∷ []) queue now
 
 -- ---- draws and nothing else
 
 pub draws_none : (drawn : List Draw) (pool : Pool) → OnlyDraws drawn pool drawn pool
 draws_none drawn pool = λ history is.
-    (0, record { draws = sym (append-nil drawn); after = subst (λ (h : List Event). IsAfter h pool) (sym (append-nil history)) is })
+    (0, record { draws = sym (append-nil drawn); after = subst (λ (h : List PoolEvent). IsAfter h pool) (sym (append-nil history)) is })
 
 pub draws_more : (a b c : List Draw) (pool middle pool' : Pool) → middle.buffers ≡ pool.buffers → OnlyDraws a pool b middle → OnlyDraws b middle c pool' → OnlyDraws a pool c pool'
 draws_more a b c pool middle pool' same first second = λ history is.
@@ -69,10 +69,10 @@ draws_more a b c pool middle pool' same first second = λ history is.
     let joined : here ++ draws_behind middle.buffers history' n ≡ draws_behind pool.buffers history (m + n) = ap (λ (l : List Draw). here ++ l) there ∙ sym (next_more m n (length history) queue) in
     let all : history' ++ map event_drawn (draws_behind middle.buffers history' n) ≡ history ++ map event_drawn (draws_behind pool.buffers history (m + n)) =
     append_assoc history (map event_drawn here) (map event_drawn (draws_behind middle.buffers history' n))
-    ∙ ap (λ (l : List Event). history ++ l) (sym (map-append event_drawn here (draws_behind middle.buffers history' n)) ∙ ap (map event_drawn) joined) in
+    ∙ ap (λ (l : List PoolEvent). history ++ l) (sym (map-append event_drawn here (draws_behind middle.buffers history' n)) ∙ ap (map event_drawn) joined) in
     let notes : c ≡ a ++ draws_behind pool.buffers history (m + n) =
     g.1.draws ∙ ap (λ (l : List Draw). l ++ draws_behind middle.buffers history' n) f.1.draws ∙ append_assoc a here (draws_behind middle.buffers history' n) ∙ ap (λ (l : List Draw). a ++ l) joined in
-    (m + n, record { draws = notes; after = subst (λ (h : List Event). IsAfter h pool') all g.1.after })
+    (m + n, record { draws = notes; after = subst (λ (h : List PoolEvent). IsAfter h pool') all g.1.after })
 
 pub draws_one : {g : _} (a : List Draw) (pool pool' : Pool) (d : Drawn (Unit {0}) g) → Draws pool d pool' → answers.stamp_drawn d ≡ pool.events → Extends pool (answers.event_drawn d) pool'
     → OnlyDraws a pool (a ++ note_drawn d ∷ []) pool'

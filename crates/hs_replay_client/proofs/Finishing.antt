@@ -1,4 +1,4 @@
--- The book of a player that has done all its operations.
+-- The book of a client that has done all its operations.
 use Rattle.std.proofs.Common.{◌≡◌, ℕ, List, [], ◌∷◌, length, map, take, Option, None, IsNone, refl, sym, ap, ◌∙◌, subst, arith}
 use Rattle.std.proofs.lemmas.List.{append-nil, take_all}
 use Rattle.std.specs.Prelude.{is_some}
@@ -13,10 +13,10 @@ use Rattle.hs_journal.specs.Books.{PlainClientBook}
 use Rattle.hs_records.specs.Pages.{pages_of, segment_pages}
 use Rattle.hs_records.specs.Plain.{Operation, PlainSettings}
 use Rattle.hs_law_sends.proofs.OneMore.{none_open}
-use Rattle.hs_replay_client.specs.Playing.{Playing}
+use Rattle.hs_replay_client.specs.ReplayClients.{PlainReplayClient}
 use Rattle.hs_replay_client.specs.Writing.{new_of}
 use Rattle.hs_replay_client.specs.Doing.{Gone, HasDone}
-use Rattle.hs_replay_client.specs.Places.{IsAt, IsDone, gone_of, made_for}
+use Rattle.hs_replay_client.specs.Places.{ReplayClientIsAt, IsDone, gone_of, made_for}
 use Rattle.hs_replay_client.proofs.Standing.{recorded}
 
 after-client : (new : Core (Unit {0})) (steps : List (Step (Unit {0}))) → (after new steps).client ≡ new.client
@@ -28,14 +28,14 @@ after-client new (Supplied buffer stamp moment payload more ∷ earlier) = after
 after-client new (Ended_ ∷ earlier) = after-client new earlier
 after-client new (Refused ∷ earlier) = after-client new earlier
 
-all_done : (settings : PlainSettings) (client : ClientId) (ops : List Operation) (drawn : List Draw) (k l m : ℕ) (player : Playing) → IsAt settings client ops drawn (length ops) k l m player
+all_done : (settings : PlainSettings) (client : ClientId) (ops : List Operation) (drawn : List Draw) (k l m : ℕ) (player : PlainReplayClient) → ReplayClientIsAt settings client ops drawn (length ops) k l m player
     → (gone : Gone) × HasDone (made_for settings client ops) ops gone player.works
 all_done settings client ops drawn k l m player a =
     let whole : take (length ops) ops ≡ ops = take_all (length ops) ops (omega arith) in
     let gone = gone_of settings.size (Rattle.hs_law_sends.specs.Sending.sends_of settings client ops drawn) (length ops) k l m in
     (gone, subst (λ (l' : List Operation). HasDone (made_for settings client ops) l' gone player.works) whole a.inside)
 
-pub is_closed : (player : Playing) → IsDone player → IsNone player.works.core.trace
+pub is_closed : (player : PlainReplayClient) → IsDone player → IsNone player.works.core.trace
 is_closed player is =
     let has = all_done is.settings is.client is.ops is.drawn is.k is.l is.m player is.at in
     ap (λ (t : Option TraceId). is_some t) has.1.trace ∙ none_open is.ops is.at.playable.client.bracketed
@@ -48,7 +48,7 @@ closed_pages core none = sym (append-nil core.pages) ∙ ap (λ (c : Core (Unit 
     same = λ i. record core { current = none i }
 
 pub noted : ((client : ClientId) (size calls : ℕ) (steps : List (Step (Unit {0}))) → AreSteps (new_core client size calls) steps → IsBook (new_core client size calls) steps)
-    → (settings : PlainSettings) (client : ClientId) (ops : List Operation) (drawn : List Draw) (k l m : ℕ) (player : Playing) → IsAt settings client ops drawn (length ops) k l m player
+    → (settings : PlainSettings) (client : ClientId) (ops : List Operation) (drawn : List Draw) (k l m : ℕ) (player : PlainReplayClient) → ReplayClientIsAt settings client ops drawn (length ops) k l m player
     → (book : PlainClientBook) → book.client ≡ player.works.core.client → book.draws ≡ player.works.core.draws → book.pages ≡ player.works.core.pages
     → book ≡ record { client = client; draws = drawn; pages = map note_of (pages_of settings.size ops) }
 noted books settings client ops drawn k l m player a book owner draws pages =

@@ -13,7 +13,7 @@ use Rattle.hs_law_sends.specs.Drawn.{DrawnPage, drawn_from}
 use Rattle.hs_law_sends.specs.Laws.{IsTimely}
 use Rattle.hs_law_sends.specs.SoFar.{pages_within}
 use Rattle.hs_law_sends.specs.Timing.{TimedPage}
-use Rattle.hs_replay_client.specs.Playing.{Unleased}
+use Rattle.hs_replay_client.specs.ReplayClients.{Unleased}
 use Rattle.hs_replay_client.specs.Writing.{buffer_got}
 use Rattle.hs_replay_client.specs.Places.{chunk_of}
 

@@ -1,4 +1,4 @@
--- A player goes through its operations.
+-- A client goes through its operations.
 use Rattle.std.proofs.Common.{◌≡◌, ℕ, ◌+◌, ◌<◌, ◌≤◌, true, false, List, [], ◌∷◌, ◌++◌, length, map, Option, Some, None, IsSome, inl, inr, refl, sym, ap, ◌∙◌, subst, arith, append_assoc}
 use Rattle.std.proofs.lemmas.List.{append-nil, length-map}
 use Rattle.std.proofs.lemmas.Option.{slice_get-map, slice_get_cases}
@@ -17,7 +17,7 @@ use Rattle.hs_workload.specs.LookBack.{operation_pieces}
 use Rattle.hs_workload.specs.Validity.{IsOperation, client_pieces}
 use Rattle.hs_workload.proofs.Keeps.{client_more}
 use Rattle.hs_base.specs.declared.ids.ClientId.{ClientId}
-use Rattle.hs_replay_client.specs.Playing.{Working}
+use Rattle.hs_replay_client.specs.ReplayClients.{Working}
 use Rattle.hs_replay_client.specs.Wells.{Way}
 use Rattle.hs_replay_client.specs.Writing.{Made, Spends}
 use Rattle.hs_replay_client.specs.Doing.{Gone, HasDone, Does, MayDo}
@@ -75,7 +75,7 @@ may_do settings client front rest op gone works rules playable rules_are h =
 -- ---- so many operations done
 
 module _ {P : Type 0} (way : Way P) where
-  -- Behind what was done, the player has done these operations, and only drew from the well.
+  -- Behind what was done, the client has done these operations, and only drew from the well.
   pub record HasGone (ops : List Operation) (old now : Working) (well well' : P) : Type 0 where
     pub does : (made : Made) (front : List Operation) (gone : Gone) → HasDone made front gone old → HasDone made (front ++ ops) gone now
     pub spends : Spends way (client_pieces old.core.size ops) old.core now.core well well'

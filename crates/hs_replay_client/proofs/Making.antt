@@ -1,4 +1,4 @@
--- A player that was made has done nothing.
+-- A client that was made has done nothing.
 use Rattle.std.proofs.Common.{◌≡◌, ◌≤◌, List, [], ◌++◌, map, reverse, refl, sym, ap, subst, arith}
 use Rattle.std.specs.List.{AllByRecursion}
 use Rattle.hs_lists.proofs.Alls.{all_everywhere}
@@ -10,11 +10,11 @@ use Rattle.hs_client.specs.Calls.{with_all}
 use Rattle.hs_journal.specs.declared.journal.Draw.{Draw}
 use Rattle.hs_records.specs.Plain.{Operation, PlainSettings}
 use Rattle.hs_records.specs.Records.{segments_from, segments_of, coming}
-use Rattle.hs_replay_client.specs.Playing.{Working, Playing}
+use Rattle.hs_replay_client.specs.ReplayClients.{Working, PlainReplayClient}
 use Rattle.hs_replay_client.specs.Writing.{Made, IsSound, new_of}
 use Rattle.hs_replay_client.specs.Doing.{Gone, HasDone}
 use Rattle.hs_law_sends.specs.Playable.{IsPlayable}
-use Rattle.hs_replay_client.specs.Places.{IsAt, made_for}
+use Rattle.hs_replay_client.specs.Places.{ReplayClientIsAt, made_for}
 use Rattle.hs_replay_client.proofs.Standing.{Laws, is_at}
 
 -- what is known of a client that was made
@@ -55,9 +55,9 @@ new_done made works is =
     }
 
 pub new_at : Laws → (settings : PlainSettings) (client : ClientId) (ops : List Operation) (works : Working) → IsPlayable settings ops → IsNew (made_for settings client ops) works
-    → IsAt settings client ops [] 0 0 0 0 (record { done = 0; works = works })
+    → ReplayClientIsAt settings client ops [] 0 0 0 0 (record { done = 0; works = works })
 new_at laws settings client ops works playable is =
-    let player : Playing = record { done = 0; works = works } in
+    let player : PlainReplayClient = record { done = 0; works = works } in
     let at = is_at laws settings client ops 0 0 0 0 nothing player playable (omega arith) refl (record { chunks = refl; crumbs = refl; triggers = refl }) (new_done (made_for settings client ops) works is) in
     let none : works.core.draws ≡ [] = ap (λ (c : Core (Unit {0})). c.draws) is.core in
-    subst (λ (drawn : List Draw). IsAt settings client ops drawn 0 0 0 0 player) none at
+    subst (λ (drawn : List Draw). ReplayClientIsAt settings client ops drawn 0 0 0 0 player) none at

@@ -1,4 +1,4 @@
--- A player that has done some operations does one more.
+-- A client that has done some operations does one more.
 use Rattle.std.proofs.Common.{◌≡◌, ℕ, ◌+◌, ◌≤◌, Bool, false, List, [], ◌∷◌, ◌++◌, length, reverse, Option, Some, None, IsSome, refl, sym, ap, ap₂, ◌∙◌, subst, arith, append_assoc}
 use Rattle.std.proofs.lemmas.List.{append-nil, reverse-append}
 use Rattle.std.specs.Prelude.{is_some}
@@ -20,7 +20,7 @@ use Rattle.hs_law_sends.proofs.Adding.{OneMore, page_more, at, unseen, begin_uns
 use Rattle.hs_law_sends.proofs.OneMore.{open_push}
 use Rattle.hs_workload.specs.LookBack.{operation_pieces}
 use Rattle.hs_workload.proofs.Keeps.{client_more}
-use Rattle.hs_replay_client.specs.Playing.{Unleased, Working}
+use Rattle.hs_replay_client.specs.ReplayClients.{Unleased, Working}
 use Rattle.hs_replay_client.specs.Writing.{Made, Writing, IsSound, IsWriting, Records, EndsTrace}
 use Rattle.hs_replay_client.specs.Doing.{Gone, HasDone, Does, writing_of}
 use Rattle.hs_replay_client.proofs.Sound.{sound_began}

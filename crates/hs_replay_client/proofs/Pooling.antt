@@ -1,4 +1,4 @@
--- A player that draws from a pool: its draws are those behind the pool's history.
+-- A client that draws from a pool: its draws are those behind the pool's history.
 use Rattle.std.proofs.Common.{◌≡◌, ℕ, ◌+◌, ◌-◌, List, [], ◌∷◌, ◌++◌, length, map, reverse, refl, sym, ap, ◌∙◌, subst, arith, append_assoc, length-append}
 use Rattle.std.proofs.lemmas.List.{append-nil}
 use Rattle.hs_base.specs.declared.ids.ClientId.{ClientId}
@@ -7,11 +7,11 @@ use Rattle.hs_pool.specs.Pool.{Pool, IsAfter, HasSize}
 use Rattle.hs_records.specs.Plain.{Operation, PlainSettings}
 use Rattle.hs_law_sends.specs.Draws.{draws_behind, count_started, event_drawn}
 use Rattle.hs_law_sends.proofs.Order.{length_next}
-use Rattle.hs_words.specs.PoolHistory.{Event, queue_after}
-use Rattle.hs_replay_client.specs.Playing.{Playing}
+use Rattle.hs_words.specs.PoolHistory.{PoolEvent, queue_after}
+use Rattle.hs_replay_client.specs.ReplayClients.{PlainReplayClient}
 use Rattle.hs_replay_client.specs.Wells.{DrawsAll}
 use Rattle.hs_replay_client.specs.Pooled.{OnlyDraws, pool_way}
-use Rattle.hs_replay_client.specs.Places.{IsAt, Went, WentOn, draws_going}
+use Rattle.hs_replay_client.specs.Places.{ReplayClientIsAt, Went, WentOn, draws_going}
 use Rattle.hs_replay_client.proofs.Drawing.{draws_none, draws_more}
 
 -- the same draws behind other ones
@@ -47,8 +47,8 @@ drew (draw ∷ drawn) pool pool' h =
       sized = λ size s. rest.sized size (one.sized size s);
     }
 
-pub went_pooled : (settings : PlainSettings) (client : ClientId) (ops : List Operation) (drawn : List Draw) (done end k l m : ℕ) (history : List Event) (old new : Playing) (pool pool' : Pool)
-    → IsAt settings client ops drawn done k l m old → IsAfter history pool → WentOn pool_way settings client ops drawn end k l m pool new pool'
+pub went_pooled : (settings : PlainSettings) (client : ClientId) (ops : List Operation) (drawn : List Draw) (done end k l m : ℕ) (history : List PoolEvent) (old new : PlainReplayClient) (pool pool' : Pool)
+    → ReplayClientIsAt settings client ops drawn done k l m old → IsAfter history pool → WentOn pool_way settings client ops drawn end k l m pool new pool'
     → Went settings client ops drawn done end k l m history pool new pool'
 went_pooled settings client ops drawn done end k l m history old new pool pool' a after went =
     let size = settings.size in
@@ -60,6 +60,6 @@ went_pooled settings client ops drawn done end k l m history old new pool pool' 
     let number : count ≡ count_started size ops end - count_started size ops done = omega (arith, long, went.at.each, a.each) in
     let all : drawn ++ went.more ≡ drawn ++ draws_going settings ops done end pool.buffers history = d.1.draws ∙ ap (λ n. drawn ++ draws_behind pool.buffers history n) number in
     record {
-      at = subst (λ (l' : List Draw). IsAt settings client ops l' end k l m new) all went.at;
+      at = subst (λ (l' : List Draw). ReplayClientIsAt settings client ops l' end k l m new) all went.at;
       after = subst (λ n. IsAfter (history ++ map event_drawn (draws_behind pool.buffers history n)) pool') number d.1.after;
     }

@@ -1,4 +1,4 @@
--- The next operation of a player that is among its operations may be done.
+-- The next operation of a client that is among its operations may be done.
 use Rattle.std.proofs.Common.{◌≡◌, ℕ, ◌+◌, ◌≤◌, List, ◌∷◌, ◌++◌, take, sym, ap, ◌∙◌, subst, arith}
 use Rattle.hs_base.specs.declared.ids.ClientId.{ClientId}
 use Rattle.hs_base.specs.declared.limits.TheConstants.{MAX_OPERATIONS}
@@ -8,12 +8,12 @@ use Rattle.hs_records.specs.Plain.{Operation, PlainSettings}
 use Rattle.hs_law_sends.specs.Sending.{sends_of}
 use Rattle.hs_workload.specs.LookBack.{operation_pieces}
 use Rattle.hs_workload.specs.Validity.{client_pieces}
-use Rattle.hs_replay_client.specs.Playing.{Working, Playing}
+use Rattle.hs_replay_client.specs.ReplayClients.{Working, PlainReplayClient}
 use Rattle.hs_replay_client.specs.Wells.{Way, IsReadyFor}
 use Rattle.hs_replay_client.specs.Writing.{IsSound}
 use Rattle.hs_replay_client.specs.Doing.{HasDone, MayDo}
 use Rattle.hs_law_sends.specs.Playable.{IsPlayable}
-use Rattle.hs_replay_client.specs.Places.{IsAt, gone_of, made_for}
+use Rattle.hs_replay_client.specs.Places.{ReplayClientIsAt, gone_of, made_for}
 use Rattle.hs_replay_client.proofs.Going.{HasGone, may_do, pieces_append}
 use Rattle.hs_replay_client.proofs.Spending.{ready_less}
 
@@ -23,8 +23,8 @@ module _ {P : Type 0} (way : Way P) where
     pub may : MayDo rules op works
     pub ready : IsReadyFor way well works.core.size (operation_pieces works.core.size op)
 
-  pub ready : (settings : PlainSettings) (client : ClientId) (ops here rest : List Operation) (op : Operation) (drawn : List Draw) (done k l m : ℕ) (old : Playing) (now : Working) (rules : List AutoRule) (well well' : P)
-      → IsAt settings client ops drawn done k l m old → rules ≡ settings.autos → IsReadyFor way well settings.size MAX_OPERATIONS → HasGone way here old.works now well well'
+  pub ready : (settings : PlainSettings) (client : ClientId) (ops here rest : List Operation) (op : Operation) (drawn : List Draw) (done k l m : ℕ) (old : PlainReplayClient) (now : Working) (rules : List AutoRule) (well well' : P)
+      → ReplayClientIsAt settings client ops drawn done k l m old → rules ≡ settings.autos → IsReadyFor way well settings.size MAX_OPERATIONS → HasGone way here old.works now well well'
       → ops ≡ (take done ops ++ here) ++ op ∷ rest → IsReady rules op now well'
   ready settings client ops here rest op drawn done k l m old now rules well well' a rules_are full gone whole =
       let size = settings.size in

@@ -1,4 +1,4 @@
--- What the calls of a player's core leave, and what they spend.
+-- What the calls of a client's core leave, and what they spend.
 use Rattle.std.proofs.Common.{◌≡◌, ℕ, ◌+◌, Bool, List, [], ◌∷◌, ◌++◌, Option, Some, None, IsSome, refl, sym, ap, ◌∙◌, subst, arith}
 use Rattle.std.specs.Option.{option_to_list}
 use Rattle.hs_words.specs.declared.token.Drawn.{Drawn}
@@ -6,7 +6,7 @@ use Rattle.hs_words.specs.declared.token.Drawn.TheVariants as drawn
 use Rattle.hs_words.specs.Buffers.{buffer_of}
 use Rattle.hs_client.specs.Core.{Core, Wrote, Needed, Supplied, Ended_, after_step, closed, handed, draw_of, HasClearChunk, number_after, supplied, next_page, piece}
 use Rattle.hs_client.specs.Calls.{May}
-use Rattle.hs_replay_client.specs.Playing.{Unleased}
+use Rattle.hs_replay_client.specs.ReplayClients.{Unleased}
 use Rattle.hs_replay_client.specs.Wells.{Way, IsClear, note_drawn}
 use Rattle.hs_replay_client.specs.Writing.{Writing, IsSound, CountsOne, WritesPieces, Records, EndsTrace, IsWriting}
 use Rattle.hs_replay_client.proofs.Sound.{some_map, sound_wrote, sound_supplied, sound_ended}

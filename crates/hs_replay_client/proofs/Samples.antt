@@ -1,4 +1,4 @@
--- A sample that an autotrigger of a player is given.
+-- A sample that an autotrigger of a client is given.
 use Rattle.std.proofs.Common.{◌≡◌, ℕ, ◌<◌, List, [], ◌∷◌, ◌++◌, length, set, get_or, reverse, Option, Some, refl, sym, ap, ◌∙◌, subst, arith}
 use Rattle.std.proofs.lemmas.Option.{same_Some, slice_get-map, slice_get_within}
 use Rattle.std.specs.Prelude.{slice_get}
@@ -19,7 +19,7 @@ use Rattle.hs_law_sends.specs.OneMore.{AreWatching}
 use Rattle.hs_law_sends.specs.Sending.{samples_of, trigger_in, trigger_of}
 use Rattle.hs_law_sends.proofs.Sampling.{sample, fired_trigger, trigger_is, watches, coming_sample, sample_no_crumb}
 use Rattle.hs_law_sends.proofs.Adding.{OneMore, at}
-use Rattle.hs_replay_client.specs.Playing.{Working}
+use Rattle.hs_replay_client.specs.ReplayClients.{Working}
 use Rattle.hs_replay_client.specs.Doing.{Does}
 use Rattle.hs_replay_client.proofs.Operations.{IsApart, apart_writes, done_now, none_more}
 

@@ -1,4 +1,4 @@
--- What a player has done says where it is.
+-- What a client has done says where it is.
 use Rattle.std.proofs.Common.{◌≡◌, ℕ, ◌≤◌, false, List, [], ◌++◌, length, map, take, drop, reverse, refl, sym, ap, ◌∙◌, subst, arith, length-append}
 use Rattle.std.proofs.lemmas.List.{append-nil, take-append-drop, length-take-le, take_at, drop_at}
 use Rattle.std.specs.Prelude.{is_some}
@@ -19,11 +19,11 @@ use Rattle.hs_law_sends.specs.Sending.{Sent, sends_of, sent_within, sent_crumbs,
 use Rattle.hs_law_sends.specs.HandedOut.{CoresHandOutSoFar}
 use Rattle.hs_law_sends.specs.SoFar.{has_open_page, pages_within, FirstCrumbsAreSent, FirstTriggersAreSent}
 use Rattle.hs_law_sends.specs.Timing.{timed_pages}
-use Rattle.hs_replay_client.specs.Playing.{Working, Playing}
+use Rattle.hs_replay_client.specs.ReplayClients.{Working, PlainReplayClient}
 use Rattle.hs_replay_client.specs.Writing.{Made, new_of, buffer_got}
 use Rattle.hs_replay_client.specs.Doing.{Gone, HasDone}
 use Rattle.hs_law_sends.specs.Playable.{IsPlayable}
-use Rattle.hs_replay_client.specs.Places.{IsAt, Waits, chunk_of, chunks_within, gone_of, made_for}
+use Rattle.hs_replay_client.specs.Places.{ReplayClientIsAt, Waits, chunk_of, chunks_within, gone_of, made_for}
 use Rattle.hs_replay_client.proofs.Fronts.{page_in, front_drawn, filled_are}
 
 -- what is known of cores and of clients
@@ -43,7 +43,7 @@ recorded made ops gone works h =
 
 -- ---- what was sent
 
--- what a player has done, where these operations are left
+-- what a client has done, where these operations are left
 pub record IsSoFar (settings : PlainSettings) (client : ClientId) (ops : List Operation) (done : ℕ) (gone : Gone) (works : Working) : Type 0 where
   pub each : length works.core.draws ≡ count_started settings.size ops done
   pub chunks : gone.chunks ++ works.chunks ≡ chunks_within settings.size done (drawn_pages settings.size client ops works.core.draws)
@@ -83,7 +83,7 @@ so_far laws settings client ops done gone works playable within h =
     let is = so_far_of laws settings client (take done ops) (drop done ops) (made_for settings client ops).calls gone works (subst (λ (l : List Operation). IsPlayable settings l) (sym whole) playable) h in
     subst (λ (n : ℕ). IsSoFar settings client ops n gone works) count (subst (λ (l : List Operation). IsSoFar settings client l (length (take done ops)) gone works) whole is)
 
--- ---- where the player is
+-- ---- where the client is
 
 waits : {A : Type 0} (taken : ℕ) (gone waiting sent : List A) → gone ++ waiting ≡ sent → length gone ≡ taken → Waits taken sent waiting
 waits taken gone waiting sent is long = (omega (arith, ap length is, length-append gone waiting, long), sym (drop_at gone waiting taken long) ∙ ap (drop taken) is)
@@ -97,8 +97,8 @@ pub record HasTaken (k l m : ℕ) (gone : Gone) : Type 0 where
   pub crumbs : length gone.crumbs ≡ l
   pub triggers : length gone.triggers ≡ m
 
-pub is_at : Laws → (settings : PlainSettings) (client : ClientId) (ops : List Operation) (done k l m : ℕ) (gone : Gone) (player : Playing) → IsPlayable settings ops → done ≤ length ops → player.done ≡ done
-    → HasTaken k l m gone → HasDone (made_for settings client ops) (take done ops) gone player.works → IsAt settings client ops player.works.core.draws done k l m player
+pub is_at : Laws → (settings : PlainSettings) (client : ClientId) (ops : List Operation) (done k l m : ℕ) (gone : Gone) (player : PlainReplayClient) → IsPlayable settings ops → done ≤ length ops → player.done ≡ done
+    → HasTaken k l m gone → HasDone (made_for settings client ops) (take done ops) gone player.works → ReplayClientIsAt settings client ops player.works.core.draws done k l m player
 is_at laws settings client ops done k l m gone player playable within done_is took h =
     let works = player.works in
     let is = so_far laws settings client ops done gone works playable within h in

@@ -1,4 +1,4 @@
--- What each call of a player's parts does to the steps of its core.
+-- What each call of a client's parts does to the steps of its core.
 use Rattle.std.proofs.Common.{◌≡◌, ℕ, Bool, List, [], ◌∷◌, ◌++◌, map, reverse, Option, Some, None, refl, sym, ap, ap₂, ◌∙◌, subst, append_assoc}
 use Rattle.std.proofs.lemmas.List.{reverse-append, map-append}
 use Rattle.std.specs.Option.{option_to_list}
@@ -11,7 +11,7 @@ use Rattle.hs_words.specs.Buffers.{buffer_of}
 use Rattle.hs_client.specs.Core.{Core, Step, Began, Wrote, Needed, Supplied, Ended_, Refused, after_step, handed, draw_of, number_after, supplied}
 use Rattle.hs_client.specs.Calls.{May, after, next_number, segments_of_steps, with_last, chunks_supplied, draws_supplied, handed_out, with_all}
 use Rattle.hs_client.proofs.AllSteps.{with_all-open}
-use Rattle.hs_replay_client.specs.Playing.{Unleased}
+use Rattle.hs_replay_client.specs.ReplayClients.{Unleased}
 use Rattle.hs_replay_client.specs.Wells.{IsClear}
 use Rattle.hs_replay_client.specs.Writing.{Made, Writing, new_of, buffer_got, ComesBy, IsWriting}
 
@@ -87,7 +87,7 @@ supplied_page made gone pieces later all old new buffer stamp moment payload mor
       gives = numbered made gone pieces later all old moment payload is;
     }
 
--- the steps do not change what the player was made with
+-- the steps do not change what the client was made with
 after-size : (new : Core (Unit {0})) (steps : List (Step (Unit {0}))) → (after new steps).size ≡ new.size
 after-size new [] = refl
 after-size new (Began trace ∷ earlier) = after-size new earlier

@@ -1,4 +1,4 @@
--- What the agent takes leaves the player where it is, with one item more taken.
+-- What the agent takes leaves the client where it is, with one item more taken.
 use Rattle.std.proofs.Common.{◌≡◌, ◌↔◌, ℕ, ◌+◌, ◌≤◌, Bool, IsTrue, List, [], ◌∷◌, ◌++◌, length, take, drop, Option, Some, None, refl, sym, ap, ◌∙◌, subst, arith, append_assoc}
 use Rattle.std.proofs.lemmas.List.{length-map, drop_all}
 use Rattle.std.proofs.lemmas.Option.{slice_get-map, same_Some}
@@ -14,10 +14,10 @@ use Rattle.hs_records.specs.Records.{segments_from, segments_of, coming}
 use Rattle.hs_law_sends.specs.OneMore.{items_of}
 use Rattle.hs_law_sends.specs.Order.{AreInOrder, CrumbsAreInOrder, TriggersAreInOrder, ChunksAreInOrder}
 use Rattle.hs_law_sends.specs.Sending.{Sent, sends_of, sent_within}
-use Rattle.hs_replay_client.specs.Playing.{Unleased, Working, Playing}
+use Rattle.hs_replay_client.specs.ReplayClients.{Unleased, Working, PlainReplayClient}
 use Rattle.hs_replay_client.specs.Writing.{Made, IsWriting}
 use Rattle.hs_replay_client.specs.Doing.{Gone, HasDone, HasNothing}
-use Rattle.hs_replay_client.specs.Places.{IsAt, IsItemAt, Waits, chunks_within, gone_of, made_for, TakesChunk, TakesCrumb, TakesTrigger, TellsBare}
+use Rattle.hs_replay_client.specs.Places.{ReplayClientIsAt, IsItemAt, Waits, chunks_within, gone_of, made_for, TakesChunk, TakesCrumb, TakesTrigger, TellsBare}
 use Rattle.hs_replay_client.proofs.Chunks.{chunk_at, chunks_counted}
 use Rattle.hs_replay_client.proofs.Lists.{is_next, none_waits, sent_first}
 use Rattle.hs_replay_client.proofs.Steps.{chunk_taken}
@@ -45,7 +45,7 @@ item_at done place items x order found =
 pub all_taken : {A : Type 0} (place : ℕ) (items : List (Sent A)) → place ≤ length (items_of items) → [] ≡ drop place (items_of items) → place ≡ length items
 all_taken place items within none = none_waits place (items_of items) within none ∙ length-map items (λ item. item.item)
 
--- ---- the player behind a taken item
+-- ---- the client behind a taken item
 
 pub done_chunk : (made : Made) (ops : List Operation) (gone : Gone) (works : Working) (chunk : Unleased) (chunks : List Unleased) → HasDone made ops gone works → works.chunks ≡ chunk ∷ chunks
     → HasDone made ops (record gone { chunks = gone.chunks ++ chunk ∷ [] }) (record works { chunks = chunks })
@@ -100,9 +100,9 @@ done_trigger made ops gone works trigger triggers h waits =
       autos = h.autos;
     }
 
-pub at_chunk : (settings : PlainSettings) (client : ClientId) (ops : List Operation) (drawn : List Draw) (done k l m : ℕ) (player : Playing) (chunk : Unleased) (chunks : List Unleased)
-    → IsAt settings client ops drawn done k l m player → player.works.chunks ≡ chunk ∷ chunks
-    → IsAt settings client ops drawn done (k + 1) l m (record { done = player.done; works = record (player.works) { chunks = chunks } })
+pub at_chunk : (settings : PlainSettings) (client : ClientId) (ops : List Operation) (drawn : List Draw) (done k l m : ℕ) (player : PlainReplayClient) (chunk : Unleased) (chunks : List Unleased)
+    → ReplayClientIsAt settings client ops drawn done k l m player → player.works.chunks ≡ chunk ∷ chunks
+    → ReplayClientIsAt settings client ops drawn done (k + 1) l m (record { done = player.done; works = record (player.works) { chunks = chunks } })
 at_chunk settings client ops drawn done k l m player chunk chunks a waits =
     let sends = sends_of settings client ops drawn in
     let sent = chunks_within settings.size done sends.drawn in
@@ -124,9 +124,9 @@ at_chunk settings client ops drawn done k l m player chunk chunks a waits =
           (done_chunk made (take done ops) gone player.works chunk chunks a.inside waits);
     }
 
-pub at_crumb : (settings : PlainSettings) (client : ClientId) (ops : List Operation) (drawn : List Draw) (done k l m : ℕ) (player : Playing) (crumb : Crumb) (crumbs : List Crumb) → CrumbsAreInOrder
-    → IsAt settings client ops drawn done k l m player → player.works.crumbs ≡ crumb ∷ crumbs
-    → IsItemAt done l (sends_of settings client ops drawn).crumbs crumb × IsAt settings client ops drawn done k (l + 1) m (record { done = player.done; works = record (player.works) { crumbs = crumbs } })
+pub at_crumb : (settings : PlainSettings) (client : ClientId) (ops : List Operation) (drawn : List Draw) (done k l m : ℕ) (player : PlainReplayClient) (crumb : Crumb) (crumbs : List Crumb) → CrumbsAreInOrder
+    → ReplayClientIsAt settings client ops drawn done k l m player → player.works.crumbs ≡ crumb ∷ crumbs
+    → IsItemAt done l (sends_of settings client ops drawn).crumbs crumb × ReplayClientIsAt settings client ops drawn done k (l + 1) m (record { done = player.done; works = record (player.works) { crumbs = crumbs } })
 at_crumb settings client ops drawn done k l m player crumb crumbs order a waits =
     let sends = sends_of settings client ops drawn in
     let sent = items_of (sent_within done sends.crumbs) in
@@ -150,9 +150,9 @@ at_crumb settings client ops drawn done k l m player crumb crumbs order a waits 
       },
     )
 
-pub at_trigger : (settings : PlainSettings) (client : ClientId) (ops : List Operation) (drawn : List Draw) (done k l m : ℕ) (player : Playing) (trigger : Trigger) (triggers : List Trigger) → TriggersAreInOrder
-    → IsAt settings client ops drawn done k l m player → player.works.triggers ≡ trigger ∷ triggers
-    → IsItemAt done m (sends_of settings client ops drawn).triggers trigger × IsAt settings client ops drawn done k l (m + 1) (record { done = player.done; works = record (player.works) { triggers = triggers } })
+pub at_trigger : (settings : PlainSettings) (client : ClientId) (ops : List Operation) (drawn : List Draw) (done k l m : ℕ) (player : PlainReplayClient) (trigger : Trigger) (triggers : List Trigger) → TriggersAreInOrder
+    → ReplayClientIsAt settings client ops drawn done k l m player → player.works.triggers ≡ trigger ∷ triggers
+    → IsItemAt done m (sends_of settings client ops drawn).triggers trigger × ReplayClientIsAt settings client ops drawn done k l (m + 1) (record { done = player.done; works = record (player.works) { triggers = triggers } })
 at_trigger settings client ops drawn done k l m player trigger triggers order a waits =
     let sends = sends_of settings client ops drawn in
     let sent = items_of (sent_within done sends.triggers) in
@@ -182,42 +182,42 @@ none_left : {A : Type 0} (items more : List A) → items ≡ more → more ≡ d
 none_left [] more same rest = refl
 none_left (x ∷ items) more same rest = absurd (omega (arith, ap length same, ap length rest))
 
-pub takes_crumb : (old : Playing) (answer : Option Crumb) (crumbs : List Crumb) → CrumbsAreInOrder → old.works.crumbs ≡ option_to_list answer ++ crumbs → crumbs ≡ drop 1 old.works.crumbs
+pub takes_crumb : (old : PlainReplayClient) (answer : Option Crumb) (crumbs : List Crumb) → CrumbsAreInOrder → old.works.crumbs ≡ option_to_list answer ++ crumbs → crumbs ≡ drop 1 old.works.crumbs
     → TakesCrumb old answer (record { done = old.done; works = record (old.works) { crumbs = crumbs } })
 takes_crumb old None crumbs order items rest = λ settings client ops drawn done k l m a.
     let none : old.works.crumbs ≡ [] = none_left old.works.crumbs crumbs items rest in
     let sends = sends_of settings client ops drawn in
     let same : crumbs ≡ old.works.crumbs = sym items in (
       all_taken l (sent_within done sends.crumbs) a.crumbs.0 (sym none ∙ a.crumbs.1),
-      subst (λ (c : List Crumb). IsAt settings client ops drawn done k l m (record { done = old.done; works = record (old.works) { crumbs = c } })) (sym same) a,
+      subst (λ (c : List Crumb). ReplayClientIsAt settings client ops drawn done k l m (record { done = old.done; works = record (old.works) { crumbs = c } })) (sym same) a,
     )
 takes_crumb old (Some crumb) crumbs order items rest = λ settings client ops drawn done k l m a. at_crumb settings client ops drawn done k l m old crumb crumbs order a items
 
-pub takes_trigger : (old : Playing) (answer : Option Trigger) (triggers : List Trigger) → TriggersAreInOrder → old.works.triggers ≡ option_to_list answer ++ triggers → triggers ≡ drop 1 old.works.triggers
+pub takes_trigger : (old : PlainReplayClient) (answer : Option Trigger) (triggers : List Trigger) → TriggersAreInOrder → old.works.triggers ≡ option_to_list answer ++ triggers → triggers ≡ drop 1 old.works.triggers
     → TakesTrigger old answer (record { done = old.done; works = record (old.works) { triggers = triggers } })
 takes_trigger old None triggers order items rest = λ settings client ops drawn done k l m a.
     let none : old.works.triggers ≡ [] = none_left old.works.triggers triggers items rest in
     let sends = sends_of settings client ops drawn in
     let same : triggers ≡ old.works.triggers = sym items in (
       all_taken m (sent_within done sends.triggers) a.triggers.0 (sym none ∙ a.triggers.1),
-      subst (λ (t : List Trigger). IsAt settings client ops drawn done k l m (record { done = old.done; works = record (old.works) { triggers = t } })) (sym same) a,
+      subst (λ (t : List Trigger). ReplayClientIsAt settings client ops drawn done k l m (record { done = old.done; works = record (old.works) { triggers = t } })) (sym same) a,
     )
 takes_trigger old (Some trigger) triggers order items rest = λ settings client ops drawn done k l m a. at_trigger settings client ops drawn done k l m old trigger triggers order a items
 
 -- as many chunks as sheets
-pub chunks_taken : (settings : PlainSettings) (client : ClientId) (ops : List Operation) (drawn : List Draw) (done k l m : ℕ) (player : Playing) → IsAt settings client ops drawn done k l m player → player.works.chunks ≡ []
+pub chunks_taken : (settings : PlainSettings) (client : ClientId) (ops : List Operation) (drawn : List Draw) (done k l m : ℕ) (player : PlainReplayClient) → ReplayClientIsAt settings client ops drawn done k l m player → player.works.chunks ≡ []
     → k ≡ length (sent_within done (sends_of settings client ops drawn).chunks)
 chunks_taken settings client ops drawn done k l m player a none =
     let pages = (sends_of settings client ops drawn).drawn in
     none_waits k (chunks_within settings.size done pages) a.chunks.0 (sym none ∙ a.chunks.1) ∙ chunks_counted settings.size done pages
 
-pub takes_chunk : (old : Playing) (answer : Option Unleased) (chunks : List Unleased) → ChunksAreInOrder → old.works.chunks ≡ option_to_list answer ++ chunks → chunks ≡ drop 1 old.works.chunks
+pub takes_chunk : (old : PlainReplayClient) (answer : Option Unleased) (chunks : List Unleased) → ChunksAreInOrder → old.works.chunks ≡ option_to_list answer ++ chunks → chunks ≡ drop 1 old.works.chunks
     → TakesChunk old answer (record { done = old.done; works = record (old.works) { chunks = chunks } })
 takes_chunk old None chunks order items rest = λ settings client ops drawn done k l m a.
     let none : old.works.chunks ≡ [] = none_left old.works.chunks chunks items rest in
     let same : chunks ≡ old.works.chunks = sym items in (
       chunks_taken settings client ops drawn done k l m old a none,
-      subst (λ (c : List Unleased). IsAt settings client ops drawn done k l m (record { done = old.done; works = record (old.works) { chunks = c } })) (sym same) a,
+      subst (λ (c : List Unleased). ReplayClientIsAt settings client ops drawn done k l m (record { done = old.done; works = record (old.works) { chunks = c } })) (sym same) a,
     )
 takes_chunk old (Some chunk) chunks order items rest = λ settings client ops drawn done k l m a.
     let sent = chunks_within settings.size done (sends_of settings client ops drawn).drawn in
@@ -229,7 +229,7 @@ takes_chunk old (Some chunk) chunks order items rest = λ settings client ops dr
 nothing_left : {A : Type 0} (taken : ℕ) (sent waiting : List A) → Waits taken sent waiting → taken ≡ length sent → waiting ≡ []
 nothing_left taken sent waiting w all = w.1 ∙ drop_all taken sent (omega (arith, all))
 
-pub tells_bare : (player : Playing) (bare : Bool) → IsTrue bare ↔ HasNothing player.works → TellsBare player bare
+pub tells_bare : (player : PlainReplayClient) (bare : Bool) → IsTrue bare ↔ HasNothing player.works → TellsBare player bare
 tells_bare player bare tells = λ settings client ops drawn done k l m a.
     let sends = sends_of settings client ops drawn in (
       λ yes.

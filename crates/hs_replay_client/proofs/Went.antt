@@ -1,4 +1,4 @@
--- Where a player is that went through operations.
+-- Where a client is that went through operations.
 use Rattle.std.proofs.Common.{◌≡◌, ℕ, ◌≤◌, List, ◌++◌, length, take, refl, ap, ◌∙◌, subst}
 use Rattle.std.proofs.lemmas.List.{length-take-le}
 use Rattle.hs_base.specs.declared.ids.ClientId.{ClientId}
@@ -6,15 +6,15 @@ use Rattle.hs_journal.specs.declared.journal.Draw.{Draw}
 use Rattle.hs_records.specs.Plain.{Operation, PlainSettings}
 use Rattle.hs_law_sends.specs.Sending.{sends_of, sent_within}
 use Rattle.hs_law_sends.specs.OneMore.{items_of}
-use Rattle.hs_replay_client.specs.Playing.{Working, Playing}
+use Rattle.hs_replay_client.specs.ReplayClients.{Working, PlainReplayClient}
 use Rattle.hs_replay_client.specs.Wells.{Way}
 use Rattle.hs_replay_client.specs.Doing.{HasDone}
-use Rattle.hs_replay_client.specs.Places.{IsAt, WentOn, chunks_within, gone_of, made_for}
+use Rattle.hs_replay_client.specs.Places.{ReplayClientIsAt, WentOn, chunks_within, gone_of, made_for}
 use Rattle.hs_replay_client.proofs.Going.{HasGone}
 use Rattle.hs_replay_client.proofs.Standing.{Laws, HasTaken, is_at}
 
--- what was taken of an earlier player
-taken_so : (settings : PlainSettings) (client : ClientId) (ops : List Operation) (drawn : List Draw) (done k l m : ℕ) (player : Playing) → IsAt settings client ops drawn done k l m player
+-- what was taken of an earlier client
+taken_so : (settings : PlainSettings) (client : ClientId) (ops : List Operation) (drawn : List Draw) (done k l m : ℕ) (player : PlainReplayClient) → ReplayClientIsAt settings client ops drawn done k l m player
     → HasTaken k l m (gone_of settings.size (sends_of settings client ops drawn) done k l m)
 taken_so settings client ops drawn done k l m player a =
     let sends = sends_of settings client ops drawn in
@@ -24,8 +24,8 @@ taken_so settings client ops drawn done k l m player a =
       triggers = length-take-le m (items_of (sent_within done sends.triggers)) a.triggers.0;
     }
 
-pub went : {P : Type 0} (way : Way P) → Laws → (settings : PlainSettings) (client : ClientId) (ops here : List Operation) (drawn : List Draw) (done end k l m : ℕ) (old : Playing) (now : Working) (well well' : P)
-    → IsAt settings client ops drawn done k l m old → HasGone way here old.works now well well' → end ≤ length ops → take done ops ++ here ≡ take end ops
+pub went : {P : Type 0} (way : Way P) → Laws → (settings : PlainSettings) (client : ClientId) (ops here : List Operation) (drawn : List Draw) (done end k l m : ℕ) (old : PlainReplayClient) (now : Working) (well well' : P)
+    → ReplayClientIsAt settings client ops drawn done k l m old → HasGone way here old.works now well well' → end ≤ length ops → take done ops ++ here ≡ take end ops
     → WentOn way settings client ops drawn end k l m well (record { done = end; works = now }) well'
 went way laws settings client ops here drawn done end k l m old now well well' a gone within parts =
     let size = settings.size in
@@ -37,6 +37,6 @@ went way laws settings client ops here drawn done end k l m old now well well' a
     let draws : now.core.draws ≡ drawn ++ gone.spends.drawn = gone.spends.notes ∙ ap (λ (l' : List Draw). l' ++ gone.spends.drawn) a.draws_are in
     record {
       more = gone.spends.drawn;
-      at = subst (λ (l' : List Draw). IsAt settings client ops l' end k l m (record { done = end; works = now })) draws at;
+      at = subst (λ (l' : List Draw). ReplayClientIsAt settings client ops l' end k l m (record { done = end; works = now })) draws at;
       draws = gone.spends.draws;
     }

@@ -1,4 +1,4 @@
--- What a player has done, over the list of its operations so far.
+-- What a client has done, over the list of its operations so far.
 use Rattle.std.specs.Prelude.{◌≡◌, ◌+◌, ◌≤◌, false, List, [], ◌∷◌, ◌++◌, length, reverse, slice_get, Some, None, IsSome, is_some}
 use Rattle.hs_base.specs.declared.settings.AutoRule.{AutoRule}
 use Rattle.hs_base.specs.declared.told.Crumb.{Crumb}
@@ -12,7 +12,7 @@ use Rattle.hs_law_sends.specs.OneMore.{open_after, items_of, AreWatching}
 use Rattle.hs_law_sends.specs.SoFar.{has_open_page}
 use Rattle.hs_law_sends.specs.Sending.{sent_crumbs, sent_triggers}
 use Rattle.hs_workload.specs.Validity.{client_pieces}
-use Rattle.hs_replay_client.specs.Playing.{Unleased, Working}
+use Rattle.hs_replay_client.specs.ReplayClients.{Unleased, Working}
 use Rattle.hs_replay_client.specs.Writing.{Made, Writing, IsWriting, IsSound}
 
 -- what the agent took
@@ -24,7 +24,7 @@ pub record Gone : Type 0 where
 abbrev pub writing_of : Working → Writing
 writing_of works = record { core = works.core; chunks = works.chunks }
 
--- The player has done these operations, and the agent took so much. Whatever operations may follow, with the pieces that these add
+-- The client has done these operations, and the agent took so much. Whatever operations may follow, with the pieces that these add
 -- to the open trace and the segments that they begin, it has recorded the segments of all.
 pub record HasDone (made : Made) (ops : List Operation) (gone : Gone) (works : Working) : Type 0 where
   pub writes : (rest : List Operation)

@@ -14,7 +14,7 @@ use Rattle.hs_law_sends.specs.Sending.{sends_of}
 use Rattle.hs_law_sends.specs.SoFar.{done_behind}
 use Rattle.hs_words.specs.Chunks.{clear_chunk}
 use Rattle.hs_words.specs.PoolHistory as pool
-use Rattle.hs_replay_client.specs.Playing.{Unleased, Working}
+use Rattle.hs_replay_client.specs.ReplayClients.{Unleased, Working}
 use Rattle.hs_replay_client.specs.Writing.{buffer_got}
 use Rattle.hs_replay_client.specs.Doing.{HasNothing, MayDo}
 use Rattle.hs_law_sends.specs.Playable.{IsPlayable}

@@ -1,9 +1,9 @@
--- How a player lies in its fields.
+-- How a client lies in its fields.
 use Rattle.std.specs.Prelude.{map}
 use Rattle.hs_words.specs.Buffers.{buffer_of}
 use Rattle.hs_replay_client.specs.declared.writer.Writer.{Writer}
 use Rattle.hs_replay_client.specs.declared.doing.Doing.{Doing}
-use Rattle.hs_replay_client.specs.Playing.{Working}
+use Rattle.hs_replay_client.specs.ReplayClients.{Working}
 use Rattle.hs_replay_client.specs.Writing.{Writing}
 
 abbrev pub writing_in : Writer → Writing

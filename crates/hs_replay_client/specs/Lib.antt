@@ -1,9 +1,9 @@
-pub mod Playing
+pub mod ReplayClients
 pub mod Wells
 pub mod Pooled
 pub mod Writing
 pub mod Doing
 pub mod Places
 pub mod Inside
-pub mod PlayerInside
+pub mod ReplayClientInside
 pub mod Examples

@@ -1,5 +1,5 @@
--- Where a player is: how many of its client's operations are done, at which draws, and how much of what these sent the agent took. All
--- else that they sent waits in the player's queues, in order.
+-- Where a client is: how many of its operations are done, at which draws, and how much of what these sent the agent took. All
+-- else that they sent waits in the client's queues, in order.
 use Rattle.std.specs.Prelude.{◌≡◌, ◌↔◌, ℕ, ◌+◌, ◌-◌, ◌<◌, ◌≤◌, nat_lt, Bool, IsTrue, List, [], ◌∷◌, ◌++◌, length, map, take, drop, filter, slice_get, Option, Some, MatchOption}
 use Rattle.std.specs.List.{flat_map}
 use Rattle.hs_base.specs.declared.ids.ClientId.{ClientId}
@@ -21,9 +21,9 @@ use Rattle.hs_law_sends.specs.Sending.{Sent, ClientSends, sends_of, sent_within,
 use Rattle.hs_law_sends.specs.SoFar.{done_behind}
 use Rattle.hs_words.specs.Chunks.{Contents, with_page, clear_chunk}
 use Rattle.hs_words.specs.Pages.{Sheet}
-use Rattle.hs_words.specs.PoolHistory.{Event}
+use Rattle.hs_words.specs.PoolHistory.{PoolEvent}
 use Rattle.hs_workload.specs.Validity.{client_pieces}
-use Rattle.hs_replay_client.specs.Playing.{Playing, Unleased}
+use Rattle.hs_replay_client.specs.ReplayClients.{PlainReplayClient, Unleased}
 use Rattle.hs_replay_client.specs.Wells.{Way, IsReadyFor, DrawsAll}
 use Rattle.hs_replay_client.specs.Writing.{Made}
 use Rattle.hs_replay_client.specs.Doing.{Gone, HasDone}
@@ -48,7 +48,7 @@ chunks_within size operations drawn = flat_map (chunk_of size) (filter (λ (page
 abbrev pub Waits : {A : Type 0} → ℕ → List A → List A → Type 0
 Waits taken sent waiting = (taken ≤ length sent) × (waiting ≡ drop taken sent)
 
--- what a client's player is made with
+-- what a client is made with
 abbrev pub made_for : PlainSettings → ClientId → List Operation → Made
 made_for settings client ops = record { client = client; size = settings.size; calls = client_pieces settings.size ops; autos = settings.autos }
 
@@ -63,7 +63,7 @@ gone_of size sends done k l m =
 
 -- The first `done` operations are done, at these draws, one for each page that they start. The agent took k chunks, l crumbs and m
 -- triggers of what they sent.
-pub record IsAt (settings : PlainSettings) (client : ClientId) (ops : List Operation) (drawn : List Draw) (done k l m : ℕ) (player : Playing) : Type 0 where
+pub record ReplayClientIsAt (settings : PlainSettings) (client : ClientId) (ops : List Operation) (drawn : List Draw) (done k l m : ℕ) (player : PlainReplayClient) : Type 0 where
   pub playable : IsPlayable settings ops
   pub done_is : player.done ≡ done
   pub within : done ≤ length ops
@@ -77,8 +77,8 @@ pub record IsAt (settings : PlainSettings) (client : ClientId) (ops : List Opera
 
 -- ---- what the calls do
 
--- The player is somewhere in these operations, with these rules of autotriggers, and the buffers of the pool have its size.
-pub record IsWithin (rules : List AutoRule) (ops : List Operation) (pool : Pool) (player : Playing) : Type 0 where
+-- The client is somewhere in these operations, with these rules of autotriggers, and the buffers of the pool have its size.
+pub record IsWithin (rules : List AutoRule) (ops : List Operation) (pool : Pool) (player : PlainReplayClient) : Type 0 where
   pub settings : PlainSettings
   pub client : ClientId
   pub drawn : List Draw
@@ -86,31 +86,31 @@ pub record IsWithin (rules : List AutoRule) (ops : List Operation) (pool : Pool)
   pub k : ℕ
   pub l : ℕ
   pub m : ℕ
-  pub at : IsAt settings client ops drawn done k l m player
+  pub at : ReplayClientIsAt settings client ops drawn done k l m player
   pub rules_are : rules ≡ settings.autos
   pub sized : HasSize settings.size pool
 
 -- the draws of the pages that these operations start, behind the history of the pool
-abbrev pub draws_going : PlainSettings → List Operation → (done done' : ℕ) → (buffers : ℕ) → List Event → List Draw
+abbrev pub draws_going : PlainSettings → List Operation → (done done' : ℕ) → (buffers : ℕ) → List PoolEvent → List Draw
 draws_going settings ops done done' buffers history = draws_behind buffers history (count_started settings.size ops done' - count_started settings.size ops done)
 
--- The player has done operations up to this one, and drew once for each page that these start, with nothing else at the pool.
-pub record Went (settings : PlainSettings) (client : ClientId) (ops : List Operation) (drawn : List Draw) (done done' k l m : ℕ) (history : List Event) (pool : Pool) (player : Playing) (pool' : Pool) : Type 0 where
-  pub at : IsAt settings client ops (drawn ++ draws_going settings ops done done' pool.buffers history) done' k l m player
+-- The client has done operations up to this one, and drew once for each page that these start, with nothing else at the pool.
+pub record Went (settings : PlainSettings) (client : ClientId) (ops : List Operation) (drawn : List Draw) (done done' k l m : ℕ) (history : List PoolEvent) (pool : Pool) (player : PlainReplayClient) (pool' : Pool) : Type 0 where
+  pub at : ReplayClientIsAt settings client ops (drawn ++ draws_going settings ops done done' pool.buffers history) done' k l m player
   pub after : IsAfter (history ++ map event_drawn (draws_going settings ops done done' pool.buffers history)) pool'
 
--- Wherever the player was in these operations, it did the next ones, at most so many.
-abbrev pub Goes : (stride : ℕ) → List Operation → Playing → Pool → Playing → Pool → Type 0
+-- Wherever the client was in these operations, it did the next ones, at most so many.
+abbrev pub Goes : (stride : ℕ) → List Operation → PlainReplayClient → Pool → PlainReplayClient → Pool → Type 0
 Goes stride ops old pool new pool' =
-    (settings : PlainSettings) (client : ClientId) (drawn : List Draw) (done k l m : ℕ) (history : List Event)
-    → IsAt settings client ops drawn done k l m old → IsAfter history pool → Went settings client ops drawn done (done_behind stride done ops) k l m history pool new pool'
+    (settings : PlainSettings) (client : ClientId) (drawn : List Draw) (done k l m : ℕ) (history : List PoolEvent)
+    → ReplayClientIsAt settings client ops drawn done k l m old → IsAfter history pool → Went settings client ops drawn done (done_behind stride done ops) k l m history pool new pool'
 
 -- The buffers of the pool are as many as before, and still of this size.
 abbrev pub KeepsPool : Pool → Pool → Type 0
 KeepsPool pool pool' = (pool'.buffers ≡ pool.buffers) × ((size : ℕ) → HasSize size pool → HasSize size pool')
 
--- The player is somewhere in these operations, with these rules of autotriggers, and what it draws from is ready for whatever they draw.
-pub record IsWithinAt {P : Type 0} (way : Way P) (rules : List AutoRule) (ops : List Operation) (well : P) (player : Playing) : Type 0 where
+-- The client is somewhere in these operations, with these rules of autotriggers, and what it draws from is ready for whatever they draw.
+pub record IsWithinAt {P : Type 0} (way : Way P) (rules : List AutoRule) (ops : List Operation) (well : P) (player : PlainReplayClient) : Type 0 where
   pub settings : PlainSettings
   pub client : ClientId
   pub drawn : List Draw
@@ -118,21 +118,21 @@ pub record IsWithinAt {P : Type 0} (way : Way P) (rules : List AutoRule) (ops : 
   pub k : ℕ
   pub l : ℕ
   pub m : ℕ
-  pub at : IsAt settings client ops drawn done k l m player
+  pub at : ReplayClientIsAt settings client ops drawn done k l m player
   pub rules_are : rules ≡ settings.autos
   pub ready : IsReadyFor way well settings.size MAX_OPERATIONS
 
--- The player has done operations up to this one, and made these draws for the pages that they start.
-pub record WentOn {P : Type 0} (way : Way P) (settings : PlainSettings) (client : ClientId) (ops : List Operation) (drawn : List Draw) (done k l m : ℕ) (well : P) (player : Playing) (well' : P) : Type 0 where
+-- The client has done operations up to this one, and made these draws for the pages that they start.
+pub record WentOn {P : Type 0} (way : Way P) (settings : PlainSettings) (client : ClientId) (ops : List Operation) (drawn : List Draw) (done k l m : ℕ) (well : P) (player : PlainReplayClient) (well' : P) : Type 0 where
   pub more : List Draw
-  pub at : IsAt settings client ops (drawn ++ more) done k l m player
+  pub at : ReplayClientIsAt settings client ops (drawn ++ more) done k l m player
   pub draws : DrawsAll way more well well'
 
--- Wherever the player was in these operations, it did the next ones, at most so many.
-abbrev pub GoesOn : {P : Type 0} → Way P → (stride : ℕ) → List Operation → Playing → P → Playing → P → Type 0
+-- Wherever the client was in these operations, it did the next ones, at most so many.
+abbrev pub GoesOn : {P : Type 0} → Way P → (stride : ℕ) → List Operation → PlainReplayClient → P → PlainReplayClient → P → Type 0
 GoesOn way stride ops old well new well' =
     (settings : PlainSettings) (client : ClientId) (drawn : List Draw) (done k l m : ℕ)
-    → IsAt settings client ops drawn done k l m old → WentOn way settings client ops drawn (done_behind stride done ops) k l m well new well'
+    → ReplayClientIsAt settings client ops drawn done k l m old → WentOn way settings client ops drawn (done_behind stride done ops) k l m well new well'
 
 -- ---- what the agent takes
 
@@ -157,43 +157,43 @@ pub record IsItemAt {A : Type 0} (done place : ℕ) (items : List (Sent A)) (x :
   pub is : item.item ≡ x
 
 -- the next chunk goes to the agent, or all that were sent are gone
-abbrev pub TakesChunk : Playing → Option Unleased → Playing → Type 0
+abbrev pub TakesChunk : PlainReplayClient → Option Unleased → PlainReplayClient → Type 0
 TakesChunk old answer new =
-    (settings : PlainSettings) (client : ClientId) (ops : List Operation) (drawn : List Draw) (done k l m : ℕ) → IsAt settings client ops drawn done k l m old
-    → MatchOption answer ((k ≡ length (sent_within done (sends_of settings client ops drawn).chunks)) × IsAt settings client ops drawn done k l m new)
-    (λ buffer. IsChunkAt settings client ops drawn done k buffer.chunk × IsAt settings client ops drawn done (k + 1) l m new)
+    (settings : PlainSettings) (client : ClientId) (ops : List Operation) (drawn : List Draw) (done k l m : ℕ) → ReplayClientIsAt settings client ops drawn done k l m old
+    → MatchOption answer ((k ≡ length (sent_within done (sends_of settings client ops drawn).chunks)) × ReplayClientIsAt settings client ops drawn done k l m new)
+    (λ buffer. IsChunkAt settings client ops drawn done k buffer.chunk × ReplayClientIsAt settings client ops drawn done (k + 1) l m new)
 
-abbrev pub TakesCrumb : Playing → Option Crumb → Playing → Type 0
+abbrev pub TakesCrumb : PlainReplayClient → Option Crumb → PlainReplayClient → Type 0
 TakesCrumb old answer new =
-    (settings : PlainSettings) (client : ClientId) (ops : List Operation) (drawn : List Draw) (done k l m : ℕ) → IsAt settings client ops drawn done k l m old
-    → MatchOption answer ((l ≡ length (sent_within done (sends_of settings client ops drawn).crumbs)) × IsAt settings client ops drawn done k l m new)
-    (λ crumb. IsItemAt done l (sends_of settings client ops drawn).crumbs crumb × IsAt settings client ops drawn done k (l + 1) m new)
+    (settings : PlainSettings) (client : ClientId) (ops : List Operation) (drawn : List Draw) (done k l m : ℕ) → ReplayClientIsAt settings client ops drawn done k l m old
+    → MatchOption answer ((l ≡ length (sent_within done (sends_of settings client ops drawn).crumbs)) × ReplayClientIsAt settings client ops drawn done k l m new)
+    (λ crumb. IsItemAt done l (sends_of settings client ops drawn).crumbs crumb × ReplayClientIsAt settings client ops drawn done k (l + 1) m new)
 
-abbrev pub TakesTrigger : Playing → Option Trigger → Playing → Type 0
+abbrev pub TakesTrigger : PlainReplayClient → Option Trigger → PlainReplayClient → Type 0
 TakesTrigger old answer new =
-    (settings : PlainSettings) (client : ClientId) (ops : List Operation) (drawn : List Draw) (done k l m : ℕ) → IsAt settings client ops drawn done k l m old
-    → MatchOption answer ((m ≡ length (sent_within done (sends_of settings client ops drawn).triggers)) × IsAt settings client ops drawn done k l m new)
-    (λ trigger. IsItemAt done m (sends_of settings client ops drawn).triggers trigger × IsAt settings client ops drawn done k l (m + 1) new)
+    (settings : PlainSettings) (client : ClientId) (ops : List Operation) (drawn : List Draw) (done k l m : ℕ) → ReplayClientIsAt settings client ops drawn done k l m old
+    → MatchOption answer ((m ≡ length (sent_within done (sends_of settings client ops drawn).triggers)) × ReplayClientIsAt settings client ops drawn done k l m new)
+    (λ trigger. IsItemAt done m (sends_of settings client ops drawn).triggers trigger × ReplayClientIsAt settings client ops drawn done k l (m + 1) new)
 
 -- ---- what is asked
 
 -- There are operations left exactly where the test is true.
-abbrev pub TellsLeft : List Operation → Playing → Bool → Type 0
+abbrev pub TellsLeft : List Operation → PlainReplayClient → Bool → Type 0
 TellsLeft ops player left =
-    (settings : PlainSettings) (client : ClientId) (drawn : List Draw) (done k l m : ℕ) → IsAt settings client ops drawn done k l m player → IsTrue left ↔ (done < length ops)
+    (settings : PlainSettings) (client : ClientId) (drawn : List Draw) (done k l m : ℕ) → ReplayClientIsAt settings client ops drawn done k l m player → IsTrue left ↔ (done < length ops)
 
 -- All that was sent is gone exactly where the test is true.
-abbrev pub TellsBare : Playing → Bool → Type 0
+abbrev pub TellsBare : PlainReplayClient → Bool → Type 0
 TellsBare player bare =
-    (settings : PlainSettings) (client : ClientId) (ops : List Operation) (drawn : List Draw) (done k l m : ℕ) → IsAt settings client ops drawn done k l m player
+    (settings : PlainSettings) (client : ClientId) (ops : List Operation) (drawn : List Draw) (done k l m : ℕ) → ReplayClientIsAt settings client ops drawn done k l m player
     → IsTrue bare
     ↔ ((k ≡ length (sent_within done (sends_of settings client ops drawn).chunks)) × (l ≡ length (sent_within done (sends_of settings client ops drawn).crumbs))
     × (m ≡ length (sent_within done (sends_of settings client ops drawn).triggers)))
 
 -- ---- the book
 
--- The player has done all of some operations.
-pub record IsDone (player : Playing) : Type 0 where
+-- The client has done all of some operations.
+pub record IsDone (player : PlainReplayClient) : Type 0 where
   pub settings : PlainSettings
   pub client : ClientId
   pub ops : List Operation
@@ -201,10 +201,10 @@ pub record IsDone (player : Playing) : Type 0 where
   pub k : ℕ
   pub l : ℕ
   pub m : ℕ
-  pub at : IsAt settings client ops drawn (length ops) k l m player
+  pub at : ReplayClientIsAt settings client ops drawn (length ops) k l m player
 
 -- The book is that of its draws and of the pages of all its operations.
-abbrev pub Notes : Playing → PlainClientBook → Type 0
+abbrev pub Notes : PlainReplayClient → PlainClientBook → Type 0
 Notes player book =
-    (settings : PlainSettings) (client : ClientId) (ops : List Operation) (drawn : List Draw) (k l m : ℕ) → IsAt settings client ops drawn (length ops) k l m player
+    (settings : PlainSettings) (client : ClientId) (ops : List Operation) (drawn : List Draw) (k l m : ℕ) → ReplayClientIsAt settings client ops drawn (length ops) k l m player
     → book ≡ record { client = client; draws = drawn; pages = map note_of (pages_of settings.size ops) }

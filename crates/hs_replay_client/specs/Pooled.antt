@@ -4,17 +4,17 @@ use Rattle.std.specs.Prelude.{◌≡◌, ℕ, ◌+◌, ◌<◌, ◌^◌, List, [
 use Rattle.hs_journal.specs.declared.journal.Draw.{Draw}
 use Rattle.hs_pool.specs.Pool.{Pool, IsAfter, HasSize}
 use Rattle.hs_law_sends.specs.Draws.{draws_behind, event_drawn}
-use Rattle.hs_words.specs.PoolHistory.{Event}
+use Rattle.hs_words.specs.PoolHistory.{PoolEvent}
 use Rattle.hs_replay_client.specs.Wells.{Way}
 
 -- So many draws more were made behind this history, and nothing else happened at the pool.
-pub record DrewBehind (history : List Event) (count : ℕ) (drawn : List Draw) (pool : Pool) (drawn' : List Draw) (pool' : Pool) : Type 0 where
+pub record DrewBehind (history : List PoolEvent) (count : ℕ) (drawn : List Draw) (pool : Pool) (drawn' : List Draw) (pool' : Pool) : Type 0 where
   pub draws : drawn' ≡ drawn ++ draws_behind pool.buffers history count
   pub after : IsAfter (history ++ map event_drawn (draws_behind pool.buffers history count)) pool'
 
 -- Nothing but draws happened at the pool, and each is noted.
 abbrev pub OnlyDraws : List Draw → Pool → List Draw → Pool → Type 0
-OnlyDraws drawn pool drawn' pool' = (history : List Event) → IsAfter history pool → (count : ℕ) × DrewBehind history count drawn pool drawn' pool'
+OnlyDraws drawn pool drawn' pool' = (history : List PoolEvent) → IsAfter history pool → (count : ℕ) × DrewBehind history count drawn pool drawn' pool'
 
 -- A draw of the pool was made, and is noted so.
 pub record DrawsOne (pool : Pool) (draw : Draw) (pool' : Pool) : Type 0 where

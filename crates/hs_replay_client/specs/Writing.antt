@@ -1,4 +1,4 @@
--- How a player's pages come about: by steps of its core, whose draws are those of its well, and whose full chunks wait behind those that
+-- How a client's pages come about: by steps of its core, whose draws are those of its well, and whose full chunks wait behind those that
 -- the agent took. What the operations are to record follows from them alone, and the steps have recorded it.
 use Rattle.std.specs.Prelude.{◌≡◌, ℕ, ◌+◌, ◌≤◌, List, [], ◌++◌, length, map, reverse, Option, Some, None, IsSome}
 use Rattle.hs_base.specs.declared.ids.ClientId.{ClientId}
@@ -10,17 +10,17 @@ use Rattle.hs_journal.specs.declared.journal.Draw.TheVariants as draws
 use Rattle.hs_words.specs.Chunks.{clear_chunk}
 use Rattle.hs_client.specs.Core.{Core, Step, new_core}
 use Rattle.hs_client.specs.Calls.{AreSteps, after, next_number, segments_of_steps, chunks_supplied, draws_supplied, handed_out, with_all}
-use Rattle.hs_replay_client.specs.Playing.{Unleased}
+use Rattle.hs_replay_client.specs.ReplayClients.{Unleased}
 use Rattle.hs_replay_client.specs.Wells.{Way, IsReadyFor, DrawsAll}
 
--- what a player was made with
+-- what a client was made with
 pub record Made : Type 0 where
   pub client : ClientId
   pub size : ℕ
   pub calls : ℕ
   pub autos : List AutoRule
 
--- a player's core with the chunks that wait
+-- a client's core with the chunks that wait
 pub record Writing : Type 0 where
   pub core : Core (Unit {0})
   pub chunks : List Unleased
@@ -36,7 +36,7 @@ abbrev pub buffer_got : ℕ → Draw → Option Unleased
 buffer_got size (draws.Got buffer stamp) = Some (record { chunk = clear_chunk size buffer; lease = tt })
 buffer_got size (draws.Empty stamp) = None
 
--- The player comes by these steps of its core, the last of which stands first, where these chunks were taken.
+-- The client comes by these steps of its core, the last of which stands first, where these chunks were taken.
 pub record ComesBy (made : Made) (steps : List (Step (Unit {0}))) (gone : List Unleased) (w : Writing) : Type 0 where
   pub may : AreSteps (new_of made) steps
   pub core : w.core ≡ after (new_of made) steps
@@ -46,18 +46,18 @@ pub record ComesBy (made : Made) (steps : List (Step (Unit {0}))) (gone : List U
 
 -- ---- what is recorded, and what is still to be recorded
 
--- With these pieces more in the open trace and these segments behind it, the player has recorded all of these segments.
+-- With these pieces more in the open trace and these segments behind it, the client has recorded all of these segments.
 pub record IsWriting (made : Made) (gone : List Unleased) (pieces : List Piece) (later all : List Segment) (w : Writing) : Type 0 where
   pub steps : List (Step (Unit {0}))
   pub comes : ComesBy made steps gone w
   pub gives : reverse (with_all pieces (segments_of_steps steps)) ++ later ≡ all
 
--- Where these pieces were next in the open trace, the player has them behind it.
+-- Where these pieces were next in the open trace, the client has them behind it.
 abbrev pub WritesPieces : List Piece → Writing → Writing → Type 0
 WritesPieces here old new =
     (made : Made) (gone : List Unleased) (pieces : List Piece) (later all : List Segment) → IsWriting made gone (here ++ pieces) later all old → IsWriting made gone pieces later all new
 
--- Where no piece was next, the player is behind the trace.
+-- Where no piece was next, the client is behind the trace.
 abbrev pub WritesEnd : Writing → Writing → Type 0
 WritesEnd old new = (made : Made) (gone : List Unleased) (later all : List Segment) → IsWriting made gone [] later all old → IsWriting made gone [] later all new
 

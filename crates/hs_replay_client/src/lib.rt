@@ -2,11 +2,11 @@
 //! sends until its agent takes it (`docs/RULES.md`, "What clients send").
 #![tactic(auto)]
 
+mod client;
 mod doing;
-mod player;
 mod pooled;
 mod well;
 mod writer;
 
-pub use player::Player;
+pub use client::ReplayClient;
 pub use well::Well;

@@ -1,4 +1,4 @@
-//! The part of a player that writes pages.
+//! The part of a client that writes pages.
 
 ghost use Rattle.std.specs.Prelude.{◌≡◌, ◌+◌, ◌<◌, ◌≤◌, ◌^◌, [], ◌∷◌, ◌++◌, length, map, Some, None, IsSome, OnOk};
 ghost use Rattle.std.specs.Option.{option_to_list};

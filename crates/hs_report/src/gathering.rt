@@ -12,12 +12,9 @@ use crate::outcome::{Books, Outcome};
 use crate::pages::collected;
 use hs_base::{List, Memory};
 use hs_journal::{AgentBook, ClientBook, Draw, Journal, Step};
-use hs_law_journal::laws::following_plays_out;
-use hs_law_journal::laws::runs_are_of_the_journal;
+use hs_law_journal::laws::{following_plays_out, runs_are_of_the_journal};
+use hs_law_outcome::laws::{books_fit, journals_have_the_shape, reported_pages_can_be_collected};
 use hs_ledger::make_ledger;
-use hs_law_outcome::laws::books_fit;
-use hs_law_outcome::laws::journals_have_the_shape;
-use hs_law_outcome::laws::reported_pages_can_be_collected;
 use std::alloc::Global;
 
 /// The draws of all clients, by client.

@@ -2,13 +2,11 @@
 
 ghost use Rattle.hs_report.specs.Fitting.{RecordsAreFew, ReportedPagesArePages, JournalsCanBeRead};
 
-use hs_law_outcome::laws::lawful_journals_can_be_read;
-use hs_law_outcome::laws::reported_pages_are_of_clients;
+use hs_law_outcome::laws::{lawful_journals_can_be_read, reported_pages_are_of_clients};
+use hs_law_sends::laws::{pages_fit, timed_pages_are_the_pages};
 use hs_records::{
     pages_carry_the_records, pages_hold_the_pieces, pieces_are_counted, pieces_join_to_the_payload,
 };
-use hs_law_sends::laws::pages_fit;
-use hs_law_sends::laws::timed_pages_are_the_pages;
 
 /// The records of a valid workload can be counted with 32 bits.
 pub(crate) fn records_are_few()

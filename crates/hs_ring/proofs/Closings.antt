@@ -9,11 +9,11 @@ use Rattle.hs_words.specs.Ends.{Deed, events_of, is_any_got, is_any_given, IsTog
 use Rattle.hs_words.proofs.Waiting.{drawn_kinds, given_kinds}
 use Rattle.hs_words.specs.Plans.{Plan}
 use Rattle.hs_ring.specs.Parts.{Drawing, AreInOrder, answers_of_all}
-use Rattle.hs_ring.specs.Views.{nothing, Post, bare, View, nobody, giving, drawing, desk_of, post_of, having_closed}
+use Rattle.hs_ring.specs.Views.{nothing, GiverSeat, bare, View, nobody, giving, drawing, drawer_seat_of, giver_seat_of, having_closed}
 use Rattle.hs_ring.specs.Steps.{drawn_of, published_of, Over, IsOver}
-use Rattle.hs_ring.specs.Rule.{Ring}
-use Rattle.hs_ring.specs.Seats.{Place, IsFree, name_of, drawing_of}
-use Rattle.hs_ring.specs.Making.{closed_post}
+use Rattle.hs_ring.specs.Rule.{RingRule}
+use Rattle.hs_ring.specs.Seats.{PoolSeat, IsFree, name_of, drawing_of}
+use Rattle.hs_ring.specs.Making.{closed_giver_seat}
 use Rattle.hs_ring.proofs.Owed.{Mine, closes_at}
 
 -- ---- names
@@ -42,52 +42,52 @@ in_order_at pool number [] d done order = (order.0, (let e = order.1 in omega ar
 in_order_at pool number (x ∷ xs) d done order = let r = in_order_at pool (suc number) xs d done order.2 in (r.0, (let e = r.1 in omega arith))
 
 -- the last drawer that is still open
-pub record IsLast (table : TableId) (seat : Place) (closed made : ℕ) : Type 0 where
+pub record IsLast (table : TableId) (seat : PoolSeat) (closed made : ℕ) : Type 0 where
   pub table_is : seat.table_id ≡ table
-  pub last : suc (desk_of seat.me.0).number + closed ≡ made
+  pub last : suc (drawer_seat_of seat.me.0).number + closed ≡ made
 
-pub is_last : (table : TableId) (seat : Place) (buffers left : ℕ) (all xs : List Drawing) (d : Drawing) (done : List Drawing) (post first : Post) → AreInOrder (name_of table) 0 all → length all ≡ first.made
-    → (xs ++ d ∷ []) ++ done ≡ all → post ≡ closed_post first (answers_of_all done) → drawing_of seat.table_id buffers (desk_of seat.me.0) ≡ d → IsLast table seat (length post.closed) post.made
+pub is_last : (table : TableId) (seat : PoolSeat) (buffers left : ℕ) (all xs : List Drawing) (d : Drawing) (done : List Drawing) (post first : GiverSeat) → AreInOrder (name_of table) 0 all → length all ≡ first.made
+    → (xs ++ d ∷ []) ++ done ≡ all → post ≡ closed_giver_seat first (answers_of_all done) → drawing_of seat.table_id buffers (drawer_seat_of seat.me.0) ≡ d → IsLast table seat (length post.closed) post.made
 is_last table seat buffers left all xs d done post first order many parts post_is view =
     let here = in_order_at (name_of table) 0 xs d done (subst (AreInOrder (name_of table) 0) (sym parts) order) in
-    let number : (desk_of seat.me.0).number ≡ 0 + length xs = ap (λ (x : Drawing). x.number) view ∙ here.1 in
-    let closed : length post.closed ≡ length done = ap (λ (p : Post). length p.closed) post_is ∙ answers_length done in
-    let made : post.made ≡ first.made = ap (λ (p : Post). p.made) post_is in
+    let number : (drawer_seat_of seat.me.0).number ≡ 0 + length xs = ap (λ (x : Drawing). x.number) view ∙ here.1 in
+    let closed : length post.closed ≡ length done = ap (λ (p : GiverSeat). length p.closed) post_is ∙ answers_length done in
+    let made : post.made ≡ first.made = ap (λ (p : GiverSeat). p.made) post_is in
     record {
       table_is = one_table seat.table_id table (ap (λ (x : Drawing). x.pool) view ∙ here.0);
       last = (let l = ap (λ (l : List Drawing). length l) parts in let a = length-append (xs ++ d ∷ []) done in let b = length-append xs (d ∷ []) in omega arith);
     }
 
-pub closes_last : (plan : Plan) (table : TableId) (s seat : Place) → IsFree s → seat.me ≡ (drawing (desk_of seat.me.0) nothing, []) → IsLast table seat (length (post_of s.me.0).closed) (post_of s.me.0).made
-    → Joins (Ring plan) s.id s.me.0 seat.id seat.me.0 (having_closed s.me.0 seat.me.0) nobody
+pub closes_last : (plan : Plan) (table : TableId) (s seat : PoolSeat) → IsFree s → seat.me ≡ (drawing (drawer_seat_of seat.me.0) nothing, []) → IsLast table seat (length (giver_seat_of s.me.0).closed) (giver_seat_of s.me.0).made
+    → Joins (RingRule plan) s.id s.me.0 seat.id seat.me.0 (having_closed s.me.0 seat.me.0) nobody
 closes_last plan table s seat free idle last =
-    closes_at plan s.id s.me.0 (post_of s.me.0) bare seat.id seat.me.0 (desk_of seat.me.0) (ap (λ (m : Mine). m.0) free) (ap (λ (m : Mine). m.0) idle) last.last
+    closes_at plan s.id s.me.0 (giver_seat_of s.me.0) bare seat.id seat.me.0 (drawer_seat_of seat.me.0) (ap (λ (m : Mine). m.0) free) (ap (λ (m : Mine). m.0) idle) last.last
 
 -- the giver's seat after it
-pub closed_one : (s t seat : Place) (buffers : ℕ) (d : Drawing) (done : List Drawing) (first : Post) → IsFree s → seat.me ≡ (drawing (desk_of seat.me.0) nothing, []) → t.me ≡ (having_closed s.me.0 seat.me.0, s.me.1)
-    → post_of s.me.0 ≡ closed_post first (answers_of_all done) → drawing_of seat.table_id buffers (desk_of seat.me.0) ≡ d → IsFree t × (post_of t.me.0 ≡ closed_post first (answers_of_all (d ∷ done)))
+pub closed_one : (s t seat : PoolSeat) (buffers : ℕ) (d : Drawing) (done : List Drawing) (first : GiverSeat) → IsFree s → seat.me ≡ (drawing (drawer_seat_of seat.me.0) nothing, []) → t.me ≡ (having_closed s.me.0 seat.me.0, s.me.1)
+    → giver_seat_of s.me.0 ≡ closed_giver_seat first (answers_of_all done) → drawing_of seat.table_id buffers (drawer_seat_of seat.me.0) ≡ d → IsFree t × (giver_seat_of t.me.0 ≡ closed_giver_seat first (answers_of_all (d ∷ done)))
 closed_one s t seat buffers d done first free idle did post_is view =
-    let P = post_of s.me.0 in
-    let D = desk_of seat.me.0 in
+    let P = giver_seat_of s.me.0 in
+    let D = drawer_seat_of seat.me.0 in
     let v : having_closed s.me.0 seat.me.0 ≡ having_closed (giving P bare) (drawing D nothing) =
     ap (λ (m : Mine). having_closed m.0 seat.me.0) free ∙ ap (λ (m : Mine). having_closed (giving P bare) m.0) idle in
     let now : t.me ≡ (having_closed (giving P bare) (drawing D nothing), []) = did ∙ ap (λ (w : View). let m : Mine = (w, s.me.1) in m) v ∙ ap (λ (m : Mine). let n : Mine = (having_closed (giving P bare) (drawing D nothing), m.1) in n) free in
-    let post : post_of t.me.0 ≡ closed_post P (D.answers ∷ P.closed) = ap (λ (m : Mine). post_of m.0) now in (
-      now ∙ ap (λ (p : Post). let m : Mine = (giving p bare, []) in m) (sym post),
-      post ∙ ap (λ (p : Post). closed_post p (D.answers ∷ p.closed)) post_is ∙ ap (λ (x : Drawing). closed_post first (x.answers ∷ answers_of_all done)) view,
+    let post : giver_seat_of t.me.0 ≡ closed_giver_seat P (D.answers ∷ P.closed) = ap (λ (m : Mine). giver_seat_of m.0) now in (
+      now ∙ ap (λ (p : GiverSeat). let m : Mine = (giving p bare, []) in m) (sym post),
+      post ∙ ap (λ (p : GiverSeat). closed_giver_seat p (D.answers ∷ p.closed)) post_is ∙ ap (λ (x : Drawing). closed_giver_seat first (x.answers ∷ answers_of_all done)) view,
     )
 
 -- ---- the tally
 
 -- what is known at the last look, in numbers of the pool
-pub record Ending (buffers misses word : ℕ) (post : Post) (log : List Deed) : Type 0 where
+pub record Ending (buffers misses word : ℕ) (post : GiverSeat) (log : List Deed) : Type 0 where
   pub together : IsTogether buffers post.turns post.closed log
   pub drawn : drawn_of word ≡ count_by is_any_got (events_of log) + count_by is_empty (events_of log)
   pub published : published_of word ≡ buffers + (count_by is_any_given (events_of log) + count_by is_missed (events_of log))
   pub misses_are : misses ≡ count_by is_missed (events_of log)
   pub empties : misses + (drawn_of word - published_of word) ≡ count_by is_empty (events_of log)
 
-pub ends : (entries buffers misses word : ℕ) (v : View) (post : Post) → v ≡ giving post bare → Over entries word v → 2 * buffers ≡ entries → misses ≡ post.misses → post.made ≡ length post.closed
+pub ends : (entries buffers misses word : ℕ) (v : View) (post : GiverSeat) → v ≡ giving post bare → Over entries word v → 2 * buffers ≡ entries → misses ≡ post.misses → post.made ≡ length post.closed
     → (log : List Deed) × Ending buffers misses word post log
 ends entries buffers misses word v post is over half misses_are all =
     let known : (n : ℕ) × (log : List Deed) × IsOver entries word post n log = subst (Over entries word) is over all in

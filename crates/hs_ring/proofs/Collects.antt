@@ -11,8 +11,8 @@ use Rattle.hs_words.specs.Ends.{got_by}
 use Rattle.hs_words.proofs.Deeds.{draw_is_at}
 use Rattle.hs_words.specs.Plans.{Plan}
 use Rattle.hs_words.specs.Spots.{Spot, in_queue, with_drawer, leased}
-use Rattle.hs_ring.specs.Views.{Desk, Hand, nothing, drew, kept, View, drawing, leasing, Has}
-use Rattle.hs_ring.specs.Rule.{Cell, free, drawn, Facts, CellOk, HandOk, SpotOk, DeskOk, Knows, Kept, Ring}
+use Rattle.hs_ring.specs.Views.{DrawerSeat, Hand, nothing, drew, kept, View, drawing, leasing, Has}
+use Rattle.hs_ring.specs.Rule.{Cell, free, drawn, Facts, CellOk, HandOk, SpotOk, DeskOk, Knows, Kept, RingRule}
 use Rattle.hs_ring.specs.Steps.{did_collect}
 use Rattle.hs_ring.proofs.Updates.{left_set, left_and}
 use Rattle.hs_ring.proofs.Spots.{still_with, with_more, with_last, spot_stays}
@@ -22,7 +22,7 @@ use Rattle.hs_ring.proofs.Draws.{St, Held, mine, another}
 
 -- ---- collect
 
-module _ (plan : Plan) (s : St) (f : Facts) (k : Kept plan s f) (id : ℕ) (desk : Desk) (h b t : ℕ) (at : get_elem? s.views id ≡ some (drawing desk (drew h b t))) (i : ℕ) (i_is : i ≡ h % (2 * plan.buffers)) (held : Held) where
+module _ (plan : Plan) (s : St) (f : Facts) (k : Kept plan s f) (id : ℕ) (desk : DrawerSeat) (h b t : ℕ) (at : get_elem? s.views id ≡ some (drawing desk (drew h b t))) (i : ℕ) (i_is : i ≡ h % (2 * plan.buffers)) (held : Held) where
   abbrev n : ℕ
   n = plan.buffers
 
@@ -125,15 +125,15 @@ module _ (plan : Plan) (s : St) (f : Facts) (k : Kept plan s f) (id : ℕ) (desk
         each_seat = collect_seats;
       }
 
-pub collects : (plan : Plan) (slots id : ℕ) (desk : Desk) (h b t i : ℕ) (held : Held) → i ≡ h % slots
-    → Allows (Ring plan) slots id (drawing desk (drew h b t), (i, None) ∷ held) (i + 1) (λ _. 0) (did_collect (step slots (i + 1) 0 0 maybe.none) (drawing desk (drew h b t), (i, None) ∷ held))
+pub collects : (plan : Plan) (slots id : ℕ) (desk : DrawerSeat) (h b t i : ℕ) (held : Held) → i ≡ h % slots
+    → Allows (RingRule plan) slots id (drawing desk (drew h b t), (i, None) ∷ held) (i + 1) (λ _. 0) (did_collect (step slots (i + 1) 0 0 maybe.none) (drawing desk (drew h b t), (i, None) ∷ held))
 collects plan slots id desk h b t i held is s (f, k) wide at small =
     let entry : i ≡ h % (2 * plan.buffers) = is ∙ ap (λ (m : ℕ). h % m) (sym wide ∙ k.homes) in
     (drawing desk (kept b t), gives, tt, (_, collect_kept plan s f k id desk h b t at i entry held), refl)
 
 -- ---- the lease
 
-module _ (plan : Plan) (s : St) (f : Facts) (k : Kept plan s f) (id : ℕ) (desk : Desk) (b t : ℕ) (at : get_elem? s.views id ≡ some (drawing desk (kept b t))) where
+module _ (plan : Plan) (s : St) (f : Facts) (k : Kept plan s f) (id : ℕ) (desk : DrawerSeat) (b t : ℕ) (at : get_elem? s.views id ≡ some (drawing desk (kept b t))) where
   abbrev d₁ : ℕ
   d₁ = desk.number
 
@@ -231,5 +231,5 @@ module _ (plan : Plan) (s : St) (f : Facts) (k : Kept plan s f) (id : ℕ) (desk
         each_seat = lease_seats;
       }
 
-pub leases : (plan : Plan) (id : ℕ) (desk : Desk) (b t : ℕ) → Splits (Ring plan) id (drawing desk (kept b t)) (drawing desk nothing) (leasing b t)
+pub leases : (plan : Plan) (id : ℕ) (desk : DrawerSeat) (b t : ℕ) → Splits (RingRule plan) id (drawing desk (kept b t)) (drawing desk nothing) (leasing b t)
 leases plan id desk b t s (f, k) at = (_, lease_kept plan s f k id desk b t at)

@@ -15,7 +15,7 @@ use Rattle.hs_words.proofs.Deeds.{stamp_is}
 use Rattle.hs_words.proofs.Waiting.{few, waiting_length, drawn_kinds, given_kinds}
 use Rattle.hs_words.specs.Plans.{Plan}
 use Rattle.hs_ring.specs.Views.{View}
-use Rattle.hs_ring.specs.Rule.{Facts, published, Knows, Kept, Ring}
+use Rattle.hs_ring.specs.Rule.{Facts, published, Knows, Kept, RingRule}
 use Rattle.hs_ring.specs.Steps.{drawn_of, published_of, IsStamp}
 
 -- ---- lists
@@ -118,4 +118,4 @@ seated_too plan f views w new others j v at =
 
 abbrev pub Goes : Plan → State (Option Contents) View → ℕ → ℕ → Me (Option Contents) View → ℕ → (ℕ → Me (Option Contents) View → Type 0) → Type 0
 Goes plan s i id me x then =
-    (w : View) × (a : Act (Option Contents)) × Valid s.homes me.1 a × Ring plan (stepped s i x id me.1 w a) × then (get_or s.words i 0) (w, carried_after me.1 a)
+    (w : View) × (a : Act (Option Contents)) × Valid s.homes me.1 a × RingRule plan (stepped s i x id me.1 w a) × then (get_or s.words i 0) (w, carried_after me.1 a)

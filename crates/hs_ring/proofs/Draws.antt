@@ -20,8 +20,8 @@ use Rattle.hs_words.proofs.Waiting.{waiting_below}
 use Rattle.hs_words.specs.Plans.{Plan}
 use Rattle.hs_words.specs.Seats.{AtSeat}
 use Rattle.hs_words.specs.Spots.{Spot, in_queue, with_drawer}
-use Rattle.hs_ring.specs.Views.{Desk, Hand, nothing, drew, View, drawing, desk_after, InHand, Has}
-use Rattle.hs_ring.specs.Rule.{Cell, free, waits, drawn, Facts, published, IsLaid, CellOk, IsLastOf, HandOk, SpotOk, DeskOk, Knows, Kept, Ring}
+use Rattle.hs_ring.specs.Views.{DrawerSeat, Hand, nothing, drew, View, drawing, drawer_seat_after, InHand, Has}
+use Rattle.hs_ring.specs.Rule.{Cell, free, waits, drawn, Facts, published, IsLaid, CellOk, IsLastOf, HandOk, SpotOk, DeskOk, Knows, Kept, RingRule}
 use Rattle.hs_ring.specs.Steps.{drawn_of, did_draw}
 use Rattle.hs_ring.proofs.Updates.{ap₃, left_set}
 use Rattle.hs_ring.proofs.Spots.{now_with, still_with, spot_stays}
@@ -39,7 +39,7 @@ last_yet [] end stamp high = tt
 last_yet (x ∷ xs) end stamp high = ((λ _. omega arith), last_yet xs end stamp (omega arith))
 
 -- a drawer's seat makes a step of another drawer's number impossible
-module _ (plan : Plan) (s : St) (f : Facts) (k : Kept plan s f) (id : ℕ) (desk : Desk) (hand : Hand) (at : get_elem? s.views id ≡ some (drawing desk hand)) where
+module _ (plan : Plan) (s : St) (f : Facts) (k : Kept plan s f) (id : ℕ) (desk : DrawerSeat) (hand : Hand) (at : get_elem? s.views id ≡ some (drawing desk hand)) where
   abbrev pub mine : DeskOk plan f id desk hand
   mine = k.each_seat id (drawing desk hand) at
 
@@ -75,9 +75,9 @@ module _ (plan : Plan) (s : St) (f : Facts) (k : Kept plan s f) (id : ℕ) (desk
     nothing_waits = nil_from_length (queue_of n f.log) (let l = line plan s f k in omega arith)
 
     abbrev w : View
-    w = drawing (desk_after desk (length f.log) Empty) nothing
+    w = drawing (drawer_seat_after desk (length f.log) Empty) nothing
 
-    empty_desk : DeskOk plan after_empty id (desk_after desk (length f.log) Empty) nothing
+    empty_desk : DeskOk plan after_empty id (drawer_seat_after desk (length f.log) Empty) nothing
     empty_desk =
         record {
           size = mine.size;
@@ -160,7 +160,7 @@ module _ (plan : Plan) (s : St) (f : Facts) (k : Kept plan s f) (id : ℕ) (desk
     after_got = facts_after f (got ∷ []) cells' spots' hands' f.palm
 
     abbrev got_view : View
-    got_view = drawing (desk_after desk stamp (Got b)) (drew number b stamp)
+    got_view = drawing (drawer_seat_after desk stamp (Got b)) (drew number b stamp)
 
     was_waiting : f.cells e₀ ≡ waits number b
     was_waiting = subst (λ (m : ℕ). f.cells (m % (2 * n)) ≡ waits m b) (add-zero number) (k.each_queued 0 b front)
@@ -190,7 +190,7 @@ module _ (plan : Plan) (s : St) (f : Facts) (k : Kept plan s f) (id : ℕ) (desk
               (λ _ is. inr (let same : stamp ≡ stamp' = cc in omega arith)) (λ _ is. inl is);
         }
 
-    got_desk : DeskOk plan after_got id (desk_after desk stamp (Got b)) (drew number b stamp)
+    got_desk : DeskOk plan after_got id (drawer_seat_after desk stamp (Got b)) (drew number b stamp)
     got_desk =
         record {
           size = mine.size;
@@ -290,8 +290,8 @@ module _ (plan : Plan) (s : St) (f : Facts) (k : Kept plan s f) (id : ℕ) (desk
         }
 
 -- the step, whatever it finds
-pub draws : (plan : Plan) (slots id : ℕ) (desk : Desk) (held : Held) → 1 ≤ desk.left
-    → Allows (Ring plan) slots id (drawing desk nothing, held) 0 (λ word. (word + 1) % 18446744073709551616) (did_draw (step slots 0 1 0 maybe.none) (drawing desk nothing, held))
+pub draws : (plan : Plan) (slots id : ℕ) (desk : DrawerSeat) (held : Held) → 1 ≤ desk.left
+    → Allows (RingRule plan) slots id (drawing desk nothing, held) 0 (λ word. (word + 1) % 18446744073709551616) (did_draw (step slots 0 1 0 maybe.none) (drawing desk nothing, held))
 draws plan slots id desk held some_left s (f, k) wide at small =
     let n = plan.buffers in
     let ok = k.each_seat id (drawing desk nothing) at in
@@ -303,7 +303,7 @@ draws plan slots id desk held some_left s (f, k) wide at small =
     let word = get_or s.words 0 0 in
     dite (dec_le (published n f.log) (drawn_in f.log))
     (λ none. (
-      drawing (desk_after desk (length f.log) Empty) nothing,
+      drawing (drawer_seat_after desk (length f.log) Empty) nothing,
       keeps,
       tt,
       (facts_after f (empty_by (suc desk.number) ∷ []) f.cells f.spots f.hands f.palm, empty_kept plan s f k id desk nothing at refl some_left none ((word + 1) % 18446744073709551616) more held),
@@ -314,7 +314,7 @@ draws plan slots id desk held some_left s (f, k) wide at small =
     let first = first_there (queue_of n f.log) (let l = line plan s f k in omega arith) in
     let b = first.0 in
     let entry : drawn_in f.log % (2 * n) ≡ drawn_of word % slots = ap₂ (λ (h : ℕ) (m : ℕ). h % m) (sym D) (sym size) in (
-      drawing (desk_after desk (length f.log) (Got b)) (drew (drawn_in f.log) b (length f.log)),
+      drawing (drawer_seat_after desk (length f.log) (Got b)) (drew (drawn_in f.log) b (length f.log)),
       takes (drawn_in f.log % (2 * n)) (Some (clear_chunk plan.size b)),
       full plan s f k id desk nothing at refl some_left ready ((word + 1) % 18446744073709551616) more held b first.1,
       (_, got_kept plan s f k id desk nothing at refl some_left ready ((word + 1) % 18446744073709551616) more held b first.1),
@@ -324,7 +324,7 @@ draws plan slots id desk held some_left s (f, k) wide at small =
         ok.floor,
         (λ less. (
           b,
-          ap₃ (λ (h : ℕ) (e : ℕ) (z : ℕ). let m : Me (Option Contents) View = (drawing (desk_after desk (length f.log) (Got b)) (drew h b (length f.log)), (e, Some (clear_chunk z b)) ∷ held) in m) (sym D) entry (sym ok.size),
+          ap₃ (λ (h : ℕ) (e : ℕ) (z : ℕ). let m : Me (Option Contents) View = (drawing (drawer_seat_after desk (length f.log) (Got b)) (drew h b (length f.log)), (e, Some (clear_chunk z b)) ∷ held) in m) (sym D) entry (sym ok.size),
         )),
         (λ void. absurd (omega arith)),
       ),

@@ -17,8 +17,8 @@ use Rattle.hs_words.specs.Ends.{Answer, got_by, drawn_in, unread, answers_in, to
 use Rattle.hs_words.proofs.Deeds.{all_of, unspent, draw_is_at}
 use Rattle.hs_words.specs.Plans.{Plan}
 use Rattle.hs_words.specs.Spots.{in_queue, with_giver, HasLease}
-use Rattle.hs_ring.specs.Views.{drew, Post, Palm, holds, lays, View, giving, post_after, Has}
-use Rattle.hs_ring.specs.Rule.{Cell, free, waits, drawn, laid, Facts, published, IsLaid, CellOk, HandOk, PalmOk, IsSettled, PostOk, Knows, Kept, Ring}
+use Rattle.hs_ring.specs.Views.{drew, GiverSeat, Palm, holds, lays, View, giving, giver_seat_after, Has}
+use Rattle.hs_ring.specs.Rule.{Cell, free, waits, drawn, laid, Facts, published, IsLaid, CellOk, HandOk, PalmOk, IsSettled, PostOk, Knows, Kept, RingRule}
 use Rattle.hs_ring.specs.Steps.{did_lay}
 use Rattle.hs_ring.proofs.Updates.{left_set}
 use Rattle.hs_ring.proofs.Spots.{still_with, spot_stays}
@@ -28,7 +28,7 @@ use Rattle.hs_ring.proofs.Draws.{St, Held}
 use Rattle.hs_ring.proofs.Takes.{ours, no_giver, same_post}
 
 -- the number that the giver publishes next
-pub next_is : (plan : Plan) (s : St) (f : Facts) (k : Kept plan s f) (id : ℕ) (post : Post) (palm : Palm) → PostOk plan f id post palm → (number : ℕ) → 2 * number ≡ length s.homes + 2 * length (answers_in post.turns)
+pub next_is : (plan : Plan) (s : St) (f : Facts) (k : Kept plan s f) (id : ℕ) (post : GiverSeat) (palm : Palm) → PostOk plan f id post palm → (number : ℕ) → 2 * number ≡ length s.homes + 2 * length (answers_in post.turns)
     → number ≡ published plan.buffers f.log
 next_is plan s f k id post palm ok number double =
     let same = ap (λ (l : List Answer). length l) ok.answers in
@@ -38,7 +38,7 @@ next_is plan s f k id post palm ok number double =
 
 -- ---- the entry is free
 
-module _ (plan : Plan) (s : St) (f : Facts) (k : Kept plan s f) (id : ℕ) (post : Post) (b t : ℕ) (at : get_elem? s.views id ≡ some (giving post (holds b t))) (i : ℕ) (i_is : i ≡ published plan.buffers f.log % (2 * plan.buffers)) (held : Held) where
+module _ (plan : Plan) (s : St) (f : Facts) (k : Kept plan s f) (id : ℕ) (post : GiverSeat) (b t : ℕ) (at : get_elem? s.views id ≡ some (giving post (holds b t))) (i : ℕ) (i_is : i ≡ published plan.buffers f.log % (2 * plan.buffers)) (held : Held) where
   abbrev n : ℕ
   n = plan.buffers
 
@@ -176,8 +176,8 @@ module _ (plan : Plan) (s : St) (f : Facts) (k : Kept plan s f) (id : ℕ) (post
           }
       go (laid number) ok = absurd (subst (IsLaid P number) own.palm_is ok.3)
 
-  abbrev unread_post : Post
-  unread_post = post_after post unread post.floor post.misses
+  abbrev unread_post : GiverSeat
+  unread_post = giver_seat_after post unread post.floor post.misses
 
   abbrev w₂ : View
   w₂ = giving unread_post (holds b t)
@@ -223,8 +223,8 @@ module _ (plan : Plan) (s : St) (f : Facts) (k : Kept plan s f) (id : ℕ) (post
       }
 
 -- the step, whatever it finds
-pub lays_or_not : (plan : Plan) (slots id : ℕ) (post : Post) (b t number i : ℕ) (held : Held) → 2 * number ≡ slots + 2 * length (answers_in post.turns) → i ≡ number % slots
-    → Allows (Ring plan) slots id (giving post (holds b t), held) (i + 1) (λ m. either (m == 0) (number + 1) m) (did_lay (step slots (i + 1) 0 (number + 1) maybe.none) (giving post (holds b t), held))
+pub lays_or_not : (plan : Plan) (slots id : ℕ) (post : GiverSeat) (b t number i : ℕ) (held : Held) → 2 * number ≡ slots + 2 * length (answers_in post.turns) → i ≡ number % slots
+    → Allows (RingRule plan) slots id (giving post (holds b t), held) (i + 1) (λ m. either (m == 0) (number + 1) m) (did_lay (step slots (i + 1) 0 (number + 1) maybe.none) (giving post (holds b t), held))
 lays_or_not plan slots id post b t number i held next is s (f, k) wide at small =
     let n = plan.buffers in
     let me : Me (Option Contents) View = (giving post (holds b t), held) in
@@ -245,12 +245,12 @@ lays_or_not plan slots id post b t number i held next is s (f, k) wide at small 
       ((λ _. ap (λ (j : ℕ). let m : Me (Option Contents) View = (giving post (lays b t), (j, None) ∷ held) in m) (let e : i ≡ i + 1 - 1 = omega arith in e)), (λ in_use. absurd (in_use zero_word))),
     ))
     (λ in_use. (
-      giving (post_after post unread post.floor post.misses) (holds b t),
+      giving (giver_seat_after post unread post.floor post.misses) (holds b t),
       keeps,
       tt,
       (
         f,
-        subst (λ (ws : List ℕ). Kept plan record { words = ws; homes = s.homes; views = set s.views id (giving (post_after post unread post.floor post.misses) (holds b t)) } f) (sym (set-get_or s.words (i + 1) 0))
+        subst (λ (ws : List ℕ). Kept plan record { words = ws; homes = s.homes; views = set s.views id (giving (giver_seat_after post unread post.floor post.misses) (holds b t)) } f) (sym (set-get_or s.words (i + 1) 0))
             (unread_kept plan s f k id post b t at i i_is held (λ e. in_use (place ∙ e))),
       ),
       ((λ zero_word. absurd (in_use zero_word)), (λ _. refl)),

@@ -17,8 +17,8 @@ use Rattle.hs_words.proofs.Deeds.{all_of, no_answers}
 use Rattle.hs_words.specs.Plans.{total, Plan, Within}
 use Rattle.hs_words.specs.Spots.{in_queue}
 use Rattle.hs_words.proofs.Plans.{total_parts}
-use Rattle.hs_ring.specs.Views.{Desk, nothing, Post, Palm, bare, View, nobody, drawing, leasing, giving, drawer_note, giver_note, with_drawer, new_drawer, having_closed, Has}
-use Rattle.hs_ring.specs.Rule.{Cell, free, waits, Facts, CellOk, DeskOk, PostOk, Knows, Kept, Ring, first_post, first_view}
+use Rattle.hs_ring.specs.Views.{DrawerSeat, nothing, GiverSeat, Palm, bare, View, nobody, drawing, leasing, giving, drawer_note, giver_note, with_drawer, new_drawer, having_closed, Has}
+use Rattle.hs_ring.specs.Rule.{Cell, free, waits, Facts, CellOk, DeskOk, PostOk, Knows, Kept, RingRule, first_giver_seat, first_view}
 use Rattle.hs_ring.specs.Steps.{did_look, Over}
 use Rattle.hs_ring.proofs.Updates.{left_set, left_and}
 use Rattle.hs_ring.proofs.Counting.{found_drawn, found_published, reseated, seated_too}
@@ -28,7 +28,7 @@ use Rattle.hs_ring.proofs.Places.{spot_reseated}
 
 -- ---- a drawer is made
 
-module _ (plan : Plan) (s : St) (f : Facts) (k : Kept plan s f) (id : ℕ) (post : Post) (palm : Palm) (at : get_elem? s.views id ≡ some (giving post palm)) (none_closed : post.closed ≡ []) where
+module _ (plan : Plan) (s : St) (f : Facts) (k : Kept plan s f) (id : ℕ) (post : GiverSeat) (palm : Palm) (at : get_elem? s.views id ≡ some (giving post palm)) (none_closed : post.closed ≡ []) where
   abbrev own : PostOk plan f id post palm
   own = k.each_seat id (giving post palm) at
 
@@ -115,12 +115,12 @@ module _ (plan : Plan) (s : St) (f : Facts) (k : Kept plan s f) (id : ℕ) (post
         each_seat = seated_too plan f' (set s.views id w) new theirs (reseated plan f' s.views id w ours' (λ j v other seen. others j v other (k.each_seat j v seen)));
       }
 
-pub makes_drawer : (plan : Plan) (id : ℕ) (post : Post) (palm : Palm) → post.closed ≡ [] → Splits (Ring plan) id (giving post palm) (with_drawer (giving post palm)) (new_drawer (giving post palm))
+pub makes_drawer : (plan : Plan) (id : ℕ) (post : GiverSeat) (palm : Palm) → post.closed ≡ [] → Splits (RingRule plan) id (giving post palm) (with_drawer (giving post palm)) (new_drawer (giving post palm))
 makes_drawer plan id post palm none_closed s (f, k) at = (_, made_kept plan s f k id post palm at none_closed)
 
 -- ---- a drawer is closed, which has nothing in hand
 
-module _ (plan : Plan) (s : St) (f : Facts) (k : Kept plan s f) (id : ℕ) (post : Post) (palm : Palm) (other : ℕ) (desk : Desk) (at : get_elem? s.views id ≡ some (giving post palm)) (differ : ¬ (other ≡ id))
+module _ (plan : Plan) (s : St) (f : Facts) (k : Kept plan s f) (id : ℕ) (post : GiverSeat) (palm : Palm) (other : ℕ) (desk : DrawerSeat) (at : get_elem? s.views id ≡ some (giving post palm)) (differ : ¬ (other ≡ id))
     (desk_at : get_elem? (set s.views id (having_closed (giving post palm) (drawing desk nothing))) other ≡ some (drawing desk nothing)) (last : suc desk.number + length post.closed ≡ post.made) where
   abbrev own₁ : PostOk plan f id post palm
   own₁ = k.each_seat id (giving post palm) at
@@ -203,13 +203,13 @@ module _ (plan : Plan) (s : St) (f : Facts) (k : Kept plan s f) (id : ℕ) (post
             (at_set s.views id j w₁ v seen));
       }
 
-pub closes_drawer : (plan : Plan) (id : ℕ) (post : Post) (palm : Palm) (other : ℕ) (desk : Desk) → suc desk.number + length post.closed ≡ post.made
-    → Joins (Ring plan) id (giving post palm) other (drawing desk nothing) (having_closed (giving post palm) (drawing desk nothing)) nobody
+pub closes_drawer : (plan : Plan) (id : ℕ) (post : GiverSeat) (palm : Palm) (other : ℕ) (desk : DrawerSeat) → suc desk.number + length post.closed ≡ post.made
+    → Joins (RingRule plan) id (giving post palm) other (drawing desk nothing) (having_closed (giving post palm) (drawing desk nothing)) nobody
 closes_drawer plan id post palm other desk last s (f, k) at differ desk_at = (_, closed_kept plan s f k id post palm other desk at differ desk_at last)
 
 -- ---- the last look
 
-over : (plan : Plan) (s : St) (f : Facts) (k : Kept plan s f) (id : ℕ) (post : Post) (palm : Palm) → PostOk plan f id post palm → (slots : ℕ) → length s.homes ≡ slots → Over slots (get_or s.words 0 0) (giving post palm)
+over : (plan : Plan) (s : St) (f : Facts) (k : Kept plan s f) (id : ℕ) (post : GiverSeat) (palm : Palm) → PostOk plan f id post palm → (slots : ℕ) → length s.homes ≡ slots → Over slots (get_or s.words 0 0) (giving post palm)
 over plan s f k id post palm own slots wide all =
     let none_open : f.opened ≡ 0 = (let c = own.closed in let m = own.made in omega arith) in (
       plan.buffers,
@@ -232,7 +232,7 @@ over plan s f k id post palm own slots wide all =
       },
     )
 
-pub looks : (plan : Plan) (slots id : ℕ) (post : Post) (palm : Palm) (held : Held) → Allows (Ring plan) slots id (giving post palm, held) 0 (λ n. n) (did_look (step slots 0 0 0 maybe.none) (giving post palm, held))
+pub looks : (plan : Plan) (slots id : ℕ) (post : GiverSeat) (palm : Palm) (held : Held) → Allows (RingRule plan) slots id (giving post palm, held) 0 (λ n. n) (did_look (step slots 0 0 0 maybe.none) (giving post palm, held))
 looks plan slots id post palm held s (f, k) wide at small =
     let own : PostOk plan f id post palm = k.each_seat id (giving post palm) at in
     let w : View = giving post palm in (
@@ -320,7 +320,7 @@ module _ (plan : Plan) (ws : List ℕ) (xs : List (Option Contents)) (within : W
         refl,
       )
 
-  post₀ : PostOk plan f₀ 0 (first_post plan) bare
+  post₀ : PostOk plan f₀ 0 (first_giver_seat plan) bare
   post₀ =
       record {
         size = refl;
@@ -368,5 +368,5 @@ module _ (plan : Plan) (ws : List ℕ) (xs : List (Option Contents)) (within : W
         each_seat = seat₀;
       }
 
-  pub starts : Ring plan (opening ws xs (first_view plan))
+  pub starts : RingRule plan (opening ws xs (first_view plan))
   starts = (f₀, kept₀)

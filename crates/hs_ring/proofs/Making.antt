@@ -13,9 +13,9 @@ use Rattle.hs_words.specs.Pools.{PoolName}
 use Rattle.hs_words.specs.Plans.{Plan, Within}
 use Rattle.hs_words.proofs.Plans.{total_is_sum}
 use Rattle.hs_ring.specs.Parts.{Drawing, new_drawers}
-use Rattle.hs_ring.specs.Views.{Post, bare, giving, desk_of, post_of, with_drawer, new_drawer}
-use Rattle.hs_ring.specs.Rule.{Ring, first_view}
-use Rattle.hs_ring.specs.Seats.{Place, name_of, drawing_of}
+use Rattle.hs_ring.specs.Views.{GiverSeat, bare, giving, drawer_seat_of, giver_seat_of, with_drawer, new_drawer}
+use Rattle.hs_ring.specs.Rule.{RingRule, first_view}
+use Rattle.hs_ring.specs.Seats.{PoolSeat, name_of, drawing_of}
 use Rattle.hs_ring.specs.Making.{first_words, first_slots, IsMaking}
 use Rattle.hs_ring.proofs.Owed.{Mine, makes_at}
 use Rattle.hs_ring.proofs.Givers.{post_there, free_there}
@@ -80,14 +80,14 @@ laid_out plan =
 
 -- A new table keeps the rule.
 pub new_ring : (plan : Plan) (words : List ℕ) (slots : List (Option Contents)) (chunks : List Contents) → 1 ≤ length chunks → length chunks ≤ MAX_BUFFERS → plan.buffers ≡ length chunks → sum plan.allowances ≤ MAX_OPERATIONS
-    → chunks ≡ clear_chunks (length chunks) plan.size → words ≡ first_words plan.buffers → slots ≡ first_slots chunks → Ring plan (opening words slots (first_view plan))
+    → chunks ≡ clear_chunks (length chunks) plan.size → words ≡ first_words plan.buffers → slots ≡ first_slots chunks → RingRule plan (opening words slots (first_view plan))
 new_ring plan words slots chunks some_there few buffers draws clear words_are slots_are =
     let n = plan.buffers in
     let within : Within plan = record { some_there = omega arith; few = omega arith; draws = (let t = total_is_sum plan.allowances in omega arith) } in
     let made : slots ≡ made_slots plan.size 0 n n =
     slots_are ∙ ap₂ (λ (l : List Contents) (m : ℕ). map (λ (chunk : Contents). Some chunk) l ++ replicate m None) (clear ∙ ap (λ (m : ℕ). clear_chunks m plan.size) (sym buffers)) (sym buffers) in
-    subst (λ (ws : List ℕ). Ring plan (opening ws slots (first_view plan))) (sym words_are)
-    (subst (λ (xs : List (Option Contents)). Ring plan (opening (first_words n) xs (first_view plan))) (sym made) (starts plan (first_words n) (made_slots plan.size 0 n n) within (laid_out plan)))
+    subst (λ (ws : List ℕ). RingRule plan (opening ws slots (first_view plan))) (sym words_are)
+    (subst (λ (xs : List (Option Contents)). RingRule plan (opening (first_words n) xs (first_view plan))) (sym made) (starts plan (first_words n) (made_slots plan.size 0 n n) within (laid_out plan)))
 
 pub first_size : (chunks : List Contents) (size : ℕ) (first : Contents) → chunks ≡ clear_chunks (length chunks) size → 1 ≤ length chunks → Some first ≡ slice_get chunks 0 → first.size ≡ size
 first_size chunks size first clear some_there is = go (length chunks) some_there (is ∙ ap (λ (l : List Contents). slice_get l 0) clear)
@@ -97,7 +97,7 @@ first_size chunks size first clear some_there is = go (length chunks) some_there
     go (suc n) one e = let same : first ≡ clear_chunk size 0 = cc in ap (λ (c : Contents). c.size) same
 
 -- the giver's seat at a new table
-pub new_making : (table : TableId) (s : Place) (plan : Plan) (chunks : List Contents) (size : ℕ) (allowances : List ℕ) → s.table_id ≡ table → plan.buffers ≡ length chunks → table.words ≡ length (first_words plan.buffers)
+pub new_making : (table : TableId) (s : PoolSeat) (plan : Plan) (chunks : List Contents) (size : ℕ) (allowances : List ℕ) → s.table_id ≡ table → plan.buffers ≡ length chunks → table.words ≡ length (first_words plan.buffers)
     → table.slots ≡ length (first_slots chunks) → s.me ≡ (first_view plan, []) → plan.size ≡ size → plan.allowances ≡ allowances → 1 ≤ length chunks → length chunks ≤ MAX_BUFFERS
     → IsMaking table s size 0 allowances × (table.slots ≡ 2 * length chunks)
 new_making table s plan chunks size allowances at buffers words slots me size_is allowances_are some_there few =
@@ -106,11 +106,11 @@ new_making table s plan chunks size allowances at buffers words slots me size_is
     (let l = length-append (range_with_len 1 n) (replicate n 0) in let r = length-range_with_len 1 n in let z = length-replicate {A = ℕ} n 0 in omega arith) in
     let slots' : table.slots ≡ 2 * length chunks =
     (let l = length-append (map (λ (chunk : Contents). Some chunk) chunks) (replicate (length chunks) None) in let m = length-map chunks (λ (chunk : Contents). Some chunk) in let z = length-replicate {A = Option Contents} (length chunks) None in omega arith) in
-    let post : post_of s.me.0 ≡ record { size = plan.size; spare = plan.allowances; made = 0; closed = []; floor = 0; misses = 0; turns = [] } = ap (λ (m : Mine). post_of m.0) me in (
+    let post : giver_seat_of s.me.0 ≡ record { size = plan.size; spare = plan.allowances; made = 0; closed = []; floor = 0; misses = 0; turns = [] } = ap (λ (m : Mine). giver_seat_of m.0) me in (
       record {
         at = (at, omega arith, omega arith, omega arith);
-        free = me ∙ ap (λ (p : Post). let m : Mine = (giving p bare, []) in m) (sym post);
-        post_is = post ∙ ap₂ (λ (z : ℕ) (l : List ℕ). let p : Post = record { size = z; spare = l; made = 0; closed = []; floor = 0; misses = 0; turns = [] } in p) size_is allowances_are;
+        free = me ∙ ap (λ (p : GiverSeat). let m : Mine = (giving p bare, []) in m) (sym post);
+        post_is = post ∙ ap₂ (λ (z : ℕ) (l : List ℕ). let p : GiverSeat = record { size = z; spare = l; made = 0; closed = []; floor = 0; misses = 0; turns = [] } in p) size_is allowances_are;
       },
       slots',
     )
@@ -131,19 +131,19 @@ pub new_drawers_length : (pool : PoolName) (buffers size number : ℕ) (lefts : 
 new_drawers_length pool buffers size number [] = refl
 new_drawers_length pool buffers size number (x ∷ xs) = ap suc (new_drawers_length pool buffers size (suc number) xs)
 
-abbrev making_post : ℕ → ℕ → List ℕ → Post
+abbrev making_post : ℕ → ℕ → List ℕ → GiverSeat
 making_post size made spare = record { size = size; spare = spare; made = made; closed = []; floor = 0; misses = 0; turns = [] }
 
-there : (table : TableId) (s : Place) (size made : ℕ) (spare : List ℕ) → IsMaking table s size made spare → s.me ≡ (giving (making_post size made spare) bare, [])
-there table s size made spare is = is.free ∙ ap (λ (p : Post). let m : Mine = (giving p bare, []) in m) is.post_is
+there : (table : TableId) (s : PoolSeat) (size made : ℕ) (spare : List ℕ) → IsMaking table s size made spare → s.me ≡ (giving (making_post size made spare) bare, [])
+there table s size made spare is = is.free ∙ ap (λ (p : GiverSeat). let m : Mine = (giving p bare, []) in m) is.post_is
 
-pub makes_one : (plan : Plan) (table : TableId) (s : Place) (size made : ℕ) (spare : List ℕ) → IsMaking table s size made spare → Splits (Ring plan) s.id s.me.0 (with_drawer s.me.0) (new_drawer s.me.0)
+pub makes_one : (plan : Plan) (table : TableId) (s : PoolSeat) (size made : ℕ) (spare : List ℕ) → IsMaking table s size made spare → Splits (RingRule plan) s.id s.me.0 (with_drawer s.me.0) (new_drawer s.me.0)
 makes_one plan table s size made spare is =
     makes_at plan s.id s.me.0 (making_post size made spare) bare (ap (λ (m : Mine). m.0) (there table s size made spare is)) refl
 
-pub made_one : (table : TableId) (s t r : Place) (buffers size made left : ℕ) (spare : List ℕ) → IsMaking table s size made (left ∷ spare)
+pub made_one : (table : TableId) (s t r : PoolSeat) (buffers size made left : ℕ) (spare : List ℕ) → IsMaking table s size made (left ∷ spare)
     → t.table_id ≡ s.table_id → t.me ≡ (with_drawer s.me.0, s.me.1) → r.table_id ≡ s.table_id → r.me ≡ (new_drawer s.me.0, [])
-    → IsMaking table t size (made + 1) spare × (drawing_of r.table_id buffers (desk_of r.me.0) ≡ new_drawer_of (name_of table) buffers size made left)
+    → IsMaking table t size (made + 1) spare × (drawing_of r.table_id buffers (drawer_seat_of r.me.0) ≡ new_drawer_of (name_of table) buffers size made left)
 made_one table s t r buffers size made left spare is table_t me_t table_r me_r =
     let was = there table s size made (left ∷ spare) is in
     let now : t.me ≡ (giving (making_post size (suc made) spare) bare, []) = me_t ∙ ap (λ (m : Mine). let n : Mine = (with_drawer m.0, m.1) in n) was in
@@ -153,5 +153,5 @@ made_one table s t r buffers size made left spare is table_t me_t table_r me_r =
         free = free_there t (making_post size (suc made) spare) now;
         post_is = post_there t (making_post size (suc made) spare) now ∙ ap (λ (k : ℕ). making_post size k spare) (sym (add-one made));
       },
-      ap₂ (λ (z : TableId) (m : Mine). drawing_of z buffers (desk_of m.0)) (table_r ∙ is.at.0) drawer,
+      ap₂ (λ (z : TableId) (m : Mine). drawing_of z buffers (drawer_seat_of m.0)) (table_r ∙ is.at.0) drawer,
     )

@@ -8,12 +8,12 @@ use Rattle.atomic_table.specs.Table.{Splits, Joins}
 use Rattle.atomic_table.proofs.Lists.{set_else}
 use Rattle.hs_lists.proofs.Numbers.{max_le}
 use Rattle.hs_lists.proofs.Alls.{all_append}
-use Rattle.hs_words.specs.Ends.{Deed, Answer, met, got_by, answers_by, told_in, stamps_in, IsAt, put_if, answer_to}
+use Rattle.hs_words.specs.Ends.{Deed, Answer, met, got_by, answers_by, told_in, stamps_in, IsDeedAt, put_if, answer_to}
 use Rattle.hs_words.proofs.Deeds.{at_below, draw_is_at, at_once}
 use Rattle.hs_words.specs.Plans.{Plan}
 use Rattle.hs_words.specs.Seats.{AtSeat}
-use Rattle.hs_ring.specs.Views.{Desk, Hand, nothing, drew, Post, Palm, View, nobody, drawing, giving, drawer_note, giver_note, post_after, all_left, Has}
-use Rattle.hs_ring.specs.Rule.{Facts, HandOk, IsSettled, DeskOk, PostOk, Knows, Kept, Ring}
+use Rattle.hs_ring.specs.Views.{DrawerSeat, Hand, nothing, drew, GiverSeat, Palm, View, nobody, drawing, giving, drawer_note, giver_note, giver_seat_after, all_left, Has}
+use Rattle.hs_ring.specs.Rule.{Facts, HandOk, IsSettled, DeskOk, PostOk, Knows, Kept, RingRule}
 use Rattle.hs_ring.proofs.Updates.{left_set, left_and}
 use Rattle.hs_ring.proofs.Counting.{reseated, seated_too}
 use Rattle.hs_ring.proofs.Spots.{still_with, with_more, spot_stays}
@@ -22,7 +22,7 @@ use Rattle.hs_ring.proofs.Draws.{St}
 -- ---- what a drawer answered was collected by it
 
 -- an answer of an end is a deed of that end
-at_answer : (log : List Deed) (end : ℕ) (P : ℕ → Type 0) → ((stamp : ℕ) (deed : Deed) → IsAt log stamp deed → deed.by ≡ end → P stamp) → AllByRecursion P (stamps_in (answers_by end log))
+at_answer : (log : List Deed) (end : ℕ) (P : ℕ → Type 0) → ((stamp : ℕ) (deed : Deed) → IsDeedAt log stamp deed → deed.by ≡ end → P stamp) → AllByRecursion P (stamps_in (answers_by end log))
 at_answer [] end P known = tt
 at_answer (x ∷ xs) end P known = step (x.by == end) refl (at_answer xs end P (λ stamp deed at by. known stamp deed (inr at) by))
   where
@@ -30,17 +30,17 @@ at_answer (x ∷ xs) end P known = step (x.by == end) refl (at_answer xs end P (
     step true e rest = (known (length xs) x (inl (refl, refl)) (eqb-true x.by end e), rest)
     step false e rest = rest
 
-module _ (plan : Plan) (s : St) (f : Facts) (k : Kept plan s f) (id : ℕ) (desk : Desk) (at : get_elem? s.views id ≡ some (drawing desk nothing)) where
+module _ (plan : Plan) (s : St) (f : Facts) (k : Kept plan s f) (id : ℕ) (desk : DrawerSeat) (at : get_elem? s.views id ≡ some (drawing desk nothing)) where
   abbrev own : DeskOk plan f id desk nothing
   own = k.each_seat id (drawing desk nothing) at
 
   -- an idle drawer has collected all that it drew
-  settled : (told : ℕ) (deed : Deed) → IsAt f.log told deed → deed.by ≡ suc desk.number → IsSettled f.log f.hands told
+  settled : (told : ℕ) (deed : Deed) → IsDeedAt f.log told deed → deed.by ≡ suc desk.number → IsSettled f.log f.hands told
   settled told deed seen by = (
     at_below f.log told deed seen,
     λ drawer number buffer stamp is same.
         let hand : HandOk plan.buffers f.log f.cells f.spots drawer (drew number buffer stamp) = subst (HandOk plan.buffers f.log f.cells f.spots drawer) is (k.each_hand drawer) in
-        let seen' : IsAt f.log told (got_by (suc drawer) buffer) = subst (λ (t : ℕ). IsAt f.log t (got_by (suc drawer) buffer)) (sym same) (draw_is_at f.log number stamp (got_by (suc drawer) buffer) hand.2) in
+        let seen' : IsDeedAt f.log told (got_by (suc drawer) buffer) = subst (λ (t : ℕ). IsDeedAt f.log t (got_by (suc drawer) buffer)) (sym same) (draw_is_at f.log number stamp (got_by (suc drawer) buffer) hand.2) in
         let one : deed.by ≡ suc drawer = ap (λ (d : Deed). d.by) (at_once f.log told deed (got_by (suc drawer) buffer) seen seen') in
         let this : drawer ≡ desk.number = omega arith in
         let both : nothing ≡ drew number buffer stamp = sym own.hand_is ∙ ap f.hands (sym this) ∙ is in
@@ -75,7 +75,7 @@ module _ (plan : Plan) (s : St) (f : Facts) (k : Kept plan s f) (id : ℕ) (desk
             (reseated plan f s.views id (drawing desk nothing) own (λ j v other seen. k.each_seat j v seen));
       }
 
-pub notes_draws : (plan : Plan) (id : ℕ) (desk : Desk) → Splits (Ring plan) id (drawing desk nothing) (drawing desk nothing) (drawer_note desk.floor (stamps_in desk.answers))
+pub notes_draws : (plan : Plan) (id : ℕ) (desk : DrawerSeat) → Splits (RingRule plan) id (drawing desk nothing) (drawing desk nothing) (drawer_note desk.floor (stamps_in desk.answers))
 notes_draws plan id desk s (f, k) at = (f, note_kept plan s f k id desk at)
 
 -- ---- other notes change nothing but what seats know
@@ -105,7 +105,7 @@ known_kept plan s f views k left withs each =
       each_seat = each;
     }
 
-pub notes_floor : (plan : Plan) (id : ℕ) (post : Post) (palm : Palm) → Splits (Ring plan) id (giving post palm) (giving post palm) (giver_note post.floor)
+pub notes_floor : (plan : Plan) (id : ℕ) (post : GiverSeat) (palm : Palm) → Splits (RingRule plan) id (giving post palm) (giving post palm) (giver_note post.floor)
 notes_floor plan id post palm s (f, k) at =
     let own : PostOk plan f id post palm = k.each_seat id (giving post palm) at in (
       f,
@@ -120,13 +120,13 @@ both_seats : (plan : Plan) (s : St) (f : Facts) (k : Kept plan s f) (id other : 
 both_seats plan s f k id other w x one two =
     reseated plan f (set s.views id w) other x two (λ j v far seen. reseated plan f s.views id w one (λ j' v' _ seen'. k.each_seat j' v' seen') j v seen)
 
-pub giver_hears : (plan : Plan) (id : ℕ) (post : Post) (palm : Palm) (other floor : ℕ) (stamps : List ℕ)
-    → Joins (Ring plan) id (giving post palm) other (drawer_note floor stamps) (giving (post_after post (met stamps) (max post.floor floor) post.misses) palm) nobody
+pub giver_hears : (plan : Plan) (id : ℕ) (post : GiverSeat) (palm : Palm) (other floor : ℕ) (stamps : List ℕ)
+    → Joins (RingRule plan) id (giving post palm) other (drawer_note floor stamps) (giving (giver_seat_after post (met stamps) (max post.floor floor) post.misses) palm) nobody
 giver_hears plan id post palm other floor stamps s (f, k) at differ note_at =
-    let w : View = giving (post_after post (met stamps) (max post.floor floor) post.misses) palm in
+    let w : View = giving (giver_seat_after post (met stamps) (max post.floor floor) post.misses) palm in
     let own : PostOk plan f id post palm = k.each_seat id (giving post palm) at in
     let note : Knows plan f other (drawer_note floor stamps) = k.each_seat other (drawer_note floor stamps) (sym (set_else s.views id other w differ) ∙ note_at) in
-    let now : PostOk plan f id (post_after post (met stamps) (max post.floor floor) post.misses) palm =
+    let now : PostOk plan f id (giver_seat_after post (met stamps) (max post.floor floor) post.misses) palm =
     record {
       size = own.size;
       seat = own.seat;
@@ -147,10 +147,10 @@ giver_hears plan id post palm other floor stamps s (f, k) at differ note_at =
           (both_seats plan s f k id other w nobody now tt),
     )
 
-pub drawer_hears : (plan : Plan) (id : ℕ) (desk : Desk) (hand : Hand) (other floor : ℕ)
-    → Joins (Ring plan) id (drawing desk hand) other (giver_note floor) (drawing (record { size = desk.size; number = desk.number; left = desk.left; floor = max desk.floor floor; answers = desk.answers }) hand) nobody
+pub drawer_hears : (plan : Plan) (id : ℕ) (desk : DrawerSeat) (hand : Hand) (other floor : ℕ)
+    → Joins (RingRule plan) id (drawing desk hand) other (giver_note floor) (drawing (record { size = desk.size; number = desk.number; left = desk.left; floor = max desk.floor floor; answers = desk.answers }) hand) nobody
 drawer_hears plan id desk hand other floor s (f, k) at differ note_at =
-    let desk' : Desk = record { size = desk.size; number = desk.number; left = desk.left; floor = max desk.floor floor; answers = desk.answers } in
+    let desk' : DrawerSeat = record { size = desk.size; number = desk.number; left = desk.left; floor = max desk.floor floor; answers = desk.answers } in
     let w : View = drawing desk' hand in
     let own : DeskOk plan f id desk hand = k.each_seat id (drawing desk hand) at in
     let note : floor ≤ length f.log = k.each_seat other (giver_note floor) (sym (set_else s.views id other w differ) ∙ note_at) in

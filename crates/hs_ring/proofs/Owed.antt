@@ -7,8 +7,8 @@ use Rattle.atomic_table.specs.Table.{Me, step, rest, Allows, Splits, Joins}
 use Rattle.hs_ring.specs.declared.board.TheConstants.{PUBLISHED}
 use Rattle.hs_words.specs.Chunks.{Contents}
 use Rattle.hs_words.specs.Plans.{Plan}
-use Rattle.hs_ring.specs.Views.{Desk, Hand, nothing, drew, kept, Post, Palm, bare, holds, lays, retakes, View, nobody, drawing, leasing, giving, drawer_note, giver_note, without_lease, lease_of, with_lease, note_of, having_heard, with_drawer, new_drawer, having_closed}
-use Rattle.hs_ring.specs.Rule.{Ring}
+use Rattle.hs_ring.specs.Views.{DrawerSeat, Hand, nothing, drew, kept, GiverSeat, Palm, bare, holds, lays, retakes, View, nobody, drawing, leasing, giving, drawer_note, giver_note, without_lease, lease_of, with_lease, note_of, having_heard, with_drawer, new_drawer, having_closed}
+use Rattle.hs_ring.specs.Rule.{RingRule}
 use Rattle.hs_ring.specs.Steps.{did_draw, did_collect, did_lay, did_publish, did_retake, did_look}
 use Rattle.hs_ring.specs.Seats.{CanDraw, CanCollect, CanLease, IsLease, CanTake, CanLay, CanPublish, CanRetake}
 use Rattle.hs_ring.proofs.Draws.{Held, draws}
@@ -21,7 +21,7 @@ use Rattle.hs_ring.proofs.Meets.{notes_draws, notes_floor, giver_hears, drawer_h
 use Rattle.hs_ring.proofs.Life.{makes_drawer, closes_drawer, looks}
 
 module _ (plan : Plan) (slots id : ℕ) where
-  pub can_draw : (v : View) (held : Held) → CanDraw v → Allows (Ring plan) slots id (v, held) 0 (λ word. (word + 1) % 18446744073709551616) (did_draw (step slots 0 1 0 maybe.none) (v, held))
+  pub can_draw : (v : View) (held : Held) → CanDraw v → Allows (RingRule plan) slots id (v, held) 0 (λ word. (word + 1) % 18446744073709551616) (did_draw (step slots 0 1 0 maybe.none) (v, held))
   can_draw nobody held can = absurd can
   can_draw (drawing desk nothing) held can = draws plan slots id desk held can
   can_draw (drawing desk (drew number buffer stamp)) held can = absurd can
@@ -32,7 +32,7 @@ module _ (plan : Plan) (slots id : ℕ) where
   can_draw (giver_note floor) held can = absurd can
 
   pub can_collect : (v : View) (i : ℕ) (held : Held) → CanCollect slots i v
-      → Allows (Ring plan) slots id (v, (i, None) ∷ held) (i + 1) (λ _. 0) (did_collect (step slots (i + 1) 0 0 maybe.none) (v, (i, None) ∷ held))
+      → Allows (RingRule plan) slots id (v, (i, None) ∷ held) (i + 1) (λ _. 0) (did_collect (step slots (i + 1) 0 0 maybe.none) (v, (i, None) ∷ held))
   can_collect nobody i held can = absurd can
   can_collect (drawing desk nothing) i held can = absurd can
   can_collect (drawing desk (drew number buffer stamp)) i held can = collects plan slots id desk number buffer stamp i held can
@@ -43,7 +43,7 @@ module _ (plan : Plan) (slots id : ℕ) where
   can_collect (giver_note floor) i held can = absurd can
 
   pub can_lay : (v : View) (number i : ℕ) (held : Held) → CanLay slots number v → i ≡ number % slots
-      → Allows (Ring plan) slots id (v, held) (i + 1) (λ m. either (m == 0) (number + 1) m) (did_lay (step slots (i + 1) 0 (number + 1) maybe.none) (v, held))
+      → Allows (RingRule plan) slots id (v, held) (i + 1) (λ m. either (m == 0) (number + 1) m) (did_lay (step slots (i + 1) 0 (number + 1) maybe.none) (v, held))
   can_lay nobody number i held can is = absurd can
   can_lay (drawing desk hand) number i held can is = absurd can
   can_lay (leasing buffer draw) number i held can is = absurd can
@@ -55,14 +55,14 @@ module _ (plan : Plan) (slots id : ℕ) where
   can_lay (giver_note floor) number i held can is = absurd can
 
   pub can_publish : (v : View) (number i : ℕ) (chunk : Contents) (held : Held) → CanPublish slots number chunk v → i ≡ number % slots
-      → Allows (Ring plan) slots id (v, (i, Some chunk) ∷ held) 0 (λ word. (word + PUBLISHED) % 18446744073709551616) (did_publish (step slots 0 PUBLISHED 0 maybe.none) (v, (i, Some chunk) ∷ held))
+      → Allows (RingRule plan) slots id (v, (i, Some chunk) ∷ held) 0 (λ word. (word + PUBLISHED) % 18446744073709551616) (did_publish (step slots 0 PUBLISHED 0 maybe.none) (v, (i, Some chunk) ∷ held))
   can_publish nobody number i chunk held can is = absurd can
   can_publish (drawing desk hand) number i chunk held can is = absurd can
   can_publish (leasing buffer draw) number i chunk held can is = absurd can
   can_publish (giving post bare) number i chunk held can is = absurd can
   can_publish (giving post (holds buffer draw)) number i chunk held can is = absurd can
   can_publish (giving post (lays buffer draw)) number i chunk held can is =
-      let F : Contents → Type 0 = λ c. Allows (Ring plan) slots id (giving post (lays buffer draw), (i, Some c) ∷ held) 0 (λ word. (word + PUBLISHED) % 18446744073709551616)
+      let F : Contents → Type 0 = λ c. Allows (RingRule plan) slots id (giving post (lays buffer draw), (i, Some c) ∷ held) 0 (λ word. (word + PUBLISHED) % 18446744073709551616)
       (did_publish (step slots 0 PUBLISHED 0 maybe.none) (giving post (lays buffer draw), (i, Some c) ∷ held)) in
       subst F (sym can.1) (publishes plan slots id post buffer draw number i held can.0 is)
   can_publish (giving post (retakes buffer draw)) number i chunk held can is = absurd can
@@ -70,7 +70,7 @@ module _ (plan : Plan) (slots id : ℕ) where
   can_publish (giver_note floor) number i chunk held can is = absurd can
 
   pub can_retake : (v : View) (number i : ℕ) (held : Held) → CanRetake slots number v → i ≡ number % slots
-      → Allows (Ring plan) slots id (v, (i, None) ∷ held) (i + 1) (λ _. 0) (did_retake (step slots (i + 1) 0 0 maybe.none) (v, (i, None) ∷ held))
+      → Allows (RingRule plan) slots id (v, (i, None) ∷ held) (i + 1) (λ _. 0) (did_retake (step slots (i + 1) 0 0 maybe.none) (v, (i, None) ∷ held))
   can_retake nobody number i held can is = absurd can
   can_retake (drawing desk hand) number i held can is = absurd can
   can_retake (leasing buffer draw) number i held can is = absurd can
@@ -82,7 +82,7 @@ module _ (plan : Plan) (slots id : ℕ) where
   can_retake (giver_note floor) number i held can is = absurd can
 
 module _ (plan : Plan) (id : ℕ) where
-  pub can_lease : (v : View) → CanLease v → Splits (Ring plan) id v (without_lease v) (lease_of v)
+  pub can_lease : (v : View) → CanLease v → Splits (RingRule plan) id v (without_lease v) (lease_of v)
   can_lease nobody can = absurd can
   can_lease (drawing desk nothing) can = absurd can
   can_lease (drawing desk (drew number buffer stamp)) can = absurd can
@@ -95,7 +95,7 @@ module _ (plan : Plan) (id : ℕ) where
   can_lease (drawer_note floor stamps) can = absurd can
   can_lease (giver_note floor) can = absurd can
 
-  take_from : (post : Post) (other : ℕ) (w : View) → IsLease w → Joins (Ring plan) id (giving post bare) other w (with_lease (giving post bare) w) nobody
+  take_from : (post : GiverSeat) (other : ℕ) (w : View) → IsLease w → Joins (RingRule plan) id (giving post bare) other w (with_lease (giving post bare) w) nobody
   take_from post other nobody lease = absurd lease
   take_from post other (drawing desk hand) lease = absurd lease
   take_from post other (leasing buffer draw) lease = takes_lease plan id post other buffer draw
@@ -103,7 +103,7 @@ module _ (plan : Plan) (id : ℕ) where
   take_from post other (drawer_note floor stamps) lease = absurd lease
   take_from post other (giver_note floor) lease = absurd lease
 
-  pub can_take : (v : View) (other : ℕ) (w : View) → CanTake v → IsLease w → Joins (Ring plan) id v other w (with_lease v w) nobody
+  pub can_take : (v : View) (other : ℕ) (w : View) → CanTake v → IsLease w → Joins (RingRule plan) id v other w (with_lease v w) nobody
   can_take nobody other w can lease = absurd can
   can_take (drawing desk hand) other w can lease = absurd can
   can_take (leasing buffer draw) other w can lease = absurd can
@@ -127,55 +127,55 @@ pub exchanged_slot : (me me' : Mine) (i : ℕ) (x y : Option Contents) → me.1 
 exchanged_slot me me' i x y e is = is ∙ ap (λ (r : List (ℕ × Option Contents)). let m : Mine = (me.0, (i, y) ∷ r) in m) (ap rest e)
 
 pub collect_at : (plan : Plan) (slots id : ℕ) (me : Mine) (v : View) (i : ℕ) → me ≡ (v, (i, None) ∷ []) → CanCollect slots i v
-    → Allows (Ring plan) slots id me (i + 1) (λ _. 0) (did_collect (step slots (i + 1) 0 0 maybe.none) me)
+    → Allows (RingRule plan) slots id me (i + 1) (λ _. 0) (did_collect (step slots (i + 1) 0 0 maybe.none) me)
 collect_at plan slots id me v i is can =
-    let F : Mine → Type 0 = λ m. Allows (Ring plan) slots id m (i + 1) (λ _. 0) (did_collect (step slots (i + 1) 0 0 maybe.none) m) in
+    let F : Mine → Type 0 = λ m. Allows (RingRule plan) slots id m (i + 1) (λ _. 0) (did_collect (step slots (i + 1) 0 0 maybe.none) m) in
     subst F (sym is) (can_collect plan slots id v i [] can)
 
 pub publish_at : (plan : Plan) (slots id : ℕ) (me : Mine) (v : View) (number i : ℕ) (chunk : Contents) → me ≡ (v, (i, Some chunk) ∷ []) → CanPublish slots number chunk v → i ≡ number % slots
-    → Allows (Ring plan) slots id me 0 (λ word. (word + PUBLISHED) % 18446744073709551616) (did_publish (step slots 0 PUBLISHED 0 maybe.none) me)
+    → Allows (RingRule plan) slots id me 0 (λ word. (word + PUBLISHED) % 18446744073709551616) (did_publish (step slots 0 PUBLISHED 0 maybe.none) me)
 publish_at plan slots id me v number i chunk is can entry =
-    let F : Mine → Type 0 = λ m. Allows (Ring plan) slots id m 0 (λ word. (word + PUBLISHED) % 18446744073709551616) (did_publish (step slots 0 PUBLISHED 0 maybe.none) m) in
+    let F : Mine → Type 0 = λ m. Allows (RingRule plan) slots id m 0 (λ word. (word + PUBLISHED) % 18446744073709551616) (did_publish (step slots 0 PUBLISHED 0 maybe.none) m) in
     subst F (sym is) (can_publish plan slots id v number i chunk [] can entry)
 
 pub retake_at : (plan : Plan) (slots id : ℕ) (me : Mine) (v : View) (number i : ℕ) → me ≡ (v, (i, None) ∷ []) → CanRetake slots number v → i ≡ number % slots
-    → Allows (Ring plan) slots id me (i + 1) (λ _. 0) (did_retake (step slots (i + 1) 0 0 maybe.none) me)
+    → Allows (RingRule plan) slots id me (i + 1) (λ _. 0) (did_retake (step slots (i + 1) 0 0 maybe.none) me)
 retake_at plan slots id me v number i is can entry =
-    let F : Mine → Type 0 = λ m. Allows (Ring plan) slots id m (i + 1) (λ _. 0) (did_retake (step slots (i + 1) 0 0 maybe.none) m) in
+    let F : Mine → Type 0 = λ m. Allows (RingRule plan) slots id m (i + 1) (λ _. 0) (did_retake (step slots (i + 1) 0 0 maybe.none) m) in
     subst F (sym is) (can_retake plan slots id v number i [] can entry)
 
 -- ---- notes
 
 module _ (plan : Plan) (id : ℕ) where
-  pub drawer_notes : (v : View) (desk : Desk) → v ≡ drawing desk nothing → Splits (Ring plan) id v v (note_of v)
-  drawer_notes v desk is = let F : View → Type 0 = λ x. Splits (Ring plan) id x x (note_of x) in subst F (sym is) (notes_draws plan id desk)
+  pub drawer_notes : (v : View) (desk : DrawerSeat) → v ≡ drawing desk nothing → Splits (RingRule plan) id v v (note_of v)
+  drawer_notes v desk is = let F : View → Type 0 = λ x. Splits (RingRule plan) id x x (note_of x) in subst F (sym is) (notes_draws plan id desk)
 
-  pub giver_notes : (v : View) (post : Post) (palm : Palm) → v ≡ giving post palm → Splits (Ring plan) id v v (note_of v)
-  giver_notes v post palm is = let F : View → Type 0 = λ x. Splits (Ring plan) id x x (note_of x) in subst F (sym is) (notes_floor plan id post palm)
+  pub giver_notes : (v : View) (post : GiverSeat) (palm : Palm) → v ≡ giving post palm → Splits (RingRule plan) id v v (note_of v)
+  giver_notes v post palm is = let F : View → Type 0 = λ x. Splits (RingRule plan) id x x (note_of x) in subst F (sym is) (notes_floor plan id post palm)
 
-  pub giver_is_told : (v : View) (post : Post) (palm : Palm) (other : ℕ) (w : View) (floor : ℕ) (stamps : List ℕ) → v ≡ giving post palm → w ≡ drawer_note floor stamps
-      → Joins (Ring plan) id v other w (having_heard v w) nobody
+  pub giver_is_told : (v : View) (post : GiverSeat) (palm : Palm) (other : ℕ) (w : View) (floor : ℕ) (stamps : List ℕ) → v ≡ giving post palm → w ≡ drawer_note floor stamps
+      → Joins (RingRule plan) id v other w (having_heard v w) nobody
   giver_is_told v post palm other w floor stamps is note =
-      let F : View → Type 0 = λ x. Joins (Ring plan) id x other w (having_heard x w) nobody in
-      let G : View → Type 0 = λ y. Joins (Ring plan) id (giving post palm) other y (having_heard (giving post palm) y) nobody in
+      let F : View → Type 0 = λ x. Joins (RingRule plan) id x other w (having_heard x w) nobody in
+      let G : View → Type 0 = λ y. Joins (RingRule plan) id (giving post palm) other y (having_heard (giving post palm) y) nobody in
       subst F (sym is) (subst G (sym note) (giver_hears plan id post palm other floor stamps))
 
-  pub drawer_is_told : (v : View) (desk : Desk) (hand : Hand) (other : ℕ) (w : View) (floor : ℕ) → v ≡ drawing desk hand → w ≡ giver_note floor
-      → Joins (Ring plan) id v other w (having_heard v w) nobody
+  pub drawer_is_told : (v : View) (desk : DrawerSeat) (hand : Hand) (other : ℕ) (w : View) (floor : ℕ) → v ≡ drawing desk hand → w ≡ giver_note floor
+      → Joins (RingRule plan) id v other w (having_heard v w) nobody
   drawer_is_told v desk hand other w floor is note =
-      let F : View → Type 0 = λ x. Joins (Ring plan) id x other w (having_heard x w) nobody in
-      let G : View → Type 0 = λ y. Joins (Ring plan) id (drawing desk hand) other y (having_heard (drawing desk hand) y) nobody in
+      let F : View → Type 0 = λ x. Joins (RingRule plan) id x other w (having_heard x w) nobody in
+      let G : View → Type 0 = λ y. Joins (RingRule plan) id (drawing desk hand) other y (having_heard (drawing desk hand) y) nobody in
       subst F (sym is) (subst G (sym note) (drawer_hears plan id desk hand other floor))
 
-  pub makes_at : (v : View) (post : Post) (palm : Palm) → v ≡ giving post palm → post.closed ≡ [] → Splits (Ring plan) id v (with_drawer v) (new_drawer v)
-  makes_at v post palm is none = let F : View → Type 0 = λ x. Splits (Ring plan) id x (with_drawer x) (new_drawer x) in subst F (sym is) (makes_drawer plan id post palm none)
+  pub makes_at : (v : View) (post : GiverSeat) (palm : Palm) → v ≡ giving post palm → post.closed ≡ [] → Splits (RingRule plan) id v (with_drawer v) (new_drawer v)
+  makes_at v post palm is none = let F : View → Type 0 = λ x. Splits (RingRule plan) id x (with_drawer x) (new_drawer x) in subst F (sym is) (makes_drawer plan id post palm none)
 
-  pub closes_at : (v : View) (post : Post) (palm : Palm) (other : ℕ) (w : View) (desk : Desk) → v ≡ giving post palm → w ≡ drawing desk nothing → suc desk.number + length post.closed ≡ post.made
-      → Joins (Ring plan) id v other w (having_closed v w) nobody
+  pub closes_at : (v : View) (post : GiverSeat) (palm : Palm) (other : ℕ) (w : View) (desk : DrawerSeat) → v ≡ giving post palm → w ≡ drawing desk nothing → suc desk.number + length post.closed ≡ post.made
+      → Joins (RingRule plan) id v other w (having_closed v w) nobody
   closes_at v post palm other w desk is drawer last =
-      let F : View → Type 0 = λ x. Joins (Ring plan) id x other w (having_closed x w) nobody in
-      let G : View → Type 0 = λ y. Joins (Ring plan) id (giving post palm) other y (having_closed (giving post palm) y) nobody in
+      let F : View → Type 0 = λ x. Joins (RingRule plan) id x other w (having_closed x w) nobody in
+      let G : View → Type 0 = λ y. Joins (RingRule plan) id (giving post palm) other y (having_closed (giving post palm) y) nobody in
       subst F (sym is) (subst G (sym drawer) (closes_drawer plan id post palm other desk last))
 
-pub looks_at : (plan : Plan) (slots id : ℕ) (me : Mine) (post : Post) (palm : Palm) → me ≡ (giving post palm, []) → Allows (Ring plan) slots id me 0 (λ n. n) (did_look (step slots 0 0 0 maybe.none) me)
-looks_at plan slots id me post palm is = let F : Mine → Type 0 = λ m. Allows (Ring plan) slots id m 0 (λ n. n) (did_look (step slots 0 0 0 maybe.none) m) in subst F (sym is) (looks plan slots id post palm [])
+pub looks_at : (plan : Plan) (slots id : ℕ) (me : Mine) (post : GiverSeat) (palm : Palm) → me ≡ (giving post palm, []) → Allows (RingRule plan) slots id me 0 (λ n. n) (did_look (step slots 0 0 0 maybe.none) me)
+looks_at plan slots id me post palm is = let F : Mine → Type 0 = λ m. Allows (RingRule plan) slots id m 0 (λ n. n) (did_look (step slots 0 0 0 maybe.none) m) in subst F (sym is) (looks plan slots id post palm [])

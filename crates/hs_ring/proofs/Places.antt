@@ -9,7 +9,7 @@ use Rattle.hs_words.specs.Seats.{AtSeat}
 use Rattle.hs_words.specs.Spots.{Spot, in_queue, with_drawer, leased, with_giver}
 use Rattle.hs_ring.specs.Views.{Hand, nothing, drew, kept, Palm, bare, holds, lays, retakes, View, nobody, drawing, leasing, giving, drawer_note, giver_note, InHand, InPalm, Has}
 use Rattle.hs_ring.specs.Rule.{Cell, free, waits, drawn, laid, Facts, CellOk, HandOk, PalmOk, SpotOk, Kept}
-use Rattle.hs_ring.specs.Places.{Site, entry, seat, IsThere, Waits, IsInOnePlace}
+use Rattle.hs_ring.specs.Places.{BufferPlace, entry, seat, IsThere, Waits, IsInOnePlace}
 use Rattle.hs_ring.proofs.Counting.{at_length, found_drawn, found_published, entry_below}
 use Rattle.hs_ring.proofs.Draws.{St}
 
@@ -18,7 +18,7 @@ module _ (plan : Plan) (s : St) (f : Facts) (k : Kept plan s f) (buffer : ℕ) w
   n = plan.buffers
 
   -- the site is that of the place
-  abbrev pub Fits : Site → Spot → Type 0
+  abbrev pub Fits : BufferPlace → Spot → Type 0
   Fits (entry e) (in_queue number) = e ≡ number % (2 * n)
   Fits (entry e) (with_drawer drawer) = ⊥
   Fits (entry e) (leased j) = ⊥
@@ -81,12 +81,12 @@ module _ (plan : Plan) (s : St) (f : Facts) (k : Kept plan s f) (buffer : ℕ) w
   cell_fits e chunk full named (drawn number b drawer) ok = let both : some (some (Some chunk)) ≡ some maybe.none = sym full ∙ ok.2 in absurd cc
   cell_fits e chunk full named (laid number) ok = let both : some (some (Some chunk)) ≡ some maybe.none = sym full ∙ ok.2 in absurd cc
 
-  fits : (site : Site) → IsThere s buffer site → Fits site (f.spots buffer)
+  fits : (site : BufferPlace) → IsThere s buffer site → Fits site (f.spots buffer)
   fits (entry e) (chunk, full, named) = cell_fits e chunk full named (f.cells e) (k.each_cell e (let l = at_length s.homes e (some (Some chunk)) full in let h = k.homes in omega arith))
   fits (seat j) (v, seen, has) = seat_fits j v seen has
 
   -- a place has one site
-  one_site : (spot : Spot) (a b : Site) → Fits a spot → Fits b spot → b ≡ a
+  one_site : (spot : Spot) (a b : BufferPlace) → Fits a spot → Fits b spot → b ≡ a
   one_site (in_queue number) (entry e) (entry e') p q = ap entry (q ∙ sym p)
   one_site (in_queue number) (entry e) (seat j) p q = absurd q
   one_site (in_queue number) (seat j) b p q = absurd p

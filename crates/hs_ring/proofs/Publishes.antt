@@ -22,8 +22,8 @@ use Rattle.hs_words.proofs.Deeds.{answers_and, answers_below, are_answers_more, 
 use Rattle.hs_words.proofs.Waiting.{may_give, given_kinds}
 use Rattle.hs_words.specs.Plans.{Plan}
 use Rattle.hs_words.specs.Spots.{Spot, in_queue, with_giver}
-use Rattle.hs_ring.specs.Views.{Post, bare, lays, retakes, View, giving, post_after, Has}
-use Rattle.hs_ring.specs.Rule.{Cell, free, waits, laid, Facts, published, IsLaid, CellOk, PalmOk, SpotOk, PostOk, Knows, Kept, Ring}
+use Rattle.hs_ring.specs.Views.{GiverSeat, bare, lays, retakes, View, giving, giver_seat_after, Has}
+use Rattle.hs_ring.specs.Rule.{Cell, free, waits, laid, Facts, published, IsLaid, CellOk, PalmOk, SpotOk, PostOk, Knows, Kept, RingRule}
 use Rattle.hs_ring.specs.Steps.{published_of, did_publish}
 use Rattle.hs_ring.proofs.Updates.{left_set}
 use Rattle.hs_ring.proofs.Spots.{still_with, spot_stays}
@@ -33,7 +33,7 @@ use Rattle.hs_ring.proofs.Draws.{St, Held}
 use Rattle.hs_ring.proofs.Takes.{ours, no_giver}
 use Rattle.hs_ring.proofs.Lays.{next_is}
 
-module _ (plan : Plan) (s : St) (f : Facts) (k : Kept plan s f) (id : ℕ) (post : Post) (b t : ℕ) (at : get_elem? s.views id ≡ some (giving post (lays b t))) (i : ℕ) (i_is : i ≡ published plan.buffers f.log % (2 * plan.buffers)) (held : Held)
+module _ (plan : Plan) (s : St) (f : Facts) (k : Kept plan s f) (id : ℕ) (post : GiverSeat) (b t : ℕ) (at : get_elem? s.views id ≡ some (giving post (lays b t))) (i : ℕ) (i_is : i ≡ published plan.buffers f.log % (2 * plan.buffers)) (held : Held)
     (x : ℕ) (x_is : x ≡ suc (published plan.buffers f.log) * PUBLISHED + drawn_in f.log) where
   abbrev n : ℕ
   n = plan.buffers
@@ -105,8 +105,8 @@ module _ (plan : Plan) (s : St) (f : Facts) (k : Kept plan s f) (id : ℕ) (post
     abbrev answer : Answer
     answer = record { stamp = length f.log; event = Given b; draw = t }
 
-    abbrev post' : Post
-    post' = post_after post (answered answer) (suc (length f.log)) post.misses
+    abbrev post' : GiverSeat
+    post' = giver_seat_after post (answered answer) (suc (length f.log)) post.misses
 
     give_ours : PostOk plan after_give id post' bare
     give_ours =
@@ -225,8 +225,8 @@ module _ (plan : Plan) (s : St) (f : Facts) (k : Kept plan s f) (id : ℕ) (post
     abbrev miss : Answer
     miss = record { stamp = length f.log; event = Missed; draw = 0 }
 
-    abbrev missed_post : Post
-    missed_post = post_after post (answered miss) (suc (length f.log)) (suc post.misses)
+    abbrev missed_post : GiverSeat
+    missed_post = giver_seat_after post (answered miss) (suc (length f.log)) (suc post.misses)
 
     miss_ours : PostOk plan after_miss id missed_post (retakes b t)
     miss_ours =
@@ -298,8 +298,8 @@ module _ (plan : Plan) (s : St) (f : Facts) (k : Kept plan s f) (id : ℕ) (post
         }
 
 -- the step, whatever it finds
-pub publishes : (plan : Plan) (slots id : ℕ) (post : Post) (b t number i : ℕ) (held : Held) → 2 * number ≡ slots + 2 * length (answers_in post.turns) → i ≡ number % slots
-    → Allows (Ring plan) slots id (giving post (lays b t), (i, Some (clear_chunk post.size b)) ∷ held) 0 (λ word. (word + PUBLISHED) % 18446744073709551616)
+pub publishes : (plan : Plan) (slots id : ℕ) (post : GiverSeat) (b t number i : ℕ) (held : Held) → 2 * number ≡ slots + 2 * length (answers_in post.turns) → i ≡ number % slots
+    → Allows (RingRule plan) slots id (giving post (lays b t), (i, Some (clear_chunk post.size b)) ∷ held) 0 (λ word. (word + PUBLISHED) % 18446744073709551616)
     (did_publish (step slots 0 PUBLISHED 0 maybe.none) (giving post (lays b t), (i, Some (clear_chunk post.size b)) ∷ held))
 publishes plan slots id post b t number i held next is s (f, k) wide at small =
     let n = plan.buffers in
@@ -318,19 +318,19 @@ publishes plan slots id post b t number i held next is s (f, k) wide at small =
     let above = below_stamp plan s f k id post b t at i i_is held x more in
     dite (dec_le (drawn_in f.log) (published n f.log))
     (λ in_time. (
-      giving (post_after post (answered (record { stamp = length f.log; event = Given b; draw = t })) (suc (length f.log)) post.misses) bare,
+      giving (giver_seat_after post (answered (record { stamp = length f.log; event = Given b; draw = t })) (suc (length f.log)) post.misses) bare,
       gives,
       tt,
       (
         after_give plan s f k id post b t at i i_is held x more in_time,
-        subst (λ (z : ℕ). Kept plan (stepped s 0 x id ((i, Some (clear_chunk z b)) ∷ held) (giving (post_after post (answered (record { stamp = length f.log; event = Given b; draw = t })) (suc (length f.log)) post.misses) bare) gives) (after_give plan s f k id post b t at i i_is held x more in_time)) (sym ok.size)
+        subst (λ (z : ℕ). Kept plan (stepped s 0 x id ((i, Some (clear_chunk z b)) ∷ held) (giving (giver_seat_after post (answered (record { stamp = length f.log; event = Given b; draw = t })) (suc (length f.log)) post.misses) bare) gives) (after_give plan s f k id post b t at i i_is held x more in_time)) (sym ok.size)
             (give_kept plan s f k id post b t at i i_is held x more in_time),
       ),
       (length f.log, stamp, ok.floor, above, counted, few, (λ _. refl), (λ late. absurd (omega arith))),
     ))
     (λ not_in_time.
     let late : published n f.log < drawn_in f.log = omega arith in (
-      giving (post_after post (answered (record { stamp = length f.log; event = Missed; draw = 0 })) (suc (length f.log)) (suc post.misses)) (retakes b t),
+      giving (giver_seat_after post (answered (record { stamp = length f.log; event = Missed; draw = 0 })) (suc (length f.log)) (suc post.misses)) (retakes b t),
       keeps,
       tt,
       (_, miss_kept plan s f k id post b t at i i_is held x more late),

@@ -12,8 +12,8 @@ use Rattle.hs_words.specs.Chunks.{Contents}
 use Rattle.hs_words.specs.Ends.{answers_in}
 use Rattle.hs_words.specs.Plans.{Plan}
 use Rattle.hs_words.specs.Spots.{in_queue}
-use Rattle.hs_ring.specs.Views.{Post, holds, retakes, View, giving, Has}
-use Rattle.hs_ring.specs.Rule.{Cell, free, laid, Facts, published, IsLaid, CellOk, PalmOk, PostOk, Knows, Kept, Ring}
+use Rattle.hs_ring.specs.Views.{GiverSeat, holds, retakes, View, giving, Has}
+use Rattle.hs_ring.specs.Rule.{Cell, free, laid, Facts, published, IsLaid, CellOk, PalmOk, PostOk, Knows, Kept, RingRule}
 use Rattle.hs_ring.specs.Steps.{did_retake}
 use Rattle.hs_ring.proofs.Updates.{left_set}
 use Rattle.hs_ring.proofs.Spots.{still_with, spot_stays}
@@ -23,7 +23,7 @@ use Rattle.hs_ring.proofs.Draws.{St, Held}
 use Rattle.hs_ring.proofs.Takes.{ours, no_giver, same_post}
 use Rattle.hs_ring.proofs.Lays.{next_is}
 
-module _ (plan : Plan) (s : St) (f : Facts) (k : Kept plan s f) (id : ℕ) (post : Post) (b t : ℕ) (at : get_elem? s.views id ≡ some (giving post (retakes b t)))
+module _ (plan : Plan) (s : St) (f : Facts) (k : Kept plan s f) (id : ℕ) (post : GiverSeat) (b t : ℕ) (at : get_elem? s.views id ≡ some (giving post (retakes b t)))
     (i number : ℕ) (i_is : i ≡ number % (2 * plan.buffers)) (number_is : suc number ≡ published plan.buffers f.log) (held : Held) where
   abbrev n : ℕ
   n = plan.buffers
@@ -116,8 +116,8 @@ module _ (plan : Plan) (s : St) (f : Facts) (k : Kept plan s f) (id : ℕ) (post
         each_seat = retake_seats;
       }
 
-pub retakes_it : (plan : Plan) (slots id : ℕ) (post : Post) (b t number i : ℕ) (held : Held) → 2 * suc number ≡ slots + 2 * length (answers_in post.turns) → i ≡ number % slots
-    → Allows (Ring plan) slots id (giving post (retakes b t), (i, None) ∷ held) (i + 1) (λ _. 0) (did_retake (step slots (i + 1) 0 0 maybe.none) (giving post (retakes b t), (i, None) ∷ held))
+pub retakes_it : (plan : Plan) (slots id : ℕ) (post : GiverSeat) (b t number i : ℕ) (held : Held) → 2 * suc number ≡ slots + 2 * length (answers_in post.turns) → i ≡ number % slots
+    → Allows (RingRule plan) slots id (giving post (retakes b t), (i, None) ∷ held) (i + 1) (λ _. 0) (did_retake (step slots (i + 1) 0 0 maybe.none) (giving post (retakes b t), (i, None) ∷ held))
 retakes_it plan slots id post b t number i held next is s (f, k) wide at small =
     let number_is : suc number ≡ published plan.buffers f.log = next_is plan s f k id post (retakes b t) (ours plan s f k id post (retakes b t) at) (suc number) (next ∙ ap (λ (m : ℕ). m + 2 * length (answers_in post.turns)) (sym wide)) in
     let i_is : i ≡ number % (2 * plan.buffers) = is ∙ ap (λ (m : ℕ). number % m) (sym wide ∙ k.homes) in

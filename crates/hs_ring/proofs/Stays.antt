@@ -6,11 +6,11 @@ use Rattle.std.specs.Prelude.{Option, count_by}
 use Rattle.std.specs.List.{AllByRecursion}
 use Rattle.hs_words.specs.Chunks.{Contents}
 use Rattle.hs_words.specs.PoolHistory.{is_missed}
-use Rattle.hs_words.specs.Ends.{Deed, Answer, got_by, events_of, drawn_in, answers_by, told_in, IsAt, Names}
+use Rattle.hs_words.specs.Ends.{Deed, Answer, got_by, events_of, drawn_in, answers_by, told_in, IsDeedAt, Names}
 use Rattle.hs_words.proofs.Deeds.{all_of, draw_more, got_more, none_more, answers_more, answers_below, are_answers_more, unread_more}
 use Rattle.hs_words.specs.Plans.{Plan}
 use Rattle.hs_words.specs.Spots.{Spot, in_queue, with_drawer, leased, with_giver, HasLease}
-use Rattle.hs_ring.specs.Views.{Desk, Hand, nothing, drew, kept, Post, Palm, bare, holds, lays, retakes, View, nobody, drawing, leasing, giving, drawer_note, giver_note}
+use Rattle.hs_ring.specs.Views.{DrawerSeat, Hand, nothing, drew, kept, GiverSeat, Palm, bare, holds, lays, retakes, View, nobody, drawing, leasing, giving, drawer_note, giver_note}
 use Rattle.hs_ring.specs.Rule.{Cell, free, waits, drawn, laid, Facts, published, IsLaid, CellOk, IsLastOf, HandOk, PalmOk, IsSettled, DeskOk, PostOk, Knows}
 
 -- The deeds that were added are all of one end, and name only the buffer that was at `spot`; nothing but that buffer, the entry
@@ -28,7 +28,7 @@ last_more [] log end stamp others last = last
 last_more (x ∷ xs) log end stamp others last = ((λ e. absurd (others.0 e)), last_more xs log end stamp others.1 last)
 
 -- no deed since
-pub is_last : (log : List Deed) (end stamp later : ℕ) (deed : Deed) → IsLastOf end stamp log → IsAt log later deed → deed.by ≡ end → later ≤ stamp
+pub is_last : (log : List Deed) (end stamp later : ℕ) (deed : Deed) → IsLastOf end stamp log → IsDeedAt log later deed → deed.by ≡ end → later ≤ stamp
 is_last [] end stamp later deed last at by = absurd at
 is_last (x ∷ xs) end stamp later deed last (inl here) by = let e : later ≡ length xs = here.0 in let le : length xs ≤ stamp = last.0 (ap (λ (d : Deed). d.by) here.1 ∙ by) in omega arith
 is_last (x ∷ xs) end stamp later deed last (inr before) by = is_last xs end stamp later deed last.1 before by
@@ -122,7 +122,7 @@ module _ (plan : Plan) (f : Facts) (added : List Deed) (cells : ℕ → Cell) (s
   abbrev pub after : Facts
   after = facts_after f added cells spots hands palm
 
-  pub desk_stays : (desk : Desk) (hand : Hand) → suc desk.number ≢ who → DeskOk plan f j desk hand → DeskOk plan after j desk hand
+  pub desk_stays : (desk : DrawerSeat) (hand : Hand) → suc desk.number ≢ who → DeskOk plan f j desk hand → DeskOk plan after j desk hand
   desk_stays desk hand other ok =
       record {
         size = ok.size;
@@ -134,7 +134,7 @@ module _ (plan : Plan) (f : Facts) (added : List Deed) (cells : ℕ → Cell) (s
       }
 
   -- the giver, as a drawer makes a step
-  pub post_stays : (post : Post) (mine : Palm) → palm ≡ f.palm → 0 < who → who ≤ f.opened → count_by is_missed (events_of (added ++ f.log)) ≡ count_by is_missed (events_of f.log)
+  pub post_stays : (post : GiverSeat) (mine : Palm) → palm ≡ f.palm → 0 < who → who ≤ f.opened → count_by is_missed (events_of (added ++ f.log)) ≡ count_by is_missed (events_of f.log)
       → PostOk plan f j post mine → PostOk plan after j post mine
   post_stays post mine same positive low misses ok =
       record {
@@ -152,7 +152,7 @@ module _ (plan : Plan) (f : Facts) (added : List Deed) (cells : ℕ → Cell) (s
       }
 
   -- what another seat knows
-  pub knows_stays : ((d : ℕ) → f.seats d ≡ j → suc d ≢ who) → leased j ≢ spot → (f.giver ≡ j → (post : Post) (mine : Palm) → PostOk plan f j post mine → PostOk plan after j post mine)
+  pub knows_stays : ((d : ℕ) → f.seats d ≡ j → suc d ≢ who) → leased j ≢ spot → (f.giver ≡ j → (post : GiverSeat) (mine : Palm) → PostOk plan f j post mine → PostOk plan after j post mine)
       → (v : View) → Knows plan f j v → Knows plan after j v
   knows_stays other away on_post nobody known = tt
   knows_stays other away on_post (drawing desk hand) known = desk_stays desk hand (other desk.number known.seat) known

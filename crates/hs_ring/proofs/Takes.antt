@@ -9,25 +9,25 @@ use Rattle.hs_words.specs.Ends.{Deed}
 use Rattle.hs_words.specs.Plans.{Plan}
 use Rattle.hs_words.specs.Seats.{AtSeat}
 use Rattle.hs_words.specs.Spots.{Spot, in_queue, leased, with_giver, HasLease}
-use Rattle.hs_ring.specs.Views.{Hand, Post, Palm, bare, holds, View, nobody, leasing, giving, Has}
-use Rattle.hs_ring.specs.Rule.{Cell, free, Facts, published, IsLaid, CellOk, PalmOk, SpotOk, PostOk, Knows, Kept, Ring}
+use Rattle.hs_ring.specs.Views.{Hand, GiverSeat, Palm, bare, holds, View, nobody, leasing, giving, Has}
+use Rattle.hs_ring.specs.Rule.{Cell, free, Facts, published, IsLaid, CellOk, PalmOk, SpotOk, PostOk, Knows, Kept, RingRule}
 use Rattle.hs_ring.proofs.Updates.{left_set, left_and}
 use Rattle.hs_ring.proofs.Spots.{now_with, still_with, else_with, with_more, with_last, spot_stays}
 use Rattle.hs_ring.proofs.Stays.{Moves, hand_stays, cell_stays, facts_after, knows_stays}
 use Rattle.hs_ring.proofs.Counting.{reseated, seated_too}
 use Rattle.hs_ring.proofs.Draws.{St}
 
-module _ (plan : Plan) (s : St) (f : Facts) (k : Kept plan s f) (id : ℕ) (post : Post) (palm : Palm) (at : get_elem? s.views id ≡ some (giving post palm)) where
+module _ (plan : Plan) (s : St) (f : Facts) (k : Kept plan s f) (id : ℕ) (post : GiverSeat) (palm : Palm) (at : get_elem? s.views id ≡ some (giving post palm)) where
   -- what the giver's own seat knows
   abbrev pub ours : PostOk plan f id post palm
   ours = k.each_seat id (giving post palm) at
 
-  pub no_giver : (added : List Deed) (cells : ℕ → Cell) (spots : ℕ → Spot) (hands : ℕ → Hand) (palm' : Palm) (j : ℕ) → j ≢ id → f.giver ≡ j → (post' : Post) (mine : Palm)
+  pub no_giver : (added : List Deed) (cells : ℕ → Cell) (spots : ℕ → Spot) (hands : ℕ → Hand) (palm' : Palm) (j : ℕ) → j ≢ id → f.giver ≡ j → (post' : GiverSeat) (mine : Palm)
       → PostOk plan f j post' mine → PostOk plan (facts_after f added cells spots hands palm') j post' mine
   no_giver added cells spots hands palm' j other is post' mine ok = absurd (other (sym is ∙ ours.seat))
 
--- the same post where nothing but the entries, the places and the palm has changed
-pub same_post : (plan : Plan) (f : Facts) (id : ℕ) (post : Post) (palm palm' : Palm) (cells : ℕ → Cell) (spots : ℕ → Spot) → PostOk plan f id post palm → PostOk plan (facts_after f [] cells spots f.hands palm') id post palm'
+-- the same seat where nothing but the entries, the places and the palm has changed
+pub same_post : (plan : Plan) (f : Facts) (id : ℕ) (post : GiverSeat) (palm palm' : Palm) (cells : ℕ → Cell) (spots : ℕ → Spot) → PostOk plan f id post palm → PostOk plan (facts_after f [] cells spots f.hands palm') id post palm'
 same_post plan f id post palm palm' cells spots ok =
     record {
       size = ok.size;
@@ -45,7 +45,7 @@ same_post plan f id post palm palm' cells spots ok =
 
 -- ---- a lease comes back
 
-module _ (plan : Plan) (s : St) (f : Facts) (k : Kept plan s f) (id : ℕ) (post : Post) (other b t : ℕ) (at : get_elem? s.views id ≡ some (giving post bare)) (differ : ¬ (other ≡ id))
+module _ (plan : Plan) (s : St) (f : Facts) (k : Kept plan s f) (id : ℕ) (post : GiverSeat) (other b t : ℕ) (at : get_elem? s.views id ≡ some (giving post bare)) (differ : ¬ (other ≡ id))
     (lease_at : get_elem? (set s.views id (giving post (holds b t))) other ≡ some (leasing b t)) where
   abbrev n : ℕ
   n = plan.buffers
@@ -128,12 +128,12 @@ module _ (plan : Plan) (s : St) (f : Facts) (k : Kept plan s f) (id : ℕ) (post
         each_seat = take_seats;
       }
 
-pub takes_lease : (plan : Plan) (id : ℕ) (post : Post) (other b t : ℕ) → Joins (Ring plan) id (giving post bare) other (leasing b t) (giving post (holds b t)) nobody
+pub takes_lease : (plan : Plan) (id : ℕ) (post : GiverSeat) (other b t : ℕ) → Joins (RingRule plan) id (giving post bare) other (leasing b t) (giving post (holds b t)) nobody
 takes_lease plan id post other b t s (f, k) at differ lease_at = (_, take_kept plan s f k id post other b t at differ lease_at)
 
 -- ---- a lease is made
 
-module _ (plan : Plan) (s : St) (f : Facts) (k : Kept plan s f) (id : ℕ) (post : Post) (b t : ℕ) (at : get_elem? s.views id ≡ some (giving post (holds b t))) where
+module _ (plan : Plan) (s : St) (f : Facts) (k : Kept plan s f) (id : ℕ) (post : GiverSeat) (b t : ℕ) (at : get_elem? s.views id ≡ some (giving post (holds b t))) where
   abbrev new : ℕ
   new = length s.views
 
@@ -213,5 +213,5 @@ module _ (plan : Plan) (s : St) (f : Facts) (k : Kept plan s f) (id : ℕ) (post
         each_seat = lease_seats;
       }
 
-pub leases_again : (plan : Plan) (id : ℕ) (post : Post) (b t : ℕ) → Splits (Ring plan) id (giving post (holds b t)) (giving post bare) (leasing b t)
+pub leases_again : (plan : Plan) (id : ℕ) (post : GiverSeat) (b t : ℕ) → Splits (RingRule plan) id (giving post (holds b t)) (giving post bare) (leasing b t)
 leases_again plan id post b t s (f, k) at = (_, lease_kept plan s f k id post b t at)

@@ -5,8 +5,8 @@ use Rattle.atomic_table.specs.Seated.{TableId}
 use Rattle.hs_ring.specs.declared.board.TheConstants.{PUBLISHED}
 use Rattle.hs_words.specs.Chunks.{Contents}
 use Rattle.hs_words.specs.Ends.{Answer}
-use Rattle.hs_ring.specs.Views.{Post, post_of}
-use Rattle.hs_ring.specs.Seats.{Place, IsAt, IsFree}
+use Rattle.hs_ring.specs.Views.{GiverSeat, giver_seat_of}
+use Rattle.hs_ring.specs.Seats.{PoolSeat, IsSeatAt, IsFree}
 
 -- the counts, then for each buffer one more than its number, then as many entries that are free
 abbrev pub first_words : ℕ → List ℕ
@@ -17,14 +17,14 @@ abbrev pub first_slots : List Contents → List (Option Contents)
 first_slots chunks = map (λ chunk. Some chunk) chunks ++ replicate (length chunks) None
 
 -- the seat of a giver that has made so many drawers, and has these allowances for others
-pub record IsMaking (table : TableId) (s : Place) (size made : ℕ) (spare : List ℕ) : Type 0 where
-  pub at : IsAt table s
+pub record IsMaking (table : TableId) (s : PoolSeat) (size made : ℕ) (spare : List ℕ) : Type 0 where
+  pub at : IsSeatAt table s
   pub free : IsFree s
-  pub post_is : post_of s.me.0 ≡ record { size = size; spare = spare; made = made; closed = []; floor = 0; misses = 0; turns = [] }
+  pub post_is : giver_seat_of s.me.0 ≡ record { size = size; spare = spare; made = made; closed = []; floor = 0; misses = 0; turns = [] }
 
--- a giver's post when drawers with these answers were closed
-abbrev pub closed_post : Post → List (List Answer) → Post
-closed_post post lists =
+-- a giver's seat when drawers with these answers were closed
+abbrev pub closed_giver_seat : GiverSeat → List (List Answer) → GiverSeat
+closed_giver_seat post lists =
     record {
       size = post.size;
       spare = post.spare;

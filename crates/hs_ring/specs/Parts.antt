@@ -4,8 +4,8 @@ use Rattle.std.specs.Prelude.{◌≡◌, ℕ, suc, ◌-◌, ◌<◌, ◌≤◌, 
 use Rattle.std.specs.List.{AllByRecursion}
 use Rattle.hs_words.specs.Pools.{PoolName}
 use Rattle.hs_words.specs.Chunks.{clear_chunk, with_page}
-use Rattle.hs_words.specs.PoolHistory.{Event, Got, Empty, Given, Missed}
-use Rattle.hs_words.specs.Ends.{Deed, Answer, Turn, answered, unread, met, answers_in, stamps_in, IsTogether, Counts}
+use Rattle.hs_words.specs.PoolHistory.{PoolEvent, Got, Empty, Given, Missed}
+use Rattle.hs_words.specs.Ends.{Deed, Answer, GiverTurn, answered, unread, met, answers_in, stamps_in, IsTogether, Counts}
 use Rattle.hs_words.specs.declared.token.Held.{Held}
 use Rattle.hs_words.specs.declared.token.Drawn.{Drawn}
 use Rattle.hs_words.specs.declared.token.Drawn.TheVariants as drawn
@@ -34,12 +34,12 @@ pub record Giving : Type 0 where
   pub size : ℕ
   pub drawers : ℕ
   pub floor : ℕ
-  pub turns : List Turn
+  pub turns : List GiverTurn
 
 -- ---- a draw
 
 -- the drawer after it was told of this event
-abbrev pub after_draw : Drawing → ℕ → Event → Drawing
+abbrev pub after_draw : Drawing → ℕ → PoolEvent → Drawing
 after_draw old stamp event =
     record {
       pool = old.pool;
@@ -61,7 +61,7 @@ Draws old (drawn.Empty stamp) new = (new ≡ after_draw old stamp Empty) × (old
 -- ---- a give
 
 -- the giver after this turn, with this floor
-abbrev pub after_turn : Giving → Turn → ℕ → Giving
+abbrev pub after_turn : Giving → GiverTurn → ℕ → Giving
 after_turn old turn floor =
     record {
       pool = old.pool;

@@ -8,18 +8,18 @@ use Rattle.atomic_table.specs.Table.{State}
 use Rattle.hs_ring.specs.declared.board.TheConstants.{PUBLISHED}
 use Rattle.hs_words.specs.Chunks.{Contents, clear_chunk}
 use Rattle.hs_words.specs.Seats.{AtSeat}
-use Rattle.hs_ring.specs.Views.{nothing, bare, View, drawing, leasing, giving, desk_of, post_of, nobody, Has}
+use Rattle.hs_ring.specs.Views.{nothing, bare, View, drawing, leasing, giving, drawer_seat_of, giver_seat_of, nobody, Has}
 use Rattle.hs_ring.specs.Steps.{drawn_of, published_of}
 
 abbrev pub Table : Type 0
 Table = State (Option Contents) View
 
-pub data Site : Type 0 where
-  entry : ℕ → Site
-  seat : ℕ → Site
+pub data BufferPlace : Type 0 where
+  entry : ℕ → BufferPlace
+  seat : ℕ → BufferPlace
 
 -- the buffer is there
-abbrev pub IsThere : Table → ℕ → Site → Type 0
+abbrev pub IsThere : Table → ℕ → BufferPlace → Type 0
 IsThere s buffer (entry e) = (chunk : Contents) × (get_elem? s.homes e ≡ some (some (Some chunk))) × (chunk.number ≡ buffer)
 IsThere s buffer (seat j) = AtSeat s.views (Has buffer) j
 
@@ -34,9 +34,9 @@ pub record Waits (size : ℕ) (s : Table) (buffer e : ℕ) : Type 0 where
 
 -- The buffer is in one place and in no other. Where that is an entry, it waits there for a draw.
 pub record IsInOnePlace (size : ℕ) (s : Table) (buffer : ℕ) : Type 0 where
-  pub site : Site
+  pub site : BufferPlace
   pub there : IsThere s buffer site
-  pub nowhere_else : (other : Site) → IsThere s buffer other → other ≡ site
+  pub nowhere_else : (other : BufferPlace) → IsThere s buffer other → other ≡ site
   pub waits : (e : ℕ) → site ≡ entry e → Waits size s buffer e
 
 -- ---- examples
@@ -48,21 +48,21 @@ one_lent =
     record {
       words = (2 * PUBLISHED + 1) ∷ 0 ∷ 2 ∷ 0 ∷ 0 ∷ [];
       homes = some None ∷ some (Some (clear_chunk 64 1)) ∷ some None ∷ some None ∷ [];
-      views = giving (post_of nobody) bare ∷ drawing (desk_of nobody) nothing ∷ leasing 0 0 ∷ [];
+      views = giving (giver_seat_of nobody) bare ∷ drawing (drawer_seat_of nobody) nothing ∷ leasing 0 0 ∷ [];
     }
 
 the_second_waits : Waits 64 one_lent 1 1
 the_second_waits = record { number = 1; of_entry = refl; laid = refl; not_drawn = le_refl 1; published = le_refl 2; clear = refl }
 
 -- the first is with its lease and nowhere else
-only_lent : (other : Site) → IsThere one_lent 0 other → other ≡ seat 2
+only_lent : (other : BufferPlace) → IsThere one_lent 0 other → other ≡ seat 2
 only_lent (entry zero) (chunk, full, named) = absurd cc
 only_lent (entry (suc zero)) (chunk, full, named) = absurd cc
 only_lent (entry (suc (suc zero))) (chunk, full, named) = absurd cc
 only_lent (entry (suc (suc (suc zero)))) (chunk, full, named) = absurd cc
 only_lent (entry (suc (suc (suc (suc e))))) (chunk, full, named) = absurd (some-ne-none (some (Some chunk)) (sym full))
-only_lent (seat zero) (v, seen, has) = absurd (subst (Has 0) (sym (some-injective (giving (post_of nobody) bare) v seen)) has)
-only_lent (seat (suc zero)) (v, seen, has) = absurd (subst (Has 0) (sym (some-injective (drawing (desk_of nobody) nothing) v seen)) has)
+only_lent (seat zero) (v, seen, has) = absurd (subst (Has 0) (sym (some-injective (giving (giver_seat_of nobody) bare) v seen)) has)
+only_lent (seat (suc zero)) (v, seen, has) = absurd (subst (Has 0) (sym (some-injective (drawing (drawer_seat_of nobody) nothing) v seen)) has)
 only_lent (seat (suc (suc zero))) is = refl
 only_lent (seat (suc (suc (suc j)))) (v, seen, has) = absurd (some-ne-none v (sym seen))
 
@@ -80,7 +80,7 @@ not_in_two_places is = let both : seat 0 ≡ entry 1 = is.nowhere_else (seat 0) 
 abbrev empty : Table
 empty = record { words = []; homes = some None ∷ []; views = [] }
 
-nowhere : (site : Site) → IsThere empty 0 site → ⊥
+nowhere : (site : BufferPlace) → IsThere empty 0 site → ⊥
 nowhere (entry zero) (chunk, full, named) = absurd cc
 nowhere (entry (suc e)) (chunk, full, named) = absurd (some-ne-none (some (Some chunk)) (sym full))
 nowhere (seat j) (v, seen, has) = absurd (some-ne-none v (sym seen))

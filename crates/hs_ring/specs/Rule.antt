@@ -15,7 +15,7 @@ use Rattle.hs_words.specs.Ends.{Deed, got_by, events_of, drawn_in, given_in, ans
 use Rattle.hs_words.specs.Plans.{total, Plan, Within}
 use Rattle.hs_words.specs.Seats.{AtSeat}
 use Rattle.hs_words.specs.Spots.{Spot, in_queue, with_drawer, leased, with_giver, HasLease}
-use Rattle.hs_ring.specs.Views.{Desk, Hand, nothing, drew, kept, Post, Palm, bare, holds, lays, retakes, View, nobody, drawing, leasing, giving, drawer_note, giver_note, all_left, Has}
+use Rattle.hs_ring.specs.Views.{DrawerSeat, Hand, nothing, drew, kept, GiverSeat, Palm, bare, holds, lays, retakes, View, nobody, drawing, leasing, giving, drawer_note, giver_note, all_left, Has}
 
 -- an entry is free; or it holds a number whose buffer waits, or was drawn by a drawer that has not collected it; or the
 -- giver has laid it. Where it was drawn or laid, its slot is with that end's seat.
@@ -100,7 +100,7 @@ IsSettled log hands told = (told < length log) × ((drawer number buffer stamp :
 
 -- what the seat j knows is true
 module _ (plan : Plan) (f : Facts) (j : ℕ) where
-  pub record DeskOk (desk : Desk) (hand : Hand) : Type 0 where
+  pub record DeskOk (desk : DrawerSeat) (hand : Hand) : Type 0 where
     pub size : desk.size ≡ plan.size
     pub active : desk.number < f.opened
     pub seat : f.seats desk.number ≡ j
@@ -108,7 +108,7 @@ module _ (plan : Plan) (f : Facts) (j : ℕ) where
     pub answers : desk.answers ≡ answers_by (suc desk.number) f.log
     pub floor : desk.floor ≤ length f.log
 
-  pub record PostOk (post : Post) (palm : Palm) : Type 0 where
+  pub record PostOk (post : GiverSeat) (palm : Palm) : Type 0 where
     pub size : post.size ≡ plan.size
     pub seat : f.giver ≡ j
     pub palm_is : f.palm ≡ palm
@@ -154,12 +154,12 @@ pub record Kept (plan : Plan) (s : State (Option Contents) View) (f : Facts) : T
   pub unmade : (drawer : ℕ) → f.made ≤ drawer → f.hands drawer ≡ nothing
   pub each_seat : (j : ℕ) (v : View) → get_elem? s.views j ≡ some v → Knows plan f j v
 
-abbrev pub Ring : Plan → State (Option Contents) View → Type 0
-Ring plan s = (f : Facts) × Kept plan s f
+abbrev pub RingRule : Plan → State (Option Contents) View → Type 0
+RingRule plan s = (f : Facts) × Kept plan s f
 
 -- the giver's seat before any drawer is made
-abbrev pub first_post : Plan → Post
-first_post plan = record { size = plan.size; spare = plan.allowances; made = 0; closed = []; floor = 0; misses = 0; turns = [] }
+abbrev pub first_giver_seat : Plan → GiverSeat
+first_giver_seat plan = record { size = plan.size; spare = plan.allowances; made = 0; closed = []; floor = 0; misses = 0; turns = [] }
 
 abbrev pub first_view : Plan → View
-first_view plan = giving (first_post plan) bare
+first_view plan = giving (first_giver_seat plan) bare

@@ -11,18 +11,18 @@ use Rattle.hs_words.specs.declared.token.TheConstants.{MAX_PUBLISHED}
 use Rattle.hs_words.specs.declared.token.Given.{Given as Answered}
 use Rattle.hs_words.specs.declared.token.Given.TheVariants as given
 use Rattle.hs_ring.specs.Parts.{Leased, Drawing, Giving, AllBelow}
-use Rattle.hs_ring.specs.Views.{Desk, Hand, nothing, drew, kept, Post, Palm, bare, holds, lays, retakes, View, nobody, drawing, leasing, giving, drawer_note, giver_note, buffer_of, draw_of, desk_of, post_of, post_after, buffer_held, draw_held}
+use Rattle.hs_ring.specs.Views.{DrawerSeat, Hand, nothing, drew, kept, GiverSeat, Palm, bare, holds, lays, retakes, View, nobody, drawing, leasing, giving, drawer_note, giver_note, buffer_of, draw_of, drawer_seat_of, giver_seat_of, giver_seat_after, buffer_held, draw_held}
 
-abbrev pub Place : Type 0
-Place = Seat (Option Contents) View
+abbrev pub PoolSeat : Type 0
+PoolSeat = Seat (Option Contents) View
 
 -- the two are one seat at the same table
 abbrev pub IsSameSeat : {T V : Type 0} → Seat T V → Seat T V → Type 0
 IsSameSeat s t = (t.table_id ≡ s.table_id) × (t.id ≡ s.id)
 
 -- the seat is at this table, which has a word for the counts and a word and a slot for each entry
-abbrev pub IsAt : TableId → Place → Type 0
-IsAt table s = (s.table_id ≡ table) × (table.words ≡ table.slots + 1) × (0 < table.slots) × (table.slots ≤ 2 * MAX_BUFFERS)
+abbrev pub IsSeatAt : TableId → PoolSeat → Type 0
+IsSeatAt table s = (s.table_id ≡ table) × (table.words ≡ table.slots + 1) × (0 < table.slots) × (table.slots ≤ 2 * MAX_BUFFERS)
 
 -- the name of a pool is that of its table
 abbrev pub name_of : TableId → PoolName
@@ -31,10 +31,10 @@ name_of t = t.words ∷ t.slots ∷ t.views_name ∷ t.atom ∷ t.block ∷ t.of
 -- ---- what a view can do next
 
 -- the number that the giver publishes next
-abbrev pub IsNext : ℕ → ℕ → Post → Type 0
+abbrev pub IsNext : ℕ → ℕ → GiverSeat → Type 0
 IsNext entries number post = 2 * number ≡ entries + 2 * length (answers_in post.turns)
 
-abbrev pub HandCanDraw : Desk → Hand → Type 0
+abbrev pub HandCanDraw : DrawerSeat → Hand → Type 0
 HandCanDraw desk nothing = 1 ≤ desk.left
 HandCanDraw desk (drew number buffer stamp) = ⊥
 HandCanDraw desk (kept buffer stamp) = ⊥
@@ -87,21 +87,21 @@ IsLease (giving post palm) = ⊥
 IsLease (drawer_note floor stamps) = ⊥
 IsLease (giver_note floor) = ⊥
 
-abbrev pub IsBare : Palm → Type 0
-IsBare bare = Unit {0}
-IsBare (holds buffer draw) = ⊥
-IsBare (lays buffer draw) = ⊥
-IsBare (retakes buffer draw) = ⊥
+abbrev pub IsPalmBare : Palm → Type 0
+IsPalmBare bare = Unit {0}
+IsPalmBare (holds buffer draw) = ⊥
+IsPalmBare (lays buffer draw) = ⊥
+IsPalmBare (retakes buffer draw) = ⊥
 
 abbrev pub CanTake : View → Type 0
 CanTake nobody = ⊥
 CanTake (drawing desk hand) = ⊥
 CanTake (leasing buffer draw) = ⊥
-CanTake (giving post palm) = IsBare palm
+CanTake (giving post palm) = IsPalmBare palm
 CanTake (drawer_note floor stamps) = ⊥
 CanTake (giver_note floor) = ⊥
 
-abbrev pub PalmCanLay : ℕ → ℕ → Post → Palm → Type 0
+abbrev pub PalmCanLay : ℕ → ℕ → GiverSeat → Palm → Type 0
 PalmCanLay entries number post bare = ⊥
 PalmCanLay entries number post (holds buffer draw) = IsNext entries number post
 PalmCanLay entries number post (lays buffer draw) = ⊥
@@ -115,7 +115,7 @@ CanLay entries number (giving post palm) = PalmCanLay entries number post palm
 CanLay entries number (drawer_note floor stamps) = ⊥
 CanLay entries number (giver_note floor) = ⊥
 
-abbrev pub PalmCanPublish : ℕ → ℕ → Contents → Post → Palm → Type 0
+abbrev pub PalmCanPublish : ℕ → ℕ → Contents → GiverSeat → Palm → Type 0
 PalmCanPublish entries number chunk post bare = ⊥
 PalmCanPublish entries number chunk post (holds buffer draw) = ⊥
 PalmCanPublish entries number chunk post (lays buffer draw) = IsNext entries number post × (chunk ≡ clear_chunk post.size buffer)
@@ -129,7 +129,7 @@ CanPublish entries number chunk (giving post palm) = PalmCanPublish entries numb
 CanPublish entries number chunk (drawer_note floor stamps) = ⊥
 CanPublish entries number chunk (giver_note floor) = ⊥
 
-abbrev pub PalmCanRetake : ℕ → ℕ → Post → Palm → Type 0
+abbrev pub PalmCanRetake : ℕ → ℕ → GiverSeat → Palm → Type 0
 PalmCanRetake entries number post bare = ⊥
 PalmCanRetake entries number post (holds buffer draw) = ⊥
 PalmCanRetake entries number post (lays buffer draw) = ⊥
@@ -145,14 +145,14 @@ CanRetake entries number (giver_note floor) = ⊥
 
 -- ---- between two calls
 
-abbrev pub lease_at : Place → Leased
+abbrev pub lease_at : PoolSeat → Leased
 lease_at s = record { pool = name_of s.table_id; buffer = buffer_of s.me.0; draw = draw_of s.me.0 }
 
-abbrev pub IsLeaseSeat : Place → Type 0
+abbrev pub IsLeaseSeat : PoolSeat → Type 0
 IsLeaseSeat s = s.me ≡ (leasing (buffer_of s.me.0) (draw_of s.me.0), [])
 
 -- what contracts see of a drawer whose seat knows this
-abbrev pub drawing_of : TableId → ℕ → Desk → Drawing
+abbrev pub drawing_of : TableId → ℕ → DrawerSeat → Drawing
 drawing_of table buffers desk =
     record {
       pool = name_of table;
@@ -164,18 +164,18 @@ drawing_of table buffers desk =
       answers = desk.answers;
     }
 
-abbrev pub IsIdle : Place → Type 0
-IsIdle s = s.me ≡ (drawing (desk_of s.me.0) nothing, [])
+abbrev pub IsIdle : PoolSeat → Type 0
+IsIdle s = s.me ≡ (drawing (drawer_seat_of s.me.0) nothing, [])
 
-pub record IsDrawerSeat (table : TableId) (s : Place) (buffers left : ℕ) : Type 0 where
-  pub at : IsAt table s
+pub record IsDrawerSeat (table : TableId) (s : PoolSeat) (buffers left : ℕ) : Type 0 where
+  pub at : IsSeatAt table s
   pub idle : IsIdle s
   pub halves : 2 * buffers ≡ table.slots
-  pub left_is : left ≡ (desk_of s.me.0).left
-  pub above : AllBelow (desk_of s.me.0).floor (desk_of s.me.0).answers
+  pub left_is : left ≡ (drawer_seat_of s.me.0).left
+  pub above : AllBelow (drawer_seat_of s.me.0).floor (drawer_seat_of s.me.0).answers
 
 -- what contracts see of a giver whose seat knows this
-abbrev pub giving_of : TableId → ℕ → Post → Giving
+abbrev pub giving_of : TableId → ℕ → GiverSeat → Giving
 giving_of table buffers post =
     record {
       pool = name_of table;
@@ -186,40 +186,40 @@ giving_of table buffers post =
       turns = post.turns;
     }
 
-abbrev pub IsFree : Place → Type 0
-IsFree s = s.me ≡ (giving (post_of s.me.0) bare, [])
+abbrev pub IsFree : PoolSeat → Type 0
+IsFree s = s.me ≡ (giving (giver_seat_of s.me.0) bare, [])
 
-pub record IsGiverSeat (table : TableId) (s : Place) (buffers published : ℕ) : Type 0 where
-  pub at : IsAt table s
+pub record IsGiverSeat (table : TableId) (s : PoolSeat) (buffers published : ℕ) : Type 0 where
+  pub at : IsSeatAt table s
   pub free : IsFree s
   pub halves : 2 * buffers ≡ table.slots
-  pub published_is : published ≡ buffers + length (answers_in (post_of s.me.0).turns)
-  pub none_closed : (post_of s.me.0).closed ≡ []
+  pub published_is : published ≡ buffers + length (answers_in (giver_seat_of s.me.0).turns)
+  pub none_closed : (giver_seat_of s.me.0).closed ≡ []
   -- the counts are far from their type's end
   pub few : published ≤ MAX_PUBLISHED
-  pub few_misses : (post_of s.me.0).misses ≤ MAX_PUBLISHED
-  pub above : AllBelow (post_of s.me.0).floor (answers_in (post_of s.me.0).turns)
+  pub few_misses : (giver_seat_of s.me.0).misses ≤ MAX_PUBLISHED
+  pub above : AllBelow (giver_seat_of s.me.0).floor (answers_in (giver_seat_of s.me.0).turns)
 
 -- ---- in the middle of a give
 
-abbrev pub IsLaying : Place → ℕ → Type 0
-IsLaying s entry = s.me ≡ (giving (post_of s.me.0) (lays (buffer_held s.me.0) (draw_held s.me.0)), (entry, None) ∷ [])
+abbrev pub IsLaying : PoolSeat → ℕ → Type 0
+IsLaying s entry = s.me ≡ (giving (giver_seat_of s.me.0) (lays (buffer_held s.me.0) (draw_held s.me.0)), (entry, None) ∷ [])
 
-abbrev pub lease_held_at : Place → Leased
+abbrev pub lease_held_at : PoolSeat → Leased
 lease_held_at s = record { pool = name_of s.table_id; buffer = buffer_held s.me.0; draw = draw_held s.me.0 }
 
--- what the giver's post is after an answer
-abbrev pub given_post : View → ℕ → Post
-given_post v stamp = post_after (post_of v) (answered (record { stamp = stamp; event = Given (buffer_held v); draw = draw_held v })) (suc stamp) (post_of v).misses
+-- what the giver's seat is after an answer
+abbrev pub given_giver_seat : View → ℕ → GiverSeat
+given_giver_seat v stamp = giver_seat_after (giver_seat_of v) (answered (record { stamp = stamp; event = Given (buffer_held v); draw = draw_held v })) (suc stamp) (giver_seat_of v).misses
 
-abbrev pub missed_post : View → ℕ → Post
-missed_post v stamp = post_after (post_of v) (answered (record { stamp = stamp; event = Missed; draw = 0 })) (suc stamp) (suc (post_of v).misses)
+abbrev pub missed_giver_seat : View → ℕ → GiverSeat
+missed_giver_seat v stamp = giver_seat_after (giver_seat_of v) (answered (record { stamp = stamp; event = Missed; draw = 0 })) (suc stamp) (suc (giver_seat_of v).misses)
 
 -- a chunk that was laid is given, or comes back
-abbrev pub Publishes : {g : _} → Place → Contents → Answered Leased g → Place → Type 0
-Publishes old chunk (given.Given stamp) new = (new.me ≡ (giving (given_post old.me.0 stamp) bare, [])) × ((post_of old.me.0).floor ≤ stamp) × (draw_held old.me.0 < stamp)
+abbrev pub Publishes : {g : _} → PoolSeat → Contents → Answered Leased g → PoolSeat → Type 0
+Publishes old chunk (given.Given stamp) new = (new.me ≡ (giving (given_giver_seat old.me.0 stamp) bare, [])) × ((giver_seat_of old.me.0).floor ≤ stamp) × (draw_held old.me.0 < stamp)
 Publishes old chunk (given.Missed back stamp) new =
-    (new.me ≡ (giving (missed_post old.me.0 stamp) bare, [])) × ((post_of old.me.0).floor ≤ stamp) × (back.chunk ≡ chunk) × (back.lease ≡ lease_held_at old)
+    (new.me ≡ (giving (missed_giver_seat old.me.0 stamp) bare, [])) × ((giver_seat_of old.me.0).floor ≤ stamp) × (back.chunk ≡ chunk) × (back.lease ≡ lease_held_at old)
 Publishes old chunk (given.Unread back) new = ⊥
 
 -- the counts of a giver after an answer

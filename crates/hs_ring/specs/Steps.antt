@@ -5,7 +5,7 @@ use Rattle.hs_ring.specs.declared.board.TheConstants.{PUBLISHED}
 use Rattle.hs_words.specs.Chunks.{Contents, clear_chunk}
 use Rattle.hs_words.specs.PoolHistory.{is_missed, is_empty}
 use Rattle.hs_words.specs.Ends.{Deed, events_of, drawn_in, given_in, answers_in, IsTogether}
-use Rattle.hs_ring.specs.Views.{Post, View, giving, desk_of, post_of, having_got, having_missed_out, having_collected, having_laid, having_unread, having_given, having_missed, having_retaken, draw_held, floor_of}
+use Rattle.hs_ring.specs.Views.{GiverSeat, View, giving, drawer_seat_of, giver_seat_of, having_got, having_missed_out, having_collected, having_laid, having_unread, having_given, having_missed, having_retaken, draw_held, floor_of}
 
 abbrev pub Seated : Type 0
 Seated = Me (Option Contents) View
@@ -25,7 +25,7 @@ abbrev pub did_draw : Step (Option Contents) → Seated → ℕ → Seated → T
 did_draw st m found m' =
     (stamp : ℕ) × IsStamp st.slots found stamp × (floor_of m.0 ≤ stamp)
     × (drawn_of found < published_of found → (buffer : ℕ)
-    × (m' ≡ (having_got m.0 (drawn_of found) buffer stamp, (drawn_of found % st.slots, Some (clear_chunk (desk_of m.0).size buffer)) ∷ m.1)))
+    × (m' ≡ (having_got m.0 (drawn_of found) buffer stamp, (drawn_of found % st.slots, Some (clear_chunk (drawer_seat_of m.0).size buffer)) ∷ m.1)))
     × (published_of found ≤ drawn_of found → m' ≡ (having_missed_out m.0 stamp, m.1))
 
 abbrev pub did_collect : Step (Option Contents) → Seated → ℕ → Seated → Type 0
@@ -37,7 +37,7 @@ did_lay st m found m' = (found ≡ 0 → m' ≡ (having_laid m.0, (st.word - 1, 
 abbrev pub did_publish : Step (Option Contents) → Seated → ℕ → Seated → Type 0
 did_publish st m found m' =
     (stamp : ℕ) × IsStamp st.slots found stamp × (floor_of m.0 ≤ stamp) × (draw_held m.0 < stamp)
-    × (2 * published_of found ≡ st.slots + 2 * length (answers_in (post_of m.0).turns)) × ((post_of m.0).misses ≤ published_of found)
+    × (2 * published_of found ≡ st.slots + 2 * length (answers_in (giver_seat_of m.0).turns)) × ((giver_seat_of m.0).misses ≤ published_of found)
     × (drawn_of found ≤ published_of found → m' ≡ (having_given m.0 stamp, rest m.1))
     × (published_of found < drawn_of found → m' ≡ (having_missed m.0 stamp, m.1))
 
@@ -45,7 +45,7 @@ abbrev pub did_retake : Step (Option Contents) → Seated → ℕ → Seated →
 did_retake st m found m' = m' ≡ (having_retaken m.0, rest m.1)
 
 -- What is known when all drawers were closed: the deeds of all ends, and the counts.
-pub record IsOver (entries word : ℕ) (post : Post) (n : ℕ) (log : List Deed) : Type 0 where
+pub record IsOver (entries word : ℕ) (post : GiverSeat) (n : ℕ) (log : List Deed) : Type 0 where
   pub buffers : 2 * n ≡ entries
   pub together : IsTogether n post.turns post.closed log
   pub drawn : drawn_of word ≡ drawn_in log

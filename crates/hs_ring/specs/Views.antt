@@ -2,11 +2,11 @@
 -- has left, its floor, which is above every stamp that it knows, and its answers. The giver's seat knows its turns beside
 -- its floor. A lease is a seat of its own, and so is a note that one end hands to another when they meet.
 use Rattle.std.specs.Prelude.{◌≡◌, ℕ, suc, ◌+◌, ◌-◌, List, [], ◌∷◌, max}
-use Rattle.hs_words.specs.PoolHistory.{Event, Got, Empty, Given, Missed}
-use Rattle.hs_words.specs.Ends.{Answer, Turn, answered, unread, met, stamps_in}
+use Rattle.hs_words.specs.PoolHistory.{PoolEvent, Got, Empty, Given, Missed}
+use Rattle.hs_words.specs.Ends.{Answer, GiverTurn, answered, unread, met, stamps_in}
 use Rattle.hs_words.specs.Plans.{first_of, rest_of, total}
 
-pub record Desk : Type 0 where
+pub record DrawerSeat : Type 0 where
   pub size : ℕ
   pub number : ℕ
   pub left : ℕ
@@ -20,14 +20,14 @@ pub data Hand : Type 0 where
   kept : ℕ → ℕ → Hand
 
 -- the allowances that no drawer has yet, the drawers that were made, the answers of those that were closed, and the misses
-pub record Post : Type 0 where
+pub record GiverSeat : Type 0 where
   pub size : ℕ
   pub spare : List ℕ
   pub made : ℕ
   pub closed : List (List Answer)
   pub floor : ℕ
   pub misses : ℕ
-  pub turns : List Turn
+  pub turns : List GiverTurn
 
 -- what the giver has in hand: a buffer with the stamp of the draw that got it; the same while it lies in an entry
 pub data Palm : Type 0 where
@@ -38,21 +38,21 @@ pub data Palm : Type 0 where
 
 pub data View : Type 0 where
   nobody : View
-  drawing : Desk → Hand → View
+  drawing : DrawerSeat → Hand → View
   leasing : ℕ → ℕ → View
-  giving : Post → Palm → View
+  giving : GiverSeat → Palm → View
   drawer_note : ℕ → List ℕ → View
   giver_note : ℕ → View
 
 -- ---- parts
 
-abbrev pub desk_of : View → Desk
-desk_of (drawing desk hand) = desk
-desk_of _ = record { size = 0; number = 0; left = 0; floor = 0; answers = [] }
+abbrev pub drawer_seat_of : View → DrawerSeat
+drawer_seat_of (drawing desk hand) = desk
+drawer_seat_of _ = record { size = 0; number = 0; left = 0; floor = 0; answers = [] }
 
-abbrev pub post_of : View → Post
-post_of (giving post palm) = post
-post_of _ = record { size = 0; spare = []; made = 0; closed = []; floor = 0; misses = 0; turns = [] }
+abbrev pub giver_seat_of : View → GiverSeat
+giver_seat_of (giving post palm) = post
+giver_seat_of _ = record { size = 0; spare = []; made = 0; closed = []; floor = 0; misses = 0; turns = [] }
 
 -- the buffer and the stamp of a lease
 abbrev pub buffer_of : View → ℕ
@@ -65,8 +65,8 @@ draw_of _ = 0
 
 -- ---- after a draw
 
-abbrev pub desk_after : Desk → ℕ → Event → Desk
-desk_after desk stamp event =
+abbrev pub drawer_seat_after : DrawerSeat → ℕ → PoolEvent → DrawerSeat
+drawer_seat_after desk stamp event =
     record {
       size = desk.size;
       number = desk.number;
@@ -76,11 +76,11 @@ desk_after desk stamp event =
     }
 
 abbrev pub having_got : View → ℕ → ℕ → ℕ → View
-having_got (drawing desk hand) number buffer stamp = drawing (desk_after desk stamp (Got buffer)) (drew number buffer stamp)
+having_got (drawing desk hand) number buffer stamp = drawing (drawer_seat_after desk stamp (Got buffer)) (drew number buffer stamp)
 having_got view number buffer stamp = view
 
 abbrev pub having_missed_out : View → ℕ → View
-having_missed_out (drawing desk hand) stamp = drawing (desk_after desk stamp Empty) nothing
+having_missed_out (drawing desk hand) stamp = drawing (drawer_seat_after desk stamp Empty) nothing
 having_missed_out view stamp = view
 
 abbrev pub keeping : Hand → Hand
@@ -117,8 +117,8 @@ with_lease view other = view
 
 -- ---- after a give
 
-abbrev pub post_after : Post → Turn → ℕ → ℕ → Post
-post_after post turn floor misses =
+abbrev pub giver_seat_after : GiverSeat → GiverTurn → ℕ → ℕ → GiverSeat
+giver_seat_after post turn floor misses =
     record {
       size = post.size;
       spare = post.spare;
@@ -138,7 +138,7 @@ having_laid (giving post palm) = giving post (laying palm)
 having_laid view = view
 
 abbrev pub having_unread : View → View
-having_unread (giving post palm) = giving (post_after post unread post.floor post.misses) palm
+having_unread (giving post palm) = giving (giver_seat_after post unread post.floor post.misses) palm
 having_unread view = view
 
 abbrev pub given_answer : Palm → ℕ → Answer
@@ -146,7 +146,7 @@ given_answer (lays buffer draw) stamp = record { stamp = stamp; event = Given bu
 given_answer palm stamp = record { stamp = stamp; event = Missed; draw = 0 }
 
 abbrev pub having_given : View → ℕ → View
-having_given (giving post palm) stamp = giving (post_after post (answered (given_answer palm stamp)) (suc stamp) post.misses) bare
+having_given (giving post palm) stamp = giving (giver_seat_after post (answered (given_answer palm stamp)) (suc stamp) post.misses) bare
 having_given view stamp = view
 
 abbrev pub retaking : Palm → Palm
@@ -157,7 +157,7 @@ abbrev pub missed_answer : ℕ → Answer
 missed_answer stamp = record { stamp = stamp; event = Missed; draw = 0 }
 
 abbrev pub having_missed : View → ℕ → View
-having_missed (giving post palm) stamp = giving (post_after post (answered (missed_answer stamp)) (suc stamp) (suc post.misses)) (retaking palm)
+having_missed (giving post palm) stamp = giving (giver_seat_after post (answered (missed_answer stamp)) (suc stamp) (suc post.misses)) (retaking palm)
 having_missed view stamp = view
 
 abbrev pub retaken : Palm → Palm
@@ -228,7 +228,7 @@ note_of view = nobody
 
 abbrev pub having_heard : View → View → View
 having_heard (drawing desk hand) (giver_note floor) = drawing (record { size = desk.size; number = desk.number; left = desk.left; floor = max desk.floor floor; answers = desk.answers }) hand
-having_heard (giving post palm) (drawer_note floor stamps) = giving (post_after post (met stamps) (max post.floor floor) post.misses) palm
+having_heard (giving post palm) (drawer_note floor stamps) = giving (giver_seat_after post (met stamps) (max post.floor floor) post.misses) palm
 having_heard view note = view
 
 -- ---- drawers are made and closed

@@ -43,9 +43,9 @@ impl Model for View {
 pub struct Law;
 
 impl TableRule<Option<Chunk>, View, Plan> for Law {
-    ghost use Rattle.hs_ring.specs.Rule.{Ring, first_view};
+    ghost use Rattle.hs_ring.specs.Rule.{RingRule, first_view};
 
-    ghost holds = { Ring };
+    ghost holds = { RingRule };
 
     ghost first = { first_view };
 }

@@ -1,11 +1,11 @@
 //! How a ring is closed.
 ghost use Rattle.std.specs.Prelude.{◌≡◌, ℕ, suc, ◌+◌, ◌*◌, ◌-◌, ◌^◌, ◌≤◌, ◌<◌, [], length};
 ghost use Rattle.std.specs.List.{AllByRecursion};
-ghost use Rattle.hs_ring.specs.Views.{post_of};
+ghost use Rattle.hs_ring.specs.Views.{giver_seat_of};
 ghost use Rattle.hs_ring.specs.Parts.{AreInOrder, AreAllEnds, Closes, answers_of_all};
-ghost use Rattle.hs_ring.specs.Seats.{IsAt, IsFree, IsSameSeat, name_of};
+ghost use Rattle.hs_ring.specs.Seats.{IsSeatAt, IsFree, IsSameSeat, name_of};
 ghost use Rattle.hs_words.specs.Ends.{IsTogether, Counts as Counted};
-ghost use Rattle.hs_ring.specs.Making.{closed_post};
+ghost use Rattle.hs_ring.specs.Making.{closed_giver_seat};
 
 use crate::board::{Entries, Place};
 use crate::counts::Counts;
@@ -18,14 +18,14 @@ use hs_words::{Held, Tally};
 
 /// Takes the drawers in, the last first.
 fn close_drawers(entries: &Entries, place: &mut Place, mut drawers: List<Drawer>)
-    requires at { IsAt entries.now.table_id place.old }
+    requires at { IsSeatAt entries.now.table_id place.old }
     requires free { IsFree place.old }
     requires order { AreInOrder (name_of entries.now.table_id) 0 drawers.items }
-    requires all { length drawers.items ≡ (post_of place.old.me.0).made }
-    requires none_closed { (post_of place.old.me.0).closed ≡ [] }
+    requires all { length drawers.items ≡ (giver_seat_of place.old.me.0).made }
+    requires none_closed { (giver_seat_of place.old.me.0).closed ≡ [] }
     ensures seat { IsSameSeat place.old place.new }
     ensures free { IsFree place.new }
-    ensures closed { post_of place.new.me.0 ≡ closed_post (post_of place.old.me.0) (answers_of_all drawers.items) }
+    ensures closed { giver_seat_of place.new.me.0 ≡ closed_giver_seat (giver_seat_of place.old.me.0) (answers_of_all drawers.items) }
 {
     while let Some(drawer) = drawers.pop() {
         let Drawer {
@@ -59,12 +59,12 @@ fn tally_of(counts: Counts, buffers: u32, misses: u64) -> Tally
 
 /// The tally of a ring whose drawers were taken in.
 fn count(entries: &Entries, place: &mut Place, buffers: u32, misses: u64) -> Tally
-    requires at { IsAt entries.now.table_id place.old }
+    requires at { IsSeatAt entries.now.table_id place.old }
     requires free { IsFree place.old }
     requires halves { 2 * buffers ≡ entries.now.table_id.slots }
-    requires misses { misses ≡ (post_of place.old.me.0).misses }
-    requires all { (post_of place.old.me.0).made ≡ length (post_of place.old.me.0).closed }
-    ensures { (log : _) × IsTogether buffers (post_of place.old.me.0).turns (post_of place.old.me.0).closed log × Counted log result }
+    requires misses { misses ≡ (giver_seat_of place.old.me.0).misses }
+    requires all { (giver_seat_of place.old.me.0).made ≡ length (giver_seat_of place.old.me.0).closed }
+    ensures { (log : _) × IsTogether buffers (giver_seat_of place.old.me.0).turns (giver_seat_of place.old.me.0).closed log × Counted log result }
 {
     let counts = Counts::of(entries.load::<Look>(place, 0));
     tally_of(counts, buffers, misses)

@@ -1,6 +1,6 @@
 //! The end that draws.
 ghost use Rattle.std.specs.Prelude.{◌≡◌, ◌+◌, ◌-◌, ◌*◌, ◌<◌, ◌≤◌};
-ghost use Rattle.hs_ring.specs.Views.{desk_of};
+ghost use Rattle.hs_ring.specs.Views.{drawer_seat_of};
 ghost use Rattle.hs_ring.specs.Parts.{Draws};
 ghost use Rattle.hs_ring.specs.Seats.{IsDrawerSeat, IsSameSeat, drawing_of};
 
@@ -30,10 +30,10 @@ impl Model for Drawer {
 
     ghost Value = { Drawing };
 
-    ghost use Rattle.hs_ring.specs.Views.{desk_of};
+    ghost use Rattle.hs_ring.specs.Views.{drawer_seat_of};
     ghost use Rattle.hs_ring.specs.Seats.{drawing_of, IsDrawerSeat};
 
-    ghost view = { λ s. drawing_of s.place.table_id s.buffers (desk_of s.place.me.0) };
+    ghost view = { λ s. drawing_of s.place.table_id s.buffers (drawer_seat_of s.place.me.0) };
 
     ghost invariant = { λ s. IsDrawerSeat (arc_value s.board).shared.table_id s.place s.buffers s.left };
 }
@@ -44,7 +44,7 @@ fn draw_from(entries: &Entries, place: &mut Place, buffers: u32, left: u32) -> D
     requires left { 1 ≤ left }
     ensures same { IsSameSeat place.old place.new }
     ensures seat { IsDrawerSeat entries.now.table_id place.new buffers (left - 1) }
-    ensures drawn { Draws (drawing_of place.old.table_id buffers (desk_of place.old.me.0)) result (drawing_of place.new.table_id buffers (desk_of place.new.me.0)) }
+    ensures drawn { Draws (drawing_of place.old.table_id buffers (drawer_seat_of place.old.me.0)) result (drawing_of place.new.table_id buffers (drawer_seat_of place.new.me.0)) }
 {
     let counts = Counts::of(draw_number(entries, place));
     let stamp = counts.stamp(buffers);

@@ -3,9 +3,9 @@ ghost use Rattle.std.specs.Prelude.{◌≡◌, ℕ, ◌+◌, ◌*◌, ◌%◌, �
 ghost use Rattle.hs_words.specs.Chunks.{clear_chunk};
 ghost use Rattle.hs_words.specs.Ends.{answers_in};
 ghost use Rattle.hs_words.specs.declared.token.TheConstants.{MAX_PUBLISHED};
-ghost use Rattle.hs_ring.specs.Views.{desk_of, post_of, buffer_held, note_of, having_heard};
+ghost use Rattle.hs_ring.specs.Views.{drawer_seat_of, giver_seat_of, buffer_held, note_of, having_heard};
 ghost use Rattle.hs_ring.specs.Parts.{Gives, Meets};
-ghost use Rattle.hs_ring.specs.Seats.{IsAt, IsIdle, IsFree, IsGiverSeat, IsSameSeat, IsNext, IsLaying, Publishes, published_after, misses_after, giving_of, drawing_of, name_of};
+ghost use Rattle.hs_ring.specs.Seats.{IsSeatAt, IsIdle, IsFree, IsGiverSeat, IsSameSeat, IsNext, IsLaying, Publishes, published_after, misses_after, giving_of, drawing_of, name_of};
 
 use crate::board::{Board, Entries, Place};
 use crate::counts::{Counts, entry_of};
@@ -37,12 +37,12 @@ impl Model for Giver {
     ghost Value = { Giving };
 
     ghost use Rattle.std.specs.Prelude.{◌≡◌};
-    ghost use Rattle.hs_ring.specs.Views.{post_of};
+    ghost use Rattle.hs_ring.specs.Views.{giver_seat_of};
     ghost use Rattle.hs_ring.specs.Seats.{giving_of, IsGiverSeat};
 
-    ghost view = { λ s. giving_of s.place.table_id s.buffers (post_of s.place.me.0) };
+    ghost view = { λ s. giving_of s.place.table_id s.buffers (giver_seat_of s.place.me.0) };
 
-    ghost invariant = { λ s. IsGiverSeat (arc_value s.board).shared.table_id s.place s.buffers s.published × (s.misses ≡ (post_of s.place.me.0).misses) };
+    ghost invariant = { λ s. IsGiverSeat (arc_value s.board).shared.table_id s.place s.buffers s.published × (s.misses ≡ (giver_seat_of s.place.me.0).misses) };
 }
 
 /// Publishes the number of a chunk that was laid, or takes the chunk out again where the number was drawn before.
@@ -53,15 +53,15 @@ fn publish_or_retake(
     entry: usize,
     chunk: Chunk,
 ) -> Given<Lease>
-    requires at { IsAt entries.now.table_id place.old }
+    requires at { IsSeatAt entries.now.table_id place.old }
     requires laid { IsLaying place.old entry }
-    requires chunk { chunk ≡ clear_chunk (post_of place.old.me.0).size (buffer_held place.old.me.0) }
-    requires next { (number : ℕ) × IsNext entries.now.table_id.slots number (post_of place.old.me.0) × (entry ≡ number % entries.now.table_id.slots) }
+    requires chunk { chunk ≡ clear_chunk (giver_seat_of place.old.me.0).size (buffer_held place.old.me.0) }
+    requires next { (number : ℕ) × IsNext entries.now.table_id.slots number (giver_seat_of place.old.me.0) × (entry ≡ number % entries.now.table_id.slots) }
     requires halves { 2 * buffers ≡ entries.now.table_id.slots }
     ensures same { IsSameSeat place.old place.new }
     ensures published { Publishes place.old chunk result place.new }
-    ensures few { (number : ℕ) → IsNext entries.now.table_id.slots number (post_of place.old.me.0) → number < MAX_PUBLISHED }
-    ensures misses { (post_of place.old.me.0).misses < MAX_PUBLISHED }
+    ensures few { (number : ℕ) → IsNext entries.now.table_id.slots number (giver_seat_of place.old.me.0) → number < MAX_PUBLISHED }
+    ensures misses { (giver_seat_of place.old.me.0).misses < MAX_PUBLISHED }
 {
     let counts = Counts::of(publish(entries, place, entry, chunk));
     let stamp = counts.stamp(buffers);
@@ -88,11 +88,11 @@ fn give_to(
 ) -> Given<Lease>
     requires seat { IsGiverSeat entries.now.table_id place.old buffers number }
     requires pool { held.lease.pool ≡ name_of entries.now.table_id }
-    requires size { held.chunk.size ≡ (post_of place.old.me.0).size }
+    requires size { held.chunk.size ≡ (giver_seat_of place.old.me.0).size }
     ensures same { IsSameSeat place.old place.new }
     ensures seat { IsGiverSeat entries.now.table_id place.new buffers (published_after number result) }
-    ensures misses { (post_of place.new.me.0).misses ≡ misses_after (post_of place.old.me.0).misses result }
-    ensures given { Gives (giving_of place.old.table_id buffers (post_of place.old.me.0)) held result (giving_of place.new.table_id buffers (post_of place.new.me.0)) }
+    ensures misses { (giver_seat_of place.new.me.0).misses ≡ misses_after (giver_seat_of place.old.me.0).misses result }
+    ensures given { Gives (giving_of place.old.table_id buffers (giver_seat_of place.old.me.0)) held result (giving_of place.new.table_id buffers (giver_seat_of place.new.me.0)) }
 {
     let Held { mut chunk, lease } = held;
     let Lease { place: lease } = lease;
@@ -112,8 +112,8 @@ fn give_to(
 
 /// Each of two ends hears of what the other knows.
 fn meet_at(entries: &Entries, giver: &mut Place, drawer: &mut Place)
-    requires giver { IsAt entries.now.table_id giver.old × IsFree giver.old }
-    requires drawer { IsAt entries.now.table_id drawer.old × IsIdle drawer.old }
+    requires giver { IsSeatAt entries.now.table_id giver.old × IsFree giver.old }
+    requires drawer { IsSeatAt entries.now.table_id drawer.old × IsIdle drawer.old }
     ensures giver { IsSameSeat giver.old giver.new × (giver.new.me ≡ (having_heard giver.old.me.0 (note_of drawer.old.me.0), [])) }
     ensures drawer { IsSameSeat drawer.old drawer.new × (drawer.new.me ≡ (having_heard drawer.old.me.0 (note_of giver.old.me.0), [])) }
 {

@@ -3,9 +3,9 @@ ghost use Rattle.std.specs.Prelude.{◌≡◌, ℕ, ◌+◌, ◌*◌, ◌^◌, �
 ghost use Rattle.std.specs.Arc.{arc_value};
 ghost use Rattle.hs_base.specs.declared.limits.TheConstants.{MAX_BUFFERS, MAX_OPERATIONS};
 ghost use Rattle.hs_words.specs.Chunks.{clear_chunks};
-ghost use Rattle.hs_ring.specs.Views.{post_of};
+ghost use Rattle.hs_ring.specs.Views.{giver_seat_of};
 ghost use Rattle.hs_ring.specs.Parts.{AreNewEnds, new_drawers};
-ghost use Rattle.hs_ring.specs.Seats.{IsAt, name_of};
+ghost use Rattle.hs_ring.specs.Seats.{IsSeatAt, name_of};
 ghost use Rattle.hs_ring.specs.Making.{first_words, first_slots, IsMaking};
 
 use crate::board::{Board, PUBLISHED, Place, Plan};
@@ -92,10 +92,10 @@ fn drawers_of(
     buffers: u32,
     allowances: &[u32],
 ) -> Result<List<Drawer>, Memory>
-    requires making { IsMaking (arc_value board.now).shared.table_id place.old (post_of place.old.me.0).size 0 allowances.now }
+    requires making { IsMaking (arc_value board.now).shared.table_id place.old (giver_seat_of place.old.me.0).size 0 allowances.now }
     requires halves { 2 * buffers ≡ (arc_value board.now).shared.table_id.slots }
-    ensures making { IfOk result (λ _. IsMaking (arc_value board.now).shared.table_id place.new (post_of place.old.me.0).size (length allowances.now) []) }
-    ensures drawers { IfOk result (λ drawers. drawers.items ≡ new_drawers (name_of (arc_value board.now).shared.table_id) buffers (post_of place.old.me.0).size 0 allowances.now) }
+    ensures making { IfOk result (λ _. IsMaking (arc_value board.now).shared.table_id place.new (giver_seat_of place.old.me.0).size (length allowances.now) []) }
+    ensures drawers { IfOk result (λ drawers. drawers.items ≡ new_drawers (name_of (arc_value board.now).shared.table_id) buffers (giver_seat_of place.old.me.0).size 0 allowances.now) }
 {
     let mut drawers = List::with_room(alloc, allowances.len())?;
     for left in allowances {

@@ -4,7 +4,7 @@ ghost use mathlib.Core.Option.{none};
 ghost use Rattle.atomic_table.specs.Table.{step};
 ghost use Rattle.hs_ring.specs.Views.{having_collected, having_laid, having_unread, having_retaken, lease_of, without_lease, with_lease};
 ghost use Rattle.hs_ring.specs.Steps.{did_draw, did_publish};
-ghost use Rattle.hs_ring.specs.Seats.{IsAt, IsSameSeat, CanDraw, CanCollect, CanLease, CanTake, IsLease, CanLay, CanPublish, CanRetake};
+ghost use Rattle.hs_ring.specs.Seats.{IsSeatAt, IsSameSeat, CanDraw, CanCollect, CanLease, CanTake, IsLease, CanLay, CanPublish, CanRetake};
 
 use crate::board::{Entries, PUBLISHED, Place};
 use crate::plays::{Collect, DrawNumber, Lay, MakeLease, Publish, Retake, TakeLease};
@@ -12,7 +12,7 @@ use hs_words::Chunk;
 
 /// Draws a number. Its word is answered as the step found it.
 pub fn draw_number(entries: &Entries, place: &mut Place) -> u64
-    requires seat { IsAt entries.now.table_id place.old }
+    requires seat { IsSeatAt entries.now.table_id place.old }
     requires can { CanDraw place.old.me.0 }
     ensures seat { IsSameSeat place.old place.new }
     ensures did { did_draw (step entries.now.table_id.slots 0 1 0 none) place.old.me result place.new.me }
@@ -22,7 +22,7 @@ pub fn draw_number(entries: &Entries, place: &mut Place) -> u64
 
 /// Takes the chunk of a number that was drawn out of its entry.
 pub fn collect(entries: &Entries, place: &mut Place, entry: usize) -> Chunk
-    requires seat { IsAt entries.now.table_id place.old }
+    requires seat { IsSeatAt entries.now.table_id place.old }
     requires can { CanCollect entries.now.table_id.slots entry place.old.me.0 }
     requires low { entry < entries.now.table_id.slots }
     requires chunk { (chunk : _) × (place.old.me.1 ≡ (entry, Some chunk) ∷ []) }
@@ -40,7 +40,7 @@ pub fn collect(entries: &Entries, place: &mut Place, entry: usize) -> Chunk
 
 /// Makes a lease of the buffer that the seat has.
 pub fn make_lease(entries: &Entries, place: &mut Place) -> Place
-    requires seat { IsAt entries.now.table_id place.old }
+    requires seat { IsSeatAt entries.now.table_id place.old }
     requires can { CanLease place.old.me.0 }
     ensures seat { IsSameSeat place.old place.new }
     ensures did { place.new.me ≡ (without_lease place.old.me.0, place.old.me.1) }
@@ -51,9 +51,9 @@ pub fn make_lease(entries: &Entries, place: &mut Place) -> Place
 
 /// Takes a lease back.
 pub fn take_lease(entries: &Entries, place: &mut Place, lease: Place)
-    requires seat { IsAt entries.now.table_id place.old }
+    requires seat { IsSeatAt entries.now.table_id place.old }
     requires can { CanTake place.old.me.0 }
-    requires lease { IsAt entries.now.table_id lease × IsLease lease.me.0 × (lease.me.1 ≡ []) }
+    requires lease { IsSeatAt entries.now.table_id lease × IsLease lease.me.0 × (lease.me.1 ≡ []) }
     ensures seat { IsSameSeat place.old place.new }
     ensures did { place.new.me ≡ (with_lease place.old.me.0 lease.me.0, place.old.me.1) }
 {
@@ -62,7 +62,7 @@ pub fn take_lease(entries: &Entries, place: &mut Place, lease: Place)
 
 /// Lays a number at its entry, and answers whether it could.
 pub fn lay(entries: &Entries, place: &mut Place, entry: usize, number: u64) -> bool
-    requires seat { IsAt entries.now.table_id place.old }
+    requires seat { IsSeatAt entries.now.table_id place.old }
     requires can { CanLay entries.now.table_id.slots number place.old.me.0 }
     requires entry { entry ≡ number % entries.now.table_id.slots }
     requires low { entry < entries.now.table_id.slots }
@@ -77,7 +77,7 @@ pub fn lay(entries: &Entries, place: &mut Place, entry: usize, number: u64) -> b
 
 /// Puts the chunk at the entry that was laid, and publishes its number. The word is answered as the step found it.
 pub fn publish(entries: &Entries, place: &mut Place, entry: usize, chunk: Chunk) -> u64
-    requires seat { IsAt entries.now.table_id place.old }
+    requires seat { IsSeatAt entries.now.table_id place.old }
     requires can { (number : ℕ) × CanPublish entries.now.table_id.slots number chunk place.old.me.0 × (entry ≡ number % entries.now.table_id.slots) }
     requires slot { place.old.me.1 ≡ (entry, None) ∷ [] }
     ensures seat { IsSameSeat place.old place.new }
@@ -92,7 +92,7 @@ pub fn publish(entries: &Entries, place: &mut Place, entry: usize, chunk: Chunk)
 
 /// Takes the chunk out of the entry again, whose number was void.
 pub fn retake(entries: &Entries, place: &mut Place, entry: usize) -> Chunk
-    requires seat { IsAt entries.now.table_id place.old }
+    requires seat { IsSeatAt entries.now.table_id place.old }
     requires can { (number : ℕ) × CanRetake entries.now.table_id.slots number place.old.me.0 × (entry ≡ number % entries.now.table_id.slots) }
     requires low { entry < entries.now.table_id.slots }
     requires chunk { (chunk : _) × (place.old.me.1 ≡ (entry, Some chunk) ∷ []) }

@@ -13,24 +13,24 @@ use Rattle.hs_records.specs.Plain.{Operation, PlainSettings, PlainWorkload, sett
 use Rattle.hs_law_sends.specs.Sending.{operations_at, place_of}
 use Rattle.hs_workload.specs.declared.operation.Op.{Op}
 use Rattle.hs_workload.specs.Views.{operations_of}
-use Rattle.hs_run_client.specs.Calling.{Calling}
-use Rattle.hs_run_client.specs.Standing.{IsAt, Goes, IsFlushed}
-use Rattle.hs_run_agent.specs.Manned.{EachReceives}
-use Rattle.hs_run_agent.specs.Work.{Work, IsFew, with_events}
-use Rattle.hs_run_story.specs.Standing.{Site, SiteStands}
-use Rattle.hs_run_story.specs.Acting.{SiteActs}
+use Rattle.hs_run_client.specs.ClientActors.{PlainClientActor}
+use Rattle.hs_run_client.specs.Standing.{ClientActorIsAt, Goes, IsFlushed}
+use Rattle.hs_run_agent.specs.AgentActors.{EachReceives}
+use Rattle.hs_run_agent.specs.Work.{NodeWork, IsFew, with_events}
+use Rattle.hs_run_story.specs.RunStates.{PlainNodeActors, NodeActorsStand}
+use Rattle.hs_run_story.specs.Acting.{NodeActorsAct}
 use Rattle.hs_run.specs.Going.{AllMayGo, AllHaveGone}
 use Rattle.hs_run.specs.Sites.{AreClients, HasPassed, HasActed}
 
-pub may_go : (W : PlainWorkload) (node : ℕ) (work : Work) (settings : Settings) (lists : List (Listing Op)) (site : Site) → SiteStands W node work site → AreClients W node settings lists
+pub may_go : (W : PlainWorkload) (node : ℕ) (work : NodeWork) (settings : Settings) (lists : List (Listing Op)) (site : PlainNodeActors) → NodeActorsStand W node work site → AreClients W node settings lists
     → AllMayGo (settings_of settings) lists site.callers
 may_go W node work settings lists site stands are =
     record {
       count = stands.count ∙ sym are.count;
       each = λ number caller at ops found. (
         client_of node number,
-        subst (λ (s : PlainSettings). IsAt s (client_of node number) (operations_of ops) caller) (sym are.settings_are)
-            (subst (λ (l : List Operation). IsAt W.settings (client_of node number) l caller) (sym (are.each number ops found)) (stands.callers number caller at)),
+        subst (λ (s : PlainSettings). ClientActorIsAt s (client_of node number) (operations_of ops) caller) (sym are.settings_are)
+            (subst (λ (l : List Operation). ClientActorIsAt W.settings (client_of node number) l caller) (sym (are.each number ops found)) (stands.callers number caller at)),
       );
     }
 
@@ -40,10 +40,10 @@ mate_stays number rs rs' s s' receives flushed (r, at, ends) =
     let (q, there, get_there) = receives.each number r at in
     (q, there, get_there.same.0 ∙ ends ∙ sym flushed.goes.same.0)
 
-module _ (settings : Settings) (lists : List (Listing Op)) (old new : Site) (passed : HasPassed old.agent new.agent) (gone : AllHaveGone (settings_of settings) lists old.callers new.callers) where
-  module _ (W : PlainWorkload) (node : ℕ) (work : Work) (stands : SiteStands W node work old) (few : IsFew W work) (are : AreClients W node settings lists) where
+module _ (settings : Settings) (lists : List (Listing Op)) (old new : PlainNodeActors) (passed : HasPassed old.agent new.agent) (gone : AllHaveGone (settings_of settings) lists old.callers new.callers) where
+  module _ (W : PlainWorkload) (node : ℕ) (work : NodeWork) (stands : NodeActorsStand W node work old) (few : IsFew W work) (are : AreClients W node settings lists) where
     -- how a client went on
-    went : (number : ℕ) (caller caller' : Calling) → slice_get old.callers number ≡ Some caller → slice_get new.callers number ≡ Some caller'
+    went : (number : ℕ) (caller caller' : PlainClientActor) → slice_get old.callers number ≡ Some caller → slice_get new.callers number ≡ Some caller'
         → Goes W.settings (operations_at W (place_of W.settings.clients node number)) caller caller'
     went number caller caller' at at' =
         let low = slice_get_within old.callers number caller at in
@@ -54,10 +54,10 @@ module _ (settings : Settings) (lists : List (Listing Op)) (old new : Site) (pas
         (subst (λ (l : List Operation). Goes (settings_of settings) l caller caller') (are.each number ops found) (gone.each number caller caller' at at' ops found))
 
     -- the client of before
-    before : (number : ℕ) (caller' : Calling) → slice_get new.callers number ≡ Some caller' → (caller : Calling) × (slice_get old.callers number ≡ Some caller)
+    before : (number : ℕ) (caller' : PlainClientActor) → slice_get new.callers number ≡ Some caller' → (caller : PlainClientActor) × (slice_get old.callers number ≡ Some caller)
     before number caller' at' = let low = slice_get_within new.callers number caller' at' in let count = gone.count in get_there old.callers number (omega (arith, low, count))
 
-    acts : (work' : Work) × SiteActs W node work work' old new
+    acts : (work' : NodeWork) × NodeActorsAct W node work work' old new
     acts =
         let (pass, came, passes) = passed.by W work stands.agent few in (
           with_events pass came work,

@@ -6,17 +6,17 @@ use Rattle.hs_lists.proofs.Places.{get_set_cases, get_there}
 use Rattle.hs_coord.specs.Messages.{Messages}
 use Rattle.hs_coord.specs.declared.asks.Asks.{Asks}
 use Rattle.hs_records.specs.Plain.{PlainWorkload}
-use Rattle.hs_run_agent.specs.Coordinators.{Coordinating, IsCoordinating, asked_all}
-use Rattle.hs_run_agent.specs.Shut.{Shut}
-use Rattle.hs_run_agent.specs.Work.{Work}
-use Rattle.hs_run_story.specs.Standing.{moved_by, asked_by}
-use Rattle.hs_run.specs.Shutting.{AllSents, IsShutAt, ShutStand, IsAskedOnly, AskedOnly, AskedFirst, Asked}
+use Rattle.hs_run_agent.specs.Coordinators.{PlainCoordinatorActor, IsCoordinatorActor, asked_all}
+use Rattle.hs_run_agent.specs.ClosedAgents.{PlainClosedAgent}
+use Rattle.hs_run_agent.specs.Work.{NodeWork}
+use Rattle.hs_run_story.specs.RunStates.{moved_by, asked_by}
+use Rattle.hs_run.specs.Shutting.{AllSents, IsClosedAgentAt, ClosedAgentsStand, IsAskedOnly, AskedOnly, ClosingAskedFirst, Asked}
 
-only_none : (x : Shut) → IsAskedOnly x x
+only_none : (x : PlainClosedAgent) → IsAskedOnly x x
 only_none x = record { giver = refl; said = refl }
 
-module _ (W : PlainWorkload) (sents : AllSents) (asks : Asks) (works : ℕ → Work) where
-  pub asked_none : (nodes : List Shut) → ShutStand W sents works nodes → AskedFirst W sents asks works 0 nodes nodes
+module _ (W : PlainWorkload) (sents : AllSents) (asks : Asks) (works : ℕ → NodeWork) where
+  pub asked_none : (nodes : List PlainClosedAgent) → ClosedAgentsStand W sents works nodes → ClosingAskedFirst W sents asks works 0 nodes nodes
   asked_none nodes h =
       record {
         many = refl;
@@ -25,8 +25,8 @@ module _ (W : PlainWorkload) (sents : AllSents) (asks : Asks) (works : ℕ → W
         others = λ k z high at. h.each k z at;
       }
 
-  pub asked_more : (n : ℕ) (old nodes : List Shut) (x y : Shut) → AskedFirst W sents asks works n old nodes → slice_get nodes n ≡ Some x → IsShutAt W n sents (asked_all asks works n) y → IsAskedOnly x y
-      → AskedFirst W sents asks works (n + 1) old (set nodes n y)
+  pub asked_more : (n : ℕ) (old nodes : List PlainClosedAgent) (x y : PlainClosedAgent) → ClosingAskedFirst W sents asks works n old nodes → slice_get nodes n ≡ Some x → IsClosedAgentAt W n sents (asked_all asks works n) y → IsAskedOnly x y
+      → ClosingAskedFirst W sents asks works (n + 1) old (set nodes n y)
   asked_more n old nodes x y h at stands asked =
       record {
         many = length-set nodes n y ∙ h.many;
@@ -39,20 +39,20 @@ module _ (W : PlainWorkload) (sents : AllSents) (asks : Asks) (works : ℕ → W
             ];
         asked = λ k z low found.
             elim (get_set_cases nodes n k x y z at found) [
-              | inl e ↦ subst (λ (i : ℕ). IsShutAt W i sents (asked_all asks works i) z) e.0 (subst (λ (v : Shut). IsShutAt W n sents (asked_all asks works n) v) e.1 stands)
+              | inl e ↦ subst (λ (i : ℕ). IsClosedAgentAt W i sents (asked_all asks works i) z) e.0 (subst (λ (v : PlainClosedAgent). IsClosedAgentAt W n sents (asked_all asks works n) v) e.1 stands)
               | inr e ↦ elim (same_or_less k n (omega (arith, low))) [ inl less ↦ h.asked k z less e.1 | inr same ↦ absurd (e.0 (sym same)) ]
             ];
         others = λ k z high found.
             elim (get_set_cases nodes n k x y z at found) [ inl e ↦ absurd (let f = e.0 in omega (arith, f, high)) | inr e ↦ h.others k z (omega (arith, high)) e.1 ];
       }
 
-  pub asked_to_all : (n : ℕ) (old nodes : List Shut) → length old ≤ n → AskedFirst W sents asks works n old nodes → ShutStand W sents (asked_all asks works) nodes × AskedOnly old nodes
+  pub asked_to_all : (n : ℕ) (old nodes : List PlainClosedAgent) → length old ≤ n → ClosingAskedFirst W sents asks works n old nodes → ClosedAgentsStand W sents (asked_all asks works) nodes × AskedOnly old nodes
   asked_to_all n old nodes high h =
       (record { each = λ k z at. let low = slice_get_within nodes k z at in let many = h.many in h.asked k z (omega (arith, low, many, high)) at }, record { many = h.many; each = h.changed })
 
 -- one set of asks more was moved
-pub asking_more : (W : PlainWorkload) (sents : AllSents) (heard : Messages) (begun : ℕ → Work) (old mid nodes : List Shut) (c c' : Coordinating) (asks : Asks) (h : Asked W sents heard begun old mid c) → ShutStand W sents (asked_all asks h.works) nodes
-    → AskedOnly mid nodes → IsCoordinating W heard (moved_by h.works) (asked_by (asked_all asks h.works)) c' → Asked W sents heard begun old nodes c'
+pub asking_more : (W : PlainWorkload) (sents : AllSents) (heard : Messages) (begun : ℕ → NodeWork) (old mid nodes : List PlainClosedAgent) (c c' : PlainCoordinatorActor) (asks : Asks) (h : Asked W sents heard begun old mid c) → ClosedAgentsStand W sents (asked_all asks h.works) nodes
+    → AskedOnly mid nodes → IsCoordinatorActor W heard (moved_by h.works) (asked_by (asked_all asks h.works)) c' → Asked W sents heard begun old nodes c'
 asking_more W sents heard begun old mid nodes c c' asks h stands asked coordinates =
     record {
       works = asked_all asks h.works;

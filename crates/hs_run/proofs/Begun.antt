@@ -12,18 +12,18 @@ use Rattle.hs_records.specs.Plain.{PlainWorkload}
 use Rattle.hs_ring.specs.Parts.{Drawing, Giving}
 use Rattle.hs_words.specs.Pools.{PoolName}
 use Rattle.hs_workload.specs.Validity.{IsValid}
-use Rattle.hs_run_client.specs.Calling.{Calling}
+use Rattle.hs_run_client.specs.ClientActors.{PlainClientActor}
 use Rattle.hs_run_client.specs.Nodes as begun
-use Rattle.hs_run_client.specs.Nodes.{NodeBegins, CallerBegins, receiving_of}
+use Rattle.hs_run_client.specs.Nodes.{NodeBegins, ClientActorBegins, receiving_of}
 use Rattle.hs_run_client.specs.Standing as standing
-use Rattle.hs_run_agent.specs.Coordinators.{Coordinating, IsCoordinating}
-use Rattle.hs_run_agent.specs.Lines.{Line, linked, key_of, key_for, AreLinesFor}
-use Rattle.hs_run_agent.specs.Manned.{Manned, IsManned, BeginsAt}
-use Rattle.hs_run_agent.specs.Work.{Work, no_work}
-use Rattle.hs_run_story.specs.Standing.{Site, Moment, SiteStands, Stands}
-use Rattle.hs_run_story.specs.Laws.{LinkBegins, LinksBegin, PoolOf}
-use Rattle.hs_run.specs.declared.node.Node.{Node}
-use Rattle.hs_run.specs.Making.{SiteBegins, AreMade, nothing_moved, nothing_asked}
+use Rattle.hs_run_agent.specs.Coordinators.{PlainCoordinatorActor, IsCoordinatorActor}
+use Rattle.hs_run_agent.specs.Intakes.{Intake, linked, key_of, key_for, AreIntakesFor}
+use Rattle.hs_run_agent.specs.AgentActors.{PlainAgentActor, IsAgentActor, BeginsAt}
+use Rattle.hs_run_agent.specs.Work.{NodeWork, no_work}
+use Rattle.hs_run_story.specs.RunStates.{PlainNodeActors, RunState, NodeActorsStand, RunStands}
+use Rattle.hs_run_story.specs.Laws.{LinkIsNew, LinksBegin, PoolOf}
+use Rattle.hs_run.specs.declared.node.ActingNode.{ActingNode}
+use Rattle.hs_run.specs.Making.{NodeActorsBegin, AreMade, nothing_moved, nothing_asked}
 use Rattle.hs_run.specs.Moments.{CanBegin}
 use Rattle.hs_run.specs.Nodes.{sites_of}
 use Rattle.hs_run.proofs.Choosing.{Chosen, choose}
@@ -31,7 +31,7 @@ use Rattle.hs_run.proofs.Moments.{node_there}
 
 -- ---- lists
 
-linked_at : {T : Type 0} (rs : List (Incoming T Key)) (place : ℕ) (l : Line T) → slice_get (map (λ r. linked r) rs) place ≡ Some l → (r : Incoming T Key) × (slice_get rs place ≡ Some r) × (linked r ≡ l)
+linked_at : {T : Type 0} (rs : List (Incoming T Key)) (place : ℕ) (l : Intake T) → slice_get (map (λ r. linked r) rs) place ≡ Some l → (r : Incoming T Key) × (slice_get rs place ≡ Some r) × (linked r ≡ l)
 linked_at [] place l e = let none : None ≡ Some l = e in absurd cc
 linked_at (r ∷ rs) zero l e = (r, refl, same_Some (linked r) l e)
 linked_at (r ∷ rs) (suc place) l e = linked_at rs place l e
@@ -42,7 +42,7 @@ module _ {T : Type 0} (key : Key) (room number : ℕ) (s : Outgoing T Key) (ends
   the_end : (r : Incoming T Key) → IsEnd number ends r → link.receiver ≡ r
   the_end r end = same_Some link.receiver r (sym link.end ∙ end)
 
-  begins : LinkBegins number ends s
+  begins : LinkIsNew number ends s
   begins =
       record {
         capacity = link.new.sizes.0;
@@ -61,8 +61,8 @@ module _ {T : Type 0} (key : Key) (room number : ℕ) (s : Outgoing T Key) (ends
 
 -- ---- one node
 
-module _ (W : PlainWorkload) (node : ℕ) (callers : List Calling) (port : Port) (b : NodeBegins W node callers port) where
-  abbrev each : (number : ℕ) (caller : Calling) → slice_get callers number ≡ Some caller → CallerBegins W node port.giver number (receiving_of port) caller
+module _ (W : PlainWorkload) (node : ℕ) (callers : List PlainClientActor) (port : Port) (b : NodeBegins W node callers port) where
+  abbrev each : (number : ℕ) (caller : PlainClientActor) → slice_get callers number ≡ Some caller → ClientActorBegins W node port.giver number (receiving_of port) caller
   each = b.begun.each
 
   size_is : port.giver.size ≡ W.settings.size
@@ -71,37 +71,37 @@ module _ (W : PlainWorkload) (node : ℕ) (callers : List Calling) (port : Port)
   one_key : (number : ℕ) → standing.key_for W.settings (client_of node number) port.giver ≡ key_for W node port.giver.pool number
   one_key number = λ i. record { client = client_of node number; pool = port.giver.pool; size = size_is i; nodes = W.settings.nodes; rules = W.settings.triggers }
 
-  caller_at : {T : Type 0} (ends : List (Incoming T Key)) (number : ℕ) (r : Incoming T Key) → length ends ≡ W.settings.clients → IsEnd number ends r → (caller : Calling) × (slice_get callers number ≡ Some caller)
+  caller_at : {T : Type 0} (ends : List (Incoming T Key)) (number : ℕ) (r : Incoming T Key) → length ends ≡ W.settings.clients → IsEnd number ends r → (caller : PlainClientActor) × (slice_get callers number ≡ Some caller)
   caller_at ends number r count end = let low = slice_get_within ends number r end in get_there callers number (omega (arith, low, count, b.begun.callers_are))
 
-  chunk_lines : AreLinesFor W node port.giver.pool (map (λ r. linked r) port.chunks)
+  chunk_lines : AreIntakesFor W node port.giver.pool (map (λ r. linked r) port.chunks)
   chunk_lines =
       record {
         count = length-map port.chunks _ ∙ b.begun.chunks;
         keys = λ number l at.
             let (r, end, is) = linked_at port.chunks number l at in
             let (caller, found) = caller_at port.chunks number r b.begun.chunks end in
-            ap (λ (k : Line _). key_of k) (sym is) ∙ key_is _ _ number caller.client.chunks port.chunks (each number caller found).chunks r end ∙ one_key number;
+            ap (λ (k : Intake _). key_of k) (sym is) ∙ key_is _ _ number caller.client.chunks port.chunks (each number caller found).chunks r end ∙ one_key number;
       }
 
-  crumb_lines : AreLinesFor W node port.giver.pool (map (λ r. linked r) port.crumbs)
+  crumb_lines : AreIntakesFor W node port.giver.pool (map (λ r. linked r) port.crumbs)
   crumb_lines =
       record {
         count = length-map port.crumbs _ ∙ b.begun.crumbs;
         keys = λ number l at.
             let (r, end, is) = linked_at port.crumbs number l at in
             let (caller, found) = caller_at port.crumbs number r b.begun.crumbs end in
-            ap (λ (k : Line _). key_of k) (sym is) ∙ key_is _ _ number caller.client.crumbs port.crumbs (each number caller found).crumbs r end ∙ one_key number;
+            ap (λ (k : Intake _). key_of k) (sym is) ∙ key_is _ _ number caller.client.crumbs port.crumbs (each number caller found).crumbs r end ∙ one_key number;
       }
 
-  trigger_lines : AreLinesFor W node port.giver.pool (map (λ r. linked r) port.triggers)
+  trigger_lines : AreIntakesFor W node port.giver.pool (map (λ r. linked r) port.triggers)
   trigger_lines =
       record {
         count = length-map port.triggers _ ∙ b.begun.triggers;
         keys = λ number l at.
             let (r, end, is) = linked_at port.triggers number l at in
             let (caller, found) = caller_at port.triggers number r b.begun.triggers end in
-            ap (λ (k : Line _). key_of k) (sym is) ∙ key_is _ _ number caller.client.triggers port.triggers (each number caller found).triggers r end ∙ one_key number;
+            ap (λ (k : Intake _). key_of k) (sym is) ∙ key_is _ _ number caller.client.triggers port.triggers (each number caller found).triggers r end ∙ one_key number;
       }
 
   pub begins_at : BeginsAt W node port
@@ -120,7 +120,7 @@ module _ (W : PlainWorkload) (node : ℕ) (callers : List Calling) (port : Port)
             nothing _ _ number caller.client.triggers port.triggers (each number caller found).triggers r end;
       }
 
-  mates : (number : ℕ) (caller : Calling) → slice_get callers number ≡ Some caller → AreMates number port caller.client
+  mates : (number : ℕ) (caller : PlainClientActor) → slice_get callers number ≡ Some caller → AreMates number port caller.client
   mates number caller found =
       let c = each number caller found in
       record {
@@ -130,10 +130,10 @@ module _ (W : PlainWorkload) (node : ℕ) (callers : List Calling) (port : Port)
         pool = ap (λ (d : Drawing). d.pool) c.drawer_is;
       }
 
-  abbrev with_port : Manned → Port → Manned
+  abbrev with_port : PlainAgentActor → Port → PlainAgentActor
   with_port agent p = record agent { port = p }
 
-  pub site_begins : (agent : Manned) → IsManned W (no_work node port.giver.pool) agent → agent.port ≡ port → SiteBegins W node (record { callers = callers; agent = agent })
+  pub site_begins : (agent : PlainAgentActor) → IsAgentActor W (no_work node port.giver.pool) agent → agent.port ≡ port → NodeActorsBegin W node (record { callers = callers; agent = agent })
   site_begins agent manned is =
       record {
         pool = port.giver.pool;
@@ -149,9 +149,9 @@ module _ (W : PlainWorkload) (node : ℕ) (callers : List Calling) (port : Port)
         links = λ number caller found.
             let c = each number caller found in
             record {
-              chunks = subst (λ (p : Port). LinkBegins number p.chunks caller.client.chunks) (sym is) (begins _ _ number caller.client.chunks port.chunks c.chunks);
-              crumbs = subst (λ (p : Port). LinkBegins number p.crumbs caller.client.crumbs) (sym is) (begins _ _ number caller.client.crumbs port.crumbs c.crumbs);
-              triggers = subst (λ (p : Port). LinkBegins number p.triggers caller.client.triggers) (sym is) (begins _ _ number caller.client.triggers port.triggers c.triggers);
+              chunks = subst (λ (p : Port). LinkIsNew number p.chunks caller.client.chunks) (sym is) (begins _ _ number caller.client.chunks port.chunks c.chunks);
+              crumbs = subst (λ (p : Port). LinkIsNew number p.crumbs caller.client.crumbs) (sym is) (begins _ _ number caller.client.crumbs port.crumbs c.crumbs);
+              triggers = subst (λ (p : Port). LinkIsNew number p.triggers caller.client.triggers) (sym is) (begins _ _ number caller.client.triggers port.triggers c.triggers);
             };
         pool_of =
             record {
@@ -163,13 +163,13 @@ module _ (W : PlainWorkload) (node : ℕ) (callers : List Calling) (port : Port)
 
 -- ---- all nodes
 
-pub none_made : (W : PlainWorkload) (nodes : List Node) → nodes ≡ [] → AreMade W 0 nodes
-none_made W nodes none = record { many = ap length none; each = λ number node at. nobody number node (ap (λ (l : List Node). slice_get l number) (sym none) ∙ at) }
+pub none_made : (W : PlainWorkload) (nodes : List ActingNode) → nodes ≡ [] → AreMade W 0 nodes
+none_made W nodes none = record { many = ap length none; each = λ number node at. nobody number node (ap (λ (l : List ActingNode). slice_get l number) (sym none) ∙ at) }
   where
-    nobody : (number : ℕ) (node : Node) → slice_get [] number ≡ Some node → SiteBegins W number node.site
+    nobody : (number : ℕ) (node : ActingNode) → slice_get [] number ≡ Some node → NodeActorsBegin W number node.site
     nobody number node at = let never : None ≡ Some node = at in absurd cc
 
-pub one_more_made : (W : PlainWorkload) (count : ℕ) (nodes : List Node) (node : Node) → AreMade W count nodes → SiteBegins W count node.site → AreMade W (count + 1) (nodes ++ node ∷ [])
+pub one_more_made : (W : PlainWorkload) (count : ℕ) (nodes : List ActingNode) (node : ActingNode) → AreMade W count nodes → NodeActorsBegin W count node.site → AreMade W (count + 1) (nodes ++ node ∷ [])
 one_more_made W count nodes node made at =
     record {
       many = let all = length-append nodes (node ∷ []) in let many = made.many in omega (arith, all, many);
@@ -178,28 +178,28 @@ one_more_made W count nodes node made at =
             | inl h ↦ made.each other n h
             | inr h ↦
                 let same : count ≡ other = sym made.many ∙ h.0 in
-                subst (λ (q : Node). SiteBegins W other q.site) h.1 (subst (λ i. SiteBegins W i node.site) same at)
+                subst (λ (q : ActingNode). NodeActorsBegin W other q.site) h.1 (subst (λ i. NodeActorsBegin W i node.site) same at)
           ];
     }
 
-module _ (W : PlainWorkload) (valid : IsValid W) (nodes : List Node) (coordinator : Coordinating) (made : AreMade W W.settings.nodes nodes) (hears : IsCoordinating W [] nothing_moved nothing_asked coordinator) where
-  pools : Chosen (λ n (node : Node) (pool : PoolName). SiteStands W n (no_work n pool) node.site) (λ n. []) nodes
-  pools = choose (λ n (node : Node) (pool : PoolName). SiteStands W n (no_work n pool) node.site) (λ n. []) nodes (λ n node at. let m = made.each n node at in (m.pool, m.stands))
+module _ (W : PlainWorkload) (valid : IsValid W) (nodes : List ActingNode) (coordinator : PlainCoordinatorActor) (made : AreMade W W.settings.nodes nodes) (hears : IsCoordinatorActor W [] nothing_moved nothing_asked coordinator) where
+  pools : Chosen (λ n (node : ActingNode) (pool : PoolName). NodeActorsStand W n (no_work n pool) node.site) (λ n. []) nodes
+  pools = choose (λ n (node : ActingNode) (pool : PoolName). NodeActorsStand W n (no_work n pool) node.site) (λ n. []) nodes (λ n node at. let m = made.each n node at in (m.pool, m.stands))
 
-  abbrev works : ℕ → Work
+  abbrev works : ℕ → NodeWork
   works n = no_work n (pools.value n)
 
-  abbrev moment : Moment
+  abbrev moment : RunState
   moment = record { standing = record { nodes = sites_of nodes; coordinator = coordinator }; works = works; heard = [] }
 
-  stands : Stands W moment
+  stands : RunStands W moment
   stands =
       record {
         valid = valid;
         count = length-map nodes _ ∙ made.many;
         each = λ n site at.
             let (node, found, is) = node_there nodes n site at in
-            subst (λ (s : Site). SiteStands W n (works n) s) is (pools.each n node found);
+            subst (λ (s : PlainNodeActors). NodeActorsStand W n (works n) s) is (pools.each n node found);
         coordinator = hears;
       }
 
@@ -214,16 +214,16 @@ module _ (W : PlainWorkload) (valid : IsValid W) (nodes : List Node) (coordinato
               heard = refl;
               done = λ n number site caller at there.
                   let (node, found, is) = node_there nodes n site at in
-                  (made.each n node found).done number caller (ap (λ (s : Site). slice_get s.callers number) is ∙ there);
+                  (made.each n node found).done number caller (ap (λ (s : PlainNodeActors). slice_get s.callers number) is ∙ there);
             };
         ends =
             record {
               links = λ n number site caller at there.
                   let (node, found, is) = node_there nodes n site at in
-                  subst (λ (s : Site). LinksBegin number s caller) is ((made.each n node found).links number caller (ap (λ (s : Site). slice_get s.callers number) is ∙ there));
+                  subst (λ (s : PlainNodeActors). LinksBegin number s caller) is ((made.each n node found).links number caller (ap (λ (s : PlainNodeActors). slice_get s.callers number) is ∙ there));
               pools = λ n site at.
                   let (node, found, is) = node_there nodes n site at in
-                  subst (λ (s : Site). PoolOf W s) is (made.each n node found).pool_of;
+                  subst (λ (s : PlainNodeActors). PoolOf W s) is (made.each n node found).pool_of;
             };
         here = record { stands = stands; nodes_are = refl; coordinator_is = refl };
       }

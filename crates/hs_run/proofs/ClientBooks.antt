@@ -15,7 +15,7 @@ use Rattle.hs_law_outcome.specs.Outcomes.{client_at, client_book}
 use Rattle.hs_records.specs.Pages.{pages_of}
 use Rattle.hs_records.specs.Plain.{PlainWorkload}
 use Rattle.hs_law_sends.specs.Sending.{operations_at, ops_of}
-use Rattle.hs_run_client.specs.Calling.{Calling}
+use Rattle.hs_run_client.specs.ClientActors.{PlainClientActor}
 use Rattle.hs_run_client.specs.Nodes.{AreNotes}
 use Rattle.hs_run.specs.Noted.{IsNoted, books_of, first_books}
 
@@ -25,15 +25,15 @@ client_is each node number low =
     ap (λ n. let c : ClientId = record { node = n; number = number } in c) (sym (div-mul-add node each number low))
     ∙ ap (λ k. let c : ClientId = record { node = (node * each + number) / each; number = k } in c) (sym (mul-add-mod_self_right node each number ∙ mod-eq_of_lt low))
 
-one_book : (W : PlainWorkload) (J : PlainJournal) (node number : ℕ) (caller : Calling) (book : PlainClientBook) → number < W.settings.clients → IsNoted W J node number caller
+one_book : (W : PlainWorkload) (J : PlainJournal) (node number : ℕ) (caller : PlainClientActor) (book : PlainClientBook) → number < W.settings.clients → IsNoted W J node number caller
     → book ≡ record { client = client_of node number; draws = caller.client.core.draws; pages = map note_of (pages_of W.settings.size (ops_of W node number)) } → book ≡ client_book W J (node * W.settings.clients + number)
 one_book W J node number caller book low noted is =
     let place = node * W.settings.clients + number in
     let client = client_is W.settings.clients node number low in
     is ∙ (λ i. record { client = client i; draws = sym noted.draws i; pages = map note_of (pages_of W.settings.size (operations_at W place)) })
 
-from_on : (W : PlainWorkload) (J : PlainJournal) (node from : ℕ) (callers : List Calling) (books : List PlainClientBook) → from + length callers ≤ W.settings.clients
-    → ((place : ℕ) (caller : Calling) → slice_get callers place ≡ Some caller → IsNoted W J node (from + place) caller) → AreNotes callers books
+from_on : (W : PlainWorkload) (J : PlainJournal) (node from : ℕ) (callers : List PlainClientActor) (books : List PlainClientBook) → from + length callers ≤ W.settings.clients
+    → ((place : ℕ) (caller : PlainClientActor) → slice_get callers place ≡ Some caller → IsNoted W J node (from + place) caller) → AreNotes callers books
     → books ≡ map (client_book W J) (range_with_len (node * W.settings.clients + from) (length callers))
 from_on W J node from [] [] low noted are = refl
 from_on W J node from [] (book ∷ books) low noted are = absurd are
@@ -53,8 +53,8 @@ from_on W J node from (caller ∷ callers) (book ∷ books) low noted are =
     let next : node * each + (from + 1) ≡ (node * each + from) + 1 = omega arith in
     (λ i. one i ∷ rest i) ∙ ap (λ n. client_book W J (node * each + from) ∷ map (client_book W J) (range_with_len n (length callers))) next
 
-pub node_books : (W : PlainWorkload) (J : PlainJournal) (node : ℕ) (callers : List Calling) (books : List PlainClientBook) → length callers ≡ W.settings.clients
-    → ((number : ℕ) (caller : Calling) → slice_get callers number ≡ Some caller → IsNoted W J node number caller) → AreNotes callers books → books ≡ books_of W J node
+pub node_books : (W : PlainWorkload) (J : PlainJournal) (node : ℕ) (callers : List PlainClientActor) (books : List PlainClientBook) → length callers ≡ W.settings.clients
+    → ((number : ℕ) (caller : PlainClientActor) → slice_get callers number ≡ Some caller → IsNoted W J node number caller) → AreNotes callers books → books ≡ books_of W J node
 node_books W J node callers books count noted are =
     let each = W.settings.clients in
     let none : node * each + 0 ≡ node * each = omega arith in

@@ -7,26 +7,26 @@ use Rattle.std.proofs.lemmas.Option.{slice_get_within}
 use Rattle.hs_lists.proofs.Places.{get_there}
 use Rattle.hs_coord.specs.Messages.{Messages}
 use Rattle.hs_coord.specs.declared.asks.Asks.{Asks}
-use Rattle.hs_law_agent.specs.Stepping.{Event}
+use Rattle.hs_law_agent.specs.Stepping.{AgentEvent}
 use Rattle.hs_records.specs.Plain.{PlainWorkload}
 use Rattle.hs_workload.proofs.Sizes.{few_nodes}
 use Rattle.hs_law_journal.specs.Doings.{asks_in, crumbs_in, triggers_in, steps_of}
 use Rattle.hs_law_journal.specs.Shape.{log_stamps}
 use Rattle.hs_ring.specs.Parts.{Leased}
 use Rattle.hs_words.specs.Buffers.{Buffer}
-use Rattle.hs_run_client.specs.Calling.{Calling}
-use Rattle.hs_run_agent.specs.Coordinators.{Coordinating, Hears, heard_of, asks_for}
-use Rattle.hs_run_agent.specs.Shut.{Shut, shut_lines, shut_desk}
-use Rattle.hs_run_agent.specs.Work.{Work, is_of}
-use Rattle.hs_run_story.specs.Standing.{Site, Moment, moved_by, asked_by}
-use Rattle.hs_run_story.specs.Spans.{Post, IsPost, IsStep}
-use Rattle.hs_run_story.specs.Closing.{TakesLeft, IsPassAlone}
-use Rattle.hs_run_story.specs.Laws.{ClosingGoesOn, DesksArePosts}
-use Rattle.hs_run.specs.Shutting.{AllSents, PassedAlone, Stand, Passing, Asked, ClosingAt}
+use Rattle.hs_run_client.specs.ClientActors.{PlainClientActor}
+use Rattle.hs_run_agent.specs.Coordinators.{PlainCoordinatorActor, Hears, heard_of, asks_for}
+use Rattle.hs_run_agent.specs.ClosedAgents.{PlainClosedAgent, closed_intakes, closed_working_agent}
+use Rattle.hs_run_agent.specs.Work.{NodeWork, is_of}
+use Rattle.hs_run_story.specs.RunStates.{PlainNodeActors, RunState, moved_by, asked_by}
+use Rattle.hs_run_story.specs.Spans.{NodeBetweenPasses, IsNodeBetweenPasses, IsStep}
+use Rattle.hs_run_story.specs.Closing.{TakesAllOfClient, IsPassAlone}
+use Rattle.hs_run_story.specs.Laws.{ClosingGoesOn, AgentsAreBetweenPasses}
+use Rattle.hs_run.specs.Shutting.{AllSents, PassedAlone, ClosingStands, Passing, Asked, ClosingAt}
 
 -- what was heard, and nothing was asked yet
-pub asked_begins : (W : PlainWorkload) (sents : AllSents) (heard : Messages) (begun : ℕ → Work) (old nodes : List Shut) (c c' : Coordinating) → Stand W sents heard begun old c → (p : Passing W sents heard begun (length old) old nodes c')
-    → (more : Messages) (c2 : Coordinating) → Hears W heard more (moved_by p.works) (asked_by p.works) c2 → Asked W sents (heard ++ more) p.works nodes nodes c2
+pub asked_begins : (W : PlainWorkload) (sents : AllSents) (heard : Messages) (begun : ℕ → NodeWork) (old nodes : List PlainClosedAgent) (c c' : PlainCoordinatorActor) → ClosingStands W sents heard begun old c → (p : Passing W sents heard begun (length old) old nodes c')
+    → (more : Messages) (c2 : PlainCoordinatorActor) → Hears W heard more (moved_by p.works) (asked_by p.works) c2 → Asked W sents (heard ++ more) p.works nodes nodes c2
 asked_begins W sents heard begun old nodes c c' stand p more c2 hears =
     record {
       works = p.works;
@@ -39,26 +39,26 @@ asked_begins W sents heard begun old nodes c c' stand p more c2 hears =
             each = λ k x y a b.
                 let same : Some x ≡ Some y = sym a ∙ b in
                 let is : x ≡ y = cc in
-                record { giver = ap (λ (s : Shut). s.giver) (sym is); said = ap (λ (s : Shut). s.said) (sym is) };
+                record { giver = ap (λ (s : PlainClosedAgent). s.giver) (sym is); said = ap (λ (s : PlainClosedAgent). s.said) (sym is) };
           };
       coordinates = hears.stands;
     }
 
-module _ (goes_on : ClosingGoesOn) (are_posts : DesksArePosts) (W : PlainWorkload) (rounds : ℕ) (m : Moment) (sents : AllSents) (old nodes last : List Shut) (c c1 c2 c3 : Coordinating) (at : ClosingAt W rounds m sents old c)
+module _ (goes_on : ClosingGoesOn) (are_posts : AgentsAreBetweenPasses) (W : PlainWorkload) (rounds : ℕ) (m : RunState) (sents : AllSents) (old nodes last : List PlainClosedAgent) (c c1 c2 c3 : PlainCoordinatorActor) (at : ClosingAt W rounds m sents old c)
     (p : Passing W sents at.heard (λ node. (at.posts node).work) (length old) old nodes c1) (more : Messages) (hears : Hears W at.heard more (moved_by p.works) (asked_by p.works) c2)
     (a : Asked W sents (at.heard ++ more) p.works nodes last c3) (none : c3.asks ≡ [])
   where
-    abbrev posts : ℕ → Post
-    posts node = record { work = a.works node; giver = option_map_or (λ (s : Shut). s.giver) (slice_get last node) (at.posts node).giver }
+    abbrev posts : ℕ → NodeBetweenPasses
+    posts node = record { work = a.works node; giver = option_map_or (λ (s : PlainClosedAgent). s.giver) (slice_get last node) (at.posts node).giver }
 
-    post_is : (node : ℕ) (z : Shut) → slice_get last node ≡ Some z → posts node ≡ record { work = a.works node; giver = z.giver }
-    post_is node z there = ap (λ (o : Option Shut). record { work = a.works node; giver = option_map_or (λ (s : Shut). s.giver) o (at.posts node).giver }) there
+    post_is : (node : ℕ) (z : PlainClosedAgent) → slice_get last node ≡ Some z → posts node ≡ record { work = a.works node; giver = z.giver }
+    post_is node z there = ap (λ (o : Option PlainClosedAgent). record { work = a.works node; giver = option_map_or (λ (s : PlainClosedAgent). s.giver) o (at.posts node).giver }) there
 
     lengths : length last ≡ W.settings.nodes
     lengths = a.only.many ∙ p.many ∙ at.stand.count
 
     -- one node
-    module _ (node : ℕ) (low : node < W.settings.nodes) (x y z : Shut) (first : slice_get old node ≡ Some x) (mid : slice_get nodes node ≡ Some y) (end : slice_get last node ≡ Some z) where
+    module _ (node : ℕ) (low : node < W.settings.nodes) (x y z : PlainClosedAgent) (first : slice_get old node ≡ Some x) (mid : slice_get nodes node ≡ Some y) (end : slice_get last node ≡ Some z) where
       alone : PassedAlone W node sents (at.posts node).work (p.works node) x.giver y.giver
       alone = (p.passed node x y (let inside = slice_get_within old node x first in inside) first mid).0
 
@@ -71,7 +71,7 @@ module _ (goes_on : ClosingGoesOn) (are_posts : DesksArePosts) (W : PlainWorkloa
           let same = (a.same node).0 in
           let giver = at.givers node x first in
           let last_giver = (a.only.each node y z mid end).giver in
-          let taken = ap (λ (l : List Event). length (asks_in l)) same.events in
+          let taken = ap (λ (l : List AgentEvent). length (asks_in l)) same.events in
           let asks = s.asks in
           let few = s.few in
           let heard = hears.all node low in
@@ -94,17 +94,17 @@ module _ (goes_on : ClosingGoesOn) (are_posts : DesksArePosts) (W : PlainWorkloa
             hears = omega (arith, heard, grows);
           }
 
-      stands : IsPost W node (at.heard ++ more) (record { work = a.works node; giver = z.giver })
+      stands : IsNodeBetweenPasses W node (at.heard ++ more) (record { work = a.works node; giver = z.giver })
       stands =
           let shut = a.stands.each node z end in
           let told = get_there c3.told node (let count = a.coordinates.count in omega (arith, count, low)) in
           let waits = ap length (a.coordinates.waits node told.0 told.1) in
           let both = length-append (heard_of node (at.heard ++ more)) told.0 in
-          are_posts W node (at.heard ++ more) (a.works node) (shut_desk z) (shut_lines z) shut.node_is shut.is.stands
+          are_posts W node (at.heard ++ more) (a.works node) (closed_working_agent z) (closed_intakes z) shut.node_is shut.is.stands
           ((a.only.each node y z mid end).said ∙ (p.passed node x y (let inside = slice_get_within old node x first in inside) first mid).1)
           (a.coordinates.asks_are node low ∙ ap (λ (l : List Asks). (a.works node).asked ++ asks_for node l) none ∙ append-nil (a.works node).asked) (omega (arith, waits, both))
 
-      takes : (site : Site) → slice_get m.standing.nodes node ≡ Some site → (client : ℕ) (caller : Calling) → slice_get site.callers client ≡ Some caller → TakesLeft client caller (at.posts node).work (a.works node)
+      takes : (site : PlainNodeActors) → slice_get m.standing.nodes node ≡ Some site → (client : ℕ) (caller : PlainClientActor) → slice_get site.callers client ≡ Some caller → TakesAllOfClient client caller (at.posts node).work (a.works node)
       takes site there client caller mine =
           let s = (p.passed node x y (let inside = slice_get_within old node x first in inside) first mid).0 in
           let same = (a.same node).0 in
@@ -115,18 +115,18 @@ module _ (goes_on : ClosingGoesOn) (are_posts : DesksArePosts) (W : PlainWorkloa
           let crumbs = ap length (at.sents_are.crumbs node client site caller there mine) in
           let triggers = ap length (at.sents_are.triggers node client site caller there mine) in
           let came = ap (λ (l : List (Buffer Leased)). length (filter (is_of client) l)) same.came in
-          let left = ap (λ (l : List Event). length (crumbs_in client l)) same.events in
-          let fired = ap (λ (l : List Event). length (triggers_in client l)) same.events in
+          let left = ap (λ (l : List AgentEvent). length (crumbs_in client l)) same.events in
+          let fired = ap (λ (l : List AgentEvent). length (triggers_in client l)) same.events in
           let t1 = t.chunks in
           let t2 = t.crumbs in
           let t3 = t.triggers in
           record { chunks = omega (arith, t1, chunks, came); crumbs = omega (arith, t2, crumbs, left); triggers = omega (arith, t3, triggers, fired) }
 
-      pass_alone : (site : Site) → slice_get m.standing.nodes node ≡ Some site → IsPassAlone W node site at.heard (at.heard ++ more) (at.posts node) (posts node)
+      pass_alone : (site : PlainNodeActors) → slice_get m.standing.nodes node ≡ Some site → IsPassAlone W node site at.heard (at.heard ++ more) (at.posts node) (posts node)
       pass_alone site there =
           subst (IsPassAlone W node site at.heard (at.heard ++ more) (at.posts node)) (sym (post_is node z end)) (record { step = step; stands = stands; takes = takes site there })
 
-    alone_at : (node : ℕ) (site : Site) → slice_get m.standing.nodes node ≡ Some site → IsPassAlone W node site at.heard (at.heard ++ more) (at.posts node) (posts node)
+    alone_at : (node : ℕ) (site : PlainNodeActors) → slice_get m.standing.nodes node ≡ Some site → IsPassAlone W node site at.heard (at.heard ++ more) (at.posts node) (posts node)
     alone_at node site there =
         let low = (at.clients node site there).0 in
         let count = at.stand.count in
@@ -147,7 +147,7 @@ module _ (goes_on : ClosingGoesOn) (are_posts : DesksArePosts) (W : PlainWorkloa
           heard = at.heard ++ more;
           closing = goes_on W rounds m at.passes at.posts posts at.heard more at.closing alone_at;
           stand = record { valid = at.stand.valid; few = at.stand.few; count = lengths; stands = a.stands; coordinates = a.coordinates };
-          givers = λ node shut there. ap (λ (q : Post). q.giver) (post_is node shut there);
+          givers = λ node shut there. ap (λ (q : NodeBetweenPasses). q.giver) (post_is node shut there);
           said = λ node shut there.
               let inside = slice_get_within last node shut there in
               let all = lengths in

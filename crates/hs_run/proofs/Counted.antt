@@ -13,7 +13,7 @@ use Rattle.hs_journal.specs.declared.journal.Step.{Step}
 use Rattle.hs_run.specs.Progress.{is_point, is_chunk, is_given, done_after, points_after, draws_after, nulls_after, steps_after, progress_after}
 use Rattle.hs_records.specs.Plain.{Operation, PlainWorkload}
 use Rattle.hs_run_story.specs.Noting.{NotesRounds}
-use Rattle.hs_run_story.specs.Standing.{Moment, Stands}
+use Rattle.hs_run_story.specs.RunStates.{RunState, RunStands}
 use Rattle.hs_run_story.specs.Coming.{Came}
 use Rattle.hs_law_sends.specs.Drawn.{has_buffer}
 use Rattle.hs_law_sends.specs.Sending.{operations_at, place_of}
@@ -36,8 +36,8 @@ progress_so rounds a a' b b' c c' d d' e e' pa pb pc pd pe =
     ∙ ap (λ x. record { rounds = rounds; operations = a'; records = b'; nulls = x; taken = d; given = e }) pc ∙ ap (λ x. record { rounds = rounds; operations = a'; records = b'; nulls = c'; taken = x; given = e }) pd
     ∙ ap (λ x. record { rounds = rounds; operations = a'; records = b'; nulls = c'; taken = d'; given = x }) pe
 
-module _ (W : PlainWorkload) (rounds : ℕ) (m : Moment) (came : Came W rounds m) (J : PlainJournal) (valid : IsValid W) (notes : NotesRounds W rounds m came J) where
-  stands_at : (k : ℕ) → k ≤ rounds → Stands W (came.at k)
+module _ (W : PlainWorkload) (rounds : ℕ) (m : RunState) (came : Came W rounds m) (J : PlainJournal) (valid : IsValid W) (notes : NotesRounds W rounds m came J) where
+  stands_at : (k : ℕ) → k ≤ rounds → RunStands W (came.at k)
   stands_at zero low = came.begun.stands
   stands_at (suc k) low = (came.moves k (omega (arith, low))).stands
 

@@ -19,22 +19,22 @@ use Rattle.hs_words.specs.Buffers.{Buffer}
 use Rattle.hs_words.specs.Ends.{IsTogether}
 use Rattle.hs_words.specs.declared.token.Tally.{Tally}
 use Rattle.hs_law_journal.specs.Doings.{asks_in, crumbs_in, triggers_in}
-use Rattle.hs_run_client.specs.Calling.{Calling}
-use Rattle.hs_run_agent.specs.Coordinators.{Coordinating, IsHearable, heard_of, all_empty}
-use Rattle.hs_run_agent.specs.Lines.{closed}
-use Rattle.hs_run_agent.specs.Shut.{Shut}
+use Rattle.hs_run_client.specs.ClientActors.{PlainClientActor}
+use Rattle.hs_run_agent.specs.Coordinators.{PlainCoordinatorActor, IsHearable, heard_of, all_empty}
+use Rattle.hs_run_agent.specs.Intakes.{closed}
+use Rattle.hs_run_agent.specs.ClosedAgents.{PlainClosedAgent}
 use Rattle.hs_run_agent.specs.Work.{came_of}
-use Rattle.hs_run_story.specs.Standing.{Site, Moment, Stands}
+use Rattle.hs_run_story.specs.RunStates.{PlainNodeActors, RunState, RunStands}
 use Rattle.hs_run_story.specs.Coming.{Came}
 use Rattle.hs_run_story.specs.Closing as closing
 use Rattle.hs_run_story.specs.Closing.{drawn_at, IsClosedPool, IsOver}
 use Rattle.hs_run_story.specs.Laws.{PoolOf, AllBegin, PoolsAreKept}
 use Rattle.hs_run.specs.Shutting.{AllSents, ClosingAt, AllBare}
 
-abbrev pub drawer_of : Calling → Drawing
+abbrev pub drawer_of : PlainClientActor → Drawing
 drawer_of caller = caller.client.drawer
 
-answers_mapped : (callers : List Calling) → answers_of_all (map drawer_of callers) ≡ map (λ (caller : Calling). caller.client.drawer.answers) callers
+answers_mapped : (callers : List PlainClientActor) → answers_of_all (map drawer_of callers) ≡ map (λ (caller : PlainClientActor). caller.client.drawer.answers) callers
 answers_mapped [] = refl
 answers_mapped (caller ∷ callers) = ap (λ rest. caller.client.drawer.answers ∷ rest) (answers_mapped callers)
 
@@ -49,23 +49,23 @@ empty_at ((t ∷ ts) ∷ told) zero box h at = let no : false ≡ true = h in ab
 empty_at ([] ∷ told) (suc node) box h at = empty_at told node box h at
 empty_at ((t ∷ ts) ∷ told) (suc node) box h at = let no : false ≡ true = h in absurd cc
 
-in_order : (pool : _) (start : ℕ) (callers : List Calling) → ((i : ℕ) (caller : Calling) → slice_get callers i ≡ Some caller → (caller.client.drawer.pool ≡ pool) × (caller.client.drawer.number ≡ start + i)) → AreInOrder pool start (map drawer_of callers)
+in_order : (pool : _) (start : ℕ) (callers : List PlainClientActor) → ((i : ℕ) (caller : PlainClientActor) → slice_get callers i ≡ Some caller → (caller.client.drawer.pool ≡ pool) × (caller.client.drawer.number ≡ start + i)) → AreInOrder pool start (map drawer_of callers)
 in_order pool start [] each = tt
 in_order pool start (caller ∷ callers) each =
     let first = each 0 caller refl in
     let zeroth : start + 0 ≡ start = omega arith in
     (first.0, first.1 ∙ zeroth, in_order pool (suc start) callers (λ i c h. let next : start + suc i ≡ suc start + i = omega arith in let at = each (suc i) c h in (at.0, at.1 ∙ next)))
 
-module _ (kept : PoolsAreKept) (W : PlainWorkload) (rounds : ℕ) (m : Moment) (came : Came W rounds m) (begin : AllBegin W (came.at 0)) (stand : Stands W m) (sents : AllSents) (nodes : List Shut) (c : Coordinating) (at : ClosingAt W rounds m sents nodes c)
+module _ (kept : PoolsAreKept) (W : PlainWorkload) (rounds : ℕ) (m : RunState) (came : Came W rounds m) (begin : AllBegin W (came.at 0)) (stand : RunStands W m) (sents : AllSents) (nodes : List PlainClosedAgent) (c : PlainCoordinatorActor) (at : ClosingAt W rounds m sents nodes c)
   where
-    pool_of : (node : ℕ) (site : Site) → slice_get m.standing.nodes node ≡ Some site → PoolOf W site
+    pool_of : (node : ℕ) (site : PlainNodeActors) → slice_get m.standing.nodes node ≡ Some site → PoolOf W site
     pool_of node site there = kept W rounds m stand.valid came begin node site there
 
-    pub shut_for : (node : ℕ) (site : Site) → slice_get m.standing.nodes node ≡ Some site → (shut : Shut) × (slice_get nodes node ≡ Some shut)
+    pub shut_for : (node : ℕ) (site : PlainNodeActors) → slice_get m.standing.nodes node ≡ Some site → (shut : PlainClosedAgent) × (slice_get nodes node ≡ Some shut)
     shut_for node site there = let low = (at.clients node site there).0 in let count = at.stand.count in get_there nodes node (omega (arith, low, count))
 
     -- the drawers of its clients are all drawers of a node's pool
-    pub all_ends : (node : ℕ) (site : Site) (shut : Shut) → slice_get m.standing.nodes node ≡ Some site → slice_get nodes node ≡ Some shut → AreAllEnds shut.giver (map drawer_of site.callers)
+    pub all_ends : (node : ℕ) (site : PlainNodeActors) (shut : PlainClosedAgent) → slice_get m.standing.nodes node ≡ Some site → slice_get nodes node ≡ Some shut → AreAllEnds shut.giver (map drawer_of site.callers)
     all_ends node site shut there here =
         let p = pool_of node site there in
         let same = at.kept node site shut there here in
@@ -77,7 +77,7 @@ module _ (kept : PoolsAreKept) (W : PlainWorkload) (rounds : ℕ) (m : Moment) (
         }
 
     module _ (bare : AllBare W (λ node. (at.posts node).work) nodes c) where
-      bare_at : (node : ℕ) (site : Site) → slice_get m.standing.nodes node ≡ Some site → closing.IsBare W node site at.heard (at.posts node)
+      bare_at : (node : ℕ) (site : PlainNodeActors) → slice_get m.standing.nodes node ≡ Some site → closing.IsNodeBare W node site at.heard (at.posts node)
       bare_at node site there =
           let low = (at.clients node site there).0 in
           let count = (at.clients node site there).1 in
@@ -114,8 +114,8 @@ module _ (kept : PoolsAreKept) (W : PlainWorkload) (rounds : ℕ) (m : Moment) (
             pinned = ap (λ k. length (after W.settings k (at.posts node).work.events).pinned) (sym node_is) ∙ ap length b.pinned;
           }
 
-      pub all_over : (pools : (node : ℕ) (site : Site) (shut : Shut) → slice_get m.standing.nodes node ≡ Some site → slice_get nodes node ≡ Some shut → (tally : Tally) × Closes shut.giver (map drawer_of site.callers) tally)
-          → ((node client : ℕ) (site : Site) (caller : Calling) → slice_get m.standing.nodes node ≡ Some site → slice_get site.callers client ≡ Some caller → caller.done ≡ length (operations_at W (place_of W.settings.clients node client)))
+      pub all_over : (pools : (node : ℕ) (site : PlainNodeActors) (shut : PlainClosedAgent) → slice_get m.standing.nodes node ≡ Some site → slice_get nodes node ≡ Some shut → (tally : Tally) × Closes shut.giver (map drawer_of site.callers) tally)
+          → ((node client : ℕ) (site : PlainNodeActors) (caller : PlainClientActor) → slice_get m.standing.nodes node ≡ Some site → slice_get site.callers client ≡ Some caller → caller.done ≡ length (operations_at W (place_of W.settings.clients node client)))
           → IsOver W m at.posts at.heard
       all_over pools done =
           record {

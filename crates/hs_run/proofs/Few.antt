@@ -4,18 +4,18 @@ use Rattle.hs_lists.proofs.Places.{get_there}
 use Rattle.hs_law_journal.specs.Doings.{triggers_in}
 use Rattle.hs_base.specs.declared.ids.ClientId.{ClientId}
 use Rattle.hs_base.specs.Ids.{client_of}
-use Rattle.hs_run_client.specs.Calling.{Calling}
-use Rattle.hs_run_client.specs.Standing.{IsAt, HasSentSoFar}
+use Rattle.hs_run_client.specs.ClientActors.{PlainClientActor}
+use Rattle.hs_run_client.specs.Standing.{ClientActorIsAt, HasSentSoFar}
 use Rattle.hs_records.specs.Plain.{Operation, PlainSettings, PlainWorkload}
 use Rattle.hs_law_sends.specs.Sending.{operations_at, place_of}
 use Rattle.hs_workload.specs.Validity.{IsValid, client_pieces}
-use Rattle.hs_run_agent.specs.Work.{Work, IsFew}
+use Rattle.hs_run_agent.specs.Work.{NodeWork, IsFew}
 use Rattle.hs_run_agent.proofs.Few.{few_of_sent}
-use Rattle.hs_run_story.specs.Standing.{Site, SiteStands}
-use Rattle.hs_run_story.specs.Meeting.{SiteMeets}
+use Rattle.hs_run_story.specs.RunStates.{PlainNodeActors, NodeActorsStand}
+use Rattle.hs_run_story.specs.Meeting.{NodeActorsMeet}
 
-module _ (W : PlainWorkload) (valid : IsValid W) (n : ℕ) (low : n < W.settings.nodes) (work : Work) (old new : Site) (stands : SiteStands W n work old) (meets : SiteMeets W n work old new)
-    (sent_so : (settings : PlainSettings) (client : ClientId) (ops : List Operation) (caller : Calling) → IsAt settings client ops caller → HasSentSoFar settings client ops caller) where
+module _ (W : PlainWorkload) (valid : IsValid W) (n : ℕ) (low : n < W.settings.nodes) (work : NodeWork) (old new : PlainNodeActors) (stands : NodeActorsStand W n work old) (meets : NodeActorsMeet W n work old new)
+    (sent_so : (settings : PlainSettings) (client : ClientId) (ops : List Operation) (caller : PlainClientActor) → ClientActorIsAt settings client ops caller → HasSentSoFar settings client ops caller) where
   received : (number : ℕ) → number < W.settings.clients → length (triggers_in number work.events) ≤ client_pieces W.settings.size (operations_at W (place_of W.settings.clients n number))
   received number below =
       let old_count = stands.count in

@@ -9,12 +9,12 @@ use Rattle.hs_live.specs.Keys.{Key}
 use Rattle.hs_records.specs.Plain.{PlainWorkload}
 use Rattle.hs_law_sends.specs.Sending.{operations_at, place_of}
 use Rattle.hs_workload.specs.Validity.{IsValid, client_pieces}
-use Rattle.hs_run_agent.specs.Lines.{closed}
+use Rattle.hs_run_agent.specs.Intakes.{closed}
 use Rattle.hs_run_agent.proofs.Few.{few_of_sent}
-use Rattle.hs_run.specs.Shutting.{AllSents, AreFew}
+use Rattle.hs_run.specs.Shutting.{AllSents, ClosingAreFew}
 
 pub few_shut : (W : PlainWorkload) → IsValid W → (sents : AllSents) → ((node client : ℕ) → node < W.settings.nodes → client < W.settings.clients → length ((sents node).triggers client) ≤ client_pieces W.settings.size (operations_at W (place_of W.settings.clients node client)))
-    → AreFew W sents
+    → ClosingAreFew W sents
 few_shut W valid sents each node work shut low stands = few_of_sent W valid node low work stands.is.stands.works.is.within received
   where
     received : (client : ℕ) → client < W.settings.clients → length (triggers_in client work.events) ≤ client_pieces W.settings.size (operations_at W (place_of W.settings.clients node client))

@@ -15,22 +15,22 @@ use Rattle.hs_records.specs.Plain.{PlainWorkload}
 use Rattle.hs_ring.specs.Parts.{Drawing, AreAllEnds}
 use Rattle.hs_law_sends.specs.Sending.{operations_at, place_of}
 use Rattle.hs_workload.specs.Validity.{IsValid}
-use Rattle.hs_run_client.specs.Calling.{Calling}
-use Rattle.hs_run_agent.specs.Coordinators.{Coordinating}
-use Rattle.hs_run_agent.specs.Shut.{Shut}
-use Rattle.hs_run_story.specs.Standing.{Site, Moment, Stands}
+use Rattle.hs_run_client.specs.ClientActors.{PlainClientActor}
+use Rattle.hs_run_agent.specs.Coordinators.{PlainCoordinatorActor}
+use Rattle.hs_run_agent.specs.ClosedAgents.{PlainClosedAgent}
+use Rattle.hs_run_story.specs.RunStates.{PlainNodeActors, RunState, RunStands}
 use Rattle.hs_run_story.specs.Coming.{Came}
 use Rattle.hs_run_story.specs.Laws.{AllBegin, PoolsAreKept, RunsAreLawful, IsRecounted}
 use Rattle.hs_run_story.specs.Noting.{NotesRounds, JournalsNoteRounds}
-use Rattle.hs_run.specs.Shutting.{ClosedAt, AreShutFrom, IsShutFrom, sents_at}
-use Rattle.hs_run.specs.Ended.{AreShut, CanFinish, MayFinish, HasFinished, HaveFinished}
+use Rattle.hs_run.specs.Shutting.{ClosedAt, AreClosedAgentsFrom, IsClosedAgentFrom, sents_at}
+use Rattle.hs_run.specs.Ended.{HaveClosedLinks, CanFinish, MayFinish, HasFinished, HaveFinished}
 use Rattle.hs_run.specs.Noted.{IsNoted, books_of, first_books}
 use Rattle.hs_run.proofs.ClientBooks.{node_books, books_more}
 use Rattle.hs_run.proofs.Ending.{drawer_of, all_ends, all_over}
 
 -- ---- lists of equal length
 
-pub shut_long : (sites : List Site) (books : List PlainClientBook) (lists : List (List Drawing)) (nodes : List Shut) → AreShut sites books lists nodes → (length nodes ≡ length sites) × (length lists ≡ length sites)
+pub shut_long : (sites : List PlainNodeActors) (books : List PlainClientBook) (lists : List (List Drawing)) (nodes : List PlainClosedAgent) → HaveClosedLinks sites books lists nodes → (length nodes ≡ length sites) × (length lists ≡ length sites)
 shut_long [] books [] [] h = (refl, refl)
 shut_long [] books [] (n ∷ nodes) h = absurd h
 shut_long [] books (l ∷ lists) nodes h = absurd h
@@ -39,11 +39,11 @@ shut_long (s ∷ sites) books (l ∷ lists) [] h = absurd h
 shut_long (s ∷ sites) books (l ∷ lists) (n ∷ nodes) h = let rest = shut_long sites h.1 lists nodes h.4 in let a = rest.0 in let b = rest.1 in (ap suc a, ap suc b)
 
 -- what stands at one place
-pub record ShutAt (sites : List Site) (lists : List (List Drawing)) (node : ℕ) (site : Site) (shut : Shut) : Type 0 where
-  pub from : IsShutFrom site shut
+pub record ShutAt (sites : List PlainNodeActors) (lists : List (List Drawing)) (node : ℕ) (site : PlainNodeActors) (shut : PlainClosedAgent) : Type 0 where
+  pub from : IsClosedAgentFrom site shut
   pub drawers : slice_get lists node ≡ Some (map drawer_of site.callers)
 
-pub shut_at : (sites : List Site) (books : List PlainClientBook) (lists : List (List Drawing)) (nodes : List Shut) → AreShut sites books lists nodes → (node : ℕ) (site : Site) (shut : Shut) → slice_get sites node ≡ Some site → slice_get nodes node ≡ Some shut → ShutAt sites lists node site shut
+pub shut_at : (sites : List PlainNodeActors) (books : List PlainClientBook) (lists : List (List Drawing)) (nodes : List PlainClosedAgent) → HaveClosedLinks sites books lists nodes → (node : ℕ) (site : PlainNodeActors) (shut : PlainClosedAgent) → slice_get sites node ≡ Some site → slice_get nodes node ≡ Some shut → ShutAt sites lists node site shut
 shut_at [] books lists nodes h node site shut at there = let no : None ≡ Some site = at in absurd cc
 shut_at (s ∷ sites) books [] nodes h node site shut at there = absurd h
 shut_at (s ∷ sites) books (l ∷ lists) [] h node site shut at there = absurd h
@@ -54,12 +54,12 @@ shut_at (s ∷ sites) books (l ∷ lists) (n ∷ nodes) h zero site shut at ther
     let shut_is : n ≡ shut = cc in
     let has = h.3 in
     record {
-      from = subst (λ (x : Site). IsShutFrom x shut) site_is (subst (IsShutFrom s) shut_is (record { shut = has.stands; giver = has.giver; said = has.said }));
-      drawers = ap (λ (x : List Drawing). Some x) has.drawers_are ∙ ap (λ (x : Site). Some (map drawer_of x.callers)) site_is;
+      from = subst (λ (x : PlainNodeActors). IsClosedAgentFrom x shut) site_is (subst (IsClosedAgentFrom s) shut_is (record { shut = has.stands; giver = has.giver; said = has.said }));
+      drawers = ap (λ (x : List Drawing). Some x) has.drawers_are ∙ ap (λ (x : PlainNodeActors). Some (map drawer_of x.callers)) site_is;
     }
 shut_at (s ∷ sites) books (l ∷ lists) (n ∷ nodes) h (suc node) site shut at there = let rest = shut_at sites h.1 lists nodes h.4 node site shut at there in record { from = rest.from; drawers = rest.drawers }
 
-pub shut_from : (m : Moment) (sites : List Site) → m.standing.nodes ≡ sites → (books : List PlainClientBook) (lists : List (List Drawing)) (nodes : List Shut) → AreShut sites books lists nodes → AreShutFrom m nodes
+pub shut_from : (m : RunState) (sites : List PlainNodeActors) → m.standing.nodes ≡ sites → (books : List PlainClientBook) (lists : List (List Drawing)) (nodes : List PlainClosedAgent) → HaveClosedLinks sites books lists nodes → AreClosedAgentsFrom m nodes
 shut_from m sites is books lists nodes h =
     record {
       count = (shut_long sites books lists nodes h).0 ∙ ap length (sym is);
@@ -68,13 +68,13 @@ shut_from m sites is books lists nodes h =
 
 -- ---- closing the pools
 
-pub may_finish : (nodes : List Shut) (lists : List (List Drawing)) → length lists ≡ length nodes → ((node : ℕ) (shut : Shut) (drawers : List Drawing) → slice_get nodes node ≡ Some shut → slice_get lists node ≡ Some drawers → CanFinish shut drawers) → MayFinish nodes lists
+pub may_finish : (nodes : List PlainClosedAgent) (lists : List (List Drawing)) → length lists ≡ length nodes → ((node : ℕ) (shut : PlainClosedAgent) (drawers : List Drawing) → slice_get nodes node ≡ Some shut → slice_get lists node ≡ Some drawers → CanFinish shut drawers) → MayFinish nodes lists
 may_finish [] [] long each = tt
 may_finish [] (l ∷ lists) long each = absurd (omega (arith, long))
 may_finish (n ∷ nodes) [] long each = absurd (omega (arith, long))
 may_finish (n ∷ nodes) (l ∷ lists) long each = (each 0 n l refl refl, may_finish nodes lists (omega (arith, long)) (λ node. each (suc node)))
 
-pub finished_at : (nodes : List Shut) (lists : List (List Drawing)) (books : List PlainAgentBook) → HaveFinished nodes lists books → (node : ℕ) (shut : Shut) (drawers : List Drawing) → slice_get nodes node ≡ Some shut → slice_get lists node ≡ Some drawers
+pub finished_at : (nodes : List PlainClosedAgent) (lists : List (List Drawing)) (books : List PlainAgentBook) → HaveFinished nodes lists books → (node : ℕ) (shut : PlainClosedAgent) (drawers : List Drawing) → slice_get nodes node ≡ Some shut → slice_get lists node ≡ Some drawers
     → (book : PlainAgentBook) × (slice_get books node ≡ Some book) × HasFinished shut drawers book
 finished_at [] lists books h node shut drawers at there = let no : None ≡ Some shut = at in absurd cc
 finished_at (n ∷ nodes) [] books h node shut drawers at there = absurd h
@@ -87,7 +87,7 @@ finished_at (n ∷ nodes) (l ∷ lists) (b ∷ books) h zero shut drawers at the
     (b, refl, subst (λ x. HasFinished x drawers b) shut_is (subst (λ x. HasFinished n x b) drawers_are h.0))
 finished_at (n ∷ nodes) (l ∷ lists) (b ∷ books) h (suc node) shut drawers at there = finished_at nodes lists books h.1 node shut drawers at there
 
-finished_long : (nodes : List Shut) (lists : List (List Drawing)) (books : List PlainAgentBook) → HaveFinished nodes lists books → length books ≡ length nodes
+finished_long : (nodes : List PlainClosedAgent) (lists : List (List Drawing)) (books : List PlainAgentBook) → HaveFinished nodes lists books → length books ≡ length nodes
 finished_long [] [] [] h = refl
 finished_long [] [] (b ∷ books) h = absurd h
 finished_long [] (l ∷ lists) books h = absurd h
@@ -108,8 +108,8 @@ by_places f start (suc count) (x ∷ xs) long each =
 -- ---- the clients' books
 
 module _ (W : PlainWorkload) (J : PlainJournal) where
-  pub noted_books : (sites : List Site) (books : List PlainClientBook) (lists : List (List Drawing)) (nodes : List Shut) → AreShut sites books lists nodes → (first : ℕ)
-      → ((node : ℕ) (site : Site) → slice_get sites node ≡ Some site → (length site.callers ≡ W.settings.clients) × ((number : ℕ) (caller : Calling) → slice_get site.callers number ≡ Some caller → IsNoted W J (first + node) number caller))
+  pub noted_books : (sites : List PlainNodeActors) (books : List PlainClientBook) (lists : List (List Drawing)) (nodes : List PlainClosedAgent) → HaveClosedLinks sites books lists nodes → (first : ℕ)
+      → ((node : ℕ) (site : PlainNodeActors) → slice_get sites node ≡ Some site → (length site.callers ≡ W.settings.clients) × ((number : ℕ) (caller : PlainClientActor) → slice_get site.callers number ≡ Some caller → IsNoted W J (first + node) number caller))
       → first_books W J first ++ books ≡ first_books W J (first + length sites)
   noted_books [] books [] [] h first each =
       let none : first + 0 ≡ first = omega arith in ap (λ rest. first_books W J first ++ rest) h ∙ append-nil (first_books W J first) ∙ ap (first_books W J) (sym none)
@@ -149,24 +149,24 @@ pub record Comes (W : PlainWorkload) (clients : List PlainClientBook) (agents : 
   pub told_are : told ≡ J.told
 
 -- And it notes the rounds that led there.
-pub record ComesBehind (W : PlainWorkload) (rounds : ℕ) (m : Moment) (came : Came W rounds m) (clients : List PlainClientBook) (agents : List PlainAgentBook) (told : List NodeId) : Type 0 where
+pub record ComesBehind (W : PlainWorkload) (rounds : ℕ) (m : RunState) (came : Came W rounds m) (clients : List PlainClientBook) (agents : List PlainAgentBook) (told : List NodeId) : Type 0 where
   pub come : Comes W clients agents told
   pub notes : NotesRounds W rounds m came come.J
 
-module _ (kept : PoolsAreKept) (runs : RunsAreLawful) (W : PlainWorkload) (valid : IsValid W) (rounds : ℕ) (m : Moment) (came : Came W rounds m) (begin : AllBegin W (came.at 0)) (stand : Stands W m)
-    (all : (node client : ℕ) (site : Site) (caller : Calling) → slice_get m.standing.nodes node ≡ Some site → slice_get site.callers client ≡ Some caller → caller.done ≡ length (operations_at W (place_of W.settings.clients node client)))
-    (sites : List Site) (sites_are : m.standing.nodes ≡ sites) (books : List PlainClientBook) (lists : List (List Drawing)) (first : List Shut) (shut : AreShut sites books lists first)
-    (nodes : List Shut) (c : Coordinating) (closed : ClosedAt W rounds m (sents_at m) nodes c)
+module _ (kept : PoolsAreKept) (runs : RunsAreLawful) (W : PlainWorkload) (valid : IsValid W) (rounds : ℕ) (m : RunState) (came : Came W rounds m) (begin : AllBegin W (came.at 0)) (stand : RunStands W m)
+    (all : (node client : ℕ) (site : PlainNodeActors) (caller : PlainClientActor) → slice_get m.standing.nodes node ≡ Some site → slice_get site.callers client ≡ Some caller → caller.done ≡ length (operations_at W (place_of W.settings.clients node client)))
+    (sites : List PlainNodeActors) (sites_are : m.standing.nodes ≡ sites) (books : List PlainClientBook) (lists : List (List Drawing)) (first : List PlainClosedAgent) (shut : HaveClosedLinks sites books lists first)
+    (nodes : List PlainClosedAgent) (c : PlainCoordinatorActor) (closed : ClosedAt W rounds m (sents_at m) nodes c)
   where
-    stood : (node : ℕ) (site : Site) → slice_get sites node ≡ Some site → slice_get m.standing.nodes node ≡ Some site
+    stood : (node : ℕ) (site : PlainNodeActors) → slice_get sites node ≡ Some site → slice_get m.standing.nodes node ≡ Some site
     stood node site at = ap (λ l. slice_get l node) sites_are ∙ at
 
     long_nodes : length nodes ≡ length sites
     long_nodes = closed.at.stand.count ∙ sym stand.count ∙ ap length sites_are
 
-    -- the site of a node, and its drawers
+    -- the actors of a node, and its drawers
     record Found (node : ℕ) : Type 0 where
-      site : Site
+      site : PlainNodeActors
       there : slice_get sites node ≡ Some site
       drawers : slice_get lists node ≡ Some (map drawer_of site.callers)
 
@@ -197,12 +197,12 @@ module _ (kept : PoolsAreKept) (runs : RunsAreLawful) (W : PlainWorkload) (valid
         })
 
     module _ (agents : List PlainAgentBook) (finished : HaveFinished nodes lists agents) where
-      one_finished : (node : ℕ) (site : Site) (x : Shut) → slice_get m.standing.nodes node ≡ Some site → slice_get nodes node ≡ Some x → (book : PlainAgentBook) × (slice_get agents node ≡ Some book) × HasFinished x (map drawer_of site.callers) book
+      one_finished : (node : ℕ) (site : PlainNodeActors) (x : PlainClosedAgent) → slice_get m.standing.nodes node ≡ Some site → slice_get nodes node ≡ Some x → (book : PlainAgentBook) × (slice_get agents node ≡ Some book) × HasFinished x (map drawer_of site.callers) book
       one_finished node site x at there =
           let f = found node (slice_get_within nodes node x there) in
           let same : Some f.site ≡ Some site = sym (stood node f.site f.there) ∙ at in
           let is : f.site ≡ site = cc in
-          finished_at nodes lists agents finished node x (map drawer_of site.callers) there (f.drawers ∙ ap (λ (s : Site). Some (map drawer_of s.callers)) is)
+          finished_at nodes lists agents finished node x (map drawer_of site.callers) there (f.drawers ∙ ap (λ (s : PlainNodeActors). Some (map drawer_of s.callers)) is)
 
       pub comes_to : JournalsNoteRounds → ComesBehind W rounds m came books agents c.kept.log
       comes_to notes =

@@ -15,13 +15,13 @@ use Rattle.hs_live.specs.Live.{hears, is_told, IsMate, MeetAt}
 use Rattle.hs_records.specs.Plain.{PlainWorkload}
 use Rattle.hs_ring.specs.Parts.{Giving, AllBelow}
 use Rattle.hs_law_sends.specs.Sending.{operations_at, place_of}
-use Rattle.hs_words.specs.Ends.{Answer, Turn, answers_in}
-use Rattle.hs_run_client.specs.Calling.{Calling}
-use Rattle.hs_run_client.specs.Standing.{IsAt}
-use Rattle.hs_run_agent.specs.Manned.{Manned}
-use Rattle.hs_run_agent.specs.Work.{Work}
-use Rattle.hs_run_story.specs.Standing.{Site, SiteStands}
-use Rattle.hs_run_story.specs.Meeting.{EndsMet, CallerMet, GiverMet, SiteMeets, told_of}
+use Rattle.hs_words.specs.Ends.{Answer, GiverTurn, answers_in}
+use Rattle.hs_run_client.specs.ClientActors.{PlainClientActor}
+use Rattle.hs_run_client.specs.Standing.{ClientActorIsAt}
+use Rattle.hs_run_agent.specs.AgentActors.{PlainAgentActor}
+use Rattle.hs_run_agent.specs.Work.{NodeWork}
+use Rattle.hs_run_story.specs.RunStates.{PlainNodeActors, NodeActorsStand}
+use Rattle.hs_run_story.specs.Meeting.{EndsMet, ClientActorMet, GiverMet, NodeActorsMeet, told_of}
 use Rattle.hs_run_story.proofs.Meetings.{answers_behind}
 use Rattle.hs_run.specs.Sites.{MeetsOne, HaveMet}
 
@@ -58,12 +58,12 @@ module _ {T : Type 0} (number : ℕ) (rs : List (Incoming T Key)) (s : Outgoing 
 
 -- ---- the giver
 
-turns_more : (callers : List Calling) (n : ℕ) (caller : Calling) (turns : List Turn) → slice_get callers n ≡ Some caller
+turns_more : (callers : List PlainClientActor) (n : ℕ) (caller : PlainClientActor) (turns : List GiverTurn) → slice_get callers n ≡ Some caller
     → reverse (map told_of (take (suc n) callers)) ++ turns ≡ told_of caller ∷ (reverse (map told_of (take n callers)) ++ turns)
 turns_more callers n caller turns at =
-    ap (λ (l : List Calling). reverse (map told_of l) ++ turns) (take_more callers n caller at)
-    ∙ ap (λ (l : List Turn). reverse l ++ turns) (map-append told_of (take n callers) (caller ∷ []))
-    ∙ ap (λ (l : List Turn). l ++ turns) (reverse-append (map told_of (take n callers)) (told_of caller ∷ []))
+    ap (λ (l : List PlainClientActor). reverse (map told_of l) ++ turns) (take_more callers n caller at)
+    ∙ ap (λ (l : List GiverTurn). reverse l ++ turns) (map-append told_of (take n callers) (caller ∷ []))
+    ∙ ap (λ (l : List GiverTurn). l ++ turns) (reverse-append (map told_of (take n callers)) (told_of caller ∷ []))
 
 all_below : (a b : ℕ) → a ≤ b → (answers : List Answer) → AllBelow a answers → AllBelow b answers
 all_below a b le [] h = tt
@@ -71,7 +71,7 @@ all_below a b le (x ∷ answers) (low, h) = (omega (arith, le, low), all_below a
 
 -- ---- one meeting more
 
-module _ (W : PlainWorkload) (node : ℕ) (work : Work) (number : ℕ) (old mid new : Site) (h : HaveMet W node work number old mid) (one : MeetsOne W node work number mid new) where
+module _ (W : PlainWorkload) (node : ℕ) (work : NodeWork) (number : ℕ) (old mid new : PlainNodeActors) (h : HaveMet W node work number old mid) (one : MeetsOne W node work number mid new) where
   here : number ≤ number
   here = omega arith
 
@@ -79,8 +79,8 @@ module _ (W : PlainWorkload) (node : ℕ) (work : Work) (number : ℕ) (old mid 
   stood = sym (h.still number here) ∙ one.stood
 
   -- a client of the new list is that one, or one of before
-  found : (k : ℕ) (x : Calling) → slice_get new.callers k ≡ Some x → ((number ≡ k) × (one.after ≡ x)) ⊎ ((number ≡ k → ⊥) × (slice_get mid.callers k ≡ Some x))
-  found k x at = get_set_cases mid.callers number k one.before one.after x one.stood (sym (ap (λ (l : List Calling). slice_get l k) one.callers) ∙ at)
+  found : (k : ℕ) (x : PlainClientActor) → slice_get new.callers k ≡ Some x → ((number ≡ k) × (one.after ≡ x)) ⊎ ((number ≡ k → ⊥) × (slice_get mid.callers k ≡ Some x))
+  found k x at = get_set_cases mid.callers number k one.before one.after x one.stood (sym (ap (λ (l : List PlainClientActor). slice_get l k) one.callers) ∙ at)
 
   giver_pool : new.agent.port.giver.pool ≡ mid.agent.port.giver.pool
   giver_pool = ap (λ (g : Giving). g.pool) one.met.pool.giver_hears
@@ -95,7 +95,7 @@ module _ (W : PlainWorkload) (node : ℕ) (work : Work) (number : ℕ) (old mid 
         pool = ap (λ d. d.pool) one.met.pool.drawer_hears ∙ m.pool ∙ sym giver_pool;
       }
 
-  mates_other : (k : ℕ) (x : Calling) → (number ≡ k → ⊥) → AreMates k mid.agent.port x.client → AreMates k new.agent.port x.client
+  mates_other : (k : ℕ) (x : PlainClientActor) → (number ≡ k → ⊥) → AreMates k mid.agent.port x.client → AreMates k new.agent.port x.client
   mates_other k x ne m =
       record {
         chunks = mate_other number mid.agent.port.chunks one.before.client.chunks new.agent.port.chunks one.after.client.chunks one.met.chunks k x.client.chunks ne m.chunks;
@@ -104,27 +104,27 @@ module _ (W : PlainWorkload) (node : ℕ) (work : Work) (number : ℕ) (old mid 
         pool = m.pool ∙ sym giver_pool;
       }
 
-  stands : SiteStands W node work new
+  stands : NodeActorsStand W node work new
   stands =
       record {
         node_is = h.stands.node_is;
         count = ap length one.callers ∙ length-set mid.callers number one.after ∙ h.stands.count;
         callers = λ k x at. elim (found k x at) [
           | inl e ↦
-              subst (λ (n : ℕ). IsAt W.settings (client_of node n) (operations_at W (place_of W.settings.clients node n)) x) e.0
-              (subst (λ (y : Calling). IsAt W.settings (client_of node number) (operations_at W (place_of W.settings.clients node number)) y) e.1 one.at)
+              subst (λ (n : ℕ). ClientActorIsAt W.settings (client_of node n) (operations_at W (place_of W.settings.clients node n)) x) e.0
+              (subst (λ (y : PlainClientActor). ClientActorIsAt W.settings (client_of node number) (operations_at W (place_of W.settings.clients node number)) y) e.1 one.at)
           | inr e ↦ h.stands.callers k x e.1
         ];
         mates = λ k x at. elim (found k x at) [
           | inl e ↦
               subst (λ (n : ℕ). AreMates n new.agent.port x.client) e.0
-              (subst (λ (y : Calling). AreMates number new.agent.port y.client) e.1 mates_here)
+              (subst (λ (y : PlainClientActor). AreMates number new.agent.port y.client) e.1 mates_here)
           | inr e ↦ mates_other k x e.0 (h.stands.mates k x e.1)
         ];
         agent = one.manned;
       }
 
-  caller_here : CallerMet number old.agent.port new.agent.port one.before one.after
+  caller_here : ClientActorMet number old.agent.port new.agent.port one.before one.after
   caller_here =
       record {
         done = one.done;
@@ -142,7 +142,7 @@ module _ (W : PlainWorkload) (node : ℕ) (work : Work) (number : ℕ) (old mid 
         above_drawn = one.met.pool.above_drawn;
       }
 
-  caller_other : (k : ℕ) (x x' : Calling) → (number ≡ k → ⊥) → CallerMet k old.agent.port mid.agent.port x x' → CallerMet k old.agent.port new.agent.port x x'
+  caller_other : (k : ℕ) (x x' : PlainClientActor) → (number ≡ k → ⊥) → ClientActorMet k old.agent.port mid.agent.port x x' → ClientActorMet k old.agent.port new.agent.port x x'
   caller_other k x x' ne c =
       record {
         done = c.done;
@@ -158,13 +158,13 @@ module _ (W : PlainWorkload) (node : ℕ) (work : Work) (number : ℕ) (old mid 
         above_drawn = c.above_drawn;
       }
 
-  met : (k : ℕ) (x x' : Calling) → k < suc number → slice_get old.callers k ≡ Some x → slice_get new.callers k ≡ Some x' → CallerMet k old.agent.port new.agent.port x x'
+  met : (k : ℕ) (x x' : PlainClientActor) → k < suc number → slice_get old.callers k ≡ Some x → slice_get new.callers k ≡ Some x' → ClientActorMet k old.agent.port new.agent.port x x'
   met k x x' low at at' =
       elim (found k x' at') [
         | inl e ↦
-            subst (λ (n : ℕ). CallerMet n old.agent.port new.agent.port x x') e.0
-            (subst (λ (y : Calling). CallerMet number old.agent.port new.agent.port y x') (same_Some one.before x (sym stood ∙ ap (slice_get old.callers) e.0 ∙ at))
-            (subst (λ (y : Calling). CallerMet number old.agent.port new.agent.port one.before y) e.1 caller_here))
+            subst (λ (n : ℕ). ClientActorMet n old.agent.port new.agent.port x x') e.0
+            (subst (λ (y : PlainClientActor). ClientActorMet number old.agent.port new.agent.port y x') (same_Some one.before x (sym stood ∙ ap (slice_get old.callers) e.0 ∙ at))
+            (subst (λ (y : PlainClientActor). ClientActorMet number old.agent.port new.agent.port one.before y) e.1 caller_here))
         | inr e ↦
             elim (same_or_less k number low) [
               | inl less ↦ caller_other k x x' e.0 (h.met k x x' less at e.1)
@@ -178,13 +178,13 @@ module _ (W : PlainWorkload) (node : ℕ) (work : Work) (number : ℕ) (old mid 
   giver_rises : mid.agent.port.giver.floor ≤ new.agent.port.giver.floor
   giver_rises = subst (λ (n : ℕ). mid.agent.port.giver.floor ≤ n) (sym giver_floor) (le-max_left mid.agent.port.giver.floor one.before.client.drawer.floor)
 
-  giver_above : (k : ℕ) (x : Calling) → slice_get (take (suc number) old.callers) k ≡ Some x → AllBelow new.agent.port.giver.floor x.client.drawer.answers
+  giver_above : (k : ℕ) (x : PlainClientActor) → slice_get (take (suc number) old.callers) k ≡ Some x → AllBelow new.agent.port.giver.floor x.client.drawer.answers
   giver_above k x at =
       let (low, there) = take_get old.callers (suc number) k x at in
       elim (same_or_less k number low) [
         | inl less ↦ all_below mid.agent.port.giver.floor new.agent.port.giver.floor giver_rises x.client.drawer.answers (h.giver.above_drawn k x (get_take old.callers number k x less there))
         | inr same ↦
-            subst (λ (y : Calling). AllBelow new.agent.port.giver.floor y.client.drawer.answers) (same_Some one.before x (sym stood ∙ ap (slice_get old.callers) (sym same) ∙ there))
+            subst (λ (y : PlainClientActor). AllBelow new.agent.port.giver.floor y.client.drawer.answers) (same_Some one.before x (sym stood ∙ ap (slice_get old.callers) (sym same) ∙ there))
             (subst (λ (n : ℕ). AllBelow n one.before.client.drawer.answers) (sym giver_floor) one.met.pool.above_drawn)
       ]
 
@@ -198,13 +198,13 @@ module _ (W : PlainWorkload) (node : ℕ) (work : Work) (number : ℕ) (old mid 
         size = ap (λ (g : Giving). g.size) one.met.pool.giver_hears ∙ h.giver.size;
         drawers = ap (λ (g : Giving). g.drawers) one.met.pool.giver_hears ∙ h.giver.drawers;
         turns =
-            ap (λ (g : Giving). g.turns) one.met.pool.giver_hears ∙ ap (λ (l : List Turn). told_of one.before ∷ l) h.giver.turns
+            ap (λ (g : Giving). g.turns) one.met.pool.giver_hears ∙ ap (λ (l : List GiverTurn). told_of one.before ∷ l) h.giver.turns
             ∙ sym (turns_more old.callers number one.before old.agent.port.giver.turns stood);
         rises = omega (arith, rose, rises);
         above_drawn = giver_above;
       }
 
-  at_new_port : Manned → Manned
+  at_new_port : PlainAgentActor → PlainAgentActor
   at_new_port a = record a { port = new.agent.port }
 
   pub one_more : HaveMet W node work (suc number) old new
@@ -213,7 +213,7 @@ module _ (W : PlainWorkload) (node : ℕ) (work : Work) (number : ℕ) (old mid 
       record {
         stands = stands;
         met = met;
-        still = λ k low. ap (λ (l : List Calling). slice_get l k) one.callers ∙ get_other mid.callers number k one.after (λ e. omega (arith, e, low)) ∙ h.still k (omega (arith, low));
+        still = λ k low. ap (λ (l : List PlainClientActor). slice_get l k) one.callers ∙ get_other mid.callers number k one.after (λ e. omega (arith, e, low)) ∙ h.still k (omega (arith, low));
         chunks = λ k low.
             end_other number mid.agent.port.chunks one.before.client.chunks new.agent.port.chunks one.after.client.chunks one.met.chunks k (λ e. omega (arith, e, low)) ∙ h.chunks k (omega (arith, low));
         crumbs = λ k low.
@@ -226,7 +226,7 @@ module _ (W : PlainWorkload) (node : ℕ) (work : Work) (number : ℕ) (old mid 
 
 -- ---- none, and all
 
-pub none_met : (W : PlainWorkload) (node : ℕ) (work : Work) (site : Site) → SiteStands W node work site → HaveMet W node work 0 site site
+pub none_met : (W : PlainWorkload) (node : ℕ) (work : NodeWork) (site : PlainNodeActors) → NodeActorsStand W node work site → HaveMet W node work 0 site site
 none_met W node work site stands =
     record {
       stands = stands;
@@ -239,11 +239,11 @@ none_met W node work site stands =
       desk = refl;
     }
 
-pub all_met : (W : PlainWorkload) (node : ℕ) (work : Work) (count : ℕ) (old new : Site) → length old.callers ≤ count → HaveMet W node work count old new → SiteMeets W node work old new
+pub all_met : (W : PlainWorkload) (node : ℕ) (work : NodeWork) (count : ℕ) (old new : PlainNodeActors) → length old.callers ≤ count → HaveMet W node work count old new → NodeActorsMeet W node work old new
 all_met W node work count old new high h =
     record {
       stands = h.stands;
       callers = λ k x x' at at'. let low = slice_get_within old.callers k x at in h.met k x x' (omega (arith, low, high)) at at';
-      giver = subst (λ (l : List Calling). GiverMet l old.agent.port.giver new.agent.port.giver) (take_whole old.callers count high) h.giver;
+      giver = subst (λ (l : List PlainClientActor). GiverMet l old.agent.port.giver new.agent.port.giver) (take_whole old.callers count high) h.giver;
       desk = h.desk;
     }

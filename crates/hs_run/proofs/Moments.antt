@@ -11,76 +11,76 @@ use Rattle.hs_coord.specs.Messages.{Messages}
 use Rattle.hs_records.specs.Plain.{PlainWorkload}
 use Rattle.hs_workload.specs.Views.{workload_of}
 use Rattle.hs_workload.specs.declared.operation.Workload.{Workload}
-use Rattle.hs_run_agent.specs.Coordinators.{Coordinating, IsCoordinating, Hears}
-use Rattle.hs_run_agent.specs.Work.{Work}
-use Rattle.hs_run_story.specs.Standing.{Site, Moment, SiteStands, Stands, moved_by, asked_by}
-use Rattle.hs_run_story.specs.Acting.{SiteActs}
-use Rattle.hs_run_story.specs.Meeting.{SiteMeets}
+use Rattle.hs_run_agent.specs.Coordinators.{PlainCoordinatorActor, IsCoordinatorActor, Hears}
+use Rattle.hs_run_agent.specs.Work.{NodeWork}
+use Rattle.hs_run_story.specs.RunStates.{PlainNodeActors, RunState, NodeActorsStand, RunStands, moved_by, asked_by}
+use Rattle.hs_run_story.specs.Acting.{NodeActorsAct}
+use Rattle.hs_run_story.specs.Meeting.{NodeActorsMeet}
 use Rattle.hs_run.proofs.ToldBehind.{coordinates_same}
-use Rattle.hs_run.specs.declared.node.Node.{Node}
+use Rattle.hs_run.specs.declared.node.ActingNode.{ActingNode}
 use Rattle.hs_run.specs.Changing.{EachChanged}
 use Rattle.hs_run.specs.Moments.{IsHere, AreFew, ActedTo, MetTo}
 use Rattle.hs_run.specs.Movings.{HasMet}
 use Rattle.hs_run.specs.Nodes.{AllHaveActed, HasHeard, NoneFailed, sites_of}
 use Rattle.hs_run.proofs.Choosing.{Chosen, choose}
 
-abbrev site_in : Node → Site
+abbrev site_in : ActingNode → PlainNodeActors
 site_in node = node.site
 
--- the site of a node among those of all
-pub site_there : (nodes : List Node) (n : ℕ) (node : Node) → slice_get nodes n ≡ Some node → slice_get (sites_of nodes) n ≡ Some node.site
+-- the actors of a node among those of all
+pub site_there : (nodes : List ActingNode) (n : ℕ) (node : ActingNode) → slice_get nodes n ≡ Some node → slice_get (sites_of nodes) n ≡ Some node.site
 site_there [] n node at = let none : None ≡ Some node = at in absurd cc
-site_there (x ∷ nodes) zero node at = ap (λ (y : Node). Some y.site) (same_Some x node at)
+site_there (x ∷ nodes) zero node at = ap (λ (y : ActingNode). Some y.site) (same_Some x node at)
 site_there (x ∷ nodes) (suc n) node at = site_there nodes n node at
 
--- the node of a site
-pub node_there : (nodes : List Node) (n : ℕ) (site : Site) → slice_get (sites_of nodes) n ≡ Some site → (node : Node) × (slice_get nodes n ≡ Some node) × (node.site ≡ site)
+-- the node of these actors
+pub node_there : (nodes : List ActingNode) (n : ℕ) (site : PlainNodeActors) → slice_get (sites_of nodes) n ≡ Some site → (node : ActingNode) × (slice_get nodes n ≡ Some node) × (node.site ≡ site)
 node_there [] n site at = let none : None ≡ Some site = at in absurd cc
 node_there (x ∷ nodes) zero site at = (x, refl, same_Some x.site site at)
 node_there (x ∷ nodes) (suc n) site at = node_there nodes n site at
 
-pub hear_all : {T E : Type 0} (r : Result T E) (old new : Coordinating)
-    → ((W : PlainWorkload) (heard : Messages) (moved : ℕ → List Told) (asked : ℕ → List Ask) → IsCoordinating W heard moved asked old → OnOk r ((more : Messages) × Hears W heard more moved asked new)) → OnOk r (HasHeard old new)
+pub hear_all : {T E : Type 0} (r : Result T E) (old new : PlainCoordinatorActor)
+    → ((W : PlainWorkload) (heard : Messages) (moved : ℕ → List Told) (asked : ℕ → List Ask) → IsCoordinatorActor W heard moved asked old → OnOk r ((more : Messages) × Hears W heard more moved asked new)) → OnOk r (HasHeard old new)
 hear_all (Ok x) old new h = record { by = λ W heard works is. h W heard (moved_by works) (asked_by works) is }
 hear_all (Err e) old new h = tt
 
-module _ (W : PlainWorkload) (m : Moment) (nodes : List Node) (c : Coordinating) (here : IsHere W m nodes c) where
+module _ (W : PlainWorkload) (m : RunState) (nodes : List ActingNode) (c : PlainCoordinatorActor) (here : IsHere W m nodes c) where
   pub node_count : length nodes ≡ W.settings.nodes
   node_count = sym (length-map nodes site_in) ∙ sym (ap length here.nodes_are) ∙ here.stands.count
 
-  pub node_stands : (n : ℕ) (node : Node) → slice_get nodes n ≡ Some node → SiteStands W n (m.works n) node.site
-  node_stands n node at = here.stands.each n node.site (ap (λ (l : List Site). slice_get l n) here.nodes_are ∙ site_there nodes n node at)
+  pub node_stands : (n : ℕ) (node : ActingNode) → slice_get nodes n ≡ Some node → NodeActorsStand W n (m.works n) node.site
+  node_stands n node at = here.stands.each n node.site (ap (λ (l : List PlainNodeActors). slice_get l n) here.nodes_are ∙ site_there nodes n node at)
 
-  pub node_low : (n : ℕ) (node : Node) → slice_get nodes n ≡ Some node → n < W.settings.nodes
+  pub node_low : (n : ℕ) (node : ActingNode) → slice_get nodes n ≡ Some node → n < W.settings.nodes
   node_low n node at = let low = slice_get_within nodes n node at in let count = node_count in omega (arith, low, count)
 
-  pub coordinates : IsCoordinating W m.heard (moved_by m.works) (asked_by m.works) c
-  coordinates = subst (IsCoordinating W m.heard (moved_by m.works) (asked_by m.works)) here.coordinator_is here.stands.coordinator
+  pub coordinates : IsCoordinatorActor W m.heard (moved_by m.works) (asked_by m.works) c
+  coordinates = subst (IsCoordinatorActor W m.heard (moved_by m.works) (asked_by m.works)) here.coordinator_is here.stands.coordinator
 
-module _ (w : Workload) (m : Moment) (old new : List Node) (c c' : Coordinating) (here : IsHere (workload_of w) m old c) (few : AreFew (workload_of w) m) (acted : AllHaveActed w old new) (heard : HasHeard c c') (none : NoneFailed new) where
-  ActsTo : ℕ → Node → Work → Type 0
-  ActsTo n node work' = (node' : Node) → slice_get new n ≡ Some node' → SiteActs (workload_of w) n (m.works n) work' node.site node'.site
+module _ (w : Workload) (m : RunState) (old new : List ActingNode) (c c' : PlainCoordinatorActor) (here : IsHere (workload_of w) m old c) (few : AreFew (workload_of w) m) (acted : AllHaveActed w old new) (heard : HasHeard c c') (none : NoneFailed new) where
+  ActsTo : ℕ → ActingNode → NodeWork → Type 0
+  ActsTo n node work' = (node' : ActingNode) → slice_get new n ≡ Some node' → NodeActorsAct (workload_of w) n (m.works n) work' node.site node'.site
 
-  one : (n : ℕ) (node : Node) → slice_get old n ≡ Some node → (work' : Work) × ActsTo n node work'
+  one : (n : ℕ) (node : ActingNode) → slice_get old n ≡ Some node → (work' : NodeWork) × ActsTo n node work'
   unfolding ActsTo
   one n node at =
       let low = slice_get_within old n node at in
       let many = acted.count in
       let (node', at') = get_there new n (omega (arith, low, many)) in
       let (work', acts) = acted.each n node node' at at' (none n node' at') (m.works n) (node_stands (workload_of w) m old c here n node at) (few n (node_low (workload_of w) m old c here n node at)) in
-      (work', λ x found. subst (λ (y : Node). SiteActs (workload_of w) n (m.works n) work' node.site y.site) (same_Some node' x (sym at' ∙ found)) acts)
+      (work', λ x found. subst (λ (y : ActingNode). NodeActorsAct (workload_of w) n (m.works n) work' node.site y.site) (same_Some node' x (sym at' ∙ found)) acts)
 
   chosen : Chosen ActsTo m.works old
   chosen = choose ActsTo m.works old one
 
-  works : ℕ → Work
+  works : ℕ → NodeWork
   works n = chosen.value n
 
   more : (x : Messages) × Hears (workload_of w) m.heard x (moved_by m.works) (asked_by m.works) c'
   more = heard.by (workload_of w) m.heard m.works (coordinates (workload_of w) m old c here)
 
   -- how the node with this number acted
-  acts : (n : ℕ) (node node' : Node) → slice_get old n ≡ Some node → slice_get new n ≡ Some node' → SiteActs (workload_of w) n (m.works n) (works n) node.site node'.site
+  acts : (n : ℕ) (node node' : ActingNode) → slice_get old n ≡ Some node → slice_get new n ≡ Some node' → NodeActorsAct (workload_of w) n (m.works n) (works n) node.site node'.site
   unfolding ActsTo works
   acts n node node' at at' = chosen.each n node at node' at'
 
@@ -93,17 +93,17 @@ module _ (w : Workload) (m : Moment) (old new : List Node) (c c' : Coordinating)
             let many = acted.count in
             let (node', at') = get_there new n (omega (arith, low, many)) in
             let e = (acts n node node' at at').work_is in
-            (ap (λ (x : Work). x.moved) e, ap (λ (x : Work). x.asked) e)
-        | inr high ↦ (ap (λ (x : Work). x.moved) (chosen.past n high), ap (λ (x : Work). x.asked) (chosen.past n high))
+            (ap (λ (x : NodeWork). x.moved) e, ap (λ (x : NodeWork). x.asked) e)
+        | inr high ↦ (ap (λ (x : NodeWork). x.moved) (chosen.past n high), ap (λ (x : NodeWork). x.asked) (chosen.past n high))
       ]
 
-  next : Moment
+  next : RunState
   next = record { standing = record { nodes = sites_of new; coordinator = c' }; works = works; heard = m.heard ++ more.0 }
 
-  before : (n : ℕ) (node' : Node) → slice_get new n ≡ Some node' → (node : Node) × (slice_get old n ≡ Some node)
+  before : (n : ℕ) (node' : ActingNode) → slice_get new n ≡ Some node' → (node : ActingNode) × (slice_get old n ≡ Some node)
   before n node' at' = let low = slice_get_within new n node' at' in let many = acted.count in get_there old n (omega (arith, low, many))
 
-  stands : Stands (workload_of w) next
+  stands : RunStands (workload_of w) next
   unfolding next
   stands =
       record {
@@ -112,7 +112,7 @@ module _ (w : Workload) (m : Moment) (old new : List Node) (c c' : Coordinating)
         each = λ n site at.
             let (node', at', is) = node_there new n site at in
             let (node, was) = before n node' at' in
-            subst (SiteStands (workload_of w) n (works n)) is (acts n node node' was at').stands;
+            subst (NodeActorsStand (workload_of w) n (works n)) is (acts n node node' was at').stands;
         coordinator =
             coordinates_same (workload_of w) (m.heard ++ more.0) (moved_by m.works) (moved_by works) (asked_by m.works) (asked_by works) c' (λ n. (same_work n).0) (λ n. (same_work n).1) more.1.stands;
       }
@@ -126,10 +126,10 @@ module _ (w : Workload) (m : Moment) (old new : List Node) (c c' : Coordinating)
             record {
               stands = stands;
               each = λ n site site' at at'.
-                  let (node, was, is) = node_there old n site (sym (ap (λ (l : List Site). slice_get l n) here.nodes_are) ∙ at) in
+                  let (node, was, is) = node_there old n site (sym (ap (λ (l : List PlainNodeActors). slice_get l n) here.nodes_are) ∙ at) in
                   let (node', was', is') = node_there new n site' at' in
-                  subst (λ (x : Site). SiteActs (workload_of w) n (m.works n) (works n) x site') is
-                  (subst (SiteActs (workload_of w) n (m.works n) (works n) node.site) is' (acts n node node' was was'));
+                  subst (λ (x : PlainNodeActors). NodeActorsAct (workload_of w) n (m.works n) (works n) x site') is
+                  (subst (NodeActorsAct (workload_of w) n (m.works n) (works n) node.site) is' (acts n node node' was was'));
               more = more.0;
               heard = refl;
               hears = more.1;
@@ -139,17 +139,17 @@ module _ (w : Workload) (m : Moment) (old new : List Node) (c c' : Coordinating)
 
 -- ---- meeting
 
-module _ (W : PlainWorkload) (m : Moment) (old new : List Node) (c : Coordinating) (here : IsHere W m old c) (met : EachChanged HasMet old new) where
-  after : Moment
+module _ (W : PlainWorkload) (m : RunState) (old new : List ActingNode) (c : PlainCoordinatorActor) (here : IsHere W m old c) (met : EachChanged HasMet old new) where
+  after : RunState
   after = record { standing = record { nodes = sites_of new; coordinator = c }; works = m.works; heard = m.heard }
 
-  one_met : (n : ℕ) (node node' : Node) → slice_get old n ≡ Some node → slice_get new n ≡ Some node' → SiteMeets W n (m.works n) node.site node'.site
+  one_met : (n : ℕ) (node node' : ActingNode) → slice_get old n ≡ Some node → slice_get new n ≡ Some node' → NodeActorsMeet W n (m.works n) node.site node'.site
   one_met n node node' at at' = met.each n node node' at at' W n (m.works n) (node_stands W m old c here n node at)
 
-  was_there : (n : ℕ) (node' : Node) → slice_get new n ≡ Some node' → (node : Node) × (slice_get old n ≡ Some node)
+  was_there : (n : ℕ) (node' : ActingNode) → slice_get new n ≡ Some node' → (node : ActingNode) × (slice_get old n ≡ Some node)
   was_there n node' at' = let low = slice_get_within new n node' at' in let many = met.many in get_there old n (omega (arith, low, many))
 
-  stand : Stands W after
+  stand : RunStands W after
   unfolding after
   stand =
       record {
@@ -158,7 +158,7 @@ module _ (W : PlainWorkload) (m : Moment) (old new : List Node) (c : Coordinatin
         each = λ n site at.
             let (node', at', is) = node_there new n site at in
             let (node, was) = was_there n node' at' in
-            subst (SiteStands W n (m.works n)) is (one_met n node node' was at').stands;
+            subst (NodeActorsStand W n (m.works n)) is (one_met n node node' was at').stands;
         coordinator = coordinates W m old c here;
       }
 
@@ -171,9 +171,9 @@ module _ (W : PlainWorkload) (m : Moment) (old new : List Node) (c : Coordinatin
             record {
               stands = stand;
               each = λ n site site' at at'.
-                  let (node, was, is) = node_there old n site (sym (ap (λ (l : List Site). slice_get l n) here.nodes_are) ∙ at) in
+                  let (node, was, is) = node_there old n site (sym (ap (λ (l : List PlainNodeActors). slice_get l n) here.nodes_are) ∙ at) in
                   let (node', was', is') = node_there new n site' at' in
-                  subst (λ (x : Site). SiteMeets W n (m.works n) x site') is (subst (SiteMeets W n (m.works n) node.site) is' (one_met n node node' was was'));
+                  subst (λ (x : PlainNodeActors). NodeActorsMeet W n (m.works n) x site') is (subst (NodeActorsMeet W n (m.works n) node.site) is' (one_met n node node' was was'));
               works = refl;
               heard = refl;
               coordinator = sym here.coordinator_is;

@@ -8,15 +8,15 @@ use Rattle.hs_lists.proofs.Places.{get_set_cases, get_there}
 use Rattle.hs_base.proofs.Updates.{put, put_here, put_else}
 use Rattle.hs_coord.specs.declared.asks.Asks.{Asks}
 use Rattle.hs_records.specs.Plain.{PlainWorkload}
-use Rattle.hs_run_agent.specs.Coordinators.{Coordinating, IsCoordinating, asked_all}
-use Rattle.hs_run_agent.specs.Manned.{Manned}
-use Rattle.hs_run_agent.specs.Work.{Work}
-use Rattle.hs_run_story.specs.Standing.{Site, Moment, SiteStands, Stands, moved_by, asked_by}
-use Rattle.hs_run_story.specs.Moving.{IsSameDoing, SiteMoves}
-use Rattle.hs_run.specs.declared.node.Node.{Node}
+use Rattle.hs_run_agent.specs.Coordinators.{PlainCoordinatorActor, IsCoordinatorActor, asked_all}
+use Rattle.hs_run_agent.specs.AgentActors.{PlainAgentActor}
+use Rattle.hs_run_agent.specs.Work.{NodeWork}
+use Rattle.hs_run_story.specs.RunStates.{PlainNodeActors, RunState, NodeActorsStand, RunStands, moved_by, asked_by}
+use Rattle.hs_run_story.specs.Moving.{IsSameDoing, NodeActorsMove}
+use Rattle.hs_run.specs.declared.node.ActingNode.{ActingNode}
 use Rattle.hs_run.specs.Changing.{EachChanged}
 use Rattle.hs_run.specs.Moments.{IsHere, MovedTo}
-use Rattle.hs_run.specs.Movings.{Tells, HasTold, SiteAsked, NodeAsked, NodeMoves, SitesStand, AskedFirst, Telling, Moving}
+use Rattle.hs_run.specs.Movings.{Tells, HasTold, NodeActorsAreAsked, NodeAsked, NodeMoves, SitesStand, AskedFirst, Telling, Moving}
 use Rattle.hs_run.specs.Nodes.{sites_of}
 use Rattle.hs_run.proofs.Changed.{first_none, first_more, first_all}
 use Rattle.hs_run.proofs.Moments.{node_count, node_stands, coordinates, node_there}
@@ -24,7 +24,7 @@ use Rattle.hs_run.proofs.Telling.{told_coordinates, site_with}
 
 -- ---- messages
 
-pub telling_none : (W : PlainWorkload) (m : Moment) (nodes : List Node) (c : Coordinating) → IsHere W m nodes c → Telling W m 0 nodes nodes c
+pub telling_none : (W : PlainWorkload) (m : RunState) (nodes : List ActingNode) (c : PlainCoordinatorActor) → IsHere W m nodes c → Telling W m 0 nodes nodes c
 telling_none W m nodes c here =
     record {
       works = m.works;
@@ -32,20 +32,20 @@ telling_none W m nodes c here =
       moved = first_none NodeMoves nodes;
       stands = record { each = node_stands W m nodes c here };
       coordinates = coordinates W m nodes c here;
-      kept = sym (ap (λ (x : Coordinating). x.kept) here.coordinator_is);
+      kept = sym (ap (λ (x : PlainCoordinatorActor). x.kept) here.coordinator_is);
     }
 
-pub tells_at : (W : PlainWorkload) (m : Moment) (n : ℕ) (before nodes : List Node) (c : Coordinating) (h : Telling W m n before nodes c) (x : Node) → slice_get nodes n ≡ Some x → n < W.settings.nodes
+pub tells_at : (W : PlainWorkload) (m : RunState) (n : ℕ) (before nodes : List ActingNode) (c : PlainCoordinatorActor) (h : Telling W m n before nodes c) (x : ActingNode) → slice_get nodes n ≡ Some x → n < W.settings.nodes
     → Tells W n (h.works n) m.heard h.works x.site.agent c
 tells_at W m n before nodes c h x at low = record { low = low; manned = (h.stands.each n x at).agent; is = refl; coordinates = h.coordinates }
 
-module _ (W : PlainWorkload) (m : Moment) (n : ℕ) (before nodes : List Node) (c c' : Coordinating) (x y : Node) (h : Telling W m n before nodes c) (at : slice_get nodes n ≡ Some x)
+module _ (W : PlainWorkload) (m : RunState) (n : ℕ) (before nodes : List ActingNode) (c c' : PlainCoordinatorActor) (x y : ActingNode) (h : Telling W m n before nodes c) (at : slice_get nodes n ≡ Some x)
     (told : HasTold W n (h.works n) m.heard h.works x.site.agent c y.site.agent c') (callers : y.site.callers ≡ x.site.callers) (none : y.site.agent.said ≡ []) where
-  works : ℕ → Work
+  works : ℕ → NodeWork
   works = put h.works n told.next
 
   port : y.site.agent.port ≡ x.site.agent.port
-  port = ap (λ (a : Manned). a.port) told.only
+  port = ap (λ (a : PlainAgentActor). a.port) told.only
 
   same : (k : ℕ) → IsSameDoing (m.works k) (works k)
   unfolding works
@@ -60,19 +60,19 @@ module _ (W : PlainWorkload) (m : Moment) (n : ℕ) (before nodes : List Node) (
         | inr ne ↦ subst (IsSameDoing (m.works k)) (sym (put_else h.works n told.next k ne)) (h.same k)
       ]
 
-  stands_here : SiteStands W n (works n) y.site
+  stands_here : NodeActorsStand W n (works n) y.site
   unfolding works
   stands_here =
-      subst (λ (w : Work). SiteStands W n w y.site) (sym (put_here h.works n told.next))
+      subst (λ (w : NodeWork). NodeActorsStand W n w y.site) (sym (put_here h.works n told.next))
       (site_with W n (h.works n) told.next x.site y.site (h.stands.each n x at) callers port told.same.node told.manned)
 
-  stands : (k : ℕ) (z : Node) → slice_get (set nodes n y) k ≡ Some z → SiteStands W k (works k) z.site
+  stands : (k : ℕ) (z : ActingNode) → slice_get (set nodes n y) k ≡ Some z → NodeActorsStand W k (works k) z.site
   unfolding works
   stands k z found =
       elim (get_set_cases nodes n k x y z at found) [
         | inl e ↦
-            subst (λ (i : ℕ). SiteStands W i (put h.works n told.next i) z.site) e.0 (subst (λ (v : Node). SiteStands W n (put h.works n told.next n) v.site) e.1 stands_here)
-        | inr e ↦ subst (λ (w : Work). SiteStands W k w z.site) (sym (put_else h.works n told.next k (λ f. e.0 (sym f)))) (h.stands.each k z e.1)
+            subst (λ (i : ℕ). NodeActorsStand W i (put h.works n told.next i) z.site) e.0 (subst (λ (v : ActingNode). NodeActorsStand W n (put h.works n told.next n) v.site) e.1 stands_here)
+        | inr e ↦ subst (λ (w : NodeWork). NodeActorsStand W k w z.site) (sym (put_else h.works n told.next k (λ f. e.0 (sym f)))) (h.stands.each k z e.1)
       ]
 
   pub telling_more : Telling W m (n + 1) before (set nodes n y) c'
@@ -81,13 +81,13 @@ module _ (W : PlainWorkload) (m : Moment) (n : ℕ) (before nodes : List Node) (
       record {
         works = works;
         same = same;
-        moved = first_more NodeMoves n before nodes x y h.moved at (record { callers = callers; port = port; agent = ap (λ (a : Manned). a.agent) told.only; said = none });
+        moved = first_more NodeMoves n before nodes x y h.moved at (record { callers = callers; port = port; agent = ap (λ (a : PlainAgentActor). a.agent) told.only; said = none });
         stands = record { each = stands };
         coordinates = told_coordinates W n (h.works n) m.heard h.works x.site.agent c y.site.agent c' told;
         kept = told.kept ∙ h.kept;
       }
 
-pub telling_all : (W : PlainWorkload) (m : Moment) (n : ℕ) (before nodes : List Node) (c c' : Coordinating) → IsHere W m before c → length before ≤ n → Telling W m n before nodes c' → Moving W m before nodes c'
+pub telling_all : (W : PlainWorkload) (m : RunState) (n : ℕ) (before nodes : List ActingNode) (c c' : PlainCoordinatorActor) → IsHere W m before c → length before ≤ n → Telling W m n before nodes c' → Moving W m before nodes c'
 telling_all W m n before nodes c c' here high h =
     record {
       works = h.works;
@@ -102,11 +102,11 @@ telling_all W m n before nodes c c' here high h =
 
 -- ---- asks
 
-module _ (W : PlainWorkload) (asks : Asks) (works : ℕ → Work) where
-  pub asked_none : (nodes : List Node) → SitesStand W works nodes → AskedFirst W asks works 0 nodes nodes
+module _ (W : PlainWorkload) (asks : Asks) (works : ℕ → NodeWork) where
+  pub asked_none : (nodes : List ActingNode) → SitesStand W works nodes → AskedFirst W asks works 0 nodes nodes
   asked_none nodes h = record { changed = first_none NodeAsked nodes; asked = λ k z low at. absurd (omega (arith, low)); others = λ k z high at. h.each k z at }
 
-  pub asked_more : (n : ℕ) (old nodes : List Node) (x y : Node) → AskedFirst W asks works n old nodes → slice_get nodes n ≡ Some x → SiteStands W n (asked_all asks works n) y.site → SiteAsked x.site y.site
+  pub asked_more : (n : ℕ) (old nodes : List ActingNode) (x y : ActingNode) → AskedFirst W asks works n old nodes → slice_get nodes n ≡ Some x → NodeActorsStand W n (asked_all asks works n) y.site → NodeActorsAreAsked x.site y.site
       → AskedFirst W asks works (n + 1) old (set nodes n y)
   asked_more n old nodes x y h at stands asked =
       record {
@@ -114,19 +114,19 @@ module _ (W : PlainWorkload) (asks : Asks) (works : ℕ → Work) where
         asked = λ k z low found.
             elim (get_set_cases nodes n k x y z at found) [
               | inl e ↦
-                  subst (λ (i : ℕ). SiteStands W i (asked_all asks works i) z.site) e.0 (subst (λ (v : Node). SiteStands W n (asked_all asks works n) v.site) e.1 stands)
+                  subst (λ (i : ℕ). NodeActorsStand W i (asked_all asks works i) z.site) e.0 (subst (λ (v : ActingNode). NodeActorsStand W n (asked_all asks works n) v.site) e.1 stands)
               | inr e ↦ elim (same_or_less k n (omega (arith, low))) [ inl less ↦ h.asked k z less e.1 | inr same ↦ absurd (e.0 (sym same)) ]
             ];
         others = λ k z high found.
             elim (get_set_cases nodes n k x y z at found) [ inl e ↦ absurd (let f = e.0 in omega (arith, f, high)) | inr e ↦ h.others k z (omega (arith, high)) e.1 ];
       }
 
-  pub asked_to_all : (n : ℕ) (old nodes : List Node) → length old ≤ n → AskedFirst W asks works n old nodes → SitesStand W (asked_all asks works) nodes × EachChanged NodeAsked old nodes
+  pub asked_to_all : (n : ℕ) (old nodes : List ActingNode) → length old ≤ n → AskedFirst W asks works n old nodes → SitesStand W (asked_all asks works) nodes × EachChanged NodeAsked old nodes
   asked_to_all n old nodes high h =
       (record { each = λ k z at. let low = slice_get_within nodes k z at in let many = h.changed.many in h.asked k z (omega (arith, low, many, high)) at }, first_all NodeAsked n old nodes high h.changed)
 
-pub moving_more : (W : PlainWorkload) (m : Moment) (before mid nodes : List Node) (c c' : Coordinating) (asks : Asks) (h : Moving W m before mid c) → SitesStand W (asked_all asks h.works) nodes
-    → EachChanged NodeAsked mid nodes → c'.kept ≡ c.kept → IsCoordinating W m.heard (moved_by h.works) (asked_by (asked_all asks h.works)) c' → Moving W m before nodes c'
+pub moving_more : (W : PlainWorkload) (m : RunState) (before mid nodes : List ActingNode) (c c' : PlainCoordinatorActor) (asks : Asks) (h : Moving W m before mid c) → SitesStand W (asked_all asks h.works) nodes
+    → EachChanged NodeAsked mid nodes → c'.kept ≡ c.kept → IsCoordinatorActor W m.heard (moved_by h.works) (asked_by (asked_all asks h.works)) c' → Moving W m before nodes c'
 moving_more W m before mid nodes c c' asks h stands asked kept coordinates =
     record {
       works = asked_all asks h.works;
@@ -151,17 +151,17 @@ moving_more W m before mid nodes c c' asks h stands asked kept coordinates =
 
 -- ---- all
 
-module _ (W : PlainWorkload) (m : Moment) (before nodes : List Node) (c0 c : Coordinating) (here : IsHere W m before c0) (h : Moving W m before nodes c) (none : c.asks ≡ []) where
-  next : Moment
+module _ (W : PlainWorkload) (m : RunState) (before nodes : List ActingNode) (c0 c : PlainCoordinatorActor) (here : IsHere W m before c0) (h : Moving W m before nodes c) (none : c.asks ≡ []) where
+  next : RunState
   next = record { standing = record { nodes = sites_of nodes; coordinator = c }; works = h.works; heard = m.heard }
 
-  next_stands : Stands W next
+  next_stands : RunStands W next
   unfolding next
   next_stands =
       record {
         valid = h.valid;
-        count = length-map nodes (λ (x : Node). x.site) ∙ h.count;
-        each = λ n site at. let (node, there, is) = node_there nodes n site at in subst (SiteStands W n (h.works n)) is (h.stands.each n node there);
+        count = length-map nodes (λ (x : ActingNode). x.site) ∙ h.count;
+        each = λ n site at. let (node, there, is) = node_there nodes n site at in subst (NodeActorsStand W n (h.works n)) is (h.stands.each n node there);
         coordinator = h.coordinates;
       }
 
@@ -176,9 +176,9 @@ module _ (W : PlainWorkload) (m : Moment) (before nodes : List Node) (c0 c : Coo
               heard = refl;
               works = h.same;
               each = λ n site site' at at'.
-                  let (node, was, is) = node_there before n site (sym (ap (λ (l : List Site). slice_get l n) here.nodes_are) ∙ at) in
+                  let (node, was, is) = node_there before n site (sym (ap (λ (l : List PlainNodeActors). slice_get l n) here.nodes_are) ∙ at) in
                   let (node', was', is') = node_there nodes n site' at' in
-                  subst (λ (x : Site). SiteMoves x site') is (subst (SiteMoves node.site) is' (h.moved.each n node node' was was'));
+                  subst (λ (x : PlainNodeActors). NodeActorsMove x site') is (subst (NodeActorsMove node.site) is' (h.moved.each n node node' was was'));
               kept = h.kept;
               asks = none;
             };

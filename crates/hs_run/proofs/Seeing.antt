@@ -10,7 +10,7 @@ use Rattle.hs_journal.specs.declared.journal.Draw.{Draw}
 use Rattle.hs_run.specs.Progress.{is_point, is_chunk, is_given, done_after, points_after, nulls_after, steps_after, progress_after}
 use Rattle.hs_records.specs.Plain.{Operation, PlainWorkload}
 use Rattle.hs_run_story.specs.Noting.{NotesRounds}
-use Rattle.hs_run_story.specs.Standing.{Moment}
+use Rattle.hs_run_story.specs.RunStates.{RunState}
 use Rattle.hs_run_story.specs.Coming.{Came}
 use Rattle.hs_law_sends.specs.Draws.{count_started}
 use Rattle.hs_law_sends.specs.Drawn.{has_buffer}
@@ -65,7 +65,7 @@ end_of P xs all x (before, is) = go before (subst (AllByRecursion P) is all)
     go [] all = all.0
     go (y ∷ before) all = go before all.1
 
-module _ (W : PlainWorkload) (rounds : ℕ) (m : Moment) (came : Came W rounds m) (J : PlainJournal) (valid : IsValid W) (notes : NotesRounds W rounds m came J) where
+module _ (W : PlainWorkload) (rounds : ℕ) (m : RunState) (came : Came W rounds m) (J : PlainJournal) (valid : IsValid W) (notes : NotesRounds W rounds m came J) where
   total_is : (x : Progress) → IsTotal W rounds m came x → x ≡ progress_after W J x.rounds
   total_is x total =
       ⊎_elim (λ (none : x ≡ first). none ∙ sym (none_after W J) ∙ ap (λ (y : Progress). progress_after W J y.rounds) (sym none))

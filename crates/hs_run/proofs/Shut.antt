@@ -13,13 +13,13 @@ use Rattle.hs_live.specs.Keys.{Key}
 use Rattle.hs_live.specs.Live.{IsMate}
 use Rattle.hs_ring.specs.Parts.{Drawing, Leased}
 use Rattle.hs_words.specs.Buffers.{Buffer}
-use Rattle.hs_run_client.specs.Calling.{Calling}
+use Rattle.hs_run_client.specs.ClientActors.{PlainClientActor}
 use Rattle.hs_run_client.specs.Standing.{IsDone}
-use Rattle.hs_run_agent.specs.Lines.{linked}
-use Rattle.hs_run_agent.specs.Shut.{Shut, AreMatesOf}
-use Rattle.hs_run_story.specs.Standing.{Site}
+use Rattle.hs_run_agent.specs.Intakes.{linked}
+use Rattle.hs_run_agent.specs.ClosedAgents.{PlainClosedAgent, AreMatesOf}
+use Rattle.hs_run_story.specs.RunStates.{PlainNodeActors}
 use Rattle.hs_law_sends.specs.Sending.{operations_at, place_of}
-use Rattle.hs_run.specs.Ended.{IsEnded, HasShut, AreShut}
+use Rattle.hs_run.specs.Ended.{IsEnded, HasClosedLinks, HaveClosedLinks}
 
 -- ---- lists
 
@@ -30,7 +30,7 @@ there f (y ∷ xs) (suc place) x h = there f xs place x (omega (arith, h.0), h.1
 
 -- ---- one node
 
-pub all_done : (site : Site) → IsEnded site → AllByRecursion IsDone site.callers
+pub all_done : (site : PlainNodeActors) → IsEnded site → AllByRecursion IsDone site.callers
 all_done site is =
     all_by_place IsDone site.callers
     (λ number caller found.
@@ -42,8 +42,8 @@ all_done site is =
       all = is.all number caller found;
     })
 
-mates : {T : Type 0} (f : Calling → Outgoing T Key) (site : Site) (senders : List (Outgoing T Key)) (receivers : List (Incoming T Key)) → senders ≡ map f site.callers → length receivers ≡ length site.callers
-    → ((number : ℕ) (caller : Calling) → slice_get site.callers number ≡ Some caller → IsMate number receivers (f caller)) → AreMatesOf senders receivers
+mates : {T : Type 0} (f : PlainClientActor → Outgoing T Key) (site : PlainNodeActors) (senders : List (Outgoing T Key)) (receivers : List (Incoming T Key)) → senders ≡ map f site.callers → length receivers ≡ length site.callers
+    → ((number : ℕ) (caller : PlainClientActor) → slice_get site.callers number ≡ Some caller → IsMate number receivers (f caller)) → AreMatesOf senders receivers
 mates f site senders receivers are count each =
     record {
       count = ap length are ∙ length-map site.callers f ∙ sym count;
@@ -52,28 +52,28 @@ mates f site senders receivers are count each =
           subst (λ (o : Outgoing _ Key). IsMate number receivers o) is (each number caller there);
     }
 
-pub chunk_mates : (site : Site) (senders : List (Outgoing (Buffer Leased) Key)) → IsEnded site → senders ≡ map (λ (c : Calling). c.client.chunks) site.callers → AreMatesOf senders site.agent.port.chunks
+pub chunk_mates : (site : PlainNodeActors) (senders : List (Outgoing (Buffer Leased) Key)) → IsEnded site → senders ≡ map (λ (c : PlainClientActor). c.client.chunks) site.callers → AreMatesOf senders site.agent.port.chunks
 chunk_mates site senders is are =
     let lines = is.stands.agent.stands.lines_are.chunks.count in
     let count : length site.agent.port.chunks ≡ length site.callers = sym (length-map site.agent.port.chunks (λ r. linked r)) ∙ lines ∙ sym is.stands.count in
-    mates (λ (c : Calling). c.client.chunks) site senders site.agent.port.chunks are count (λ number caller found. (is.stands.mates number caller found).chunks)
+    mates (λ (c : PlainClientActor). c.client.chunks) site senders site.agent.port.chunks are count (λ number caller found. (is.stands.mates number caller found).chunks)
 
-pub crumb_mates : (site : Site) (senders : List (Outgoing Crumb Key)) → IsEnded site → senders ≡ map (λ (c : Calling). c.client.crumbs) site.callers → AreMatesOf senders site.agent.port.crumbs
+pub crumb_mates : (site : PlainNodeActors) (senders : List (Outgoing Crumb Key)) → IsEnded site → senders ≡ map (λ (c : PlainClientActor). c.client.crumbs) site.callers → AreMatesOf senders site.agent.port.crumbs
 crumb_mates site senders is are =
     let lines = is.stands.agent.stands.lines_are.crumbs.count in
     let count : length site.agent.port.crumbs ≡ length site.callers = sym (length-map site.agent.port.crumbs (λ r. linked r)) ∙ lines ∙ sym is.stands.count in
-    mates (λ (c : Calling). c.client.crumbs) site senders site.agent.port.crumbs are count (λ number caller found. (is.stands.mates number caller found).crumbs)
+    mates (λ (c : PlainClientActor). c.client.crumbs) site senders site.agent.port.crumbs are count (λ number caller found. (is.stands.mates number caller found).crumbs)
 
-pub trigger_mates : (site : Site) (senders : List (Outgoing Trigger Key)) → IsEnded site → senders ≡ map (λ (c : Calling). c.client.triggers) site.callers → AreMatesOf senders site.agent.port.triggers
+pub trigger_mates : (site : PlainNodeActors) (senders : List (Outgoing Trigger Key)) → IsEnded site → senders ≡ map (λ (c : PlainClientActor). c.client.triggers) site.callers → AreMatesOf senders site.agent.port.triggers
 trigger_mates site senders is are =
     let lines = is.stands.agent.stands.lines_are.triggers.count in
     let count : length site.agent.port.triggers ≡ length site.callers = sym (length-map site.agent.port.triggers (λ r. linked r)) ∙ lines ∙ sym is.stands.count in
-    mates (λ (c : Calling). c.client.triggers) site senders site.agent.port.triggers are count (λ number caller found. (is.stands.mates number caller found).triggers)
+    mates (λ (c : PlainClientActor). c.client.triggers) site senders site.agent.port.triggers are count (λ number caller found. (is.stands.mates number caller found).triggers)
 
 -- ---- all nodes
 
-pub shut_more : (sites : List Site) (books : List PlainClientBook) (lists : List (List Drawing)) (shuts : List Shut) (site : Site) (noted : List PlainClientBook) (drawers : List Drawing) (shut : Shut)
-    → AreShut sites books lists shuts → HasShut site noted drawers shut → AreShut (sites ++ site ∷ []) (books ++ noted) (lists ++ drawers ∷ []) (shuts ++ shut ∷ [])
+pub shut_more : (sites : List PlainNodeActors) (books : List PlainClientBook) (lists : List (List Drawing)) (shuts : List PlainClosedAgent) (site : PlainNodeActors) (noted : List PlainClientBook) (drawers : List Drawing) (shut : PlainClosedAgent)
+    → HaveClosedLinks sites books lists shuts → HasClosedLinks site noted drawers shut → HaveClosedLinks (sites ++ site ∷ []) (books ++ noted) (lists ++ drawers ∷ []) (shuts ++ shut ∷ [])
 shut_more [] books [] [] site noted drawers shut are has = (noted, [], ap (λ (l : List PlainClientBook). l ++ noted) are ∙ sym (append-nil noted), has, refl)
 shut_more [] books [] (s ∷ shuts) site noted drawers shut are has = absurd are
 shut_more [] books (d ∷ lists) shuts site noted drawers shut are has = absurd are

@@ -12,55 +12,55 @@ use Rattle.hs_records.specs.Plain.{Operation, PlainSettings, PlainWorkload}
 use Rattle.hs_ring.specs.Parts.{Giving}
 use Rattle.hs_law_sends.specs.Sending.{operations_at, place_of}
 use Rattle.hs_workload.specs.Validity.{client_pieces}
-use Rattle.hs_run_client.specs.Calling.{Calling}
-use Rattle.hs_run_client.specs.Standing.{IsAt, HasSentSoFar}
-use Rattle.hs_run_agent.specs.Shut.{Shut, AllSent, IsShut, sent_at}
-use Rattle.hs_run_agent.specs.Work.{Work}
-use Rattle.hs_run_story.specs.Standing.{Site, Moment, Stands}
+use Rattle.hs_run_client.specs.ClientActors.{PlainClientActor}
+use Rattle.hs_run_client.specs.Standing.{ClientActorIsAt, HasSentSoFar}
+use Rattle.hs_run_agent.specs.ClosedAgents.{PlainClosedAgent, AllSent, IsClosedAgent, sent_at}
+use Rattle.hs_run_agent.specs.Work.{NodeWork}
+use Rattle.hs_run_story.specs.RunStates.{PlainNodeActors, RunState, RunStands}
 use Rattle.hs_run_story.specs.Coming.{Came}
-use Rattle.hs_run_story.specs.Spans.{Post}
+use Rattle.hs_run_story.specs.Spans.{NodeBetweenPasses}
 use Rattle.hs_run_story.specs.Closing.{left_at}
 use Rattle.hs_run_story.specs.Laws.{ClosingBegins}
-use Rattle.hs_run.specs.Shutting.{AreSentsOf, ClosingAt, AreShutFrom, sents_at}
+use Rattle.hs_run.specs.Shutting.{AreSentsOf, ClosingAt, AreClosedAgentsFrom, sents_at}
 use Rattle.hs_run.proofs.FewShut.{few_shut}
 use Rattle.hs_run.specs.Ended.{sents_of}
 
 abbrev pub HaveSent : Type 0
-HaveSent = (settings : PlainSettings) (client : ClientId) (ops : List Operation) (caller : Calling) → IsAt settings client ops caller → HasSentSoFar settings client ops caller
+HaveSent = (settings : PlainSettings) (client : ClientId) (ops : List Operation) (caller : PlainClientActor) → ClientActorIsAt settings client ops caller → HasSentSoFar settings client ops caller
 
-sent_there : {T : Type 0} (part : Calling → Outgoing T Key) (callers : List Calling) (client : ℕ) (caller : Calling) → slice_get callers client ≡ Some caller → sent_at (map part callers) client ≡ sent (part caller)
+sent_there : {T : Type 0} (part : PlainClientActor → Outgoing T Key) (callers : List PlainClientActor) (client : ℕ) (caller : PlainClientActor) → slice_get callers client ≡ Some caller → sent_at (map part callers) client ≡ sent (part caller)
 sent_there part callers client caller there = ap (λ o. option_map_or sent o []) (slice_get-map part callers client ∙ ap (option_map part) there)
 
-pub sents_there : (m : Moment) (node : ℕ) (site : Site) → slice_get m.standing.nodes node ≡ Some site → sents_at m node ≡ sents_of site.callers
-sents_there m node site there = ap (λ (o : Option Site). option_map_or (λ (s : Site). sents_of s.callers) o (sents_of [])) there
+pub sents_there : (m : RunState) (node : ℕ) (site : PlainNodeActors) → slice_get m.standing.nodes node ≡ Some site → sents_at m node ≡ sents_of site.callers
+sents_there m node site there = ap (λ (o : Option PlainNodeActors). option_map_or (λ (s : PlainNodeActors). sents_of s.callers) o (sents_of [])) there
 
-pub are_sents : (m : Moment) → AreSentsOf m (sents_at m)
+pub are_sents : (m : RunState) → AreSentsOf m (sents_at m)
 are_sents m =
     record {
-      chunks = λ node client site caller there mine. ap (λ (a : AllSent). a.chunks client) (sents_there m node site there) ∙ sent_there (λ (c : Calling). c.client.chunks) site.callers client caller mine;
-      crumbs = λ node client site caller there mine. ap (λ (a : AllSent). a.crumbs client) (sents_there m node site there) ∙ sent_there (λ (c : Calling). c.client.crumbs) site.callers client caller mine;
-      triggers = λ node client site caller there mine. ap (λ (a : AllSent). a.triggers client) (sents_there m node site there) ∙ sent_there (λ (c : Calling). c.client.triggers) site.callers client caller mine;
+      chunks = λ node client site caller there mine. ap (λ (a : AllSent). a.chunks client) (sents_there m node site there) ∙ sent_there (λ (c : PlainClientActor). c.client.chunks) site.callers client caller mine;
+      crumbs = λ node client site caller there mine. ap (λ (a : AllSent). a.crumbs client) (sents_there m node site there) ∙ sent_there (λ (c : PlainClientActor). c.client.crumbs) site.callers client caller mine;
+      triggers = λ node client site caller there mine. ap (λ (a : AllSent). a.triggers client) (sents_there m node site there) ∙ sent_there (λ (c : PlainClientActor). c.client.triggers) site.callers client caller mine;
     }
 
 none_behind : {X : Type 0} (xs ys : List X) → xs ++ ys ≡ [] → ys ≡ []
 none_behind [] ys h = h
 none_behind (x ∷ xs) ys h = absurd cc
 
-module _ (begins : ClosingBegins) (sends : HaveSent) (W : PlainWorkload) (rounds : ℕ) (m : Moment) (came : Came W rounds m) (nodes : List Shut) (shut : AreShutFrom m nodes) where
-  stands_by : (k : ℕ) → k ≤ rounds → Stands W (came.at k)
+module _ (begins : ClosingBegins) (sends : HaveSent) (W : PlainWorkload) (rounds : ℕ) (m : RunState) (came : Came W rounds m) (nodes : List PlainClosedAgent) (shut : AreClosedAgentsFrom m nodes) where
+  stands_by : (k : ℕ) → k ≤ rounds → RunStands W (came.at k)
   stands_by zero low = came.begun.stands
   stands_by (suc k) low = (came.moves k (omega (arith, low))).stands
 
-  stands : Stands W m
-  stands = subst (Stands W) came.last (stands_by rounds (omega arith))
+  stands : RunStands W m
+  stands = subst (RunStands W) came.last (stands_by rounds (omega arith))
 
   -- no message waits behind a round
-  said_by : (k : ℕ) → k ≤ rounds → (node : ℕ) (site : Site) → slice_get (came.at k).standing.nodes node ≡ Some site → site.agent.said ≡ []
+  said_by : (k : ℕ) → k ≤ rounds → (node : ℕ) (site : PlainNodeActors) → slice_get (came.at k).standing.nodes node ≡ Some site → site.agent.said ≡ []
   said_by zero low node site there =
       let s = came.begun.stands.each node site there in
       let none = came.begun.works node in
       none_behind ((came.at 0).works node).moved site.agent.said
-      (s.agent.stands.works.said_is ∙ ap (λ (w : Work). (after W.settings w.node w.events).said) none)
+      (s.agent.stands.works.said_is ∙ ap (λ (w : NodeWork). (after W.settings w.node w.events).said) none)
   said_by (suc k) low node site there =
       let moves = came.moves k (omega (arith, low)) in
       let met = (came.meets k (omega (arith, low))).stands in
@@ -70,10 +70,10 @@ module _ (begins : ClosingBegins) (sends : HaveSent) (W : PlainWorkload) (rounds
       let other = get_there (came.met k).standing.nodes node (omega (arith, inside, count, before)) in
       (moves.each node other.0 site other.1 there).said
 
-  said : (node : ℕ) (site : Site) → slice_get m.standing.nodes node ≡ Some site → site.agent.said ≡ []
-  said node site there = said_by rounds (omega arith) node site (ap (λ (moment : Moment). slice_get moment.standing.nodes node) came.last ∙ there)
+  said : (node : ℕ) (site : PlainNodeActors) → slice_get m.standing.nodes node ≡ Some site → site.agent.said ≡ []
+  said node site there = said_by rounds (omega arith) node site (ap (λ (moment : RunState). slice_get moment.standing.nodes node) came.last ∙ there)
 
-  low_node : (node : ℕ) (site : Site) → slice_get m.standing.nodes node ≡ Some site → node < W.settings.nodes
+  low_node : (node : ℕ) (site : PlainNodeActors) → slice_get m.standing.nodes node ≡ Some site → node < W.settings.nodes
   low_node node site there = let inside = slice_get_within m.standing.nodes node site there in let count = stands.count in omega (arith, inside, count)
 
   few : (node client : ℕ) → node < W.settings.nodes → client < W.settings.clients → length ((sents_at m node).triggers client) ≤ client_pieces W.settings.size (operations_at W (place_of W.settings.clients node client))
@@ -90,13 +90,13 @@ module _ (begins : ClosingBegins) (sends : HaveSent) (W : PlainWorkload) (rounds
   no_giver : Giving
   no_giver = record { pool = []; buffers = 0; size = 0; drawers = 0; floor = 0; turns = [] }
 
-  abbrev posts : ℕ → Post
-  posts node = record { work = m.works node; giver = option_map_or (λ (s : Site). s.agent.port.giver) (slice_get m.standing.nodes node) no_giver }
+  abbrev posts : ℕ → NodeBetweenPasses
+  posts node = record { work = m.works node; giver = option_map_or (λ (s : PlainNodeActors). s.agent.port.giver) (slice_get m.standing.nodes node) no_giver }
 
-  post_is : (node : ℕ) (site : Site) → slice_get m.standing.nodes node ≡ Some site → posts node ≡ left_at m node site
-  post_is node site there = ap (λ (o : Option Site). record { work = m.works node; giver = option_map_or (λ (s : Site). s.agent.port.giver) o no_giver }) there
+  post_is : (node : ℕ) (site : PlainNodeActors) → slice_get m.standing.nodes node ≡ Some site → posts node ≡ left_at m node site
+  post_is node site there = ap (λ (o : Option PlainNodeActors). record { work = m.works node; giver = option_map_or (λ (s : PlainNodeActors). s.agent.port.giver) o no_giver }) there
 
-  site_for : (node : ℕ) (x : Shut) → slice_get nodes node ≡ Some x → (site : Site) × (slice_get m.standing.nodes node ≡ Some site)
+  site_for : (node : ℕ) (x : PlainClosedAgent) → slice_get nodes node ≡ Some x → (site : PlainNodeActors) × (slice_get m.standing.nodes node ≡ Some site)
   site_for node x there = let inside = slice_get_within nodes node x there in let count = shut.count in get_there m.standing.nodes node (omega (arith, inside, count))
 
   pub closing_starts : ClosingAt W rounds m (sents_at m) nodes m.standing.coordinator
@@ -120,21 +120,21 @@ module _ (begins : ClosingBegins) (sends : HaveSent) (W : PlainWorkload) (rounds
                         let s = stands.each node site.0 site.1 in
                         record {
                           node_is = s.node_is;
-                          is = subst (λ (a : AllSent). IsShut W (m.works node) a x) (sym (sents_there m node site.0 site.1)) ((shut.each node site.0 x site.1 there).shut W (m.works node) s.agent);
+                          is = subst (λ (a : AllSent). IsClosedAgent W (m.works node) a x) (sym (sents_there m node site.0 site.1)) ((shut.each node site.0 x site.1 there).shut W (m.works node) s.agent);
                         };
                   };
               coordinates = stands.coordinator;
             };
-        givers = λ node x there. let site = site_for node x there in ap (λ (q : Post). q.giver) (post_is node site.0 site.1) ∙ sym (shut.each node site.0 x site.1 there).giver;
+        givers = λ node x there. let site = site_for node x there in ap (λ (q : NodeBetweenPasses). q.giver) (post_is node site.0 site.1) ∙ sym (shut.each node site.0 x site.1 there).giver;
         said = λ node x there. let site = site_for node x there in (shut.each node site.0 x site.1 there).said ∙ said node site.0 site.1;
         kept = λ node site x stood there.
             let same = (shut.each node site x stood there).giver in
             record { pool = ap (λ g. g.pool) same; buffers = ap (λ g. g.buffers) same; drawers = ap (λ g. g.drawers) same };
       }
 
-pub stands_last : (W : PlainWorkload) (rounds : ℕ) (m : Moment) → Came W rounds m → Stands W m
-stands_last W rounds m came = subst (Stands W) came.last (by rounds (omega arith))
+pub stands_last : (W : PlainWorkload) (rounds : ℕ) (m : RunState) → Came W rounds m → RunStands W m
+stands_last W rounds m came = subst (RunStands W) came.last (by rounds (omega arith))
   where
-    by : (k : ℕ) → k ≤ rounds → Stands W (came.at k)
+    by : (k : ℕ) → k ≤ rounds → RunStands W (came.at k)
     by zero low = came.begun.stands
     by (suc k) low = (came.moves k (omega (arith, low))).stands

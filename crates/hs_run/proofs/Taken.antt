@@ -9,13 +9,13 @@ use Rattle.hs_link.specs.Contents.{Incoming, Outgoing}
 use Rattle.hs_live.specs.Keys.{Key}
 use Rattle.hs_live.specs.Live.{IsMate}
 use Rattle.hs_ring.specs.Parts.{Drawing}
-use Rattle.hs_run_client.specs.Calling.{Calling}
-use Rattle.hs_run_agent.specs.Shut.{Shut, AreMatesOf}
+use Rattle.hs_run_client.specs.ClientActors.{PlainClientActor}
+use Rattle.hs_run_agent.specs.ClosedAgents.{PlainClosedAgent, AreMatesOf}
 use Rattle.hs_run.specs.Ended.{CanFinish, MayFinish, HasFinished, HaveFinished, items_of}
 
 -- the senders of all clients, with their receivers
-pub mates_of : {T : Type 0} (f : Calling → Outgoing T Key) (callers : List Calling) (senders : List (Outgoing T Key)) (receivers : List (Incoming T Key)) → senders ≡ map f callers → length callers ≡ length receivers
-    → ((n : ℕ) (c : Calling) → slice_get callers n ≡ Some c → IsMate n receivers (f c)) → AreMatesOf senders receivers
+pub mates_of : {T : Type 0} (f : PlainClientActor → Outgoing T Key) (callers : List PlainClientActor) (senders : List (Outgoing T Key)) (receivers : List (Incoming T Key)) → senders ≡ map f callers → length callers ≡ length receivers
+    → ((n : ℕ) (c : PlainClientActor) → slice_get callers n ≡ Some c → IsMate n receivers (f c)) → AreMatesOf senders receivers
 mates_of f callers senders receivers is count h =
     record {
       count = ap length is ∙ length-map callers f ∙ count;
@@ -26,13 +26,13 @@ mates_of f callers senders receivers is count h =
 
 -- ---- the pools
 
-pub can_at : (shuts : List Shut) (lists : List (List Drawing)) → MayFinish shuts lists → (n : ℕ) (shut : Shut) (drawers : List Drawing) → slice_get shuts n ≡ Some shut → slice_get lists n ≡ Some drawers → CanFinish shut drawers
+pub can_at : (shuts : List PlainClosedAgent) (lists : List (List Drawing)) → MayFinish shuts lists → (n : ℕ) (shut : PlainClosedAgent) (drawers : List Drawing) → slice_get shuts n ≡ Some shut → slice_get lists n ≡ Some drawers → CanFinish shut drawers
 can_at [] lists may n shut drawers at at' = let none : None ≡ Some shut = at in absurd cc
 can_at (s ∷ shuts) [] may n shut drawers at at' = let none : None ≡ Some drawers = at' in absurd cc
-can_at (s ∷ shuts) (l ∷ lists) may zero shut drawers at at' = subst (λ (x : Shut). CanFinish x drawers) (same_Some s shut at) (subst (CanFinish s) (same_Some l drawers at') may.0)
+can_at (s ∷ shuts) (l ∷ lists) may zero shut drawers at at' = subst (λ (x : PlainClosedAgent). CanFinish x drawers) (same_Some s shut at) (subst (CanFinish s) (same_Some l drawers at') may.0)
 can_at (s ∷ shuts) (l ∷ lists) may (suc n) shut drawers at at' = can_at shuts lists may.1 n shut drawers at at'
 
-pub finished_more : (shuts : List Shut) (lists : List (List Drawing)) (books : List PlainAgentBook) (shut : Shut) (drawers : List Drawing) (book : PlainAgentBook) → HaveFinished shuts lists books → HasFinished shut drawers book
+pub finished_more : (shuts : List PlainClosedAgent) (lists : List (List Drawing)) (books : List PlainAgentBook) (shut : PlainClosedAgent) (drawers : List Drawing) (book : PlainAgentBook) → HaveFinished shuts lists books → HasFinished shut drawers book
     → HaveFinished (shuts ++ shut ∷ []) (lists ++ drawers ∷ []) (books ++ book ∷ [])
 finished_more [] [] [] shut drawers book have has = (has, tt)
 finished_more [] [] (b ∷ books) shut drawers book have has = absurd have
@@ -48,16 +48,16 @@ zipped (x ∷ xs) [] n p low is = absurd (omega (arith, low))
 zipped (x ∷ xs) (y ∷ ys) zero p low is = (ap (λ (q : _ × _). Some q.0) (sym is), ap (λ (q : _ × _). Some q.1) (sym is))
 zipped (x ∷ xs) (y ∷ ys) (suc n) p low is = zipped xs ys n p (omega (arith, low)) is
 
-pub can_finish : (shuts : List Shut) (lists : List (Listing Drawing)) → MayFinish shuts (items_of lists) → (n : ℕ) (p : Shut × Listing Drawing) → (n < length (zip shuts lists)) × (p ≡ get_or (zip shuts lists) n p) → CanFinish p.0 p.1.items
+pub can_finish : (shuts : List PlainClosedAgent) (lists : List (Listing Drawing)) → MayFinish shuts (items_of lists) → (n : ℕ) (p : PlainClosedAgent × Listing Drawing) → (n < length (zip shuts lists)) × (p ≡ get_or (zip shuts lists) n p) → CanFinish p.0 p.1.items
 can_finish shuts lists may n p turn =
     let there = zipped shuts lists n p turn.0 turn.1 in
     can_at shuts (items_of lists) may n p.0 p.1.items there.0 (get_map (λ (l : Listing Drawing). l.items) lists n p.1 there.1)
 
-pub all_finished : (shuts : List Shut) (lists : List (Listing Drawing)) (yielded : List (Shut × Listing Drawing)) (books : List PlainAgentBook) → MayFinish shuts (items_of lists) → map {B = Shut × Listing Drawing} (λ p. (p.0, p.1)) yielded ≡ zip shuts lists
+pub all_finished : (shuts : List PlainClosedAgent) (lists : List (Listing Drawing)) (yielded : List (PlainClosedAgent × Listing Drawing)) (books : List PlainAgentBook) → MayFinish shuts (items_of lists) → map {B = PlainClosedAgent × Listing Drawing} (λ p. (p.0, p.1)) yielded ≡ zip shuts lists
     → HaveFinished (map (λ p. p.0) yielded) (map (λ p. p.1.items) yielded) books → HaveFinished shuts (items_of lists) books
 all_finished [] [] yielded books may is have = by yielded is have
   where
-    by : (l : List (Shut × Listing Drawing)) → map {B = Shut × Listing Drawing} (λ p. (p.0, p.1)) l ≡ [] → HaveFinished (map (λ p. p.0) l) (map (λ p. p.1.items) l) books → HaveFinished [] [] books
+    by : (l : List (PlainClosedAgent × Listing Drawing)) → map {B = PlainClosedAgent × Listing Drawing} (λ p. (p.0, p.1)) l ≡ [] → HaveFinished (map (λ p. p.0) l) (map (λ p. p.1.items) l) books → HaveFinished [] [] books
     by [] q h = h
     by (x ∷ l) q h = absurd (omega (arith, ap length q))
 all_finished [] (l ∷ lists) yielded books may is have = absurd may
@@ -66,13 +66,13 @@ all_finished (s ∷ shuts) (l ∷ lists) [] books may is have = absurd (omega (a
 all_finished (s ∷ shuts) (l ∷ lists) (p ∷ yielded) [] may is have = absurd have
 all_finished (s ∷ shuts) (l ∷ lists) (p ∷ yielded) (b ∷ books) may is have =
     let first : p ≡ (s, l) = ap (head p) is in
-    let finished : HasFinished s l.items b = subst (λ (q : Shut × Listing Drawing). HasFinished q.0 q.1.items b) first have.0 in
+    let finished : HasFinished s l.items b = subst (λ (q : PlainClosedAgent × Listing Drawing). HasFinished q.0 q.1.items b) first have.0 in
     (finished, all_finished shuts lists yielded books may.1 (ap tail is) have.1)
   where
-    head : Shut × Listing Drawing → List (Shut × Listing Drawing) → Shut × Listing Drawing
+    head : PlainClosedAgent × Listing Drawing → List (PlainClosedAgent × Listing Drawing) → PlainClosedAgent × Listing Drawing
     head q [] = q
     head q (r ∷ l) = r
 
-    tail : List (Shut × Listing Drawing) → List (Shut × Listing Drawing)
+    tail : List (PlainClosedAgent × Listing Drawing) → List (PlainClosedAgent × Listing Drawing)
     tail [] = []
     tail (r ∷ l) = l

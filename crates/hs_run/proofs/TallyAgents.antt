@@ -13,7 +13,7 @@ use Rattle.hs_law_agent.proofs.Counts.{passes_past}
 use Rattle.hs_law_agent.specs.Laws.{EventsAddThis, ListsHaveTheirChunks, ListsEach, brought_by, count_of, given_places, noted_as}
 use Rattle.hs_law_agent.specs.Standings.{Taken, is_let_go, stands}
 use Rattle.hs_law_agent.specs.State.{AgentState, GivenPlace, start}
-use Rattle.hs_law_agent.specs.Stepping.{Input, Chunk, Crumbed, Triggered, Asked, Turn, Given, Missed, Unread, Event, Took, Gave, after, after_event, after_from, give_back, step_of}
+use Rattle.hs_law_agent.specs.Stepping.{Input, Chunk, Crumbed, Triggered, Asked, Turn, Given, Missed, Unread, AgentEvent, Took, Gave, after, after_event, after_from, give_back, step_of}
 use Rattle.hs_run.specs.Progress.{is_chunk, is_given}
 use Rattle.hs_records.specs.Plain.{PlainSettings}
 use Rattle.hs_run_story.proofs.Chunks.{sheets_taken}
@@ -21,7 +21,7 @@ use Rattle.hs_run.proofs.TallyLists.{few_for_each}
 
 -- ---- steps
 
-one_chunk : (event : Event) → one_if (is_chunk (noted_as event)) ≡ length (brought_by event)
+one_chunk : (event : AgentEvent) → one_if (is_chunk (noted_as event)) ≡ length (brought_by event)
 unfolding one_if
 one_chunk (Took (Chunk client sheet)) = refl
 one_chunk (Took (Crumbed client crumb)) = refl
@@ -33,7 +33,7 @@ one_chunk (Gave (Missed stamp)) = refl
 one_chunk (Gave Unread) = refl
 
 -- as many chunks are noted as came
-pub chunks_noted : (events : List Event) → count_by is_chunk (steps_of events) ≡ length (flat_map brought_by events)
+pub chunks_noted : (events : List AgentEvent) → count_by is_chunk (steps_of events) ≡ length (flat_map brought_by events)
 unfolding one_if
 chunks_noted [] = refl
 chunks_noted (event ∷ events) =
@@ -58,7 +58,7 @@ no_give (Asked ask) = refl
 no_give Turn = refl
 
 -- each give that is noted gave a buffer of the hand
-gives_noted : EventsAddThis → (settings : PlainSettings) (node : ℕ) (state : AgentState) (events : List Event) → HandsReady settings node state events
+gives_noted : EventsAddThis → (settings : PlainSettings) (node : ℕ) (state : AgentState) (events : List AgentEvent) → HandsReady settings node state events
     → length state.given + count_by is_given (steps_of events) ≤ length (after_from settings node state events).given
 unfolding one_if
 gives_noted adds settings node state [] ready = omega arith
@@ -126,7 +126,7 @@ few_gone taken gone each =
     more k place places = omega arith
 
 -- no more gives are noted than chunks
-pub few_gives : EventsAddThis → ListsHaveTheirChunks → (settings : PlainSettings) (node : ℕ) (events : List Event) → HandsReady settings node (start settings) events → count_by is_given (steps_of events) ≤ count_by is_chunk (steps_of events)
+pub few_gives : EventsAddThis → ListsHaveTheirChunks → (settings : PlainSettings) (node : ℕ) (events : List AgentEvent) → HandsReady settings node (start settings) events → count_by is_given (steps_of events) ≤ count_by is_chunk (steps_of events)
 few_gives adds lists settings node events ready =
     let state = after settings node events in
     let gives = gives_noted adds settings node (start settings) events ready in

@@ -5,8 +5,8 @@ use Rattle.std.proofs.lemmas.List.Sums.{count_by-le-length}
 use Rattle.hs_lists.proofs.Filters.{filter_few}
 use Rattle.hs_base.specs.declared.ids.ClientId.{ClientId}
 use Rattle.hs_base.specs.declared.limits.TheConstants.{MAX_OPERATIONS}
-use Rattle.hs_run_client.specs.Calling.{Calling}
-use Rattle.hs_run_client.specs.Standing.{IsAt, HasSentSoFar, sheets_in}
+use Rattle.hs_run_client.specs.ClientActors.{PlainClientActor}
+use Rattle.hs_run_client.specs.Standing.{ClientActorIsAt, HasSentSoFar, sheets_in}
 use Rattle.hs_client.specs.Calls.{after}
 use Rattle.hs_client.specs.Core.{Core, Step, Began, Wrote, Needed, Supplied, Ended_, Refused, draw_of, is_null, new_core}
 use Rattle.hs_run.specs.declared.client.ClientCount.{ClientCount}
@@ -24,9 +24,9 @@ use Rattle.hs_words.specs.Pages.{Sheet}
 use Rattle.hs_workload.specs.Validity.{client_pieces}
 use Rattle.hs_run.specs.TallyingNodes.{no_operations}
 
--- what callers have sent
+-- what clients have sent
 abbrev pub SendSo : Type 0
-SendSo = (settings : PlainSettings) (client : ClientId) (ops : List Operation) (caller : Calling) → IsAt settings client ops caller → HasSentSoFar settings client ops caller
+SendSo = (settings : PlainSettings) (client : ClientId) (ops : List Operation) (caller : PlainClientActor) → ClientActorIsAt settings client ops caller → HasSentSoFar settings client ops caller
 
 abbrev counts : ℕ → ℕ → ℕ → ClientCount
 counts done points nulls = record { done = done; points = points; nulls = nulls }
@@ -61,7 +61,7 @@ module _ (client : ClientId) (size calls : ℕ) where
   counted_draws (Ended_ ∷ earlier) = let rest = counted_draws earlier in omega (arith, rest)
   counted_draws (Refused ∷ earlier) = counted_draws earlier
 
-module _ (settings : PlainSettings) (client : ClientId) (ops : List Operation) (caller : Calling) (a : IsAt settings client ops caller) where
+module _ (settings : PlainSettings) (client : ClientId) (ops : List Operation) (caller : PlainClientActor) (a : ClientActorIsAt settings client ops caller) where
   -- the client has a call for each draw, beside those for the operations that are left
   fewer_draws : length caller.client.core.draws + client_pieces settings.size (drop caller.done ops) ≤ client_pieces settings.size ops
   unfolding core_after
@@ -121,7 +121,7 @@ as_many_sheets : (items : List (Sent Sheet)) → length (sheets_in items) ≡ le
 as_many_sheets items = length-map (map (λ (item : Sent Sheet). item.item) items) (λ (sheet : Sheet). Some sheet) ∙ length-map items (λ (item : Sent Sheet). item.item)
 
 -- a client sends no more chunks than it drew
-pub few_chunks : SendSo → (settings : PlainSettings) (client : ClientId) (ops : List Operation) (caller : Calling) → IsAt settings client ops caller → length (sent caller.client.chunks) ≤ MAX_OPERATIONS
+pub few_chunks : SendSo → (settings : PlainSettings) (client : ClientId) (ops : List Operation) (caller : PlainClientActor) → ClientActorIsAt settings client ops caller → length (sent caller.client.chunks) ≤ MAX_OPERATIONS
 few_chunks so settings client ops caller a =
     let draws = caller.client.core.draws ++ [] in
     let drawn = drawn_pages settings.size client ops draws in

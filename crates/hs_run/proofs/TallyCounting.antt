@@ -6,7 +6,7 @@ use Rattle.std.specs.Option.{option_map}
 use Rattle.hs_lists.proofs.Numbers.{same_or_less}
 use Rattle.hs_lists.proofs.Places.{get_set, get_other}
 use Rattle.hs_base.specs.Listing.{Listing}
-use Rattle.hs_run_client.specs.Calling.{Calling}
+use Rattle.hs_run_client.specs.ClientActors.{PlainClientActor}
 use Rattle.hs_run.specs.declared.client.ClientCount.{ClientCount}
 use Rattle.hs_run.specs.Counts.{client_count}
 use Rattle.hs_records.specs.Plain.{Operation, PlainWorkload}
@@ -14,7 +14,7 @@ use Rattle.hs_law_sends.specs.Sending.{operations_at, place_of}
 use Rattle.hs_workload.specs.declared.operation.Op.{Op}
 use Rattle.hs_workload.specs.declared.operation.Workload.{Workload}
 use Rattle.hs_workload.specs.Views.{operation_of, operations_of, workload_of}
-use Rattle.hs_run.specs.declared.node.Node.{Node}
+use Rattle.hs_run.specs.declared.node.ActingNode.{ActingNode}
 use Rattle.hs_run.specs.TallyingNodes.{MayCountNode, MayCountNodes, CountedFirst, CountedNodes}
 
 -- the operations at a place, as they lie in the workload
@@ -24,11 +24,11 @@ operations_here w place ops at =
 
 -- ---- one client more
 
-module _ (W : PlainWorkload) (node : ℕ) (callers : List Calling) (old : List ClientCount) where
+module _ (W : PlainWorkload) (node : ℕ) (callers : List PlainClientActor) (old : List ClientCount) where
   pub none_first : CountedFirst W node 0 callers old old
   none_first = record { many = refl; first = λ number caller low at. absurd (omega (arith, low)); before = λ place low. refl; behind = λ place high. refl }
 
-  pub one_first : (number : ℕ) (mid new : List ClientCount) (count : ClientCount) (caller : Calling) → CountedFirst W node number callers old mid → slice_get callers number ≡ Some caller
+  pub one_first : (number : ℕ) (mid new : List ClientCount) (count : ClientCount) (caller : PlainClientActor) → CountedFirst W node number callers old mid → slice_get callers number ≡ Some caller
       → slice_get mid (place_of W.settings.clients node number) ≡ Some count
       → new ≡ set mid (place_of W.settings.clients node number) (client_count (operations_at W (place_of W.settings.clients node number)) caller) → CountedFirst W node (number + 1) callers old new
   one_first number mid new count caller h found stood is =
@@ -43,7 +43,7 @@ module _ (W : PlainWorkload) (node : ℕ) (callers : List Calling) (old : List C
               | inr same ↦
                   let x_is : caller ≡ x = same_Some caller x (sym found ∙ ap (slice_get callers) (sym same) ∙ at) in
                   subst (λ (n : ℕ). slice_get new (place_of W.settings.clients node n) ≡ Some (client_count (operations_at W (place_of W.settings.clients node n)) x)) (sym same)
-                  (subst (λ (y : Calling). slice_get new place ≡ Some (client_count (operations_at W place) y)) x_is (there place ∙ get_set mid place count counted stood))
+                  (subst (λ (y : PlainClientActor). slice_get new place ≡ Some (client_count (operations_at W place) y)) x_is (there place ∙ get_set mid place count counted stood))
             ];
         before = λ other low. there other ∙ get_other mid place other counted (λ e. omega (arith, e, low)) ∙ h.before other low;
         behind = λ other high. there other ∙ get_other mid place other counted (λ e. omega (arith, e, high)) ∙ h.behind other (omega (arith, high));
@@ -51,12 +51,12 @@ module _ (W : PlainWorkload) (node : ℕ) (callers : List Calling) (old : List C
 
 -- ---- one node more
 
-module _ (W : PlainWorkload) (nodes : List Node) (old : List ClientCount) where
+module _ (W : PlainWorkload) (nodes : List ActingNode) (old : List ClientCount) where
   pub none_of_nodes : CountedNodes W 0 nodes old old
   none_of_nodes = record { many = refl; first = λ node number at caller low there found. absurd (omega (arith, low)); behind = λ place high. refl }
 
   -- the clients of the next node can be counted on too
-  pub may_next : (node : ℕ) (at : Node) (mid : List ClientCount) → MayCountNodes W nodes old → slice_get nodes node ≡ Some at → CountedNodes W node nodes old mid → MayCountNode W node at.site.callers mid
+  pub may_next : (node : ℕ) (at : ActingNode) (mid : List ClientCount) → MayCountNodes W nodes old → slice_get nodes node ≡ Some at → CountedNodes W node nodes old mid → MayCountNode W node at.site.callers mid
   may_next node at mid may there h =
       let n = may.each node at there in
       record {
@@ -67,7 +67,7 @@ module _ (W : PlainWorkload) (nodes : List Node) (old : List ClientCount) where
         each = λ number caller count found stood. n.each number caller count found (sym (h.behind (place_of W.settings.clients node number) (omega arith)) ∙ stood);
       }
 
-  pub one_of_nodes : (node : ℕ) (at : Node) (mid new : List ClientCount) → MayCountNodes W nodes old → slice_get nodes node ≡ Some at → CountedNodes W node nodes old mid
+  pub one_of_nodes : (node : ℕ) (at : ActingNode) (mid new : List ClientCount) → MayCountNodes W nodes old → slice_get nodes node ≡ Some at → CountedNodes W node nodes old mid
       → CountedFirst W node W.settings.clients at.site.callers mid new → CountedNodes W (node + 1) nodes old new
   one_of_nodes node at mid new may there h one =
       let each = W.settings.clients in
@@ -86,7 +86,7 @@ module _ (W : PlainWorkload) (nodes : List Node) (old : List ClientCount) where
               | inr same ↦
                   let x_is : x ≡ at = same_Some x at (sym there' ∙ ap (slice_get nodes) same ∙ there) in
                   subst (λ (n : ℕ). slice_get new (place_of each n number) ≡ Some (client_count (operations_at W (place_of each n number)) caller)) (sym same)
-                  (one.first number caller (omega (arith, own, below)) (sym (ap (λ (y : Node). slice_get y.site.callers number) x_is) ∙ found))
+                  (one.first number caller (omega (arith, own, below)) (sym (ap (λ (y : ActingNode). slice_get y.site.callers number) x_is) ∙ found))
             ];
         behind = λ place high. let more = next node in one.behind place (omega (arith, high, more)) ∙ h.behind place (omega (arith, high, more));
       }

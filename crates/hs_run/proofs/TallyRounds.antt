@@ -12,15 +12,15 @@ use Rattle.hs_law_run.proofs.Nodes.{own_log}
 use Rattle.hs_base.specs.declared.ids.ClientId.{ClientId}
 use Rattle.hs_base.specs.declared.limits.TheConstants.{MAX_OPERATIONS, MAX_NODES, MAX_CLIENTS}
 use Rattle.hs_base.specs.Ids.{client_of}
-use Rattle.hs_run_client.specs.Calling.{Calling}
+use Rattle.hs_run_client.specs.ClientActors.{PlainClientActor}
 use Rattle.hs_run.specs.declared.client.ClientCount.{ClientCount}
 use Rattle.hs_run.specs.declared.log.LogCount.{LogCount}
 use Rattle.hs_run.specs.Counts.{AreCounts, client_count, log_count}
 use Rattle.hs_run_agent.proofs.Few.{few_clients}
 use Rattle.hs_run_agent.specs.Agents.{IsPageThere}
-use Rattle.hs_run_agent.specs.Coordinators.{Coordinating}
-use Rattle.hs_run_agent.specs.Manned.{Manned, IsManned}
-use Rattle.hs_run_agent.specs.Work.{Work, came_of, is_of}
+use Rattle.hs_run_agent.specs.Coordinators.{PlainCoordinatorActor}
+use Rattle.hs_run_agent.specs.AgentActors.{PlainAgentActor, IsAgentActor}
+use Rattle.hs_run_agent.specs.Work.{NodeWork, came_of, is_of}
 use Rattle.hs_run_agent.proofs.Taking.{sheet_is}
 use Rattle.hs_journal.specs.declared.journal.Step.{Step}
 use Rattle.hs_law_agent.specs.Laws.{EventsAddThis, ListsHaveTheirChunks, brought_by, noted_as}
@@ -29,15 +29,15 @@ use Rattle.hs_records.specs.Plain.{PlainWorkload}
 use Rattle.hs_run_story.proofs.Meetings.{caller_at, done_at, here_at}
 use Rattle.hs_run_story.proofs.Moments.{doing_same, round_steps, site_acts, site_meets, site_of, site_there, stands_at}
 use Rattle.hs_ring.specs.Parts.{Leased}
-use Rattle.hs_run_story.specs.Meeting.{SiteMeets}
-use Rattle.hs_run_story.specs.Standing.{Site, Moment, SiteStands, Stands, IsBegun}
+use Rattle.hs_run_story.specs.Meeting.{NodeActorsMeet}
+use Rattle.hs_run_story.specs.RunStates.{PlainNodeActors, RunState, NodeActorsStand, RunStands, IsBegun}
 use Rattle.hs_law_sends.specs.Sending.{operations_at, place_of}
 use Rattle.hs_words.specs.Buffers.{Buffer}
 use Rattle.hs_words.specs.Pages.{Sheet}
 use Rattle.hs_workload.specs.Validity.{IsValid}
 use Rattle.hs_workload.specs.declared.word.Setting.TheVariants as settings
 use Rattle.hs_workload.proofs.Sizes.{product_few, few_nodes, last_low}
-use Rattle.hs_run.specs.declared.node.Node.{Node}
+use Rattle.hs_run.specs.declared.node.ActingNode.{ActingNode}
 use Rattle.hs_run.specs.Changing.{EachChanged}
 use Rattle.hs_run.specs.Moments.{RoundsMade}
 use Rattle.hs_run.specs.Nodes.{sites_of}
@@ -52,18 +52,18 @@ use Rattle.hs_run.proofs.TallyLists.{few_filtered, replicated, sum_below}
 -- ---- a node
 
 -- the agent's log has the steps of its work
-log_is : EventsAddThis → (W : PlainWorkload) (work : Work) (manned : Manned) → IsManned W work manned → manned.agent.log ≡ steps_of work.events
+log_is : EventsAddThis → (W : PlainWorkload) (work : NodeWork) (manned : PlainAgentActor) → IsAgentActor W work manned → manned.agent.log ≡ steps_of work.events
 log_is adds W work manned is = is.stands.works.is.follows.log ∙ own_log adds W.settings work.node work.events
 
 -- no more buffers are given than chunks are taken
-gives_low : EventsAddThis → ListsHaveTheirChunks → (W : PlainWorkload) (work : Work) (manned : Manned) → IsManned W work manned → count_by is_given (steps_of work.events) ≤ count_by is_chunk (steps_of work.events)
+gives_low : EventsAddThis → ListsHaveTheirChunks → (W : PlainWorkload) (work : NodeWork) (manned : PlainAgentActor) → IsAgentActor W work manned → count_by is_given (steps_of work.events) ≤ count_by is_chunk (steps_of work.events)
 gives_low adds lists W work manned is = few_gives adds lists W.settings work.node work.events is.stands.works.is.hands
 
 as_many : {X Y : Type 0} (f : X → Y) (xs : List X) (ys : List Y) → map f xs ≡ ys → length xs ≡ length ys
 as_many f xs ys is = sym (length-map xs f) ∙ ap length is
 
 -- the clients of a node sent what its agent took, in a meeting
-module _ (so : SendSo) (W : PlainWorkload) (node : ℕ) (work : Work) (old new : Site) (stands : SiteStands W node work old) (meets : SiteMeets W node work old new) where
+module _ (so : SendSo) (W : PlainWorkload) (node : ℕ) (work : NodeWork) (old new : PlainNodeActors) (stands : NodeActorsStand W node work old) (meets : NodeActorsMeet W node work old new) where
   came_few : (number : ℕ) → number < W.settings.clients → length (came_of number work) ≤ MAX_OPERATIONS
   came_few number low =
       let old_count = stands.count in
@@ -100,15 +100,15 @@ module _ (so : SendSo) (W : PlainWorkload) (node : ℕ) (work : Work) (old new :
 
 -- ---- behind a round
 
-module _ (W : PlainWorkload) (rounds : ℕ) (nodes : List Node) (c : Coordinating) (made : RoundsMade W (suc rounds) nodes c) where
+module _ (W : PlainWorkload) (rounds : ℕ) (nodes : List ActingNode) (c : PlainCoordinatorActor) (made : RoundsMade W (suc rounds) nodes c) where
   is_valid : IsValid W
   is_valid = made.here.stands.valid
 
   work_now : (node : ℕ) → (made.came.at (suc rounds)).works node ≡ made.moment.works node
-  work_now node = ap (λ (m : Moment). m.works node) made.came.last
+  work_now node = ap (λ (m : RunState). m.works node) made.came.last
 
-  site_at : (node : ℕ) (at : Node) → slice_get nodes node ≡ Some at → slice_get made.moment.standing.nodes node ≡ Some at.site
-  site_at node at there = ap (λ (l : List Site). slice_get l node) made.here.nodes_are ∙ there_among nodes node at there
+  site_at : (node : ℕ) (at : ActingNode) → slice_get nodes node ≡ Some at → slice_get made.moment.standing.nodes node ≡ Some at.site
+  site_at node at there = ap (λ (l : List PlainNodeActors). slice_get l node) made.here.nodes_are ∙ there_among nodes node at there
 
   -- what an agent took in all is little
   taken_low : SendSo → (node : ℕ) → node < W.settings.nodes → count_by is_chunk (steps_of (made.moment.works node).events) ≤ W.settings.clients * MAX_OPERATIONS
@@ -121,7 +121,7 @@ module _ (W : PlainWorkload) (rounds : ℕ) (nodes : List Node) (c : Coordinatin
       let meets = site_meets W valid (suc rounds) m came rounds node last low in
       let same = doing_same W valid (suc rounds) m came rounds node last in
       let few = chunks_low so W node ((came.acted rounds).works node) (site_of W valid (suc rounds) m came (came.acted rounds) node) (site_of W valid (suc rounds) m came (came.met rounds) node) acts.stands meets in
-      let events = ap (λ (w : Work). count_by is_chunk (steps_of w.events)) (work_now node) in
+      let events = ap (λ (w : NodeWork). count_by is_chunk (steps_of w.events)) (work_now node) in
       let acted = ap (λ l. count_by is_chunk (steps_of l)) same.events in
       omega (arith, few, events, acted)
 
@@ -130,7 +130,7 @@ module _ (W : PlainWorkload) (rounds : ℕ) (nodes : List Node) (c : Coordinatin
     taken : count_by is_chunk log ≤ MAX_CLIENTS * MAX_OPERATIONS
     given : count_by is_given log ≤ MAX_CLIENTS * MAX_OPERATIONS
 
-  log_small : SendSo → EventsAddThis → ListsHaveTheirChunks → (node : ℕ) (at : Node) → slice_get nodes node ≡ Some at → LogSmall at.site.agent.agent.log
+  log_small : SendSo → EventsAddThis → ListsHaveTheirChunks → (node : ℕ) (at : ActingNode) → slice_get nodes node ≡ Some at → LogSmall at.site.agent.agent.log
   log_small so adds lists node at there =
       let manned = (node_stands W made.moment nodes c made.here node at there).agent in
       let work = made.moment.works node in
@@ -146,7 +146,7 @@ module _ (W : PlainWorkload) (rounds : ℕ) (nodes : List Node) (c : Coordinatin
   module _ (clients : List ClientCount) (logs : List LogCount) (counted : AreCounts W (made.came.at rounds) (record { clients = clients; logs = logs })) where
     -- ---- what may be counted on
 
-    may_client : (node number : ℕ) (at : Node) (caller : Calling) (count : ClientCount) → slice_get nodes node ≡ Some at → slice_get at.site.callers number ≡ Some caller
+    may_client : (node number : ℕ) (at : ActingNode) (caller : PlainClientActor) (count : ClientCount) → slice_get nodes node ≡ Some at → slice_get at.site.callers number ≡ Some caller
         → slice_get clients (place_of W.settings.clients node number) ≡ Some count → MayCountClient (operations_at W (place_of W.settings.clients node number)) caller count
     may_client node number at caller count there found stood =
         let valid = is_valid in
@@ -189,7 +189,7 @@ module _ (W : PlainWorkload) (rounds : ℕ) (nodes : List Node) (c : Coordinatin
               };
         }
 
-    may_log : SendSo → EventsAddThis → ListsHaveTheirChunks → (node : ℕ) (at : Node) (count : LogCount) → slice_get nodes node ≡ Some at → slice_get logs node ≡ Some count → MayCountLog at.site.agent.agent.log count
+    may_log : SendSo → EventsAddThis → ListsHaveTheirChunks → (node : ℕ) (at : ActingNode) (count : LogCount) → slice_get nodes node ≡ Some at → slice_get logs node ≡ Some count → MayCountLog at.site.agent.agent.log count
     may_log so adds lists node at count there stood =
         let valid = is_valid in
         let m = made.moment in
@@ -203,7 +203,7 @@ module _ (W : PlainWorkload) (rounds : ℕ) (nodes : List Node) (c : Coordinatin
         let steps = ap (λ (x : LogCount). x.steps) same in
         let whole : log ≡ old ++ steps_of step.pass =
         log_is adds W (m.works node) at.site.agent (node_stands W m nodes c made.here node at there).agent
-        ∙ ap (λ (w : Work). steps_of w.events) (sym (work_now node))
+        ∙ ap (λ (w : NodeWork). steps_of w.events) (sym (work_now node))
         ∙ ap steps_of step.events
         ∙ map-append noted_as ((came.at rounds).works node).events step.pass in
         let first : take count.steps log ≡ old = ap (λ (n : ℕ). take n log) steps ∙ ap (take (length old)) whole ∙ take-append_seam old (steps_of step.pass) in
@@ -228,14 +228,14 @@ module _ (W : PlainWorkload) (rounds : ℕ) (nodes : List Node) (c : Coordinatin
     -- ---- what is counted
 
     module _ (clients' : List ClientCount) (logs' : List LogCount) (gone_on : CountedNodes W (length nodes) nodes clients clients') (noted : EachChanged (LogCounted nodes) logs logs') where
-      pub are_counts : EventsAddThis → (m : Moment) → Stands W m → m.standing.nodes ≡ sites_of nodes → AreCounts W m (record { clients = clients'; logs = logs' })
+      pub are_counts : EventsAddThis → (m : RunState) → RunStands W m → m.standing.nodes ≡ sites_of nodes → AreCounts W m (record { clients = clients'; logs = logs' })
       are_counts adds m stands same =
           record {
             clients_are = gone_on.many ∙ counted.clients_are;
             logs_are = noted.many ∙ counted.logs_are;
             clients = λ node number site caller at found.
-                let (x, there, is) = node_there nodes node site (sym (ap (λ (l : List Site). slice_get l node) same) ∙ at) in
-                gone_on.first node number x caller (within nodes node x there) there (ap (λ (s : Site). slice_get s.callers number) is ∙ found);
+                let (x, there, is) = node_there nodes node site (sym (ap (λ (l : List PlainNodeActors). slice_get l node) same) ∙ at) in
+                gone_on.first node number x caller (within nodes node x there) there (ap (λ (s : PlainNodeActors). slice_get s.callers number) is ∙ found);
             logs = λ node low.
                 let count = node_count W made.moment nodes c made.here in
                 let (x, there) = get_there nodes node (omega (arith, low, count)) in
@@ -243,7 +243,7 @@ module _ (W : PlainWorkload) (rounds : ℕ) (nodes : List Node) (c : Coordinatin
                 let many = noted.many in
                 let (old, stood) = get_there logs node (omega (arith, low, were)) in
                 let (new, stands') = get_there logs' node (omega (arith, low, were, many)) in
-                let log = log_is adds W (m.works node) x.site.agent (stands.each node x.site (ap (λ (l : List Site). slice_get l node) same ∙ there_among nodes node x there)).agent in
+                let log = log_is adds W (m.works node) x.site.agent (stands.each node x.site (ap (λ (l : List PlainNodeActors). slice_get l node) same ∙ there_among nodes node x there)).agent in
                 stands' ∙ ap (λ (count : LogCount). Some count) (noted.each node old new stood stands' x there) ∙ ap (λ (l : List Step). Some (log_count l)) log;
           }
 
@@ -334,7 +334,7 @@ module _ (W : PlainWorkload) (rounds : ℕ) (nodes : List Node) (c : Coordinatin
 -- ---- before the first round
 
 pub none_counted : (W : PlainWorkload) (clients : List ClientCount) (logs : List LogCount) → IsValid W → clients ≡ replicate (length W.clients) no_operations → logs ≡ replicate W.settings.nodes no_steps
-    → (m : Moment) → IsBegun W m → AreCounts W m (record { clients = clients; logs = logs })
+    → (m : RunState) → IsBegun W m → AreCounts W m (record { clients = clients; logs = logs })
 none_counted W clients logs valid clients_none logs_none m begun =
     record {
       clients_are = ap length clients_none ∙ length-replicate (length W.clients) no_operations;
@@ -353,5 +353,5 @@ none_counted W clients logs valid clients_none logs_none m begun =
       logs = λ node low.
           ap (λ (l : List LogCount). slice_get l node) logs_none
           ∙ replicated no_steps W.settings.nodes node low
-          ∙ ap (λ (w : Work). Some (log_count (steps_of w.events))) (sym (begun.works node));
+          ∙ ap (λ (w : NodeWork). Some (log_count (steps_of w.events))) (sym (begun.works node));
     }

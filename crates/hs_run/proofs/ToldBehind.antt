@@ -9,15 +9,15 @@ use Rattle.hs_base.proofs.Updates.{put, put_here, put_else}
 use Rattle.hs_coord.specs.Messages.{Messages}
 use Rattle.hs_records.specs.Plain.{PlainWorkload}
 use Rattle.hs_run_agent.specs.Agents.{IsTellable}
-use Rattle.hs_run_agent.specs.Coordinators.{Coordinating, IsCoordinating, IsMoved, asks_for}
-use Rattle.hs_run_agent.specs.Shut.{Shut, IsShut}
-use Rattle.hs_run_agent.specs.Work.{Work, with_moved}
-use Rattle.hs_run_story.specs.Standing.{moved_by, asked_by}
-use Rattle.hs_run.specs.Shutting.{AllSents, Tells, HasTold}
+use Rattle.hs_run_agent.specs.Coordinators.{PlainCoordinatorActor, IsCoordinatorActor, IsMoved, asks_for}
+use Rattle.hs_run_agent.specs.ClosedAgents.{PlainClosedAgent, IsClosedAgent}
+use Rattle.hs_run_agent.specs.Work.{NodeWork, with_moved}
+use Rattle.hs_run_story.specs.RunStates.{moved_by, asked_by}
+use Rattle.hs_run.specs.Shutting.{AllSents, ClosingTells, ClosingHasTold}
 
 -- the coordinator stands by what was moved and asked, node by node
-pub coordinates_same : (W : PlainWorkload) (heard : Messages) (moved moved' : ℕ → List Told) (asked asked' : ℕ → List Ask) (c : Coordinating) → ((n : ℕ) → moved' n ≡ moved n) → ((n : ℕ) → asked' n ≡ asked n)
-    → IsCoordinating W heard moved asked c → IsCoordinating W heard moved' asked' c
+pub coordinates_same : (W : PlainWorkload) (heard : Messages) (moved moved' : ℕ → List Told) (asked asked' : ℕ → List Ask) (c : PlainCoordinatorActor) → ((n : ℕ) → moved' n ≡ moved n) → ((n : ℕ) → asked' n ≡ asked n)
+    → IsCoordinatorActor W heard moved asked c → IsCoordinatorActor W heard moved' asked' c
 coordinates_same W heard moved moved' asked asked' c mv ak h =
     record {
       few = h.few;
@@ -31,8 +31,8 @@ coordinates_same W heard moved moved' asked asked' c mv ak h =
       asks_are = λ n low. h.asks_are n low ∙ ap (λ (l : List Ask). l ++ asks_for n c.asks) (sym (ak n));
     }
 
-module _ (W : PlainWorkload) (node : ℕ) (sents : AllSents) (work : Work) (heard : Messages) (works : ℕ → Work) (old : Shut) (before : Coordinating) where
-  pub told_none : Tells W node sents work heard works old before → HasTold W node sents work heard works old before old before
+module _ (W : PlainWorkload) (node : ℕ) (sents : AllSents) (work : NodeWork) (heard : Messages) (works : ℕ → NodeWork) (old : PlainClosedAgent) (before : PlainCoordinatorActor) where
+  pub told_none : ClosingTells W node sents work heard works old before → ClosingHasTold W node sents work heard works old before old before
   told_none t =
       record {
         next = work;
@@ -43,23 +43,23 @@ module _ (W : PlainWorkload) (node : ℕ) (sents : AllSents) (work : Work) (hear
         only = refl;
         brought = λ works' here there.
             coordinates_same W heard (moved_by works) (moved_by works') (asked_by works) (asked_by works') before
-            (same_everywhere (moved_by works') (moved_by works) node (ap (λ (x : Work). x.moved) here ∙ t.same.0) (λ other ne. ap (λ (x : Work). x.moved) (there other ne)))
-            (same_everywhere (asked_by works') (asked_by works) node (ap (λ (x : Work). x.asked) here ∙ t.same.1) (λ other ne. ap (λ (x : Work). x.asked) (there other ne))) t.coordinates;
+            (same_everywhere (moved_by works') (moved_by works) node (ap (λ (x : NodeWork). x.moved) here ∙ t.same.0) (λ other ne. ap (λ (x : NodeWork). x.moved) (there other ne)))
+            (same_everywhere (asked_by works') (asked_by works) node (ap (λ (x : NodeWork). x.asked) here ∙ t.same.1) (λ other ne. ap (λ (x : NodeWork). x.asked) (there other ne))) t.coordinates;
         asks = refl;
       }
 
   -- the coordinator where this was told
-  pub told_coordinates : (new : Shut) (after : Coordinating) → (h : HasTold W node sents work heard works old before new after)
-      → IsCoordinating W heard (moved_by (put works node h.next)) (asked_by (put works node h.next)) after
+  pub told_coordinates : (new : PlainClosedAgent) (after : PlainCoordinatorActor) → (h : ClosingHasTold W node sents work heard works old before new after)
+      → IsCoordinatorActor W heard (moved_by (put works node h.next)) (asked_by (put works node h.next)) after
   told_coordinates new after h = h.brought (put works node h.next) (put_here works node h.next) (λ other ne. put_else works node h.next other ne)
 
-  with_said : List Told → Shut → Shut
+  with_said : List Told → PlainClosedAgent → PlainClosedAgent
   with_said said a = record a { said = said }
 
-  pub told_one : (mid : Shut) (between : Coordinating) (told : Told) (new : Shut) (after : Coordinating) → (h : HasTold W node sents work heard works old before mid between)
-      → mid ≡ record new { said = told ∷ new.said } → IsShut W (with_moved told h.next) (sents node) new
-      → ((moved' : ℕ → List Told) → IsMoved node told (moved_by (put works node h.next)) moved' → IsCoordinating W heard moved' (asked_by (put works node h.next)) after)
-      → after.asks ≡ between.asks → HasTold W node sents work heard works old before new after
+  pub told_one : (mid : PlainClosedAgent) (between : PlainCoordinatorActor) (told : Told) (new : PlainClosedAgent) (after : PlainCoordinatorActor) → (h : ClosingHasTold W node sents work heard works old before mid between)
+      → mid ≡ record new { said = told ∷ new.said } → IsClosedAgent W (with_moved told h.next) (sents node) new
+      → ((moved' : ℕ → List Told) → IsMoved node told (moved_by (put works node h.next)) moved' → IsCoordinatorActor W heard moved' (asked_by (put works node h.next)) after)
+      → after.asks ≡ between.asks → ClosingHasTold W node sents work heard works old before new after
   unfolding with_said
   told_one mid between told new after h out shut heard_it asks =
       let here = put_here works node h.next in
@@ -74,12 +74,12 @@ module _ (W : PlainWorkload) (node : ℕ) (sents : AllSents) (work : Work) (hear
             let coordinates =
             heard_it (moved_by works')
             (record {
-              here = ap (λ (x : Work). x.moved) at ∙ ap (λ (x : Work). x.moved ++ told ∷ []) (sym here);
-              others = λ other ne. ap (λ (x : Work). x.moved) (there other ne ∙ sym (put_else works node h.next other ne));
+              here = ap (λ (x : NodeWork). x.moved) at ∙ ap (λ (x : NodeWork). x.moved ++ told ∷ []) (sym here);
+              others = λ other ne. ap (λ (x : NodeWork). x.moved) (there other ne ∙ sym (put_else works node h.next other ne));
             }) in
             coordinates_same W heard (moved_by works') (moved_by works') (asked_by (put works node h.next)) (asked_by works') after (λ n. refl)
-            (same_everywhere (asked_by works') (asked_by (put works node h.next)) node (ap (λ (x : Work). x.asked) at ∙ ap (λ (x : Work). x.asked) (sym here))
-            (λ other ne. ap (λ (x : Work). x.asked) (there other ne ∙ sym (put_else works node h.next other ne))))
+            (same_everywhere (asked_by works') (asked_by (put works node h.next)) node (ap (λ (x : NodeWork). x.asked) at ∙ ap (λ (x : NodeWork). x.asked) (sym here))
+            (λ other ne. ap (λ (x : NodeWork). x.asked) (there other ne ∙ sym (put_else works node h.next other ne))))
             coordinates;
         asks = asks ∙ h.asks;
       }

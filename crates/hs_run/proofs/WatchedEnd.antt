@@ -5,23 +5,23 @@ use Rattle.std.specs.List.{AllByRecursion}
 use Rattle.hs_lists.proofs.Alls.{all_each}
 use Rattle.hs_base.specs.Listing.{Listing}
 use Rattle.hs_board.specs.declared.progress.Progress.{Progress}
-use Rattle.hs_run.specs.declared.place.Place.{Place}
+use Rattle.hs_run.specs.declared.done_node.DoneNode.{DoneNode}
 use Rattle.hs_run.specs.Ended.{items_of}
-use Rattle.hs_run.specs.Over.{RoundsOver as PlacesOver, place_site}
+use Rattle.hs_run.specs.Over.{RoundsOver as PlacesOver, done_node_actors}
 use Rattle.hs_run.specs.Seen.{IsSeen, AreSeen, ShownIsSeen}
-use Rattle.hs_run_agent.specs.Coordinators.{Coordinating}
+use Rattle.hs_run_agent.specs.Coordinators.{PlainCoordinatorActor}
 use Rattle.hs_journal.specs.Views.{PlainJournal}
 use Rattle.hs_records.specs.Plain.{PlainWorkload}
 use Rattle.hs_run_story.specs.Noting.{NotesRounds}
 use Rattle.hs_board.specs.Watching.{Showing, IsSeenOf}
 use Rattle.hs_workload.specs.Validity.{IsValid}
-use Rattle.hs_run.specs.declared.node.Node.{Node}
+use Rattle.hs_run.specs.declared.node.ActingNode.{ActingNode}
 use Rattle.hs_run.specs.Moments.{RoundsOver}
 use Rattle.hs_run.specs.Nodes.{sites_of}
 use Rattle.hs_run.specs.Watched.{AllWatched, HaveShown}
 
 -- the places of nodes behind whose rounds all is done
-abbrev pub over_of : (W : PlainWorkload) (nodes : List Node) (c : Coordinating) (places : List Place) → IsValid W → map place_site places ≡ sites_of nodes → RoundsOver W nodes c → PlacesOver W places c
+abbrev pub over_of : (W : PlainWorkload) (nodes : List ActingNode) (c : PlainCoordinatorActor) (places : List DoneNode) → IsValid W → map done_node_actors places ≡ sites_of nodes → RoundsOver W nodes c → PlacesOver W places c
 over_of W nodes c places valid same over =
     record {
       valid = valid;
@@ -34,7 +34,7 @@ over_of W nodes c places valid same over =
       all = over.all;
     }
 
-pub have_shown : ShownIsSeen → (W : PlainWorkload) (nodes : List Node) (c : Coordinating) (watch : Showing) (w : AllWatched W nodes c watch) → IsValid W → (J : PlainJournal)
+pub have_shown : ShownIsSeen → (W : PlainWorkload) (nodes : List ActingNode) (c : PlainCoordinatorActor) (watch : Showing) (w : AllWatched W nodes c watch) → IsValid W → (J : PlainJournal)
     → NotesRounds W w.over.rounds w.over.made.moment w.over.made.came J → HaveShown W J watch
 have_shown law W nodes c watch w valid J notes =
     record {

@@ -12,15 +12,15 @@ use Rattle.hs_run.specs.Counts.{Counts, AreCounts, progress_of}
 use Rattle.hs_run.specs.CountLaws.{TheseAreAllRounds}
 use Rattle.hs_run.specs.Seen.{IsTotal, IsTotalBehind}
 use Rattle.hs_run.proofs.Seeing.{end_of}
-use Rattle.hs_run_agent.specs.Coordinators.{Coordinating}
+use Rattle.hs_run_agent.specs.Coordinators.{PlainCoordinatorActor}
 use Rattle.hs_records.specs.Plain.{Operation, PlainWorkload}
 use Rattle.hs_run_story.specs.Laws.{AllBegin}
-use Rattle.hs_run_story.specs.Standing.{Site, Moment, IsBegun}
+use Rattle.hs_run_story.specs.RunStates.{PlainNodeActors, RunState, IsBegun}
 use Rattle.hs_run_story.specs.Coming.{Came, NoRoundsCome, RoundsKeepWhatCame}
 use Rattle.hs_law_sends.specs.Sending.{operations_at, place_of}
-use Rattle.hs_board.specs.Watching.{Totals, Showing, Stands}
+use Rattle.hs_board.specs.Watching.{Totals, Showing, WatchStands}
 use Rattle.hs_workload.specs.declared.word.Setting.TheVariants as settings
-use Rattle.hs_run.specs.declared.node.Node.{Node}
+use Rattle.hs_run.specs.declared.node.ActingNode.{ActingNode}
 use Rattle.hs_run.specs.Moments.{ActedTo, MetTo, MovedTo, CanBegin, DoneIn, RoundsMade}
 use Rattle.hs_run.specs.Nodes.{TellsLeft}
 use Rattle.hs_run.specs.Tallying.{FitTotals, MayCount}
@@ -30,11 +30,11 @@ use Rattle.hs_run.proofs.Rounded.{SendSo, begin_made, few_next, done_next, all_d
 
 -- ---- a round more, which keeps what came
 
-pub record Follows (W : PlainWorkload) (made : ℕ) (nodes : List Node) (c : Coordinating) (h : RoundsMade W made nodes c) (nodes' : List Node) (c' : Coordinating) : Type 0 where
+pub record Follows (W : PlainWorkload) (made : ℕ) (nodes : List ActingNode) (c : PlainCoordinatorActor) (h : RoundsMade W made nodes c) (nodes' : List ActingNode) (c' : PlainCoordinatorActor) : Type 0 where
   pub next : RoundsMade W (suc made) nodes' c'
   pub keeps : (k : ℕ) → k < suc made → next.came.at k ≡ h.came.at k
 
-pub follows : RoundsKeepWhatCame → SendSo → (W : PlainWorkload) (made : ℕ) (nodes nodes1 nodes2 nodes3 : List Node) (c c1 c3 : Coordinating) (h : RoundsMade W made nodes c) (a : ActedTo W h.moment nodes1 c1) (b : MetTo W a.next nodes2 c1)
+pub follows : RoundsKeepWhatCame → SendSo → (W : PlainWorkload) (made : ℕ) (nodes nodes1 nodes2 nodes3 : List ActingNode) (c c1 c3 : PlainCoordinatorActor) (h : RoundsMade W made nodes c) (a : ActedTo W h.moment nodes1 c1) (b : MetTo W a.next nodes2 c1)
     (d : MovedTo W b.next nodes3 c3) → Follows W made nodes c h nodes3 c3
 follows keep sent_so W made nodes nodes1 nodes2 nodes3 c c1 c3 h a b d =
     let one : made + 1 ≡ suc made = omega arith in
@@ -54,10 +54,10 @@ follows keep sent_so W made nodes nodes1 nodes2 nodes3 c c1 c3 h a b d =
 -- ---- the totals that are shown
 
 -- the totals of the counts behind all rounds
-total_here : (W : PlainWorkload) (made : ℕ) (m : Moment) (came : Came W made m) (counts : Counts) → AreCounts W m counts → IsTotalBehind W made m came (progress_of made counts)
-total_here W made m came counts are = record { round = made; low = omega arith; counts = counts; are = subst (λ (n : Moment). AreCounts W n counts) (sym came.last) are; is = refl }
+total_here : (W : PlainWorkload) (made : ℕ) (m : RunState) (came : Came W made m) (counts : Counts) → AreCounts W m counts → IsTotalBehind W made m came (progress_of made counts)
+total_here W made m came counts are = record { round = made; low = omega arith; counts = counts; are = subst (λ (n : RunState). AreCounts W n counts) (sym came.last) are; is = refl }
 
-total_on : (W : PlainWorkload) (made : ℕ) (m m' : Moment) (came : Came W made m) (came' : Came W (suc made) m') → ((k : ℕ) → k < suc made → came'.at k ≡ came.at k) → (x : Progress) → IsTotal W made m came x
+total_on : (W : PlainWorkload) (made : ℕ) (m m' : RunState) (came : Came W made m) (came' : Came W (suc made) m') → ((k : ℕ) → k < suc made → came'.at k ≡ came.at k) → (x : Progress) → IsTotal W made m came x
     → IsTotal W (suc made) m' came' x
 total_on W made m m' came came' keeps x total =
     ⊎_elim (λ (none : x ≡ first). inl none)
@@ -68,7 +68,7 @@ total_on W made m m' came came' keeps x total =
       round = t.round;
       low = omega (arith, low);
       counts = t.counts;
-      are = subst (λ (n : Moment). AreCounts W n t.counts) (sym (keeps t.round (omega (arith, low)))) t.are;
+      are = subst (λ (n : RunState). AreCounts W n t.counts) (sym (keeps t.round (omega (arith, low)))) t.are;
       is = t.is;
     }))
     total
@@ -81,7 +81,7 @@ last_on : (made : ℕ) (counts : Counts) (shown : Totals) → (made ≡ 0 → Is
 last_on zero counts shown none = (first, none refl, refl)
 last_on (suc k) counts shown none = (progress_of (suc k) counts, (shown, refl), refl)
 
-pub may_show : (W : PlainWorkload) (made : ℕ) (nodes : List Node) (c : Coordinating) (counts : Counts) (watch : Showing) → RoundsWatched W made nodes c counts watch → MayShow made counts watch.shown
+pub may_show : (W : PlainWorkload) (made : ℕ) (nodes : List ActingNode) (c : PlainCoordinatorActor) (counts : Counts) (watch : Showing) → RoundsWatched W made nodes c counts watch → MayShow made counts watch.shown
 may_show W made nodes c counts watch w =
     record {
       fits = w.fits;
@@ -94,15 +94,15 @@ some_left : (o : Option (List Operation)) (n : ℕ) → n < length (unwrap_or o 
 some_left None n less = absurd (omega (arith, less))
 some_left (Some ops) n less = (ops, refl, less)
 
-needs : (W : PlainWorkload) (made : ℕ) (nodes : List Node) (c : Coordinating) → RoundsMade W made nodes c → TellsLeft W nodes true → IsNeeded W made
+needs : (W : PlainWorkload) (made : ℕ) (nodes : List ActingNode) (c : PlainCoordinatorActor) → RoundsMade W made nodes c → TellsLeft W nodes true → IsNeeded W made
 needs W made nodes c h (n, node, at, (number, caller, found, less)) =
     let place = place_of W.settings.clients n number in
-    let done = h.done n number node.site caller (ap (λ (l : List Site). slice_get l n) h.here.nodes_are ∙ site_there nodes n node at) found in
+    let done = h.done n number node.site caller (ap (λ (l : List PlainNodeActors). slice_get l n) h.here.nodes_are ∙ site_there nodes n node at) found in
     let (ops, there, left) = some_left (slice_get W.clients place) (made * W.settings.stride) (omega (arith, done, less)) in
     (place, ops, there, left)
 
 -- The operations at a place are done, where all are.
-module _ (W : PlainWorkload) (made : ℕ) (nodes : List Node) (c : Coordinating) (h : RoundsMade W made nodes c) (none : TellsLeft W nodes false) where
+module _ (W : PlainWorkload) (made : ℕ) (nodes : List ActingNode) (c : PlainCoordinatorActor) (h : RoundsMade W made nodes c) (none : TellsLeft W nodes false) where
   low_at : (n number : ℕ) → n < W.settings.nodes → number < W.settings.clients → length (operations_at W (place_of W.settings.clients n number)) ≤ made * W.settings.stride
   low_at n number few own =
       let stands = h.here.stands in
@@ -130,7 +130,7 @@ module _ (W : PlainWorkload) (made : ℕ) (nodes : List Node) (c : Coordinating)
 
 -- ---- round by round
 
-pub begin_watched : NoRoundsCome → (W : PlainWorkload) (nodes : List Node) (c : Coordinating) → CanBegin W nodes c → (counts : Counts) (watch : Showing) → watch.shown ≡ first ∷ [] → Stands watch → ((m : Moment) → IsBegun W m → AreCounts W m counts)
+pub begin_watched : NoRoundsCome → (W : PlainWorkload) (nodes : List ActingNode) (c : PlainCoordinatorActor) → CanBegin W nodes c → (counts : Counts) (watch : Showing) → watch.shown ≡ first ∷ [] → WatchStands watch → ((m : RunState) → IsBegun W m → AreCounts W m counts)
     → RoundsWatched W 0 nodes c counts watch
 begin_watched none W nodes c b counts watch shown stands counted =
     let h = begin_made none W nodes c b in
@@ -145,18 +145,18 @@ begin_watched none W nodes c b counts watch shown stands counted =
       stands = stands;
     }
 
-module _ (W : PlainWorkload) (made : ℕ) (nodes : List Node) (c : Coordinating) (counts : Counts) (watch : Showing) (w : RoundsWatched W made nodes c counts watch) where
-  pub may_count : (nodes' : List Node) (c' : Coordinating) → Follows W made nodes c w.rounds nodes' c' → MayCount W nodes' counts
+module _ (W : PlainWorkload) (made : ℕ) (nodes : List ActingNode) (c : PlainCoordinatorActor) (counts : Counts) (watch : Showing) (w : RoundsWatched W made nodes c counts watch) where
+  pub may_count : (nodes' : List ActingNode) (c' : PlainCoordinatorActor) → Follows W made nodes c w.rounds nodes' c' → MayCount W nodes' counts
   may_count nodes' c' f =
       record {
         rounds = made;
         coordinator = c';
         made = f.next;
-        counted = subst (λ (m : Moment). AreCounts W m counts) (sym (f.keeps made (omega arith) ∙ w.rounds.came.last)) w.counted;
+        counted = subst (λ (m : RunState). AreCounts W m counts) (sym (f.keeps made (omega arith) ∙ w.rounds.came.last)) w.counted;
       }
 
-  pub next_watched : (nodes' : List Node) (c' : Coordinating) (f : Follows W made nodes c w.rounds nodes' c') (counts' : Counts) (watch' : Showing) → TellsLeft W nodes true → AreCounts W f.next.moment counts' → FitTotals counts'
-      → watch'.shown ≡ shown_on made counts watch.shown → Stands watch' → RoundsWatched W (suc made) nodes' c' counts' watch'
+  pub next_watched : (nodes' : List ActingNode) (c' : PlainCoordinatorActor) (f : Follows W made nodes c w.rounds nodes' c') (counts' : Counts) (watch' : Showing) → TellsLeft W nodes true → AreCounts W f.next.moment counts' → FitTotals counts'
+      → watch'.shown ≡ shown_on made counts watch.shown → WatchStands watch' → RoundsWatched W (suc made) nodes' c' counts' watch'
   next_watched nodes' c' f counts' watch' left counted fits shown stands =
       let totals = IsTotal W (suc made) f.next.moment f.next.came in
       let here = total_here W made w.rounds.moment w.rounds.came counts w.counted in

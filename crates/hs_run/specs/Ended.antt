@@ -7,13 +7,13 @@ use Rattle.hs_records.specs.Plain.{PlainWorkload}
 use Rattle.hs_ring.specs.Parts.{Drawing, AreAllEnds, Closes}
 use Rattle.hs_law_sends.specs.Sending.{operations_at, place_of}
 use Rattle.hs_words.specs.declared.token.Tally.{Tally}
-use Rattle.hs_run_client.specs.Calling.{Calling}
+use Rattle.hs_run_client.specs.ClientActors.{PlainClientActor}
 use Rattle.hs_run_client.specs.Nodes.{AreNotes}
 use Rattle.hs_run_agent.specs.Agents.{state_at}
-use Rattle.hs_run_agent.specs.Manned.{IsManned}
-use Rattle.hs_run_agent.specs.Shut.{Shut, AllSent, IsShut, all_sent}
-use Rattle.hs_run_agent.specs.Work.{Work}
-use Rattle.hs_run_story.specs.Standing.{Site, SiteStands}
+use Rattle.hs_run_agent.specs.AgentActors.{IsAgentActor}
+use Rattle.hs_run_agent.specs.ClosedAgents.{PlainClosedAgent, AllSent, IsClosedAgent, all_sent}
+use Rattle.hs_run_agent.specs.Work.{NodeWork}
+use Rattle.hs_run_story.specs.RunStates.{PlainNodeActors, NodeActorsStand}
 
 abbrev pub items_of : {A : Type 0} → List (Listing A) → List (List A)
 items_of lists = map (λ list. list.items) lists
@@ -21,61 +21,61 @@ items_of lists = map (λ list. list.items) lists
 -- ---- closing the links
 
 -- all that these clients sent
-abbrev pub sents_of : List Calling → AllSent
+abbrev pub sents_of : List PlainClientActor → AllSent
 sents_of callers =
-    all_sent (map (λ (c : Calling). c.client.chunks) callers) (map (λ (c : Calling). c.client.crumbs) callers) (map (λ (c : Calling). c.client.triggers) callers)
+    all_sent (map (λ (c : PlainClientActor). c.client.chunks) callers) (map (λ (c : PlainClientActor). c.client.crumbs) callers) (map (λ (c : PlainClientActor). c.client.triggers) callers)
 
 -- The node stands somewhere in a run, and its clients have done all of their operations.
-pub record IsEnded (site : Site) : Type 0 where
+pub record IsEnded (site : PlainNodeActors) : Type 0 where
   pub workload : PlainWorkload
   pub node : ℕ
-  pub work : Work
-  pub stands : SiteStands workload node work site
-  pub all : (number : ℕ) (caller : Calling) → slice_get site.callers number ≡ Some caller → caller.done ≡ length (operations_at workload (place_of workload.settings.clients node number))
+  pub work : NodeWork
+  pub stands : NodeActorsStand workload node work site
+  pub all : (number : ℕ) (caller : PlainClientActor) → slice_get site.callers number ≡ Some caller → caller.done ≡ length (operations_at workload (place_of workload.settings.clients node number))
 
-pub record AreEnded (sites : List Site) : Type 0 where
-  pub each : (node : ℕ) (site : Site) → slice_get sites node ≡ Some site → IsEnded site
+pub record AreEnded (sites : List PlainNodeActors) : Type 0 where
+  pub each : (node : ℕ) (site : PlainNodeActors) → slice_get sites node ≡ Some site → IsEnded site
 
 -- The clients noted what they did, their drawers are these, and the agent is the same one with closed links.
-pub record HasShut (site : Site) (books : List PlainClientBook) (drawers : List Drawing) (shut : Shut) : Type 0 where
+pub record HasClosedLinks (site : PlainNodeActors) (books : List PlainClientBook) (drawers : List Drawing) (shut : PlainClosedAgent) : Type 0 where
   pub notes : AreNotes site.callers books
-  pub drawers_are : drawers ≡ map (λ (c : Calling). c.client.drawer) site.callers
-  pub stands : (W : PlainWorkload) (work : Work) → IsManned W work site.agent → IsShut W work (sents_of site.callers) shut
+  pub drawers_are : drawers ≡ map (λ (c : PlainClientActor). c.client.drawer) site.callers
+  pub stands : (W : PlainWorkload) (work : NodeWork) → IsAgentActor W work site.agent → IsClosedAgent W work (sents_of site.callers) shut
   pub giver : shut.giver ≡ site.agent.port.giver
   pub asks : shut.asks ≡ site.agent.asks
   pub said : shut.said ≡ site.agent.said
   pub agent : shut.agent ≡ site.agent.agent
 
 -- So did all nodes, and the books stand in their order.
-abbrev pub AreShut : List Site → List PlainClientBook → List (List Drawing) → List Shut → Type 0
-AreShut [] books [] [] = books ≡ []
-AreShut (site ∷ sites) books (drawers ∷ lists) (shut ∷ shuts) =
-    (noted : List PlainClientBook) × (others : List PlainClientBook) × (books ≡ noted ++ others) × HasShut site noted drawers shut × AreShut sites others lists shuts
-AreShut _ _ _ _ = ⊥
+abbrev pub HaveClosedLinks : List PlainNodeActors → List PlainClientBook → List (List Drawing) → List PlainClosedAgent → Type 0
+HaveClosedLinks [] books [] [] = books ≡ []
+HaveClosedLinks (site ∷ sites) books (drawers ∷ lists) (shut ∷ shuts) =
+    (noted : List PlainClientBook) × (others : List PlainClientBook) × (books ≡ noted ++ others) × HasClosedLinks site noted drawers shut × HaveClosedLinks sites others lists shuts
+HaveClosedLinks _ _ _ _ = ⊥
 
 -- ---- closing the pools
 
 -- Nothing is pinned, and these are all drawers of the pool.
-pub record CanFinish (shut : Shut) (drawers : List Drawing) : Type 0 where
+pub record CanFinish (shut : PlainClosedAgent) (drawers : List Drawing) : Type 0 where
   pub workload : PlainWorkload
-  pub work : Work
+  pub work : NodeWork
   pub all : AllSent
-  pub stands : IsShut workload work all shut
+  pub stands : IsClosedAgent workload work all shut
   pub pinned : (state_at workload work).pinned ≡ []
   pub ends : AreAllEnds shut.giver drawers
 
-abbrev pub MayFinish : List Shut → List (List Drawing) → Type 0
+abbrev pub MayFinish : List PlainClosedAgent → List (List Drawing) → Type 0
 MayFinish [] [] = Unit {0}
 MayFinish (shut ∷ shuts) (drawers ∷ lists) = CanFinish shut drawers × MayFinish shuts lists
 MayFinish _ _ = ⊥
 
 -- The book is the agent's, and the pool is closed.
-pub record HasFinished (shut : Shut) (drawers : List Drawing) (book : PlainAgentBook) : Type 0 where
-  pub book_is : (W : PlainWorkload) (work : Work) (all : AllSent) → IsShut W work all shut → book ≡ book_of work.node (state_at W work)
+pub record HasFinished (shut : PlainClosedAgent) (drawers : List Drawing) (book : PlainAgentBook) : Type 0 where
+  pub book_is : (W : PlainWorkload) (work : NodeWork) (all : AllSent) → IsClosedAgent W work all shut → book ≡ book_of work.node (state_at W work)
   pub tally : Tally
   pub closes : Closes shut.giver drawers tally
 
-abbrev pub HaveFinished : List Shut → List (List Drawing) → List PlainAgentBook → Type 0
+abbrev pub HaveFinished : List PlainClosedAgent → List (List Drawing) → List PlainAgentBook → Type 0
 HaveFinished [] [] [] = Unit {0}
 HaveFinished (shut ∷ shuts) (drawers ∷ lists) (book ∷ books) = HasFinished shut drawers book × HaveFinished shuts lists books
 HaveFinished _ _ _ = ⊥

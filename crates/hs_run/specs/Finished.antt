@@ -8,7 +8,7 @@ use Rattle.hs_journal.specs.declared.books.ClientBook.{ClientBook}
 use Rattle.hs_workload.specs.declared.operation.Workload.{Workload}
 use Rattle.hs_journal.specs.Views.{PlainJournal}
 use Rattle.hs_records.specs.Plain.{PlainWorkload}
-use Rattle.hs_run_story.specs.Standing.{Moment}
+use Rattle.hs_run_story.specs.RunStates.{RunState}
 use Rattle.hs_run_story.specs.Coming.{Came}
 use Rattle.hs_run_story.specs.Noting.{NotesRounds}
 use Rattle.hs_report.specs.Outcomes.{AreBooksOf}
@@ -19,7 +19,7 @@ abbrev pub AreLawfulBooks : PlainWorkload → Books → Type 0
 AreLawfulBooks W books = (J : PlainJournal) × AreBooksOf W J books
 
 -- The books are those of a lawful journal of the workload that notes these rounds.
-abbrev pub AreBooksBehind : (W : PlainWorkload) (rounds : ℕ) (m : Moment) → Came W rounds m → Books → Type 0
+abbrev pub AreBooksBehind : (W : PlainWorkload) (rounds : ℕ) (m : RunState) → Came W rounds m → Books → Type 0
 AreBooksBehind W rounds m came books = (J : PlainJournal) × AreBooksOf W J books × NotesRounds W rounds m came J
 
 -- The books of a run of this workload have the clients' books, those of the agents, and the nodes that the coordinator heard.

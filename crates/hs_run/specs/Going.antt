@@ -5,21 +5,21 @@ use Rattle.hs_base.specs.declared.ids.ClientId.{ClientId}
 use Rattle.hs_records.specs.Plain.{PlainSettings}
 use Rattle.hs_workload.specs.declared.operation.Op.{Op}
 use Rattle.hs_workload.specs.Views.{operations_of}
-use Rattle.hs_run_client.specs.Calling.{Calling}
-use Rattle.hs_run_client.specs.Standing.{IsAt, Goes}
+use Rattle.hs_run_client.specs.ClientActors.{PlainClientActor}
+use Rattle.hs_run_client.specs.Standing.{ClientActorIsAt, Goes}
 
--- The caller is somewhere in the operations with its number.
-abbrev pub MayGo : PlainSettings → List (Listing Op) → ℕ → Calling → Type 0
-MayGo settings lists number caller = (ops : Listing Op) → slice_get lists number ≡ Some ops → (client : ClientId) × IsAt settings client (operations_of ops) caller
+-- The client is somewhere in the operations with its number.
+abbrev pub MayGo : PlainSettings → List (Listing Op) → ℕ → PlainClientActor → Type 0
+MayGo settings lists number caller = (ops : Listing Op) → slice_get lists number ≡ Some ops → (client : ClientId) × ClientActorIsAt settings client (operations_of ops) caller
 
--- The caller went on in the operations with its number.
-abbrev pub HasGone : PlainSettings → List (Listing Op) → ℕ → Calling → Calling → Type 0
+-- The client went on in the operations with its number.
+abbrev pub HasGone : PlainSettings → List (Listing Op) → ℕ → PlainClientActor → PlainClientActor → Type 0
 HasGone settings lists number old new = (ops : Listing Op) → slice_get lists number ≡ Some ops → Goes settings (operations_of ops) old new
 
-pub record AllMayGo (settings : PlainSettings) (lists : List (Listing Op)) (callers : List Calling) : Type 0 where
+pub record AllMayGo (settings : PlainSettings) (lists : List (Listing Op)) (callers : List PlainClientActor) : Type 0 where
   pub count : length callers ≡ length lists
-  pub each : (number : ℕ) (caller : Calling) → slice_get callers number ≡ Some caller → MayGo settings lists number caller
+  pub each : (number : ℕ) (caller : PlainClientActor) → slice_get callers number ≡ Some caller → MayGo settings lists number caller
 
-pub record AllHaveGone (settings : PlainSettings) (lists : List (Listing Op)) (old new : List Calling) : Type 0 where
+pub record AllHaveGone (settings : PlainSettings) (lists : List (Listing Op)) (old new : List PlainClientActor) : Type 0 where
   pub count : length new ≡ length old
-  pub each : (number : ℕ) (caller caller' : Calling) → slice_get old number ≡ Some caller → slice_get new number ≡ Some caller' → HasGone settings lists number caller caller'
+  pub each : (number : ℕ) (caller caller' : PlainClientActor) → slice_get old number ≡ Some caller → slice_get new number ≡ Some caller' → HasGone settings lists number caller caller'

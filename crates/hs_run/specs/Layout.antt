@@ -1,6 +1,6 @@
--- How a site lies in its fields, and where nodes and a coordinator stand.
-use Rattle.hs_run_story.specs.Standing.{Site}
-use Rattle.hs_run.specs.declared.site.Site.TheInside.{Inside}
+-- How a node lies in its fields, and where nodes and a coordinator stand.
+use Rattle.hs_run_story.specs.RunStates.{PlainNodeActors}
+use Rattle.hs_run.specs.declared.node_actors.NodeActors.TheInside.{Inside}
 
-abbrev pub site_of : Inside → Site
+abbrev pub site_of : Inside → PlainNodeActors
 site_of s = record { callers = s.callers.items; agent = s.agent }

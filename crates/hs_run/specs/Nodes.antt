@@ -6,73 +6,73 @@ use Rattle.hs_law_sends.specs.Sending.{operations_at, place_of}
 use Rattle.hs_workload.specs.Validity.{IsValid}
 use Rattle.hs_workload.specs.Views.{workload_of}
 use Rattle.hs_workload.specs.declared.operation.Workload.{Workload}
-use Rattle.hs_run_client.specs.Calling.{Calling}
-use Rattle.hs_run_agent.specs.Coordinators.{Coordinating, IsCoordinating, Hears}
-use Rattle.hs_run_agent.specs.Work.{Work, IsFew}
-use Rattle.hs_run_story.specs.Standing.{Site, SiteStands, moved_by, asked_by}
-use Rattle.hs_run_story.specs.Acting.{SiteActs}
-use Rattle.hs_run.specs.declared.node.Node.{Node}
+use Rattle.hs_run_client.specs.ClientActors.{PlainClientActor}
+use Rattle.hs_run_agent.specs.Coordinators.{PlainCoordinatorActor, IsCoordinatorActor, Hears}
+use Rattle.hs_run_agent.specs.Work.{NodeWork, IsFew}
+use Rattle.hs_run_story.specs.RunStates.{PlainNodeActors, NodeActorsStand, moved_by, asked_by}
+use Rattle.hs_run_story.specs.Acting.{NodeActorsAct}
+use Rattle.hs_run.specs.declared.node.ActingNode.{ActingNode}
 
 -- ---- acting
 
 -- The node of this number may act.
-pub record MayActAt (w : Workload) (number : ℕ) (node : Node) : Type 0 where
+pub record MayActAt (w : Workload) (number : ℕ) (node : ActingNode) : Type 0 where
   pub valid : IsValid (workload_of w)
   pub low : number < (workload_of w).settings.nodes
-  pub work : Work
-  pub stands : SiteStands (workload_of w) number work node.site
+  pub work : NodeWork
+  pub stands : NodeActorsStand (workload_of w) number work node.site
   pub few : IsFew (workload_of w) work
 
 -- The node of this number acted, unless it failed.
-abbrev pub HasActedAt : Workload → ℕ → Node → Node → Type 0
+abbrev pub HasActedAt : Workload → ℕ → ActingNode → ActingNode → Type 0
 HasActedAt w number old new =
-    new.failed ≡ false → (work : Work) → SiteStands (workload_of w) number work old.site → IsFew (workload_of w) work
-    → (work' : Work) × SiteActs (workload_of w) number work work' old.site new.site
+    new.failed ≡ false → (work : NodeWork) → NodeActorsStand (workload_of w) number work old.site → IsFew (workload_of w) work
+    → (work' : NodeWork) × NodeActorsAct (workload_of w) number work work' old.site new.site
 
-pub record AllMayAct (w : Workload) (nodes : List Node) : Type 0 where
-  pub each : (number : ℕ) (node : Node) → slice_get nodes number ≡ Some node → MayActAt w number node
+pub record AllMayAct (w : Workload) (nodes : List ActingNode) : Type 0 where
+  pub each : (number : ℕ) (node : ActingNode) → slice_get nodes number ≡ Some node → MayActAt w number node
 
 -- Each of the nodes acted.
-pub record AllHaveActed (w : Workload) (old new : List Node) : Type 0 where
+pub record AllHaveActed (w : Workload) (old new : List ActingNode) : Type 0 where
   pub count : length new ≡ length old
-  pub each : (number : ℕ) (node node' : Node) → slice_get old number ≡ Some node → slice_get new number ≡ Some node' → HasActedAt w number node node'
+  pub each : (number : ℕ) (node node' : ActingNode) → slice_get old number ≡ Some node → slice_get new number ≡ Some node' → HasActedAt w number node node'
 
 -- Memory failed no node.
-abbrev pub NoneFailed : List Node → Type 0
-NoneFailed nodes = (number : ℕ) (node : Node) → slice_get nodes number ≡ Some node → node.failed ≡ false
+abbrev pub NoneFailed : List ActingNode → Type 0
+NoneFailed nodes = (number : ℕ) (node : ActingNode) → slice_get nodes number ≡ Some node → node.failed ≡ false
 
 -- ---- the coordinator
 
-pub record MayHear (c : Coordinating) : Type 0 where
+pub record MayHear (c : PlainCoordinatorActor) : Type 0 where
   pub workload : PlainWorkload
   pub heard : Messages
-  pub works : ℕ → Work
-  pub is : IsCoordinating workload heard (moved_by works) (asked_by works) c
+  pub works : ℕ → NodeWork
+  pub is : IsCoordinatorActor workload heard (moved_by works) (asked_by works) c
 
-pub record HasHeard (old new : Coordinating) : Type 0 where
-  pub by : (W : PlainWorkload) (heard : Messages) (works : ℕ → Work) → IsCoordinating W heard (moved_by works) (asked_by works) old
+pub record HasHeard (old new : PlainCoordinatorActor) : Type 0 where
+  pub by : (W : PlainWorkload) (heard : Messages) (works : ℕ → NodeWork) → IsCoordinatorActor W heard (moved_by works) (asked_by works) old
       → (more : Messages) × Hears W heard more (moved_by works) (asked_by works) new
 
 -- ---- what is left
 
 -- The node of this number is one of a valid workload and has its clients.
-pub record IsWhole (W : PlainWorkload) (number : ℕ) (site : Site) : Type 0 where
+pub record IsWhole (W : PlainWorkload) (number : ℕ) (site : PlainNodeActors) : Type 0 where
   pub valid : IsValid W
   pub low : number < W.settings.nodes
   pub clients : length site.callers ≡ W.settings.clients
 
-pub record AreWhole (W : PlainWorkload) (nodes : List Node) : Type 0 where
-  pub each : (number : ℕ) (node : Node) → slice_get nodes number ≡ Some node → IsWhole W number node.site
+pub record AreWhole (W : PlainWorkload) (nodes : List ActingNode) : Type 0 where
+  pub each : (number : ℕ) (node : ActingNode) → slice_get nodes number ≡ Some node → IsWhole W number node.site
 
 -- A client of the node of this number has operations left, or none has.
-abbrev pub TellsNodeLeft : PlainWorkload → ℕ → Site → Bool → Type 0
-TellsNodeLeft W node site true = (number : ℕ) × (caller : Calling) × (slice_get site.callers number ≡ Some caller) × (caller.done < length (operations_at W (place_of W.settings.clients node number)))
-TellsNodeLeft W node site false = (number : ℕ) (caller : Calling) → slice_get site.callers number ≡ Some caller → length (operations_at W (place_of W.settings.clients node number)) ≤ caller.done
+abbrev pub TellsNodeLeft : PlainWorkload → ℕ → PlainNodeActors → Bool → Type 0
+TellsNodeLeft W node site true = (number : ℕ) × (caller : PlainClientActor) × (slice_get site.callers number ≡ Some caller) × (caller.done < length (operations_at W (place_of W.settings.clients node number)))
+TellsNodeLeft W node site false = (number : ℕ) (caller : PlainClientActor) → slice_get site.callers number ≡ Some caller → length (operations_at W (place_of W.settings.clients node number)) ≤ caller.done
 
-abbrev pub sites_of : List Node → List Site
-sites_of nodes = map (λ (node : Node). node.site) nodes
+abbrev pub sites_of : List ActingNode → List PlainNodeActors
+sites_of nodes = map (λ (node : ActingNode). node.site) nodes
 
 -- A client of some node has operations left, or none has.
-abbrev pub TellsLeft : PlainWorkload → List Node → Bool → Type 0
-TellsLeft W nodes true = (number : ℕ) × (node : Node) × (slice_get nodes number ≡ Some node) × TellsNodeLeft W number node.site true
-TellsLeft W nodes false = (number : ℕ) (node : Node) → slice_get nodes number ≡ Some node → TellsNodeLeft W number node.site false
+abbrev pub TellsLeft : PlainWorkload → List ActingNode → Bool → Type 0
+TellsLeft W nodes true = (number : ℕ) × (node : ActingNode) × (slice_get nodes number ≡ Some node) × TellsNodeLeft W number node.site true
+TellsLeft W nodes false = (number : ℕ) (node : ActingNode) → slice_get nodes number ≡ Some node → TellsNodeLeft W number node.site false

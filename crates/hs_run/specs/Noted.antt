@@ -7,13 +7,13 @@ use Rattle.hs_journal.specs.Views.{PlainJournal}
 use Rattle.hs_law_outcome.specs.Outcomes.{client_book}
 use Rattle.hs_records.specs.Plain.{PlainWorkload}
 use Rattle.hs_law_sends.specs.Sending.{draws_at, place_of, ops_of}
-use Rattle.hs_run_client.specs.Calling.{Calling}
+use Rattle.hs_run_client.specs.ClientActors.{PlainClientActor}
 use Rattle.hs_run_client.specs.Nodes.{AreNotes}
-use Rattle.hs_run_client.specs.Standing.{IsAt}
+use Rattle.hs_run_client.specs.Standing.{ClientActorIsAt}
 
 -- The client has done all, and the journal notes its draws.
-pub record IsNoted (W : PlainWorkload) (J : PlainJournal) (node number : ℕ) (caller : Calling) : Type 0 where
-  pub at : IsAt W.settings (client_of node number) (ops_of W node number) caller
+pub record IsNoted (W : PlainWorkload) (J : PlainJournal) (node number : ℕ) (caller : PlainClientActor) : Type 0 where
+  pub at : ClientActorIsAt W.settings (client_of node number) (ops_of W node number) caller
   pub all : caller.done ≡ length (ops_of W node number)
   pub draws : draws_at J (place_of W.settings.clients node number) ≡ caller.client.core.draws
 
@@ -27,8 +27,8 @@ first_books W J nodes = map (client_book W J) (range_with_len 0 (nodes * W.setti
 
 abbrev pub NodeBooksAre : Type 0
 NodeBooksAre =
-    (W : PlainWorkload) (J : PlainJournal) (node : ℕ) (callers : List Calling) (books : List PlainClientBook) → length callers ≡ W.settings.clients
-    → ((number : ℕ) (caller : Calling) → slice_get callers number ≡ Some caller → IsNoted W J node number caller) → AreNotes callers books → books ≡ books_of W J node
+    (W : PlainWorkload) (J : PlainJournal) (node : ℕ) (callers : List PlainClientActor) (books : List PlainClientBook) → length callers ≡ W.settings.clients
+    → ((number : ℕ) (caller : PlainClientActor) → slice_get callers number ≡ Some caller → IsNoted W J node number caller) → AreNotes callers books → books ≡ books_of W J node
 
 abbrev pub AllBooksAre : Type 0
 AllBooksAre = (W : PlainWorkload) (J : PlainJournal) (nodes : ℕ) → first_books W J (suc nodes) ≡ first_books W J nodes ++ books_of W J nodes

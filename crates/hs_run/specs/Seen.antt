@@ -8,7 +8,7 @@ use Rattle.hs_law_journal.specs.Ends.{rounds_of}
 use Rattle.hs_run.specs.Progress.{progress_after}
 use Rattle.hs_records.specs.Plain.{PlainWorkload}
 use Rattle.hs_run_story.specs.Noting.{NotesRounds}
-use Rattle.hs_run_story.specs.Standing.{Moment}
+use Rattle.hs_run_story.specs.RunStates.{RunState}
 use Rattle.hs_run_story.specs.Coming.{Came}
 use Rattle.hs_board.specs.Watching.{IsRising, IsSeenOf}
 use Rattle.hs_workload.specs.Validity.{IsValid}
@@ -28,18 +28,18 @@ AreSeen W J all = (length all ≡ 2) × AllByRecursion (IsSeen W J) all
 -- ---- what is shown to them
 
 -- The totals are the first ones, or those of the counts behind one of the rounds.
-pub record IsTotalBehind (W : PlainWorkload) (rounds : ℕ) (m : Moment) (came : Came W rounds m) (x : Progress) : Type 0 where
+pub record IsTotalBehind (W : PlainWorkload) (rounds : ℕ) (m : RunState) (came : Came W rounds m) (x : Progress) : Type 0 where
   pub round : ℕ
   pub low : round ≤ rounds
   pub counts : Counts
   pub are : AreCounts W (came.at round) counts
   pub is : x ≡ progress_of round counts
 
-abbrev pub IsTotal : (W : PlainWorkload) (rounds : ℕ) (m : Moment) → Came W rounds m → Progress → Type 0
+abbrev pub IsTotal : (W : PlainWorkload) (rounds : ℕ) (m : RunState) → Came W rounds m → Progress → Type 0
 IsTotal W rounds m came x = (x ≡ first) ⊎ IsTotalBehind W rounds m came x
 
 -- Where such totals were shown, those behind the last round at last, the watchers see progress.
 abbrev pub ShownIsSeen : Type 0
 ShownIsSeen =
-    (W : PlainWorkload) (rounds : ℕ) (m : Moment) (came : Came W rounds m) (J : PlainJournal) → IsValid W → NotesRounds W rounds m came J → rounds ≡ rounds_of W → (shown seen : List Progress)
+    (W : PlainWorkload) (rounds : ℕ) (m : RunState) (came : Came W rounds m) (J : PlainJournal) → IsValid W → NotesRounds W rounds m came J → rounds ≡ rounds_of W → (shown seen : List Progress)
     → AllByRecursion (IsTotal W rounds m came) shown → (x : Progress) → IsLast x shown → x.rounds ≡ rounds → IsSeenOf shown seen → IsSeen W J seen

@@ -5,7 +5,7 @@ use Rattle.hs_base.specs.declared.limits.TheConstants.{MAX_TAKEN, MAX_NODES}
 use Rattle.hs_coord.specs.Messages.{Messages}
 use Rattle.hs_coord.specs.declared.asks.Asks.{Asks}
 use Rattle.hs_link.specs.Contents.{sent}
-use Rattle.hs_law_agent.specs.Stepping.{Event}
+use Rattle.hs_law_agent.specs.Stepping.{AgentEvent}
 use Rattle.hs_records.specs.Plain.{PlainWorkload}
 use Rattle.hs_ring.specs.Parts.{Leased, Giving}
 use Rattle.hs_words.specs.Buffers.{Buffer}
@@ -13,16 +13,16 @@ use Rattle.hs_workload.specs.Validity.{IsValid}
 use Rattle.hs_law_journal.specs.Doings.{asks_in, crumbs_in, triggers_in, steps_of}
 use Rattle.hs_law_journal.specs.LoopPasses.{EndsPass}
 use Rattle.hs_law_journal.specs.Shape.{log_stamps}
-use Rattle.hs_run_client.specs.Calling.{Calling}
-use Rattle.hs_run_agent.specs.Coordinators.{Coordinating, IsCoordinating, all_empty, asked_all}
-use Rattle.hs_run_agent.specs.Manned.{IsManned}
-use Rattle.hs_run_agent.specs.Shut.{Shut, AllSent, IsShut, IsBare}
-use Rattle.hs_run_agent.specs.Turns.{Gives}
-use Rattle.hs_run_agent.specs.Work.{Work, IsFew, came_of, with_events}
+use Rattle.hs_run_client.specs.ClientActors.{PlainClientActor}
+use Rattle.hs_run_agent.specs.Coordinators.{PlainCoordinatorActor, IsCoordinatorActor, all_empty, asked_all}
+use Rattle.hs_run_agent.specs.AgentActors.{IsAgentActor}
+use Rattle.hs_run_agent.specs.ClosedAgents.{PlainClosedAgent, AllSent, IsClosedAgent, IsClosedAgentBare}
+use Rattle.hs_run_agent.specs.Turns.{GiverGoesOn}
+use Rattle.hs_run_agent.specs.Work.{NodeWork, IsFew, came_of, with_events}
 use Rattle.hs_run_agent.specs.Agents.{state_at}
-use Rattle.hs_run_story.specs.Standing.{Site, Moment, moved_by, asked_by}
+use Rattle.hs_run_story.specs.RunStates.{PlainNodeActors, RunState, moved_by, asked_by}
 use Rattle.hs_run_story.specs.Moving.{IsSameDoing}
-use Rattle.hs_run_story.specs.Spans.{Post}
+use Rattle.hs_run_story.specs.Spans.{NodeBetweenPasses}
 use Rattle.hs_run_story.specs.Closing.{Closing}
 use Rattle.hs_run.specs.Ended.{sents_of}
 
@@ -33,28 +33,28 @@ AllSents = ℕ → AllSent
 -- ---- one node
 
 -- The node with this number stands so, and did this work.
-pub record IsShutAt (W : PlainWorkload) (node : ℕ) (sents : AllSents) (work : Work) (shut : Shut) : Type 0 where
+pub record IsClosedAgentAt (W : PlainWorkload) (node : ℕ) (sents : AllSents) (work : NodeWork) (shut : PlainClosedAgent) : Type 0 where
   pub node_is : work.node ≡ node
-  pub is : IsShut W work (sents node) shut
+  pub is : IsClosedAgent W work (sents node) shut
 
 -- No more triggers are taken, whatever is done, than a workload has.
-abbrev pub AreFew : PlainWorkload → AllSents → Type 0
-AreFew W sents = (node : ℕ) (work : Work) (shut : Shut) → node < W.settings.nodes → IsShutAt W node sents work shut → IsFew W work
+abbrev pub ClosingAreFew : PlainWorkload → AllSents → Type 0
+ClosingAreFew W sents = (node : ℕ) (work : NodeWork) (shut : PlainClosedAgent) → node < W.settings.nodes → IsClosedAgentAt W node sents work shut → IsFew W work
 
 -- Of each client all that it sent is taken, or as many items as a pass takes.
-pub record TakesItems (sents : AllSent) (client : ℕ) (old new : Work) : Type 0 where
+pub record TakesItems (sents : AllSent) (client : ℕ) (old new : NodeWork) : Type 0 where
   pub chunks : min (length (sents.chunks client)) (length (came_of client old) + MAX_TAKEN) ≤ length (came_of client new)
   pub crumbs : min (length (sents.crumbs client)) (length (crumbs_in client old.events) + MAX_TAKEN) ≤ length (crumbs_in client new.events)
   pub triggers : min (length (sents.triggers client)) (length (triggers_in client old.events) + MAX_TAKEN) ≤ length (triggers_in client new.events)
 
 -- what a pass did, whatever asks came behind it
-pub record PassedAlone (W : PlainWorkload) (node : ℕ) (sents : AllSents) (old new : Work) (giver giver' : Giving) : Type 0 where
-  pub pass : List Event
+pub record PassedAlone (W : PlainWorkload) (node : ℕ) (sents : AllSents) (old new : NodeWork) (giver giver' : Giving) : Type 0 where
+  pub pass : List AgentEvent
   pub events : new.events ≡ old.events ++ pass
   pub came : List (Buffer Leased)
   pub came_is : new.came ≡ old.came ++ came
   pub ends : EndsPass W (state_at W (with_events pass [] old)) pass
-  pub gives : Gives giver giver' (log_stamps (steps_of pass))
+  pub gives : GiverGoesOn giver giver' (log_stamps (steps_of pass))
   pub takes : (client : ℕ) → client < W.settings.clients → TakesItems (sents node) client old new
   pub asks : min (length old.asked) (length (asks_in old.events) + MAX_TAKEN) ≤ length (asks_in new.events)
   pub few : length (asks_in new.events) ≤ length old.asked
@@ -63,118 +63,118 @@ pub record PassedAlone (W : PlainWorkload) (node : ℕ) (sents : AllSents) (old 
 -- ---- messages
 
 -- The node has done this work, and the coordinator has heard these messages of the works of all nodes, of which this is one.
-pub record Tells (W : PlainWorkload) (node : ℕ) (sents : AllSents) (work : Work) (heard : Messages) (works : ℕ → Work) (shut : Shut) (coordinator : Coordinating) : Type 0 where
+pub record ClosingTells (W : PlainWorkload) (node : ℕ) (sents : AllSents) (work : NodeWork) (heard : Messages) (works : ℕ → NodeWork) (shut : PlainClosedAgent) (coordinator : PlainCoordinatorActor) : Type 0 where
   pub low : node < W.settings.nodes
-  pub stands : IsShutAt W node sents work shut
-  pub coordinates : IsCoordinating W heard (moved_by works) (asked_by works) coordinator
+  pub stands : IsClosedAgentAt W node sents work shut
+  pub coordinates : IsCoordinatorActor W heard (moved_by works) (asked_by works) coordinator
   pub same : (work.moved ≡ (works node).moved) × (work.asked ≡ (works node).asked)
 
-pub record MayTell (node : ℕ) (shut : Shut) (coordinator : Coordinating) : Type 0 where
+pub record ClosingMayTell (node : ℕ) (shut : PlainClosedAgent) (coordinator : PlainCoordinatorActor) : Type 0 where
   pub workload : PlainWorkload
   pub sents : AllSents
-  pub work : Work
+  pub work : NodeWork
   pub heard : Messages
-  pub works : ℕ → Work
-  pub tells : Tells workload node sents work heard works shut coordinator
+  pub works : ℕ → NodeWork
+  pub tells : ClosingTells workload node sents work heard works shut coordinator
 
 -- Messages of the agent went to the coordinator, so that its work has them as moved. Nothing else changed.
-pub record HasTold (W : PlainWorkload) (node : ℕ) (sents : AllSents) (work : Work) (heard : Messages) (works : ℕ → Work) (old : Shut) (before : Coordinating) (new : Shut) (after : Coordinating) : Type 0 where
-  pub next : Work
+pub record ClosingHasTold (W : PlainWorkload) (node : ℕ) (sents : AllSents) (work : NodeWork) (heard : Messages) (works : ℕ → NodeWork) (old : PlainClosedAgent) (before : PlainCoordinatorActor) (new : PlainClosedAgent) (after : PlainCoordinatorActor) : Type 0 where
+  pub next : NodeWork
   pub same : IsSameDoing work next
   pub asked : next.asked ≡ work.asked
   pub grows : length work.moved ≤ length next.moved
-  pub stands : IsShutAt W node sents next new
+  pub stands : IsClosedAgentAt W node sents next new
   pub only : new ≡ record old { said = new.said }
-  pub brought : (works' : ℕ → Work) → works' node ≡ next → ((other : ℕ) → (other ≡ node → ⊥) → works' other ≡ works other) → IsCoordinating W heard (moved_by works') (asked_by works') after
+  pub brought : (works' : ℕ → NodeWork) → works' node ≡ next → ((other : ℕ) → (other ≡ node → ⊥) → works' other ≡ works other) → IsCoordinatorActor W heard (moved_by works') (asked_by works') after
   pub asks : after.asks ≡ before.asks
 
 -- ---- a pass of one node
 
-pub record CanPass (W : PlainWorkload) (node : ℕ) (sents : AllSents) (heard : Messages) (works : ℕ → Work) (shut : Shut) (coordinator : Coordinating) : Type 0 where
+pub record ClosingCanPass (W : PlainWorkload) (node : ℕ) (sents : AllSents) (heard : Messages) (works : ℕ → NodeWork) (shut : PlainClosedAgent) (coordinator : PlainCoordinatorActor) : Type 0 where
   pub low : node < W.settings.nodes
-  pub few : AreFew W sents
-  pub stands : IsShutAt W node sents (works node) shut
-  pub coordinates : IsCoordinating W heard (moved_by works) (asked_by works) coordinator
+  pub few : ClosingAreFew W sents
+  pub stands : IsClosedAgentAt W node sents (works node) shut
+  pub coordinates : IsCoordinatorActor W heard (moved_by works) (asked_by works) coordinator
 
-pub record MayPass (node : ℕ) (shut : Shut) (coordinator : Coordinating) : Type 0 where
+pub record ClosingMayPass (node : ℕ) (shut : PlainClosedAgent) (coordinator : PlainCoordinatorActor) : Type 0 where
   pub workload : PlainWorkload
   pub sents : AllSents
   pub heard : Messages
-  pub works : ℕ → Work
-  pub can : CanPass workload node sents heard works shut coordinator
+  pub works : ℕ → NodeWork
+  pub can : ClosingCanPass workload node sents heard works shut coordinator
 
-pub record HasPassed (W : PlainWorkload) (node : ℕ) (sents : AllSents) (heard : Messages) (works : ℕ → Work) (old : Shut) (before : Coordinating) (new : Shut) (after : Coordinating) : Type 0 where
-  pub next : Work
-  pub stands : IsShutAt W node sents next new
+pub record ClosingHasPassed (W : PlainWorkload) (node : ℕ) (sents : AllSents) (heard : Messages) (works : ℕ → NodeWork) (old : PlainClosedAgent) (before : PlainCoordinatorActor) (new : PlainClosedAgent) (after : PlainCoordinatorActor) : Type 0 where
+  pub next : NodeWork
+  pub stands : IsClosedAgentAt W node sents next new
   pub alone : PassedAlone W node sents (works node) next old.giver new.giver
   pub said : new.said ≡ []
-  pub brought : (works' : ℕ → Work) → works' node ≡ next → ((other : ℕ) → (other ≡ node → ⊥) → works' other ≡ works other) → IsCoordinating W heard (moved_by works') (asked_by works') after
+  pub brought : (works' : ℕ → NodeWork) → works' node ≡ next → ((other : ℕ) → (other ≡ node → ⊥) → works' other ≡ works other) → IsCoordinatorActor W heard (moved_by works') (asked_by works') after
   pub asks : after.asks ≡ before.asks
 
 -- ---- all nodes
 
-pub record ShutStand (W : PlainWorkload) (sents : AllSents) (works : ℕ → Work) (nodes : List Shut) : Type 0 where
-  pub each : (number : ℕ) (shut : Shut) → slice_get nodes number ≡ Some shut → IsShutAt W number sents (works number) shut
+pub record ClosedAgentsStand (W : PlainWorkload) (sents : AllSents) (works : ℕ → NodeWork) (nodes : List PlainClosedAgent) : Type 0 where
+  pub each : (number : ℕ) (shut : PlainClosedAgent) → slice_get nodes number ≡ Some shut → IsClosedAgentAt W number sents (works number) shut
 
 -- All nodes stand, and so does the coordinator.
-pub record Stand (W : PlainWorkload) (sents : AllSents) (heard : Messages) (works : ℕ → Work) (nodes : List Shut) (coordinator : Coordinating) : Type 0 where
+pub record ClosingStands (W : PlainWorkload) (sents : AllSents) (heard : Messages) (works : ℕ → NodeWork) (nodes : List PlainClosedAgent) (coordinator : PlainCoordinatorActor) : Type 0 where
   pub valid : IsValid W
-  pub few : AreFew W sents
+  pub few : ClosingAreFew W sents
   pub count : length nodes ≡ W.settings.nodes
-  pub stands : ShutStand W sents works nodes
-  pub coordinates : IsCoordinating W heard (moved_by works) (asked_by works) coordinator
+  pub stands : ClosedAgentsStand W sents works nodes
+  pub coordinates : IsCoordinatorActor W heard (moved_by works) (asked_by works) coordinator
 
-pub record MayPassAll (nodes : List Shut) (coordinator : Coordinating) : Type 0 where
+pub record MayPassAll (nodes : List PlainClosedAgent) (coordinator : PlainCoordinatorActor) : Type 0 where
   pub workload : PlainWorkload
   pub sents : AllSents
   pub heard : Messages
-  pub works : ℕ → Work
-  pub stand : Stand workload sents heard works nodes coordinator
+  pub works : ℕ → NodeWork
+  pub stand : ClosingStands workload sents heard works nodes coordinator
 
 -- The first so many nodes made a pass, and their messages were moved; the others are as they were.
-pub record Passing (W : PlainWorkload) (sents : AllSents) (heard : Messages) (begun : ℕ → Work) (count : ℕ) (old nodes : List Shut) (coordinator : Coordinating) : Type 0 where
-  pub works : ℕ → Work
+pub record Passing (W : PlainWorkload) (sents : AllSents) (heard : Messages) (begun : ℕ → NodeWork) (count : ℕ) (old nodes : List PlainClosedAgent) (coordinator : PlainCoordinatorActor) : Type 0 where
+  pub works : ℕ → NodeWork
   pub many : length nodes ≡ length old
-  pub stands : ShutStand W sents works nodes
-  pub passed : (number : ℕ) (x y : Shut) → number < count → slice_get old number ≡ Some x → slice_get nodes number ≡ Some y → PassedAlone W number sents (begun number) (works number) x.giver y.giver × (y.said ≡ [])
+  pub stands : ClosedAgentsStand W sents works nodes
+  pub passed : (number : ℕ) (x y : PlainClosedAgent) → number < count → slice_get old number ≡ Some x → slice_get nodes number ≡ Some y → PassedAlone W number sents (begun number) (works number) x.giver y.giver × (y.said ≡ [])
   pub others : (number : ℕ) → count ≤ number → (slice_get nodes number ≡ slice_get old number) × (works number ≡ begun number)
-  pub coordinates : IsCoordinating W heard (moved_by works) (asked_by works) coordinator
+  pub coordinates : IsCoordinatorActor W heard (moved_by works) (asked_by works) coordinator
 
 -- ---- asks
 
 -- Nothing changed but the asks that wait for the agent.
-pub record IsAskedOnly (old new : Shut) : Type 0 where
+pub record IsAskedOnly (old new : PlainClosedAgent) : Type 0 where
   pub giver : new.giver ≡ old.giver
   pub said : new.said ≡ old.said
 
-pub record AskedOnly (old new : List Shut) : Type 0 where
+pub record AskedOnly (old new : List PlainClosedAgent) : Type 0 where
   pub many : length new ≡ length old
-  pub each : (number : ℕ) (x y : Shut) → slice_get old number ≡ Some x → slice_get new number ≡ Some y → IsAskedOnly x y
+  pub each : (number : ℕ) (x y : PlainClosedAgent) → slice_get old number ≡ Some x → slice_get new number ≡ Some y → IsAskedOnly x y
 
-pub record MayBeAsked (nodes : List Shut) : Type 0 where
+pub record ClosingMayBeAsked (nodes : List PlainClosedAgent) : Type 0 where
   pub few : length nodes ≤ MAX_NODES
 
 -- The ask went to the first so many nodes, as far as it is for them.
-pub record AskedFirst (W : PlainWorkload) (sents : AllSents) (asks : Asks) (works : ℕ → Work) (count : ℕ) (old nodes : List Shut) : Type 0 where
+pub record ClosingAskedFirst (W : PlainWorkload) (sents : AllSents) (asks : Asks) (works : ℕ → NodeWork) (count : ℕ) (old nodes : List PlainClosedAgent) : Type 0 where
   pub many : length nodes ≡ length old
-  pub changed : (number : ℕ) (x y : Shut) → slice_get old number ≡ Some x → slice_get nodes number ≡ Some y → IsAskedOnly x y
-  pub asked : (number : ℕ) (shut : Shut) → number < count → slice_get nodes number ≡ Some shut → IsShutAt W number sents (asked_all asks works number) shut
-  pub others : (number : ℕ) (shut : Shut) → count ≤ number → slice_get nodes number ≡ Some shut → IsShutAt W number sents (works number) shut
+  pub changed : (number : ℕ) (x y : PlainClosedAgent) → slice_get old number ≡ Some x → slice_get nodes number ≡ Some y → IsAskedOnly x y
+  pub asked : (number : ℕ) (shut : PlainClosedAgent) → number < count → slice_get nodes number ≡ Some shut → IsClosedAgentAt W number sents (asked_all asks works number) shut
+  pub others : (number : ℕ) (shut : PlainClosedAgent) → count ≤ number → slice_get nodes number ≡ Some shut → IsClosedAgentAt W number sents (works number) shut
 
 -- Asks were moved to nodes that had done these works. Nothing else changed.
-pub record Asked (W : PlainWorkload) (sents : AllSents) (heard : Messages) (begun : ℕ → Work) (old nodes : List Shut) (coordinator : Coordinating) : Type 0 where
-  pub works : ℕ → Work
+pub record Asked (W : PlainWorkload) (sents : AllSents) (heard : Messages) (begun : ℕ → NodeWork) (old nodes : List PlainClosedAgent) (coordinator : PlainCoordinatorActor) : Type 0 where
+  pub works : ℕ → NodeWork
   pub few : length nodes ≤ MAX_NODES
   pub same : (number : ℕ) → IsSameDoing (begun number) (works number) × ((works number).moved ≡ (begun number).moved)
-  pub stands : ShutStand W sents works nodes
+  pub stands : ClosedAgentsStand W sents works nodes
   pub only : AskedOnly old nodes
-  pub coordinates : IsCoordinating W heard (moved_by works) (asked_by works) coordinator
+  pub coordinates : IsCoordinatorActor W heard (moved_by works) (asked_by works) coordinator
 
-pub record IsAsking (nodes : List Shut) (coordinator : Coordinating) : Type 0 where
+pub record IsAsking (nodes : List PlainClosedAgent) (coordinator : PlainCoordinatorActor) : Type 0 where
   pub workload : PlainWorkload
   pub sents : AllSents
   pub heard : Messages
-  pub works : ℕ → Work
+  pub works : ℕ → NodeWork
   pub asking : Asked workload sents heard works nodes nodes coordinator
 
 -- ---- the whole
@@ -186,53 +186,53 @@ pub record IsSamePool (old new : Giving) : Type 0 where
   pub drawers : new.drawers ≡ old.drawers
 
 -- what each client of the rounds sent
-pub record AreSentsOf (m : Moment) (sents : AllSents) : Type 0 where
-  pub chunks : (node client : ℕ) (site : Site) (caller : Calling) → slice_get m.standing.nodes node ≡ Some site → slice_get site.callers client ≡ Some caller → (sents node).chunks client ≡ sent caller.client.chunks
-  pub crumbs : (node client : ℕ) (site : Site) (caller : Calling) → slice_get m.standing.nodes node ≡ Some site → slice_get site.callers client ≡ Some caller → (sents node).crumbs client ≡ sent caller.client.crumbs
-  pub triggers : (node client : ℕ) (site : Site) (caller : Calling) → slice_get m.standing.nodes node ≡ Some site → slice_get site.callers client ≡ Some caller → (sents node).triggers client ≡ sent caller.client.triggers
+pub record AreSentsOf (m : RunState) (sents : AllSents) : Type 0 where
+  pub chunks : (node client : ℕ) (site : PlainNodeActors) (caller : PlainClientActor) → slice_get m.standing.nodes node ≡ Some site → slice_get site.callers client ≡ Some caller → (sents node).chunks client ≡ sent caller.client.chunks
+  pub crumbs : (node client : ℕ) (site : PlainNodeActors) (caller : PlainClientActor) → slice_get m.standing.nodes node ≡ Some site → slice_get site.callers client ≡ Some caller → (sents node).crumbs client ≡ sent caller.client.crumbs
+  pub triggers : (node client : ℕ) (site : PlainNodeActors) (caller : PlainClientActor) → slice_get m.standing.nodes node ≡ Some site → slice_get site.callers client ≡ Some caller → (sents node).triggers client ≡ sent caller.client.triggers
 
 -- Passes were made behind the rounds that led to a moment, and nodes and coordinator stand where these led.
-pub record ClosingAt (W : PlainWorkload) (rounds : ℕ) (m : Moment) (sents : AllSents) (nodes : List Shut) (coordinator : Coordinating) : Type 0 where
-  pub clients : (node : ℕ) (site : Site) → slice_get m.standing.nodes node ≡ Some site → (node < W.settings.nodes) × (length site.callers ≡ W.settings.clients)
+pub record ClosingAt (W : PlainWorkload) (rounds : ℕ) (m : RunState) (sents : AllSents) (nodes : List PlainClosedAgent) (coordinator : PlainCoordinatorActor) : Type 0 where
+  pub clients : (node : ℕ) (site : PlainNodeActors) → slice_get m.standing.nodes node ≡ Some site → (node < W.settings.nodes) × (length site.callers ≡ W.settings.clients)
   pub sents_are : AreSentsOf m sents
   pub passes : ℕ
-  pub posts : ℕ → Post
+  pub posts : ℕ → NodeBetweenPasses
   pub heard : Messages
   pub closing : Closing W rounds m passes posts heard
-  pub stand : Stand W sents heard (λ node. (posts node).work) nodes coordinator
-  pub givers : (node : ℕ) (shut : Shut) → slice_get nodes node ≡ Some shut → (posts node).giver ≡ shut.giver
-  pub said : (node : ℕ) (shut : Shut) → slice_get nodes node ≡ Some shut → shut.said ≡ []
-  pub kept : (node : ℕ) (site : Site) (shut : Shut) → slice_get m.standing.nodes node ≡ Some site → slice_get nodes node ≡ Some shut → IsSamePool site.agent.port.giver shut.giver
+  pub stand : ClosingStands W sents heard (λ node. (posts node).work) nodes coordinator
+  pub givers : (node : ℕ) (shut : PlainClosedAgent) → slice_get nodes node ≡ Some shut → (posts node).giver ≡ shut.giver
+  pub said : (node : ℕ) (shut : PlainClosedAgent) → slice_get nodes node ≡ Some shut → shut.said ≡ []
+  pub kept : (node : ℕ) (site : PlainNodeActors) (shut : PlainClosedAgent) → slice_get m.standing.nodes node ≡ Some site → slice_get nodes node ≡ Some shut → IsSamePool site.agent.port.giver shut.giver
 
-pub record MayClose (nodes : List Shut) (coordinator : Coordinating) : Type 0 where
+pub record MayClose (nodes : List PlainClosedAgent) (coordinator : PlainCoordinatorActor) : Type 0 where
   pub workload : PlainWorkload
   pub rounds : ℕ
-  pub moment : Moment
+  pub moment : RunState
   pub sents : AllSents
   pub at : ClosingAt workload rounds moment sents nodes coordinator
 
 -- Nothing waits anywhere, and nothing is pinned.
-pub record AllBare (W : PlainWorkload) (works : ℕ → Work) (nodes : List Shut) (coordinator : Coordinating) : Type 0 where
-  pub each : (number : ℕ) (shut : Shut) → slice_get nodes number ≡ Some shut → IsBare W (works number) shut
+pub record AllBare (W : PlainWorkload) (works : ℕ → NodeWork) (nodes : List PlainClosedAgent) (coordinator : PlainCoordinatorActor) : Type 0 where
+  pub each : (number : ℕ) (shut : PlainClosedAgent) → slice_get nodes number ≡ Some shut → IsClosedAgentBare W (works number) shut
   pub told : all_empty coordinator.told ≡ true
 
 -- Nothing is left where the passes led.
-pub record ClosedAt (W : PlainWorkload) (rounds : ℕ) (m : Moment) (sents : AllSents) (nodes : List Shut) (coordinator : Coordinating) : Type 0 where
+pub record ClosedAt (W : PlainWorkload) (rounds : ℕ) (m : RunState) (sents : AllSents) (nodes : List PlainClosedAgent) (coordinator : PlainCoordinatorActor) : Type 0 where
   pub at : ClosingAt W rounds m sents nodes coordinator
   pub bare : AllBare W (λ node. (at.posts node).work) nodes coordinator
 
 -- ---- from the rounds
 
 -- all that the clients of each node sent
-abbrev pub sents_at : Moment → AllSents
-sents_at m node = option_map_or (λ (site : Site). sents_of site.callers) (slice_get m.standing.nodes node) (sents_of [])
+abbrev pub sents_at : RunState → AllSents
+sents_at m node = option_map_or (λ (site : PlainNodeActors). sents_of site.callers) (slice_get m.standing.nodes node) (sents_of [])
 
 -- The agent of the node is the same one with closed links.
-pub record IsShutFrom (site : Site) (node : Shut) : Type 0 where
-  pub shut : (W : PlainWorkload) (work : Work) → IsManned W work site.agent → IsShut W work (sents_of site.callers) node
+pub record IsClosedAgentFrom (site : PlainNodeActors) (node : PlainClosedAgent) : Type 0 where
+  pub shut : (W : PlainWorkload) (work : NodeWork) → IsAgentActor W work site.agent → IsClosedAgent W work (sents_of site.callers) node
   pub giver : node.giver ≡ site.agent.port.giver
   pub said : node.said ≡ site.agent.said
 
-pub record AreShutFrom (m : Moment) (nodes : List Shut) : Type 0 where
+pub record AreClosedAgentsFrom (m : RunState) (nodes : List PlainClosedAgent) : Type 0 where
   pub count : length nodes ≡ length m.standing.nodes
-  pub each : (node : ℕ) (site : Site) (shut : Shut) → slice_get m.standing.nodes node ≡ Some site → slice_get nodes node ≡ Some shut → IsShutFrom site shut
+  pub each : (node : ℕ) (site : PlainNodeActors) (shut : PlainClosedAgent) → slice_get m.standing.nodes node ≡ Some site → slice_get nodes node ≡ Some shut → IsClosedAgentFrom site shut

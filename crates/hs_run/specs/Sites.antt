@@ -3,7 +3,7 @@ use Rattle.std.specs.Prelude.{◌≡◌, ℕ, ◌<◌, ◌≤◌, Bool, true, fa
 use Rattle.hs_base.specs.Listing.{Listing}
 use Rattle.hs_base.specs.declared.settings.Settings.{Settings}
 use Rattle.hs_base.specs.Ids.{client_of}
-use Rattle.hs_law_agent.specs.Stepping.{Event}
+use Rattle.hs_law_agent.specs.Stepping.{AgentEvent}
 use Rattle.hs_records.specs.Plain.{PlainWorkload, settings_of}
 use Rattle.hs_ring.specs.Parts.{Leased}
 use Rattle.hs_law_sends.specs.Sending.{operations_at, place_of}
@@ -11,14 +11,14 @@ use Rattle.hs_words.specs.Buffers.{Buffer}
 use Rattle.hs_workload.specs.declared.operation.Op.{Op}
 use Rattle.hs_workload.specs.Validity.{IsValid}
 use Rattle.hs_workload.specs.Views.{operations_of}
-use Rattle.hs_run_client.specs.Calling.{Calling}
-use Rattle.hs_run_agent.specs.Manned.{Manned, IsManned, Passes}
-use Rattle.hs_run_agent.specs.Work.{Work, IsFew}
-use Rattle.hs_run_story.specs.Standing.{Site, SiteStands}
+use Rattle.hs_run_client.specs.ClientActors.{PlainClientActor}
+use Rattle.hs_run_agent.specs.AgentActors.{PlainAgentActor, IsAgentActor, Passes}
+use Rattle.hs_run_agent.specs.Work.{NodeWork, IsFew}
+use Rattle.hs_run_story.specs.RunStates.{PlainNodeActors, NodeActorsStand}
 use Rattle.hs_live.specs.Calls.{MeetsAt}
-use Rattle.hs_run_client.specs.Standing.{IsAt}
-use Rattle.hs_run_story.specs.Acting.{SiteActs}
-use Rattle.hs_run_story.specs.Meeting.{CallerMet, GiverMet}
+use Rattle.hs_run_client.specs.Standing.{ClientActorIsAt}
+use Rattle.hs_run_story.specs.Acting.{NodeActorsAct}
+use Rattle.hs_run_story.specs.Meeting.{ClientActorMet, GiverMet}
 
 -- The settings are those of the workload, and these are the operations of the clients of a node.
 pub record AreClients (W : PlainWorkload) (node : ℕ) (settings : Settings) (lists : List (Listing Op)) : Type 0 where
@@ -29,62 +29,62 @@ pub record AreClients (W : PlainWorkload) (node : ℕ) (settings : Settings) (li
 -- ---- acting
 
 -- The agent may make a pass.
-pub record MayPass (agent : Manned) : Type 0 where
+pub record MayPass (agent : PlainAgentActor) : Type 0 where
   pub workload : PlainWorkload
-  pub work : Work
-  pub manned : IsManned workload work agent
+  pub work : NodeWork
+  pub manned : IsAgentActor workload work agent
   pub few : IsFew workload work
 
 -- The agent made a pass, whatever its work was.
-pub record HasPassed (old new : Manned) : Type 0 where
-  pub by : (W : PlainWorkload) (work : Work) → IsManned W work old → IsFew W work → (pass : List Event) × (came : List (Buffer Leased)) × Passes W work pass came old new
+pub record HasPassed (old new : PlainAgentActor) : Type 0 where
+  pub by : (W : PlainWorkload) (work : NodeWork) → IsAgentActor W work old → IsFew W work → (pass : List AgentEvent) × (came : List (Buffer Leased)) × Passes W work pass came old new
 
 -- A node that stands, with the operations of its clients, may act.
-pub record MayAct (settings : Settings) (lists : List (Listing Op)) (site : Site) : Type 0 where
+pub record MayAct (settings : Settings) (lists : List (Listing Op)) (site : PlainNodeActors) : Type 0 where
   pub workload : PlainWorkload
   pub node : ℕ
-  pub work : Work
-  pub stands : SiteStands workload node work site
+  pub work : NodeWork
+  pub stands : NodeActorsStand workload node work site
   pub few : IsFew workload work
   pub clients : AreClients workload node settings lists
 
 -- It acted.
-pub record HasActed (settings : Settings) (lists : List (Listing Op)) (old new : Site) : Type 0 where
+pub record HasActed (settings : Settings) (lists : List (Listing Op)) (old new : PlainNodeActors) : Type 0 where
   pub count : length new.callers ≡ length old.callers
-  pub by : (W : PlainWorkload) (node : ℕ) (work : Work) → SiteStands W node work old → IsFew W work → AreClients W node settings lists → (work' : Work) × SiteActs W node work work' old new
+  pub by : (W : PlainWorkload) (node : ℕ) (work : NodeWork) → NodeActorsStand W node work old → IsFew W work → AreClients W node settings lists → (work' : NodeWork) × NodeActorsAct W node work work' old new
 
 -- A client of the node has operations left, or none has.
-abbrev pub TellsSiteLeft : List (Listing Op) → Site → Bool → Type 0
-TellsSiteLeft lists site true = (number : ℕ) × (caller : Calling) × (ops : Listing Op) × (slice_get site.callers number ≡ Some caller) × (slice_get lists number ≡ Some ops) × (caller.done < length ops.items)
-TellsSiteLeft lists site false = (number : ℕ) (caller : Calling) (ops : Listing Op) → slice_get site.callers number ≡ Some caller → slice_get lists number ≡ Some ops → length ops.items ≤ caller.done
+abbrev pub TellsSiteLeft : List (Listing Op) → PlainNodeActors → Bool → Type 0
+TellsSiteLeft lists site true = (number : ℕ) × (caller : PlainClientActor) × (ops : Listing Op) × (slice_get site.callers number ≡ Some caller) × (slice_get lists number ≡ Some ops) × (caller.done < length ops.items)
+TellsSiteLeft lists site false = (number : ℕ) (caller : PlainClientActor) (ops : Listing Op) → slice_get site.callers number ≡ Some caller → slice_get lists number ≡ Some ops → length ops.items ≤ caller.done
 
 -- ---- meeting
 
 -- The node stands somewhere, in a run of a valid workload.
-pub record StandsSomewhere (site : Site) : Type 0 where
+pub record StandsSomewhere (site : PlainNodeActors) : Type 0 where
   pub workload : PlainWorkload
   pub valid : IsValid workload
   pub node : ℕ
-  pub work : Work
-  pub stands : SiteStands workload node work site
+  pub work : NodeWork
+  pub stands : NodeActorsStand workload node work site
 
 -- One client of a node that stands met the port of its agent.
-pub record MeetsOne (W : PlainWorkload) (node : ℕ) (work : Work) (number : ℕ) (old new : Site) : Type 0 where
-  pub before : Calling
-  pub after : Calling
+pub record MeetsOne (W : PlainWorkload) (node : ℕ) (work : NodeWork) (number : ℕ) (old new : PlainNodeActors) : Type 0 where
+  pub before : PlainClientActor
+  pub after : PlainClientActor
   pub stood : slice_get old.callers number ≡ Some before
   pub callers : new.callers ≡ slice_set old.callers number after
   pub met : MeetsAt number old.agent.port before.client new.agent.port after.client
   pub done : after.done ≡ before.done
-  pub at : IsAt W.settings (client_of node number) (operations_at W (place_of W.settings.clients node number)) after
-  pub manned : IsManned W work new.agent
+  pub at : ClientActorIsAt W.settings (client_of node number) (operations_at W (place_of W.settings.clients node number)) after
+  pub manned : IsAgentActor W work new.agent
   pub desk : new.agent ≡ record old.agent { port = new.agent.port }
 
 -- The first so many clients of the node met the port of its agent, and the others are as they were.
-pub record HaveMet (W : PlainWorkload) (node : ℕ) (work : Work) (count : ℕ) (old new : Site) : Type 0 where
-  pub stands : SiteStands W node work new
-  pub met : (number : ℕ) (caller caller' : Calling) → number < count → slice_get old.callers number ≡ Some caller → slice_get new.callers number ≡ Some caller'
-      → CallerMet number old.agent.port new.agent.port caller caller'
+pub record HaveMet (W : PlainWorkload) (node : ℕ) (work : NodeWork) (count : ℕ) (old new : PlainNodeActors) : Type 0 where
+  pub stands : NodeActorsStand W node work new
+  pub met : (number : ℕ) (caller caller' : PlainClientActor) → number < count → slice_get old.callers number ≡ Some caller → slice_get new.callers number ≡ Some caller'
+      → ClientActorMet number old.agent.port new.agent.port caller caller'
   pub still : (number : ℕ) → count ≤ number → slice_get new.callers number ≡ slice_get old.callers number
   pub chunks : (number : ℕ) → count ≤ number → slice_get new.agent.port.chunks number ≡ slice_get old.agent.port.chunks number
   pub crumbs : (number : ℕ) → count ≤ number → slice_get new.agent.port.crumbs number ≡ slice_get old.agent.port.crumbs number

@@ -4,14 +4,14 @@ use Rattle.hs_records.specs.Plain.{PlainWorkload}
 use Rattle.hs_run.specs.declared.client.ClientCount.{ClientCount}
 use Rattle.hs_run.specs.declared.log.LogCount.{LogCount}
 use Rattle.hs_run.specs.Counts.{Counts, AreCounts}
-use Rattle.hs_run_agent.specs.Coordinators.{Coordinating}
-use Rattle.hs_run.specs.declared.node.Node.{Node}
+use Rattle.hs_run_agent.specs.Coordinators.{PlainCoordinatorActor}
+use Rattle.hs_run.specs.declared.node.ActingNode.{ActingNode}
 use Rattle.hs_run.specs.Moments.{RoundsMade}
 
 -- One round more was made than those behind which these counts were taken.
-pub record MayCount (W : PlainWorkload) (nodes : List Node) (counts : Counts) : Type 0 where
+pub record MayCount (W : PlainWorkload) (nodes : List ActingNode) (counts : Counts) : Type 0 where
   pub rounds : ℕ
-  pub coordinator : Coordinating
+  pub coordinator : PlainCoordinatorActor
   pub made : RoundsMade W (suc rounds) nodes coordinator
   pub counted : AreCounts W (made.came.at rounds) counts
 

@@ -5,12 +5,12 @@ use Rattle.hs_board.specs.declared.progress.Progress.{Progress}
 use Rattle.hs_board.specs.Shown.{first, IsLast}
 use Rattle.hs_run.specs.Counts.{Counts, AreCounts, progress_of}
 use Rattle.hs_run.specs.Seen.{IsSeen, IsTotal}
-use Rattle.hs_run_agent.specs.Coordinators.{Coordinating}
+use Rattle.hs_run_agent.specs.Coordinators.{PlainCoordinatorActor}
 use Rattle.hs_journal.specs.Views.{PlainJournal}
 use Rattle.hs_law_journal.specs.Ends.{rounds_of}
 use Rattle.hs_records.specs.Plain.{Operation, PlainWorkload}
-use Rattle.hs_board.specs.Watching.{Totals, Showing, Stands, IsLater, KnowLast, EndsAtLatest, IsSeenOf}
-use Rattle.hs_run.specs.declared.node.Node.{Node}
+use Rattle.hs_board.specs.Watching.{Totals, Showing, WatchStands, IsLater, KnowLast, EndsAtLatest, IsSeenOf}
+use Rattle.hs_run.specs.declared.node.ActingNode.{ActingNode}
 use Rattle.hs_run.specs.Moments.{RoundsMade, RoundsOver}
 use Rattle.hs_run.specs.Tallying.{FitTotals}
 
@@ -27,14 +27,14 @@ pub record MayShow (made : ℕ) (counts : Counts) (shown : Totals) : Type 0 wher
 
 -- If the watchers and their board stood right before, they stand right now.
 pub record StillStands (old new : Showing) : Type 0 where
-  pub by : Stands old → Stands new
+  pub by : WatchStands old → WatchStands new
 
 -- Some client has operations left behind so many rounds.
 abbrev pub IsNeeded : PlainWorkload → ℕ → Type 0
 IsNeeded W made = (place : ℕ) × (ops : List Operation) × (slice_get W.clients place ≡ Some ops) × (made * W.settings.stride < length ops)
 
 -- So many rounds led here, each of which a client needed, and these are the counts behind them. What is shown are totals behind earlier ones.
-pub record RoundsWatched (W : PlainWorkload) (made : ℕ) (nodes : List Node) (coordinator : Coordinating) (counts : Counts) (watch : Showing) : Type 0 where
+pub record RoundsWatched (W : PlainWorkload) (made : ℕ) (nodes : List ActingNode) (coordinator : PlainCoordinatorActor) (counts : Counts) (watch : Showing) : Type 0 where
   pub rounds : RoundsMade W made nodes coordinator
   pub needed : (before : ℕ) → made ≡ suc before → IsNeeded W before
   pub counted : AreCounts W rounds.moment counts
@@ -42,16 +42,16 @@ pub record RoundsWatched (W : PlainWorkload) (made : ℕ) (nodes : List Node) (c
   pub shown : AllByRecursion (IsTotal W made rounds.moment rounds.came) watch.shown
   pub low : AllByRecursion (λ (x : Progress). x.rounds ≤ made - 1) watch.shown
   pub begins : made ≡ 0 → IsLast first watch.shown
-  pub stands : Stands watch
+  pub stands : WatchStands watch
 
 -- Each watcher knows what was shown at last, and noted it.
 pub record WatchEnded (watch : Showing) : Type 0 where
-  pub stands : Stands watch
+  pub stands : WatchStands watch
   pub knows : KnowLast watch
   pub ends : EndsAtLatest watch.one × EndsAtLatest watch.other
 
 -- All rounds of the workload led here. What is shown are totals behind them, at last those behind the last.
-pub record AllWatched (W : PlainWorkload) (nodes : List Node) (coordinator : Coordinating) (watch : Showing) : Type 0 where
+pub record AllWatched (W : PlainWorkload) (nodes : List ActingNode) (coordinator : PlainCoordinatorActor) (watch : Showing) : Type 0 where
   pub over : RoundsOver W nodes coordinator
   pub all : over.rounds ≡ rounds_of W
   pub shown : AllByRecursion (IsTotal W over.rounds over.made.moment over.made.came) watch.shown

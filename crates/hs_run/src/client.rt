@@ -6,7 +6,7 @@ ghost use Rattle.hs_run.specs.Progress.{is_point};
 ghost use Rattle.hs_workload.specs.Views.{operation_of};
 ghost use Rattle.hs_run.specs.Counts.{client_count};
 
-use hs_run_client::Caller;
+use hs_run_client::ClientActor;
 use hs_workload::Op;
 
 /// Of a client: how many of its operations were counted, the points among these, and its null pages.
@@ -18,8 +18,8 @@ pub struct ClientCount {
 }
 
 impl ClientCount {
-    /// The count when the caller stands where it stands, whose operations are these: each that was counted before is not looked at again.
-    pub fn count(&self, operations: &[Op], caller: &Caller) -> ClientCount
+    /// The count when the client stands where it stands, whose operations are these: each that was counted before is not looked at again.
+    pub fn count(&self, operations: &[Op], caller: &ClientActor) -> ClientCount
         requires few { length operations.now ≤ MAX_OPERATIONS }
         requires within { (self.now.done ≤ caller.now.done) × (caller.now.done ≤ length operations.now) }
         requires points { self.now.points ≡ count_by is_point (take self.now.done (map operation_of operations.now)) }

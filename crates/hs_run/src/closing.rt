@@ -5,26 +5,24 @@ ghost use Rattle.hs_base.specs.NodeSets.{has_node};
 ghost use Rattle.hs_base.specs.declared.limits.TheConstants.{MAX_NODES};
 ghost use Rattle.hs_coord.specs.Messages.{Messages};
 ghost use Rattle.hs_records.specs.Plain.{PlainWorkload};
-ghost use Rattle.hs_run_story.specs.Standing.{Moment};
+ghost use Rattle.hs_run_story.specs.RunStates.{RunState};
 ghost use Rattle.hs_run_agent.specs.Agents.{IsAskable};
 ghost use Rattle.hs_run_agent.specs.Coordinators.{ask_for, asked_all};
-ghost use Rattle.hs_run_agent.specs.Work.{Work, with_asks};
-ghost use Rattle.hs_run.specs.Shutting.{AllSents, IsShutAt, IsAskedOnly, AskedOnly, MayPass, CanPass, HasPassed, MayTell, Tells, HasTold, MayPassAll, Stand, Passing, MayBeAsked, ShutStand, Asked, IsAsking, AllBare, ClosedAt, ClosingAt, MayClose};
+ghost use Rattle.hs_run_agent.specs.Work.{NodeWork, with_asks};
+ghost use Rattle.hs_run.specs.Shutting.{AllSents, IsClosedAgentAt, IsAskedOnly, AskedOnly, ClosingMayPass, ClosingCanPass, ClosingHasPassed, ClosingMayTell, ClosingTells, ClosingHasTold, MayPassAll, ClosingStands, Passing, ClosingMayBeAsked, ClosedAgentsStand, Asked, IsAsking, AllBare, ClosedAt, ClosingAt, MayClose};
 
 use hs_base::{List, Memory, NodeId, OpenGate};
 use hs_coord::Asks;
-use hs_run_agent::ClosedNode;
-use hs_run_agent::CoordinatorActor;
-use hs_run_story::laws::closing_goes_on;
-use hs_run_story::laws::desks_are_posts;
+use hs_run_agent::{ClosedAgent, CoordinatorActor};
+use hs_run_story::laws::{agents_are_between_passes, closing_goes_on};
 
 /// Passes of all agents and the coordinator, while anything waits or is pinned.
 pub(crate) fn close_down(
-    nodes: &mut List<ClosedNode>,
+    nodes: &mut List<ClosedAgent>,
     coordinator: &mut CoordinatorActor,
 ) -> Result<(), Memory>
     requires { MayClose nodes.old.items coordinator.old }
-    ensures { (W : PlainWorkload) (rounds : ℕ) (m : Moment) (sents : AllSents) → ClosingAt W rounds m sents nodes.old.items coordinator.old
+    ensures { (W : PlainWorkload) (rounds : ℕ) (m : RunState) (sents : AllSents) → ClosingAt W rounds m sents nodes.old.items coordinator.old
         → OnOk result (ClosedAt W rounds m sents nodes.new.items coordinator.new) }
 {
     'passes: for _ in 0..u64::MAX {
@@ -37,8 +35,8 @@ pub(crate) fn close_down(
 }
 
 /// Whether nothing waits anywhere, and nothing is pinned.
-fn is_bare(nodes: &List<ClosedNode>, coordinator: &CoordinatorActor) -> bool
-    ensures { (W : PlainWorkload) (sents : AllSents) (works : ℕ → Work) → ShutStand W sents works nodes.now.items → result ≡ true → AllBare W works nodes.now.items coordinator.now }
+fn is_bare(nodes: &List<ClosedAgent>, coordinator: &CoordinatorActor) -> bool
+    ensures { (W : PlainWorkload) (sents : AllSents) (works : ℕ → NodeWork) → ClosedAgentsStand W sents works nodes.now.items → result ≡ true → AllBare W works nodes.now.items coordinator.now }
 {
     for number in 0..nodes.len() {
         if !nodes.as_slice()[number].is_bare() {
@@ -49,13 +47,13 @@ fn is_bare(nodes: &List<ClosedNode>, coordinator: &CoordinatorActor) -> bool
 }
 
 /// A pass of each agent in turn and then of the coordinator, whose asks go to the agents.
-fn pass_all(nodes: &mut List<ClosedNode>, coordinator: &mut CoordinatorActor) -> Result<(), Memory>
+fn pass_all(nodes: &mut List<ClosedAgent>, coordinator: &mut CoordinatorActor) -> Result<(), Memory>
     requires { MayClose nodes.old.items coordinator.old }
-    ensures { (W : PlainWorkload) (rounds : ℕ) (m : Moment) (sents : AllSents) → ClosingAt W rounds m sents nodes.old.items coordinator.old
+    ensures { (W : PlainWorkload) (rounds : ℕ) (m : RunState) (sents : AllSents) → ClosingAt W rounds m sents nodes.old.items coordinator.old
         → OnOk result (ClosingAt W rounds m sents nodes.new.items coordinator.new) }
 {
     closing_goes_on();
-    desks_are_posts();
+    agents_are_between_passes();
     agents_pass(nodes, coordinator)?;
     coordinator.pass(&OpenGate)?;
     ask_all(nodes, coordinator)
@@ -63,11 +61,11 @@ fn pass_all(nodes: &mut List<ClosedNode>, coordinator: &mut CoordinatorActor) ->
 
 /// Each agent makes a pass, and its messages go to the coordinator.
 fn agents_pass(
-    nodes: &mut List<ClosedNode>,
+    nodes: &mut List<ClosedAgent>,
     coordinator: &mut CoordinatorActor,
 ) -> Result<(), Memory>
     requires { MayPassAll nodes.old.items coordinator.old }
-    ensures { (W : PlainWorkload) (sents : AllSents) (heard : Messages) (works : ℕ → Work) → Stand W sents heard works nodes.old.items coordinator.old
+    ensures { (W : PlainWorkload) (sents : AllSents) (heard : Messages) (works : ℕ → NodeWork) → ClosingStands W sents heard works nodes.old.items coordinator.old
         → OnOk result (Passing W sents heard works (length nodes.old.items) nodes.old.items nodes.new.items coordinator.new) }
 {
     let count = nodes.len();
@@ -79,13 +77,13 @@ fn agents_pass(
 
 /// The agent of the node with this number makes a pass, and its messages go to the coordinator.
 fn pass(
-    node: &mut ClosedNode,
+    node: &mut ClosedAgent,
     coordinator: &mut CoordinatorActor,
     number: usize,
 ) -> Result<(), Memory>
-    requires { MayPass number node.old coordinator.old }
-    ensures { (W : PlainWorkload) (sents : AllSents) (heard : Messages) (works : ℕ → Work) → CanPass W number sents heard works node.old coordinator.old
-        → OnOk result (HasPassed W number sents heard works node.old coordinator.old node.new coordinator.new) }
+    requires { ClosingMayPass number node.old coordinator.old }
+    ensures { (W : PlainWorkload) (sents : AllSents) (heard : Messages) (works : ℕ → NodeWork) → ClosingCanPass W number sents heard works node.old coordinator.old
+        → OnOk result (ClosingHasPassed W number sents heard works node.old coordinator.old node.new coordinator.new) }
 {
     node.pass()?;
     tell(node, coordinator, number)
@@ -93,13 +91,13 @@ fn pass(
 
 /// The messages of the agent of the node with this number go to the coordinator.
 fn tell(
-    node: &mut ClosedNode,
+    node: &mut ClosedAgent,
     coordinator: &mut CoordinatorActor,
     number: usize,
 ) -> Result<(), Memory>
-    requires { MayTell number node.old coordinator.old }
-    ensures { (W : PlainWorkload) (sents : AllSents) (work : Work) (heard : Messages) (works : ℕ → Work) → Tells W number sents work heard works node.old coordinator.old
-        → OnOk result (HasTold W number sents work heard works node.old coordinator.old node.new coordinator.new × (node.new.said ≡ [])) }
+    requires { ClosingMayTell number node.old coordinator.old }
+    ensures { (W : PlainWorkload) (sents : AllSents) (work : NodeWork) (heard : Messages) (works : ℕ → NodeWork) → ClosingTells W number sents work heard works node.old coordinator.old
+        → OnOk result (ClosingHasTold W number sents work heard works node.old coordinator.old node.new coordinator.new × (node.new.said ≡ [])) }
 {
     'messages: while let Some(told) = node.tell() {
         coordinator.hear(NodeId(number as u16), told)?;
@@ -108,9 +106,9 @@ fn tell(
 }
 
 /// The coordinator's asks go to the agents.
-fn ask_all(nodes: &mut List<ClosedNode>, coordinator: &mut CoordinatorActor) -> Result<(), Memory>
+fn ask_all(nodes: &mut List<ClosedAgent>, coordinator: &mut CoordinatorActor) -> Result<(), Memory>
     requires { IsAsking nodes.old.items coordinator.old }
-    ensures { (W : PlainWorkload) (sents : AllSents) (heard : Messages) (works : ℕ → Work) → Asked W sents heard works nodes.old.items nodes.old.items coordinator.old
+    ensures { (W : PlainWorkload) (sents : AllSents) (heard : Messages) (works : ℕ → NodeWork) → Asked W sents heard works nodes.old.items nodes.old.items coordinator.old
         → OnOk result (Asked W sents heard works nodes.old.items nodes.new.items coordinator.new × (coordinator.new.asks ≡ [])) }
 {
     'asks: while let Some(asks) = coordinator.next_asks() {
@@ -120,10 +118,10 @@ fn ask_all(nodes: &mut List<ClosedNode>, coordinator: &mut CoordinatorActor) -> 
 }
 
 /// An ask goes to each agent for which it is.
-fn ask(nodes: &mut List<ClosedNode>, asks: &Asks) -> Result<(), Memory>
-    requires { MayBeAsked nodes.old.items }
-    ensures { (W : PlainWorkload) (sents : AllSents) (works : ℕ → Work) → ShutStand W sents works nodes.old.items → ((n : ℕ) → has_node asks.now.to n ≡ true → IsAskable W asks.now.ask)
-        → OnOk result (ShutStand W sents (asked_all asks.now works) nodes.new.items × AskedOnly nodes.old.items nodes.new.items) }
+fn ask(nodes: &mut List<ClosedAgent>, asks: &Asks) -> Result<(), Memory>
+    requires { ClosingMayBeAsked nodes.old.items }
+    ensures { (W : PlainWorkload) (sents : AllSents) (works : ℕ → NodeWork) → ClosedAgentsStand W sents works nodes.old.items → ((n : ℕ) → has_node asks.now.to n ≡ true → IsAskable W asks.now.ask)
+        → OnOk result (ClosedAgentsStand W sents (asked_all asks.now works) nodes.new.items × AskedOnly nodes.old.items nodes.new.items) }
 {
     let count = nodes.len();
     for number in 0..count {
@@ -133,10 +131,10 @@ fn ask(nodes: &mut List<ClosedNode>, asks: &Asks) -> Result<(), Memory>
 }
 
 /// An ask goes to the agent of the node with this number, if it is for it.
-fn ask_one(node: &mut ClosedNode, asks: &Asks, number: usize) -> Result<(), Memory>
+fn ask_one(node: &mut ClosedAgent, asks: &Asks, number: usize) -> Result<(), Memory>
     requires { number < MAX_NODES }
-    ensures { (W : PlainWorkload) (sents : AllSents) (work : Work) → IsShutAt W number sents work node.old → (has_node asks.now.to number ≡ true → IsAskable W asks.now.ask)
-        → OnOk result (IsShutAt W number sents (with_asks (ask_for number asks.now) work) node.new × IsAskedOnly node.old node.new) }
+    ensures { (W : PlainWorkload) (sents : AllSents) (work : NodeWork) → IsClosedAgentAt W number sents work node.old → (has_node asks.now.to number ≡ true → IsAskable W asks.now.ask)
+        → OnOk result (IsClosedAgentAt W number sents (with_asks (ask_for number asks.now) work) node.new × IsAskedOnly node.old node.new) }
 {
     if !asks.to.contains(NodeId(number as u16)) {
         return Ok(());

@@ -4,23 +4,20 @@ ghost use Rattle.std.specs.Prelude.{◌≡◌, map, IfOk};
 ghost use Rattle.hs_coord.specs.Messages.{Messages};
 ghost use Rattle.hs_records.specs.Plain.{PlainWorkload};
 ghost use Rattle.hs_workload.specs.Views.{workload_of};
-ghost use Rattle.hs_run_agent.specs.Coordinators.{Tellings, Askings, IsCoordinating};
+ghost use Rattle.hs_run_agent.specs.Coordinators.{Tellings, Askings, IsCoordinatorActor};
 ghost use Rattle.hs_run.specs.Over.{RoundsOver};
 ghost use Rattle.hs_run.specs.Finished.{AreLawfulBooks, AreBooksBehind, AreGathered};
 
 use crate::closing::close_down;
-use crate::place::Place;
+use crate::done_node::DoneNode;
 use crate::pools::close_pools;
-use crate::shutting::{Ended, shut_all};
+use crate::shutting::{ClosedNodes, shut_all};
 use hs_base::{List, Memory, NodeId};
-use hs_run_client::callers_have_sent;
-use hs_run_agent::CoordinatorActor;
 use hs_journal::{AgentBook, ClientBook};
 use hs_report::Books;
-use hs_run_story::laws::closing_begins;
-use hs_run_story::laws::journals_note_rounds;
-use hs_run_story::laws::pools_are_kept;
-use hs_run_story::laws::runs_are_lawful;
+use hs_run_agent::CoordinatorActor;
+use hs_run_client::callers_have_sent;
+use hs_run_story::laws::{closing_begins, journals_note_rounds, pools_are_kept, runs_are_lawful};
 use hs_workload::Workload;
 use std::alloc::Global;
 
@@ -29,7 +26,7 @@ use std::alloc::Global;
 pub fn finish(
     alloc: Global,
     workload: &Workload,
-    places: List<Place>,
+    places: List<DoneNode>,
     coordinator: CoordinatorActor,
 ) -> Result<Books, Memory>
     requires { RoundsOver (workload_of workload.now) places.items coordinator }
@@ -44,7 +41,7 @@ pub fn finish(
     let mut coordinator = coordinator;
     let mut ended = shut_all(alloc, places)?;
     close_down(&mut ended.nodes, &mut coordinator)?;
-    let Ended {
+    let ClosedNodes {
         books,
         drawers,
         nodes,
@@ -56,7 +53,7 @@ pub fn finish(
 
 /// The nodes whose messages the coordinator heard, in their order.
 fn told_of(alloc: Global, coordinator: &CoordinatorActor) -> Result<List<NodeId>, Memory>
-    ensures { (W : PlainWorkload) (heard : Messages) (moved : Tellings) (asked : Askings) → IsCoordinating W heard moved asked coordinator.now
+    ensures { (W : PlainWorkload) (heard : Messages) (moved : Tellings) (asked : Askings) → IsCoordinatorActor W heard moved asked coordinator.now
         → IfOk result (λ told. told.items ≡ map (λ m. m.node) heard) }
 {
     let mut told = List::new(alloc);

@@ -5,26 +5,25 @@
 
 mod client;
 mod closing;
+mod done_node;
 mod finishing;
 pub mod laws;
 mod log;
 mod making;
 mod meeting;
 mod node;
-mod place;
+mod node_actors;
 mod pools;
 mod rounds;
 mod running;
 mod shutting;
-mod site;
 mod tallying;
 mod watched_rounds;
 mod watching;
 
-pub use running::run;
-pub use watching::Watched;
-pub use watching::run_watched;
-pub use finishing::finish;
-pub use place::Place;
 pub use client::ClientCount;
+pub use done_node::DoneNode;
+pub use finishing::finish;
 pub use log::LogCount;
+pub use running::run;
+pub use watching::{Watched, run_watched};

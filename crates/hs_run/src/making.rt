@@ -1,19 +1,17 @@
 //! All nodes and their coordinator before the first round.
 
 ghost use Rattle.std.specs.Prelude.{ℕ, ◌<◌, [], IfOk};
-ghost use Rattle.hs_run_agent.specs.Coordinators.{IsCoordinating};
+ghost use Rattle.hs_run_agent.specs.Coordinators.{IsCoordinatorActor};
 ghost use Rattle.hs_workload.specs.Validity.{IsValid};
 ghost use Rattle.hs_workload.specs.Views.{workload_of};
-ghost use Rattle.hs_run.specs.Making.{SiteBegins, AreMade, nothing_moved, nothing_asked};
+ghost use Rattle.hs_run.specs.Making.{NodeActorsBegin, AreMade, nothing_moved, nothing_asked};
 ghost use Rattle.hs_run.specs.Moments.{CanBegin};
 
-use crate::node::Node;
-use crate::site::Site;
+use crate::node::ActingNode;
+use crate::node_actors::NodeActors;
 use hs_base::{List, Memory};
-use hs_run_client::Begun;
-use hs_run_client::begin_node;
-use hs_run_agent::AgentActor;
-use hs_run_agent::CoordinatorActor;
+use hs_run_agent::{AgentActor, CoordinatorActor};
+use hs_run_client::{NewNode, begin_node};
 use hs_workload::Workload;
 use std::alloc::Global;
 
@@ -21,7 +19,7 @@ use std::alloc::Global;
 pub(crate) fn make_all(
     alloc: Global,
     workload: &Workload,
-) -> Result<(List<Node>, CoordinatorActor), Memory>
+) -> Result<(List<ActingNode>, CoordinatorActor), Memory>
     requires { IsValid (workload_of workload.now) }
     ensures { IfOk result (λ made. CanBegin (workload_of workload.now) made.0.items made.1) }
 {
@@ -31,7 +29,7 @@ pub(crate) fn make_all(
 }
 
 /// The nodes, by number.
-fn make_nodes(alloc: Global, workload: &Workload) -> Result<List<Node>, Memory>
+fn make_nodes(alloc: Global, workload: &Workload) -> Result<List<ActingNode>, Memory>
     requires { IsValid (workload_of workload.now) }
     ensures { IfOk result (λ nodes. AreMade (workload_of workload.now) workload.now.settings.nodes nodes.items) }
 {
@@ -39,7 +37,7 @@ fn make_nodes(alloc: Global, workload: &Workload) -> Result<List<Node>, Memory>
     let mut nodes = List::with_room(alloc, count)?;
     for number in 0..count {
         let site = make_site(alloc, workload, number)?;
-        nodes.push(Node {
+        nodes.push(ActingNode {
             site,
             failed: false,
         });
@@ -49,23 +47,23 @@ fn make_nodes(alloc: Global, workload: &Workload) -> Result<List<Node>, Memory>
 
 /// The clients and the agent of the node with this number. The agents' numbers among the actors stand behind those of all
 /// clients.
-fn make_site(alloc: Global, workload: &Workload, number: usize) -> Result<Site, Memory>
+fn make_site(alloc: Global, workload: &Workload, number: usize) -> Result<NodeActors, Memory>
     requires valid { IsValid (workload_of workload.now) }
     requires low { number < workload.now.settings.nodes }
-    ensures { IfOk result (SiteBegins (workload_of workload.now) number) }
+    ensures { IfOk result (NodeActorsBegin (workload_of workload.now) number) }
 {
     let settings = &workload.settings;
     let node = number as u16;
-    let Begun { callers, port } = begin_node(alloc, workload, node)?;
+    let NewNode { callers, port } = begin_node(alloc, workload, node)?;
     let clients = u32::from(settings.nodes) * u32::from(settings.clients);
     let agent = AgentActor::make(alloc, clients + u32::from(node), node, settings, port)?;
-    Ok(Site { callers, agent })
+    Ok(NodeActors { callers, agent })
 }
 
 /// The coordinator, whose number among the actors is the last.
 fn make_coordinator(alloc: Global, workload: &Workload) -> Result<CoordinatorActor, Memory>
     requires { IsValid (workload_of workload.now) }
-    ensures { IfOk result (IsCoordinating (workload_of workload.now) [] nothing_moved nothing_asked) }
+    ensures { IfOk result (IsCoordinatorActor (workload_of workload.now) [] nothing_moved nothing_asked) }
 {
     let nodes = workload.settings.nodes;
     let clients = u32::from(nodes) * u32::from(workload.settings.clients);

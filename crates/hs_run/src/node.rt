@@ -2,19 +2,19 @@
 
 ghost use Rattle.hs_run.specs.Nodes.{MayActAt, HasActedAt};
 
-use crate::site::Site;
+use crate::node_actors::NodeActors;
 use hs_base::Gate;
 use hs_workload::Workload;
 use std::thread::Threads;
 
 /// A node, and whether memory was wanting when it acted last.
 #[derive(Drop)]
-pub(crate) struct Node {
-    pub(crate) site: Site,
+pub(crate) struct ActingNode {
+    pub(crate) site: NodeActors,
     pub(crate) failed: bool,
 }
 
-impl Node {
+impl ActingNode {
     /// What the node of this number does in a round.
     pub(crate) fn act<R: Threads + Sync, G: Gate>(
         &mut self,

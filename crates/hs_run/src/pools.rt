@@ -5,15 +5,15 @@ ghost use Rattle.hs_journal.specs.Books.{agent_book_of};
 ghost use Rattle.hs_run.specs.Ended.{MayFinish, HaveFinished, items_of};
 
 use hs_base::{List, Memory};
-use hs_run_agent::ClosedNode;
 use hs_journal::AgentBook;
 use hs_ring::Drawer;
+use hs_run_agent::ClosedAgent;
 use std::alloc::Global;
 
 /// Closes the pool of each node, with its drawers, and answers the books of the agents.
 pub(crate) fn close_pools(
     alloc: Global,
-    nodes: List<ClosedNode>,
+    nodes: List<ClosedAgent>,
     drawers: List<List<Drawer>>,
 ) -> Result<List<AgentBook>, Memory>
     requires { MayFinish nodes.items (items_of drawers.items) }

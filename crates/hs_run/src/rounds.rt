@@ -2,19 +2,18 @@
 
 ghost use Rattle.std.specs.Thread.{IsSync};
 ghost use Rattle.std.specs.Prelude.{◌≡◌, ◌<◌, false, length, slice_get, OnOk};
-ghost use Rattle.hs_run_story.specs.Standing.{Moment};
+ghost use Rattle.hs_run_story.specs.RunStates.{RunState};
 ghost use Rattle.hs_workload.specs.Views.{workload_of};
 ghost use Rattle.hs_run.specs.Nodes.{MayActAt, HasActedAt, AllMayAct, AllHaveActed, NoneFailed, MayHear, HasHeard, IsWhole, AreWhole, TellsNodeLeft, TellsLeft};
 ghost use Rattle.hs_run.specs.Moments.{IsHere, AreFew, CanAct, ActedTo, CanBegin, RoundsOver};
 
 use crate::meeting::{meet_all, move_all};
-use crate::node::Node;
-use crate::site::Site;
+use crate::node::ActingNode;
+use crate::node_actors::NodeActors;
 use hs_base::{Gate, List, Memory};
-use hs_run_client::callers_have_sent;
 use hs_run_agent::CoordinatorActor;
-use hs_run_story::laws::no_rounds_come;
-use hs_run_story::laws::rounds_go_on;
+use hs_run_client::callers_have_sent;
+use hs_run_story::laws::{no_rounds_come, rounds_go_on};
 use hs_workload::Workload;
 use std::thread;
 use std::thread::{Threads, join_mut};
@@ -24,7 +23,7 @@ pub(crate) fn make_rounds<R: Threads + Sync, G: Gate>(
     rt: &R,
     gate: &G,
     workload: &Workload,
-    nodes: &mut List<Node>,
+    nodes: &mut List<ActingNode>,
     coordinator: &mut CoordinatorActor,
 ) -> Result<(), Memory>
     requires { CanBegin (workload_of workload.now) nodes.old.items coordinator.old }
@@ -48,11 +47,11 @@ pub(crate) fn act<R: Threads + Sync, G: Gate>(
     rt: &R,
     gate: &G,
     workload: &Workload,
-    nodes: &mut List<Node>,
+    nodes: &mut List<ActingNode>,
     coordinator: &mut CoordinatorActor,
 ) -> Result<(), Memory>
     requires { CanAct (workload_of workload.now) nodes.old.items coordinator.old }
-    ensures { (m : Moment) → IsHere (workload_of workload.now) m nodes.old.items coordinator.old → AreFew (workload_of workload.now) m
+    ensures { (m : RunState) → IsHere (workload_of workload.now) m nodes.old.items coordinator.old → AreFew (workload_of workload.now) m
         → OnOk result (ActedTo (workload_of workload.now) m nodes.new.items coordinator.new) }
 {
     act_and_hear(rt, gate, workload, coordinator, nodes.as_mut_slice())?;
@@ -76,7 +75,7 @@ fn act_and_hear<R: Threads + Sync, G: Gate>(
     gate: &G,
     workload: &Workload,
     coordinator: &mut CoordinatorActor,
-    nodes: &mut [Node],
+    nodes: &mut [ActingNode],
 ) -> Result<(), Memory>
     requires hear { MayHear coordinator.old }
     requires act { AllMayAct workload.now nodes.old }
@@ -98,7 +97,12 @@ fn act_and_hear<R: Threads + Sync, G: Gate>(
 }
 
 /// Each of these nodes acts, each in its own thread if one can be started.
-fn act_all<R: Threads + Sync, G: Gate>(rt: &R, gate: &G, workload: &Workload, nodes: &mut [Node])
+fn act_all<R: Threads + Sync, G: Gate>(
+    rt: &R,
+    gate: &G,
+    workload: &Workload,
+    nodes: &mut [ActingNode],
+)
     requires { AllMayAct workload.now nodes.old }
     ensures { AllHaveActed workload.now nodes.old nodes.new }
 {
@@ -107,7 +111,7 @@ fn act_all<R: Threads + Sync, G: Gate>(rt: &R, gate: &G, workload: &Workload, no
         rt,
         nodes,
         threads,
-        &|number: usize, node: &mut Node|
+        &|number: usize, node: &mut ActingNode|
             requires { MayActAt workload.now number node.now }
             ensures { HasActedAt workload.entry.now number node.entry.now node.exit.now }
         { node.act(rt, gate, workload, number) },
@@ -115,7 +119,7 @@ fn act_all<R: Threads + Sync, G: Gate>(rt: &R, gate: &G, workload: &Workload, no
 }
 
 /// Whether memory was wanting at a node.
-fn has_failed(nodes: &List<Node>) -> bool
+fn has_failed(nodes: &List<ActingNode>) -> bool
     ensures { result ≡ false → NoneFailed nodes.now.items }
 {
     for number in 0..nodes.len() {
@@ -127,7 +131,7 @@ fn has_failed(nodes: &List<Node>) -> bool
 }
 
 /// Whether memory was wanting at the node of this number.
-fn has_failed_at(nodes: &List<Node>, number: usize) -> bool
+fn has_failed_at(nodes: &List<ActingNode>, number: usize) -> bool
     requires { number < length nodes.now.items }
     ensures { (node : _) → slice_get nodes.now.items number ≡ Some node → node.failed ≡ result }
 {
@@ -135,7 +139,7 @@ fn has_failed_at(nodes: &List<Node>, number: usize) -> bool
 }
 
 /// Whether a client has operations left.
-pub(crate) fn has_left(nodes: &List<Node>, workload: &Workload) -> bool
+pub(crate) fn has_left(nodes: &List<ActingNode>, workload: &Workload) -> bool
     requires { AreWhole (workload_of workload.now) nodes.now.items }
     ensures { TellsLeft (workload_of workload.now) nodes.now.items result }
 {
@@ -148,7 +152,7 @@ pub(crate) fn has_left(nodes: &List<Node>, workload: &Workload) -> bool
 }
 
 /// Whether a client of the node with this number has operations left.
-fn has_left_at(site: &Site, workload: &Workload, number: usize) -> bool
+fn has_left_at(site: &NodeActors, workload: &Workload, number: usize) -> bool
     requires { IsWhole (workload_of workload.now) number site.now }
     ensures { TellsNodeLeft (workload_of workload.now) number site.now result }
 {

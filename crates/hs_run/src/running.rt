@@ -6,16 +6,16 @@ ghost use Rattle.hs_law_journal.specs.Lawful.{IsLawful};
 ghost use Rattle.hs_report.specs.Outcomes.{AreBooksOf, IsOutcome};
 ghost use Rattle.hs_workload.specs.Validity.{IsValid};
 ghost use Rattle.hs_workload.specs.Views.{workload_of};
-ghost use Rattle.hs_run.specs.Over.{place_site};
+ghost use Rattle.hs_run.specs.Over.{done_node_actors};
 ghost use Rattle.hs_run.specs.Nodes.{sites_of};
 
-use crate::making::make_all;
-use crate::node::Node;
-use crate::rounds::make_rounds;
-use crate::site::Site;
-use hs_base::{Gate, List, Memory};
-use crate::place::Place;
+use crate::done_node::DoneNode;
 use crate::finishing::finish;
+use crate::making::make_all;
+use crate::node::ActingNode;
+use crate::node_actors::NodeActors;
+use crate::rounds::make_rounds;
+use hs_base::{Gate, List, Memory};
 use hs_report::{Books, Outcome, gather};
 use hs_workload::Workload;
 use std::alloc::Global;
@@ -57,14 +57,14 @@ fn play<R: Threads + Sync, G: Gate>(
 }
 
 /// The clients and the agent of each node.
-pub(crate) fn places_of(alloc: Global, nodes: List<Node>) -> Result<List<Place>, Memory>
-    ensures { IfOk result (λ places. map place_site places.items ≡ sites_of nodes.items) }
+pub(crate) fn places_of(alloc: Global, nodes: List<ActingNode>) -> Result<List<DoneNode>, Memory>
+    ensures { IfOk result (λ places. map done_node_actors places.items ≡ sites_of nodes.items) }
 {
     let mut places = List::new(alloc);
     for node in nodes.into_vec() {
-        let Node { site, failed: _ } = node;
-        let Site { callers, agent } = site;
-        places.append(Place { callers, agent })?;
+        let ActingNode { site, failed: _ } = node;
+        let NodeActors { callers, agent } = site;
+        places.append(DoneNode { callers, agent })?;
     }
     Ok(places)
 }

@@ -2,41 +2,40 @@
 
 ghost use Rattle.std.specs.Prelude.{◌≡◌, ◌∷◌, ◌++◌, [], map, IfOk, OnOk};
 ghost use Rattle.hs_journal.specs.Books.{client_book_of};
-ghost use Rattle.hs_run.specs.Ended.{IsEnded, AreEnded, HasShut, AreShut, items_of};
-ghost use Rattle.hs_run.specs.Over.{place_site};
+ghost use Rattle.hs_run.specs.Ended.{IsEnded, AreEnded, HasClosedLinks, HaveClosedLinks, items_of};
+ghost use Rattle.hs_run.specs.Over.{done_node_actors};
 
-use crate::place::Place;
+use crate::done_node::DoneNode;
 use hs_base::{List, Memory};
-use hs_run_client::Apart;
-use hs_run_client::take_apart;
-use hs_run_agent::ClosedNode;
 use hs_journal::ClientBook;
 use hs_ring::Drawer;
+use hs_run_agent::ClosedAgent;
+use hs_run_client::{PartedClients, take_apart};
 use std::alloc::Global;
 
 /// What a node's clients noted, their drawers, and their agent with closed links.
 #[derive(Drop)]
-pub(crate) struct Shutting {
+pub(crate) struct ClosedNode {
     pub(crate) books: List<ClientBook>,
     pub(crate) drawers: List<Drawer>,
-    pub(crate) node: ClosedNode,
+    pub(crate) node: ClosedAgent,
 }
 
 /// What all clients noted, in the order of node and number; of each node the drawers; and the agents with closed links.
 #[derive(Drop)]
-pub(crate) struct Ended {
+pub(crate) struct ClosedNodes {
     pub(crate) books: List<ClientBook>,
     pub(crate) drawers: List<List<Drawer>>,
-    pub(crate) nodes: List<ClosedNode>,
+    pub(crate) nodes: List<ClosedAgent>,
 }
 
 /// Takes the clients of a node apart, and closes their links.
-fn shut(alloc: Global, place: Place) -> Result<Shutting, Memory>
-    requires { IsEnded (place_site place) }
-    ensures { IfOk result (λ s. HasShut (place_site place) (map client_book_of s.books.items) s.drawers.items s.node) }
+fn shut(alloc: Global, place: DoneNode) -> Result<ClosedNode, Memory>
+    requires { IsEnded (done_node_actors place) }
+    ensures { IfOk result (λ s. HasClosedLinks (done_node_actors place) (map client_book_of s.books.items) s.drawers.items s.node) }
 {
-    let Place { callers, agent } = place;
-    let Apart {
+    let DoneNode { callers, agent } = place;
+    let PartedClients {
         books,
         drawers,
         chunks,
@@ -44,21 +43,21 @@ fn shut(alloc: Global, place: Place) -> Result<Shutting, Memory>
         triggers,
     } = take_apart(alloc, callers)?;
     let node = agent.close(alloc, chunks, crumbs, triggers)?;
-    Ok(Shutting {
+    Ok(ClosedNode {
         books,
         drawers,
         node,
     })
 }
 
-impl Ended {
+impl ClosedNodes {
     /// What a node's clients and its agent leave goes behind that of the others.
-    fn add(&mut self, one: Shutting) -> Result<(), Memory>
+    fn add(&mut self, one: ClosedNode) -> Result<(), Memory>
         ensures books { OnOk result (map client_book_of self.new.books.items ≡ map client_book_of self.old.books.items ++ map client_book_of one.books.items) }
         ensures drawers { OnOk result (self.new.drawers.items ≡ self.old.drawers.items ++ one.drawers ∷ []) }
         ensures nodes { OnOk result (self.new.nodes.items ≡ self.old.nodes.items ++ one.node ∷ []) }
     {
-        let Shutting {
+        let ClosedNode {
             books,
             drawers,
             node,
@@ -73,11 +72,11 @@ impl Ended {
 }
 
 /// Takes the clients of all nodes apart, and closes their links.
-pub(crate) fn shut_all(alloc: Global, places: List<Place>) -> Result<Ended, Memory>
-    requires { AreEnded (map place_site places.items) }
-    ensures { IfOk result (λ e. AreShut (map place_site places.items) (map client_book_of e.books.items) (items_of e.drawers.items) e.nodes.items) }
+pub(crate) fn shut_all(alloc: Global, places: List<DoneNode>) -> Result<ClosedNodes, Memory>
+    requires { AreEnded (map done_node_actors places.items) }
+    ensures { IfOk result (λ e. HaveClosedLinks (map done_node_actors places.items) (map client_book_of e.books.items) (items_of e.drawers.items) e.nodes.items) }
 {
-    let mut ended = Ended {
+    let mut ended = ClosedNodes {
         books: List::new(alloc),
         drawers: List::new(alloc),
         nodes: List::new(alloc),

@@ -4,7 +4,7 @@ ghost use Rattle.std.specs.Prelude.{◌≡◌, ◌^◌, ◌<◌, length, replica
 ghost use Rattle.hs_run.specs.Counts.{AreCounts, client_count, log_count, progress_of};
 ghost use Rattle.hs_run.specs.declared.client.ClientCount.{ClientCount};
 ghost use Rattle.hs_run.specs.declared.log.LogCount.{LogCount};
-ghost use Rattle.hs_run_story.specs.Standing.{Moment, Stands, IsBegun};
+ghost use Rattle.hs_run_story.specs.RunStates.{RunState, RunStands, IsBegun};
 ghost use Rattle.hs_law_sends.specs.Sending.{operations_at};
 ghost use Rattle.hs_workload.specs.Validity.{IsValid};
 ghost use Rattle.hs_workload.specs.Views.{workload_of};
@@ -13,16 +13,14 @@ ghost use Rattle.hs_run.specs.Nodes.{sites_of};
 ghost use Rattle.hs_run.specs.Tallying.{MayCount, FitTotals};
 ghost use Rattle.hs_run.specs.TallyingNodes.{no_operations, no_steps, MayCountClient, MayCountNode, CountedFirst, MayCountNodes, CountedNodes, MayCountLog, MayCountLogs, LogCounted};
 
-use crate::node::Node;
-use crate::site::Site;
-use hs_base::{List, Memory};
-use hs_board::Progress;
-use hs_run_client::Caller;
-use hs_run_client::callers_have_sent;
 use crate::client::ClientCount;
 use crate::log::LogCount;
-use hs_law_agent::laws::events_add_this;
-use hs_law_agent::laws::lists_have_their_chunks;
+use crate::node::ActingNode;
+use crate::node_actors::NodeActors;
+use hs_base::{List, Memory};
+use hs_board::Progress;
+use hs_law_agent::laws::{events_add_this, lists_have_their_chunks};
+use hs_run_client::{ClientActor, callers_have_sent};
 use hs_workload::Workload;
 use std::alloc::Global;
 use std::marker::Model;
@@ -47,7 +45,7 @@ impl Tally {
     /// Nothing is counted yet of any client and agent of the workload.
     pub(crate) fn make(alloc: Global, workload: &Workload) -> Result<Tally, Memory>
         requires { IsValid (workload_of workload.now) }
-        ensures { IfOk result (λ tally. (m : Moment) → IsBegun (workload_of workload.now) m → AreCounts (workload_of workload.now) m tally) }
+        ensures { IfOk result (λ tally. (m : RunState) → IsBegun (workload_of workload.now) m → AreCounts (workload_of workload.now) m tally) }
     {
         let clients = no_clients(alloc, workload.clients.len())?;
         let logs = no_logs(alloc, workload.settings.nodes as usize)?;
@@ -55,9 +53,9 @@ impl Tally {
     }
 
     /// Counts on behind a round: each operation and each step that was counted before is not looked at again.
-    pub(crate) fn count(&mut self, workload: &Workload, nodes: &List<Node>)
+    pub(crate) fn count(&mut self, workload: &Workload, nodes: &List<ActingNode>)
         requires { MayCount (workload_of workload.now) nodes.now.items self.old }
-        ensures counts { (m : Moment) → Stands (workload_of workload.now) m → m.standing.nodes ≡ sites_of nodes.now.items → AreCounts (workload_of workload.now) m self.new }
+        ensures counts { (m : RunState) → RunStands (workload_of workload.now) m → m.standing.nodes ≡ sites_of nodes.now.items → AreCounts (workload_of workload.now) m self.new }
         ensures fits { FitTotals self.new }
     {
         callers_have_sent();
@@ -116,7 +114,7 @@ fn no_logs(alloc: Global, count: usize) -> Result<List<LogCount>, Memory>
 }
 
 /// The clients of all nodes are counted on.
-fn count_clients(counts: &mut List<ClientCount>, workload: &Workload, nodes: &List<Node>)
+fn count_clients(counts: &mut List<ClientCount>, workload: &Workload, nodes: &List<ActingNode>)
     requires { MayCountNodes (workload_of workload.now) nodes.now.items counts.old.items }
     ensures { CountedNodes (workload_of workload.now) (length nodes.now.items) nodes.now.items counts.old.items counts.new.items }
 {
@@ -126,7 +124,7 @@ fn count_clients(counts: &mut List<ClientCount>, workload: &Workload, nodes: &Li
 }
 
 /// The clients of the node with this number are counted on.
-fn count_node(counts: &mut List<ClientCount>, workload: &Workload, site: &Site, node: usize)
+fn count_node(counts: &mut List<ClientCount>, workload: &Workload, site: &NodeActors, node: usize)
     requires { MayCountNode (workload_of workload.now) node site.now.callers counts.old.items }
     ensures { CountedFirst (workload_of workload.now) node (workload_of workload.now).settings.clients site.now.callers counts.old.items counts.new.items }
 {
@@ -138,7 +136,12 @@ fn count_node(counts: &mut List<ClientCount>, workload: &Workload, site: &Site, 
 }
 
 /// The client at a place is counted on.
-fn count_client(counts: &mut List<ClientCount>, workload: &Workload, caller: &Caller, place: usize)
+fn count_client(
+    counts: &mut List<ClientCount>,
+    workload: &Workload,
+    caller: &ClientActor,
+    place: usize,
+)
     requires counted { place < length counts.old.items }
     requires there { place < length (workload_of workload.now).clients }
     requires may { (count : ClientCount) → slice_get counts.old.items place ≡ Some count → MayCountClient (operations_at (workload_of workload.now) place) caller.now count }
@@ -150,7 +153,7 @@ fn count_client(counts: &mut List<ClientCount>, workload: &Workload, caller: &Ca
 }
 
 /// The logs of all nodes are counted on.
-fn count_logs(counts: &mut List<LogCount>, nodes: &List<Node>)
+fn count_logs(counts: &mut List<LogCount>, nodes: &List<ActingNode>)
     requires { MayCountLogs nodes.now.items counts.old.items }
     ensures { EachChanged (LogCounted nodes.now.items) counts.old.items counts.new.items }
 {
@@ -160,7 +163,7 @@ fn count_logs(counts: &mut List<LogCount>, nodes: &List<Node>)
 }
 
 /// The log of the node's agent, which has this number, is counted on.
-fn count_log(counts: &mut List<LogCount>, site: &Site, number: usize)
+fn count_log(counts: &mut List<LogCount>, site: &NodeActors, number: usize)
     requires counted { number < length counts.old.items }
     requires may { (count : LogCount) → slice_get counts.old.items number ≡ Some count → MayCountLog site.now.agent.agent.log count }
     ensures { counts.new.items ≡ slice_set counts.old.items number (log_count site.now.agent.agent.log) }

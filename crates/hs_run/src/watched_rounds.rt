@@ -3,26 +3,24 @@
 ghost use Rattle.std.specs.Thread.{IsSync};
 ghost use Rattle.std.specs.Prelude.{◌≡◌, suc, [], ◌∷◌, ◌++◌, true, OnOk};
 ghost use Rattle.hs_board.specs.Shown.{first};
-ghost use Rattle.hs_run_story.specs.Standing.{Moment};
-ghost use Rattle.hs_board.specs.Watching.{BothMayLook, IsLater, Stands};
+ghost use Rattle.hs_run_story.specs.RunStates.{RunState};
+ghost use Rattle.hs_board.specs.Watching.{BothMayLook, IsLater, WatchStands};
 ghost use Rattle.hs_workload.specs.Validity.{IsValid};
 ghost use Rattle.hs_workload.specs.Views.{workload_of};
 ghost use Rattle.hs_run.specs.Moments.{IsHere, AreFew, CanAct, ActedTo, CanBegin};
 ghost use Rattle.hs_run.specs.Nodes.{TellsLeft};
 ghost use Rattle.hs_run.specs.Watched.{shown_on, MayShow, StillStands, RoundsWatched, AllWatched, WatchEnded};
 
+use crate::laws::these_are_all_rounds;
 use crate::meeting::{meet_all, move_all};
-use crate::node::Node;
+use crate::node::ActingNode;
 use crate::rounds::{act, has_left};
 use crate::tallying::Tally;
 use hs_base::{Gate, List, Memory};
-use hs_board::Progress;
-use hs_run_client::callers_have_sent;
-use crate::laws::these_are_all_rounds;
+use hs_board::{Progress, Watch};
 use hs_run_agent::CoordinatorActor;
-use hs_run_story::laws::no_rounds_come;
-use hs_run_story::laws::rounds_keep_what_came;
-use hs_board::Watch;
+use hs_run_client::callers_have_sent;
+use hs_run_story::laws::{no_rounds_come, rounds_keep_what_came};
 use hs_workload::Workload;
 use std::alloc::Global;
 use std::sync::Wait;
@@ -34,13 +32,13 @@ pub(crate) fn watch_rounds<R: Threads + Wait + Sync, G: Gate>(
     alloc: Global,
     gate: &G,
     workload: &Workload,
-    nodes: &mut List<Node>,
+    nodes: &mut List<ActingNode>,
     coordinator: &mut CoordinatorActor,
     watch: &mut Watch,
 ) -> Result<(), Memory>
     requires valid { IsValid (workload_of workload.now) }
     requires all { CanBegin (workload_of workload.now) nodes.old.items coordinator.old }
-    requires begins { (watch.old.shown ≡ first ∷ []) × Stands watch.old }
+    requires begins { (watch.old.shown ≡ first ∷ []) × WatchStands watch.old }
     ensures { OnOk result (AllWatched (workload_of workload.now) nodes.new.items coordinator.new watch.new) }
 {
     no_rounds_come();
@@ -68,7 +66,7 @@ fn watch_round<R: Threads + Wait + Sync, G: Gate>(
     rt: &R,
     gate: &G,
     workload: &Workload,
-    nodes: &mut List<Node>,
+    nodes: &mut List<ActingNode>,
     coordinator: &mut CoordinatorActor,
     watch: &mut Watch,
     tally: &mut Tally,
@@ -92,7 +90,7 @@ fn watch_round<R: Threads + Wait + Sync, G: Gate>(
 /// From the second round on both watchers are told of what is published.
 fn tell(watch: &mut Watch, made: u32)
     ensures shown { watch.new.shown ≡ watch.old.shown }
-    ensures stands { Stands watch.old → Stands watch.new }
+    ensures stands { WatchStands watch.old → WatchStands watch.new }
 {
     if made > 0 {
         watch.tell();
@@ -104,7 +102,7 @@ fn act_watched<R: Threads + Wait + Sync, G: Gate>(
     rt: &R,
     gate: &G,
     workload: &Workload,
-    nodes: &mut List<Node>,
+    nodes: &mut List<ActingNode>,
     coordinator: &mut CoordinatorActor,
     watch: &mut Watch,
     tally: &Tally,
@@ -113,7 +111,7 @@ fn act_watched<R: Threads + Wait + Sync, G: Gate>(
     requires act { CanAct (workload_of workload.now) nodes.old.items coordinator.old }
     requires room { BothMayLook watch.old }
     requires show { MayShow made tally.now watch.old.shown }
-    ensures acted { (m : Moment) → IsHere (workload_of workload.now) m nodes.old.items coordinator.old → AreFew (workload_of workload.now) m
+    ensures acted { (m : RunState) → IsHere (workload_of workload.now) m nodes.old.items coordinator.old → AreFew (workload_of workload.now) m
         → OnOk result (ActedTo (workload_of workload.now) m nodes.new.items coordinator.new) }
     ensures shown { OnOk result (watch.new.shown ≡ shown_on made tally.now watch.old.shown) }
     ensures stands { StillStands watch.old watch.new }
@@ -130,13 +128,13 @@ fn act_and_look<R: Threads + Sync, G: Gate>(
     rt: &R,
     gate: &G,
     workload: &Workload,
-    nodes: &mut List<Node>,
+    nodes: &mut List<ActingNode>,
     coordinator: &mut CoordinatorActor,
     watch: &mut Watch,
 ) -> Result<(), Memory>
     requires act { CanAct (workload_of workload.now) nodes.old.items coordinator.old }
     requires room { BothMayLook watch.old }
-    ensures acted { (m : Moment) → IsHere (workload_of workload.now) m nodes.old.items coordinator.old → AreFew (workload_of workload.now) m
+    ensures acted { (m : RunState) → IsHere (workload_of workload.now) m nodes.old.items coordinator.old → AreFew (workload_of workload.now) m
         → OnOk result (ActedTo (workload_of workload.now) m nodes.new.items coordinator.new) }
     ensures shown { watch.new.shown ≡ watch.old.shown }
     ensures stands { StillStands watch.old watch.new }
@@ -145,7 +143,7 @@ fn act_and_look<R: Threads + Sync, G: Gate>(
         rt,
         &mut || -> Result<(), Memory>
             requires { IsSync R.row × CanAct (workload_of workload.now) nodes.now.items coordinator.now }
-            ensures { (m : Moment) → IsHere (workload_of workload.entry.now) m nodes.entry.now.items coordinator.entry.now → AreFew (workload_of workload.entry.now) m
+            ensures { (m : RunState) → IsHere (workload_of workload.entry.now) m nodes.entry.now.items coordinator.entry.now → AreFew (workload_of workload.entry.now) m
                 → OnOk result (ActedTo (workload_of workload.entry.now) m nodes.exit.now.items coordinator.exit.now) }
         { act(rt, gate, workload, nodes, coordinator) },
         &mut ||
@@ -161,7 +159,7 @@ fn act_and_publish<R: Threads + Wait + Sync, G: Gate>(
     rt: &R,
     gate: &G,
     workload: &Workload,
-    nodes: &mut List<Node>,
+    nodes: &mut List<ActingNode>,
     coordinator: &mut CoordinatorActor,
     watch: &mut Watch,
     progress: Progress,
@@ -169,7 +167,7 @@ fn act_and_publish<R: Threads + Wait + Sync, G: Gate>(
     requires act { CanAct (workload_of workload.now) nodes.old.items coordinator.old }
     requires room { BothMayLook watch.old }
     requires later { IsLater progress watch.old.shown }
-    ensures acted { (m : Moment) → IsHere (workload_of workload.now) m nodes.old.items coordinator.old → AreFew (workload_of workload.now) m
+    ensures acted { (m : RunState) → IsHere (workload_of workload.now) m nodes.old.items coordinator.old → AreFew (workload_of workload.now) m
         → OnOk result (ActedTo (workload_of workload.now) m nodes.new.items coordinator.new) }
     ensures shown { OnOk result (watch.new.shown ≡ watch.old.shown ++ progress ∷ []) }
     ensures stands { StillStands watch.old watch.new }
@@ -178,7 +176,7 @@ fn act_and_publish<R: Threads + Wait + Sync, G: Gate>(
         rt,
         &mut || -> Result<(), Memory>
             requires { IsSync R.row × CanAct (workload_of workload.now) nodes.now.items coordinator.now }
-            ensures { (m : Moment) → IsHere (workload_of workload.entry.now) m nodes.entry.now.items coordinator.entry.now → AreFew (workload_of workload.entry.now) m
+            ensures { (m : RunState) → IsHere (workload_of workload.entry.now) m nodes.entry.now.items coordinator.entry.now → AreFew (workload_of workload.entry.now) m
                 → OnOk result (ActedTo (workload_of workload.entry.now) m nodes.exit.now.items coordinator.exit.now) }
         { act(rt, gate, workload, nodes, coordinator) },
         &mut || -> Result<(), Memory>
@@ -216,7 +214,7 @@ fn publish<R: Threads + Wait + Sync>(
 /// Behind the last of so many rounds their totals are published, the watchers are told, and each looks once more.
 fn end_watch<R: Wait>(rt: &R, watch: &mut Watch, tally: &Tally, made: u32) -> Result<(), Memory>
     requires show { MayShow made tally.now watch.old.shown }
-    requires stands { Stands watch.old }
+    requires stands { WatchStands watch.old }
     ensures shown { OnOk result (watch.new.shown ≡ shown_on made tally.now watch.old.shown) }
     ensures ended { OnOk result (WatchEnded watch.new) }
 {
@@ -231,7 +229,7 @@ fn end_watch<R: Wait>(rt: &R, watch: &mut Watch, tally: &Tally, made: u32) -> Re
 fn publish_last<R: Wait>(rt: &R, watch: &mut Watch, tally: &Tally, made: u32) -> Result<(), Memory>
     requires show { MayShow made tally.now watch.old.shown }
     ensures shown { OnOk result (watch.new.shown ≡ shown_on made tally.now watch.old.shown) }
-    ensures stands { Stands watch.old → Stands watch.new }
+    ensures stands { WatchStands watch.old → WatchStands watch.new }
 {
     if made == 0 {
         return Ok(());

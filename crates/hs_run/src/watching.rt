@@ -7,20 +7,19 @@ ghost use Rattle.hs_run.specs.Seen.{AreSeen};
 ghost use Rattle.hs_journal.specs.Views.{PlainJournal};
 ghost use Rattle.hs_law_journal.specs.Lawful.{IsLawful};
 ghost use Rattle.hs_report.specs.Outcomes.{AreBooksOf, IsOutcome};
-ghost use Rattle.hs_board.specs.Watching.{Stands};
+ghost use Rattle.hs_board.specs.Watching.{WatchStands};
 ghost use Rattle.hs_workload.specs.Validity.{IsValid};
 ghost use Rattle.hs_workload.specs.Views.{workload_of};
 ghost use Rattle.hs_run.specs.Watched.{HaveShown};
 
+use crate::finishing::finish;
+use crate::laws::shown_is_seen;
 use crate::making::make_all;
 use crate::running::places_of;
 use crate::watched_rounds::watch_rounds;
 use hs_base::{Gate, List, Memory};
-use hs_board::Progress;
-use crate::finishing::finish;
-use crate::laws::shown_is_seen;
+use hs_board::{Progress, Watch};
 use hs_report::{Books, Outcome, gather};
-use hs_board::Watch;
 use hs_workload::Workload;
 use std::alloc::Global;
 use std::sync::Wait;
@@ -66,7 +65,7 @@ fn play_watched<R: Threads + Wait + Sync, G: Gate>(
     watch: &mut Watch,
 ) -> Result<Books, Memory>
     requires valid { IsValid (workload_of workload.now) }
-    requires begins { (watch.old.shown ≡ first ∷ []) × Stands watch.old }
+    requires begins { (watch.old.shown ≡ first ∷ []) × WatchStands watch.old }
     ensures { IfOk result (λ books. (J : PlainJournal) × AreBooksOf (workload_of workload.now) J books × HaveShown (workload_of workload.now) J watch.new) }
 {
     shown_is_seen();

@@ -4,11 +4,11 @@ use Rattle.std.proofs.lemmas.List.Sums.{sum_by-append}
 use Rattle.hs_lists.proofs.Counts.{one_few}
 use Rattle.hs_law_agent.specs.Laws.{EventsAddFew}
 use Rattle.hs_law_agent.specs.State.{AgentState, start}
-use Rattle.hs_law_agent.specs.Stepping.{Chunk, Crumbed, Triggered, Asked, Turn, Event, Took, Gave, admits, after_event, after_from, after}
+use Rattle.hs_law_agent.specs.Stepping.{Chunk, Crumbed, Triggered, Asked, Turn, AgentEvent, Took, Gave, admits, after_event, after_from, after}
 use Rattle.hs_records.specs.Plain.{PlainSettings}
 use Rattle.hs_run_agent.specs.Work.{is_triggered, triggered}
 
-adds_one : EventsAddFew → (settings : PlainSettings) (node : ℕ) (state : AgentState) (event : Event) → (after_event settings node state event).admitted ≤ state.admitted + triggered (event ∷ [])
+adds_one : EventsAddFew → (settings : PlainSettings) (node : ℕ) (state : AgentState) (event : AgentEvent) → (after_event settings node state event).admitted ≤ state.admitted + triggered (event ∷ [])
 adds_one few settings node state (Took (Chunk client sheet)) = let e = (few settings node state).admitted (Chunk client sheet) in omega (arith, e)
 adds_one few settings node state (Took (Crumbed client crumb)) = let e = (few settings node state).admitted (Crumbed client crumb) in omega (arith, e)
 adds_one few settings node state (Took (Triggered client trigger)) =
@@ -19,13 +19,13 @@ adds_one few settings node state (Took (Asked ask)) = let e = (few settings node
 adds_one few settings node state (Took Turn) = let e = (few settings node state).admitted Turn in omega (arith, e)
 adds_one few settings node state (Gave answer) = let e = (few settings node state).counted answer in omega (arith, e)
 
-counted_from : EventsAddFew → (settings : PlainSettings) (node : ℕ) (state : AgentState) (events : List Event) → (after_from settings node state events).admitted ≤ state.admitted + triggered events
+counted_from : EventsAddFew → (settings : PlainSettings) (node : ℕ) (state : AgentState) (events : List AgentEvent) → (after_from settings node state events).admitted ≤ state.admitted + triggered events
 counted_from few settings node state [] = omega arith
 counted_from few settings node state (event ∷ events) =
     let one = adds_one few settings node state event in
     let rest = counted_from few settings node (after_event settings node state event) events in
-    let both : triggered (event ∷ events) ≡ triggered (event ∷ []) + triggered events = sum_by-append (λ (e : Event). cond (is_triggered e) 1 0) (event ∷ []) events in
+    let both : triggered (event ∷ events) ≡ triggered (event ∷ []) + triggered events = sum_by-append (λ (e : AgentEvent). cond (is_triggered e) 1 0) (event ∷ []) events in
     omega (arith, one, rest, both)
 
-pub admitted_few : EventsAddFew → (settings : PlainSettings) (node : ℕ) (events : List Event) → (after settings node events).admitted ≤ triggered events
+pub admitted_few : EventsAddFew → (settings : PlainSettings) (node : ℕ) (events : List AgentEvent) → (after settings node events).admitted ≤ triggered events
 admitted_few few settings node events = let all = counted_from few settings node (start settings) events in omega (arith, all)

@@ -24,7 +24,7 @@ use Rattle.hs_journal.specs.declared.journal.Step.TheVariants as steps
 use Rattle.hs_law_journal.specs.Following.{Queue, Chunks, Crumbs, Triggers, Asks}
 use Rattle.hs_law_journal.specs.Passes.{client_queues, queues_of}
 use Rattle.hs_law_agent.specs.Laws.{noted_as}
-use Rattle.hs_law_agent.specs.Stepping.{Answered, Event, Took, Turn, step_of_answer}
+use Rattle.hs_law_agent.specs.Stepping.{Answered, AgentEvent, Took, Turn, step_of_answer}
 use Rattle.hs_records.specs.Plain.{PlainWorkload}
 use Rattle.hs_ring.specs.Parts.{Leased}
 use Rattle.hs_words.specs.Buffers.{Buffer}
@@ -48,7 +48,7 @@ module _ {A B : Type 0} (f : A → List B) where
 
 -- ---- what the lines of one client bring
 
-three : {T : Type 0} (f : Event → List T) (client : ℕ) (h : Helping) (a b c : List T) → flat_map f (map (chunk_event client) h.chunks) ≡ a → flat_map f (map (crumb_event client) h.crumbs) ≡ b → flat_map f (map (trigger_event client) h.triggers) ≡ c
+three : {T : Type 0} (f : AgentEvent → List T) (client : ℕ) (h : Helping) (a b c : List T) → flat_map f (map (chunk_event client) h.chunks) ≡ a → flat_map f (map (crumb_event client) h.crumbs) ≡ b → flat_map f (map (trigger_event client) h.triggers) ≡ c
     → flat_map f (events_of client h) ≡ (a ++ b) ++ c
 three f client h a b c e₁ e₂ e₃ =
     flat_map-append f (map (chunk_event client) h.chunks ++ map (crumb_event client) h.crumbs) (map (trigger_event client) h.triggers)
@@ -88,7 +88,7 @@ triggers_other c k h apart =
 
 -- ---- what those of all clients bring
 
-module _ {T : Type 0} (f : ℕ → Event → List T) (field : Helping → List T) (mine : (c : ℕ) (h : Helping) → flat_map (f c) (events_of c h) ≡ field h) (other : (c k : ℕ) (h : Helping) → (k ≡ c → ⊥) → flat_map (f c) (events_of k h) ≡ []) where
+module _ {T : Type 0} (f : ℕ → AgentEvent → List T) (field : Helping → List T) (mine : (c : ℕ) (h : Helping) → flat_map (f c) (events_of c h) ≡ field h) (other : (c k : ℕ) (h : Helping) → (k ≡ c → ⊥) → flat_map (f c) (events_of k h) ≡ []) where
   none_below : (c k : ℕ) (helpings : List Helping) → c < k → flat_map (f c) (events_from k helpings) ≡ []
   none_below c k [] low = refl
   none_below c k (h ∷ helpings) low =
@@ -154,7 +154,7 @@ abbrev pub OwnChunks : ℕ → List Helping → Type 0
 OwnChunks client [] = Unit {0}
 OwnChunks client (h ∷ helpings) = AllByRecursion (λ (b : Buffer Leased). (sheet_in b).header.client.number ≡ client) h.chunks × OwnChunks (suc client) helpings
 
-own_of : (W : PlainWorkload) (node client : ℕ) (items : List (Buffer Leased)) (more : List Event) → AllByRecursion (IsWithin W node) (map (chunk_event client) items ++ more) → AllByRecursion (λ (b : Buffer Leased). (sheet_in b).header.client.number ≡ client) items
+own_of : (W : PlainWorkload) (node client : ℕ) (items : List (Buffer Leased)) (more : List AgentEvent) → AllByRecursion (IsWithin W node) (map (chunk_event client) items ++ more) → AllByRecursion (λ (b : Buffer Leased). (sheet_in b).header.client.number ≡ client) items
 own_of W node client [] more all = tt
 own_of W node client (item ∷ items) more all = (ap (λ i. i.number) all.0.1, own_of W node client items more all.1)
 
@@ -212,7 +212,7 @@ few_of f [] client all = omega arith
 few_of f (h ∷ helpings) zero all = all.0
 few_of f (h ∷ helpings) (suc client) all = few_of f helpings client all.1
 
-noted_each : {T : Type 0} (event : T → Event) (step : Step) (items : List T) → ((item : T) → noted_as (event item) ≡ step) → map noted_as (map event items) ≡ replicate (length items) step
+noted_each : {T : Type 0} (event : T → AgentEvent) (step : Step) (items : List T) → ((item : T) → noted_as (event item) ≡ step) → map noted_as (map event items) ≡ replicate (length items) step
 noted_each event step [] one = refl
 noted_each event step (item ∷ items) one = ap₂ (λ (s : Step) (l : List Step). s ∷ l) (one item) (noted_each event step items one)
 

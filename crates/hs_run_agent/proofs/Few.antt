@@ -8,13 +8,13 @@ use Rattle.hs_lists.proofs.Places.{get_there, take_more}
 use Rattle.hs_base.specs.declared.limits.TheConstants.{MAX_CLIENTS}
 use Rattle.hs_law_journal.specs.Doings.{trigger_in, triggers_in}
 use Rattle.hs_base.specs.declared.told.Trigger.{Trigger}
-use Rattle.hs_law_agent.specs.Stepping.{Chunk, Crumbed, Triggered, Asked, Turn, Event, Took, Gave}
+use Rattle.hs_law_agent.specs.Stepping.{Chunk, Crumbed, Triggered, Asked, Turn, AgentEvent, Took, Gave}
 use Rattle.hs_records.specs.Plain.{Operation, PlainWorkload}
 use Rattle.hs_workload.specs.Validity.{IsValid, client_pieces, workload_pieces}
 use Rattle.hs_workload.specs.declared.word.Setting.TheVariants as settings
 use Rattle.hs_workload.proofs.Sizes.{last_low}
 use Rattle.hs_run_agent.specs.Agents.{IsWithin}
-use Rattle.hs_run_agent.specs.Work.{Work, IsFew, is_triggered, triggered}
+use Rattle.hs_run_agent.specs.Work.{NodeWork, IsFew, is_triggered, triggered}
 
 -- ---- the clients of a workload
 
@@ -49,18 +49,18 @@ sum_lesser (suc n) f g i low h one =
 
 -- ---- the triggers of all clients
 
-taken_of : List Event → ℕ → ℕ
+taken_of : List AgentEvent → ℕ → ℕ
 taken_of events client = length (triggers_in client events)
 
-count_cons : (e : Event) (es : List Event) → triggered (e ∷ es) ≡ one (is_triggered e) + triggered es
+count_cons : (e : AgentEvent) (es : List AgentEvent) → triggered (e ∷ es) ≡ one (is_triggered e) + triggered es
 unfolding one
-count_cons e es = sum_by-cons (λ (x : Event). cond (is_triggered x) 1 0) e es
+count_cons e es = sum_by-cons (λ (x : AgentEvent). cond (is_triggered x) 1 0) e es
 
-taken_more : (e : Event) (es : List Event) (client : ℕ) → taken_of es client ≤ taken_of (e ∷ es) client
+taken_more : (e : AgentEvent) (es : List AgentEvent) (client : ℕ) → taken_of es client ≤ taken_of (e ∷ es) client
 unfolding taken_of
 taken_more e es client = let h = length-append (trigger_in client e) (triggers_in client es) in omega (arith, h)
 
-taken_here : (client : ℕ) (t : Trigger) (es : List Event) → taken_of es client + 1 ≤ taken_of (Took (Triggered client t) ∷ es) client
+taken_here : (client : ℕ) (t : Trigger) (es : List AgentEvent) → taken_of es client + 1 ≤ taken_of (Took (Triggered client t) ∷ es) client
 unfolding taken_of
 taken_here client t es =
     let h = length-append (trigger_in client (Took (Triggered client t))) (triggers_in client es) in
@@ -68,14 +68,14 @@ taken_here client t es =
     omega (arith, h, e)
 
 -- an event that is no trigger
-other : (n : ℕ) (e : Event) (es : List Event) → is_triggered e ≡ false → triggered es ≤ sum_to n (taken_of es) → triggered (e ∷ es) ≤ sum_to n (taken_of (e ∷ es))
+other : (n : ℕ) (e : AgentEvent) (es : List AgentEvent) → is_triggered e ≡ false → triggered es ≤ sum_to n (taken_of es) → triggered (e ∷ es) ≤ sum_to n (taken_of (e ∷ es))
 unfolding one
 other n e es off rest =
     let count : triggered (e ∷ es) ≡ 0 + triggered es = count_cons e es ∙ ap (λ (b : Bool). cond b 1 0 + triggered es) off in
     let less = sum_less n (taken_of (e ∷ es)) (taken_of es) (λ k _. taken_more e es k) in
     omega (arith, rest, count, less)
 
-few_taken : (W : PlainWorkload) (node n : ℕ) → n ≡ W.settings.clients → (events : List Event) → AllByRecursion (IsWithin W node) events → triggered events ≤ sum_to n (taken_of events)
+few_taken : (W : PlainWorkload) (node n : ℕ) → n ≡ W.settings.clients → (events : List AgentEvent) → AllByRecursion (IsWithin W node) events → triggered events ≤ sum_to n (taken_of events)
 unfolding one
 few_taken W node n is [] h = omega arith
 few_taken W node n is (Took (Chunk client sheet) ∷ es) h = other n (Took (Chunk client sheet)) es refl (few_taken W node n is es h.1)
@@ -125,7 +125,7 @@ pieces_all size (x ∷ xs) (suc n) = let rest = pieces_all size xs n in omega (a
 -- ---- both
 
 -- what the clients of a node sent bounds what its agent takes
-pub few_of_sent : (W : PlainWorkload) → IsValid W → (n : ℕ) → n < W.settings.nodes → (work : Work) → AllByRecursion (IsWithin W work.node) work.events
+pub few_of_sent : (W : PlainWorkload) → IsValid W → (n : ℕ) → n < W.settings.nodes → (work : NodeWork) → AllByRecursion (IsWithin W work.node) work.events
     → ((client : ℕ) → client < W.settings.clients → length (triggers_in client work.events) ≤ client_pieces W.settings.size (unwrap_or (slice_get W.clients (n * W.settings.clients + client)) []))
     → IsFew W work
 unfolding sum_to taken_of pieces_at

@@ -6,7 +6,7 @@ use Rattle.hs_lists.proofs.Places.{get_there}
 use Rattle.hs_base.specs.declared.limits.TheConstants.{MAX_TAKEN}
 use Rattle.hs_records.specs.Plain.{PlainWorkload}
 use Rattle.hs_words.specs.Pools.{PoolName}
-use Rattle.hs_run_agent.specs.Lines.{Line, linked, closed, Hands, HandsAt, HandsOutAt, AreLinesFor, IsAt, key_of, due}
+use Rattle.hs_run_agent.specs.Intakes.{Intake, linked, closed, Hands, HandsAt, HandsOutAt, AreIntakesFor, IsIntakeAt, key_of, due}
 
 -- ---- an item that was set
 
@@ -29,11 +29,11 @@ module _ {A : Type 0} where
 -- ---- one line
 
 module _ {T : Type 0} where
-  pub hands_none : (l : Line T) → Hands [] l l
+  pub hands_none : (l : Intake T) → Hands [] l l
   hands_none (linked r) = ((refl, refl, refl), sym (append-nil r.received))
   hands_none (closed r) = (refl, refl)
 
-  pub hands_more : (xs ys : List T) (a b c : Line T) → Hands xs a b → Hands ys b c → Hands (xs ++ ys) a c
+  pub hands_more : (xs ys : List T) (a b c : Intake T) → Hands xs a b → Hands ys b c → Hands (xs ++ ys) a c
   hands_more xs ys (linked a) (linked b) (linked c) h k =
       ((k.0.0 ∙ h.0.0, k.0.1 ∙ h.0.1, k.0.2 ∙ h.0.2), k.1 ∙ ap (λ (l : List T). l ++ ys) h.1 ∙ append_assoc a.received xs ys)
   hands_more xs ys (closed a) (closed b) (closed c) h k = (k.0 ∙ h.0, h.1 ∙ ap (λ (l : List T). xs ++ l) k.1 ∙ sym (append_assoc xs ys c.items))
@@ -42,7 +42,7 @@ module _ {T : Type 0} where
   hands_more xs ys (closed a) (linked b) c h k = absurd h
   hands_more xs ys (closed a) (closed b) (linked c) h k = absurd k
 
-  pub due_after : (xs : List T) (a b : Line T) → Hands xs a b → due a ≤ length xs + due b
+  pub due_after : (xs : List T) (a b : Intake T) → Hands xs a b → due a ≤ length xs + due b
   due_after xs (linked a) (linked b) h =
       let told = ap length h.0.2 in
       let received = ap length h.1 ∙ length-append a.received xs in
@@ -51,7 +51,7 @@ module _ {T : Type 0} where
   due_after xs (linked a) (closed b) h = absurd h
   due_after xs (closed a) (linked b) h = absurd h
 
-  pub key_kept : (xs : List T) (a b : Line T) → Hands xs a b → key_of b ≡ key_of a
+  pub key_kept : (xs : List T) (a b : Intake T) → Hands xs a b → key_of b ≡ key_of a
   key_kept xs (linked a) (linked b) h = h.0.1
   key_kept xs (closed a) (closed b) h = h.0
   key_kept xs (linked a) (closed b) h = absurd h
@@ -60,14 +60,14 @@ module _ {T : Type 0} where
   -- ---- the line of a client
 
   -- so far the line gave these items out, and the others are as they were
-  pub record HandsSoFar (client : ℕ) (items : List T) (old new : List (Line T)) : Type 0 where
-    pub before : Line T
-    pub after : Line T
-    pub at : IsAt client old before
+  pub record HandsSoFar (client : ℕ) (items : List T) (old new : List (Intake T)) : Type 0 where
+    pub before : Intake T
+    pub after : Intake T
+    pub at : IsIntakeAt client old before
     pub set_is : new ≡ slice_set old client after
     pub hands : Hands items before after
 
-  pub none_so_far : (client : ℕ) (lines : List (Line T)) → client < length lines → HandsSoFar client [] lines lines
+  pub none_so_far : (client : ℕ) (lines : List (Intake T)) → client < length lines → HandsSoFar client [] lines lines
   none_so_far client lines low =
       let (l, at) = get_there lines client low in
       record {
@@ -78,9 +78,9 @@ module _ {T : Type 0} where
         hands = hands_none l;
       }
 
-  module _ (client : ℕ) (items : List T) (old mid new : List (Line T)) (so_far : HandsSoFar client items old mid) where
-    now_at : IsAt client mid so_far.after
-    now_at = ap (λ (l : List (Line T)). slice_get l client) so_far.set_is ∙ get_set old client so_far.before so_far.after so_far.at
+  module _ (client : ℕ) (items : List T) (old mid new : List (Intake T)) (so_far : HandsSoFar client items old mid) where
+    now_at : IsIntakeAt client mid so_far.after
+    now_at = ap (λ (l : List (Intake T)). slice_get l client) so_far.set_is ∙ get_set old client so_far.before so_far.after so_far.at
 
     pub more_so_far : (item : T) → HandsAt client mid (Some item) new → HandsSoFar client (items ++ item ∷ []) old new
     more_so_far item h =
@@ -89,8 +89,8 @@ module _ {T : Type 0} where
           before = so_far.before;
           after = h.1;
           at = so_far.at;
-          set_is = h.3 ∙ ap (λ (l : List (Line T)). slice_set l client h.1) so_far.set_is ∙ set_set old client so_far.after h.1;
-          hands = hands_more items (item ∷ []) so_far.before so_far.after h.1 so_far.hands (subst (λ (l : Line T). Hands (item ∷ []) l h.1) (sym same) h.4);
+          set_is = h.3 ∙ ap (λ (l : List (Intake T)). slice_set l client h.1) so_far.set_is ∙ set_set old client so_far.after h.1;
+          hands = hands_more items (item ∷ []) so_far.before so_far.after h.1 so_far.hands (subst (λ (l : Intake T). Hands (item ∷ []) l h.1) (sym same) h.4);
         }
 
     pub all_out : length items ≤ MAX_TAKEN → HandsAt client mid None new → HandsOutAt client items old new
@@ -118,7 +118,7 @@ module _ {T : Type 0} where
 
   -- ---- keys
 
-  found_set : (lines : List (Line T)) (client other : ℕ) (l l' x : Line T) → IsAt client lines l → key_of l' ≡ key_of l → IsAt other (slice_set lines client l') x → (y : Line T) × IsAt other lines y × (key_of x ≡ key_of y)
+  found_set : (lines : List (Intake T)) (client other : ℕ) (l l' x : Intake T) → IsIntakeAt client lines l → key_of l' ≡ key_of l → IsIntakeAt other (slice_set lines client l') x → (y : Intake T) × IsIntakeAt other lines y × (key_of x ≡ key_of y)
   found_set [] client other l l' x at same found = let none : None ≡ Some l = at in absurd cc
   found_set (y ∷ lines) zero zero l l' x at same found = (y, refl, ap key_of (sym (same_Some l' x found)) ∙ same ∙ ap key_of (sym (same_Some y l at)))
   found_set (y ∷ lines) zero (suc other) l l' x at same found = (x, found, refl)
@@ -126,14 +126,14 @@ module _ {T : Type 0} where
   found_set (y ∷ lines) (suc client) (suc other) l l' x at same found = found_set lines client other l l' x at same found
 
   module _ (W : PlainWorkload) (node : ℕ) (pool : PoolName) where
-    pub lines_set : (client : ℕ) (old : List (Line T)) (l l' : Line T) → IsAt client old l → key_of l' ≡ key_of l → AreLinesFor W node pool old → AreLinesFor W node pool (slice_set old client l')
+    pub lines_set : (client : ℕ) (old : List (Intake T)) (l l' : Intake T) → IsIntakeAt client old l → key_of l' ≡ key_of l → AreIntakesFor W node pool old → AreIntakesFor W node pool (slice_set old client l')
     lines_set client old l l' at same are =
         record {
           count = length-set old client l' ∙ are.count;
           keys = λ other x found. let (y, stood, key) = found_set old client other l l' x at same found in key ∙ are.keys other y stood;
         }
 
-    pub lines_at : (client : ℕ) (item : Option T) (old new : List (Line T)) → HandsAt client old item new → AreLinesFor W node pool old → AreLinesFor W node pool new
+    pub lines_at : (client : ℕ) (item : Option T) (old new : List (Intake T)) → HandsAt client old item new → AreIntakesFor W node pool old → AreIntakesFor W node pool new
     lines_at client (Some item) old new h are =
-        subst (λ (l : List (Line T)). AreLinesFor W node pool l) (sym h.3) (lines_set client old h.0 h.1 h.2 (key_kept (item ∷ []) h.0 h.1 h.4) are)
-    lines_at client None old new h are = subst (λ (l : List (Line T)). AreLinesFor W node pool l) (sym h.2) are
+        subst (λ (l : List (Intake T)). AreIntakesFor W node pool l) (sym h.3) (lines_set client old h.0 h.1 h.2 (key_kept (item ∷ []) h.0 h.1 h.4) are)
+    lines_at client None old new h are = subst (λ (l : List (Intake T)). AreIntakesFor W node pool l) (sym h.2) are

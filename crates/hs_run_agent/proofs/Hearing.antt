@@ -13,14 +13,14 @@ use Rattle.hs_base.specs.declared.limits.TheConstants.{MAX_TAKEN}
 use Rattle.hs_base.specs.declared.told.Ask.{Ask}
 use Rattle.hs_base.specs.declared.told.Told.{Told}
 use Rattle.hs_coord.specs.Following.{AreAsks, first_of}
-use Rattle.hs_coord.specs.Kept.{Kept, HasTaken}
+use Rattle.hs_coord.specs.Kept.{PlainCoordinator, HasTaken}
 use Rattle.hs_coord.specs.Messages.{Message, Messages, message, is_of}
 use Rattle.hs_coord.specs.declared.asks.Asks.{Asks}
 use Rattle.hs_law_journal.specs.Following.{asks_to, ask_by, is_from}
 use Rattle.hs_law_journal.proofs.Logs.{behind_more}
 use Rattle.hs_records.specs.Plain.{PlainWorkload}
 use Rattle.hs_run_agent.specs.Agents.{IsAskable, IsTellable}
-use Rattle.hs_run_agent.specs.Coordinators.{Coordinating, Tellings, Askings, IsCoordinating, IsHearable, Hears, HearsNode, IsMoved, AreFetched, IsPutBehind, heard_of, ask_for, asks_for}
+use Rattle.hs_run_agent.specs.Coordinators.{PlainCoordinatorActor, Tellings, Askings, IsCoordinatorActor, IsHearable, Hears, HearsNode, IsMoved, AreFetched, IsPutBehind, heard_of, ask_for, asks_for}
 
 -- ---- lists
 
@@ -87,7 +87,7 @@ first_hearable W heard m all here = found_in heard all
 
 -- ---- a message
 
-module _ (W : PlainWorkload) (heard : Messages) (moved : Tellings) (asked : Askings) (c : Coordinating) (is : IsCoordinating W heard moved asked c) where
+module _ (W : PlainWorkload) (heard : Messages) (moved : Tellings) (asked : Askings) (c : PlainCoordinatorActor) (is : IsCoordinatorActor W heard moved asked c) where
   -- the message that waits first at a node may be heard
   pub next_hearable : (node : ℕ) (told : Told) (rest : List Told) → slice_get c.told node ≡ Some (told ∷ rest) → IsHearable W (message (name node) told)
   next_hearable node told rest at =
@@ -118,8 +118,8 @@ module _ (W : PlainWorkload) (heard : Messages) (moved : Tellings) (asked : Aski
         ]
 
     -- it was heard, and its asks wait
-    pub hears_one : (kept : Kept) (asks : Asks) → HasTaken kept (heard ++ m ∷ []) → kept.nodes ≡ c.kept.nodes → AreAsks heard m asks
-        → IsCoordinating W (heard ++ m ∷ []) moved asked (record { kept = kept; told = slice_set c.told node rest; asks = c.asks ++ asks ∷ [] })
+    pub hears_one : (kept : PlainCoordinator) (asks : Asks) → HasTaken kept (heard ++ m ∷ []) → kept.nodes ≡ c.kept.nodes → AreAsks heard m asks
+        → IsCoordinatorActor W (heard ++ m ∷ []) moved asked (record { kept = kept; told = slice_set c.told node rest; asks = c.asks ++ asks ∷ [] })
     hears_one kept asks taken nodes are =
         let hearable = next_hearable node told rest at in
         let first = first_hearable W heard m is.hearable hearable in
@@ -137,35 +137,35 @@ module _ (W : PlainWorkload) (heard : Messages) (moved : Tellings) (asked : Aski
               ∙ ap (λ (l : List Ask). asked n ++ l) (sym (flat_map-append (ask_for n) c.asks (asks ∷ []) ∙ ap (λ (l : List Ask). asks_for n c.asks ++ l) (append-nil (ask_for n asks))));
         }
 
-    pub hears_so : (kept : Kept) (asks : Asks) (told' : List (List Told)) (asks' : List Asks) → told' ≡ slice_set c.told node rest → asks' ≡ c.asks ++ asks ∷ [] → HasTaken kept (heard ++ m ∷ []) → kept.nodes ≡ c.kept.nodes → AreAsks heard m asks
-        → IsCoordinating W (heard ++ m ∷ []) moved asked (record { kept = kept; told = told'; asks = asks' })
+    pub hears_so : (kept : PlainCoordinator) (asks : Asks) (told' : List (List Told)) (asks' : List Asks) → told' ≡ slice_set c.told node rest → asks' ≡ c.asks ++ asks ∷ [] → HasTaken kept (heard ++ m ∷ []) → kept.nodes ≡ c.kept.nodes → AreAsks heard m asks
+        → IsCoordinatorActor W (heard ++ m ∷ []) moved asked (record { kept = kept; told = told'; asks = asks' })
     hears_so kept asks told' asks' same_told same_asks taken nodes are =
-        subst (λ (l : List (List Told)). IsCoordinating W (heard ++ m ∷ []) moved asked (record { kept = kept; told = l; asks = asks' })) (sym same_told)
-        (subst (λ (l : List Asks). IsCoordinating W (heard ++ m ∷ []) moved asked (record { kept = kept; told = slice_set c.told node rest; asks = l })) (sym same_asks) (hears_one kept asks taken nodes are))
+        subst (λ (l : List (List Told)). IsCoordinatorActor W (heard ++ m ∷ []) moved asked (record { kept = kept; told = l; asks = asks' })) (sym same_told)
+        (subst (λ (l : List Asks). IsCoordinatorActor W (heard ++ m ∷ []) moved asked (record { kept = kept; told = slice_set c.told node rest; asks = l })) (sym same_asks) (hears_one kept asks taken nodes are))
 
 -- ---- the messages of a node
 
 module _ (W : PlainWorkload) (heard : Messages) (moved : Tellings) (asked : Askings) (node : ℕ) where
   -- so many were heard
-  pub record HeardSome (count : ℕ) (c : Coordinating) : Type 0 where
+  pub record HeardSome (count : ℕ) (c : PlainCoordinatorActor) : Type 0 where
     pub more : List Told
     pub number : length more ≡ count
-    pub stands : IsCoordinating W (heard ++ map (message (record { 0 = node })) more) moved asked c
+    pub stands : IsCoordinatorActor W (heard ++ map (message (record { 0 = node })) more) moved asked c
 
-  pub heard_none : (c : Coordinating) → IsCoordinating W heard moved asked c → HeardSome 0 c
-  heard_none c is = record { more = []; number = refl; stands = subst (λ (h : Messages). IsCoordinating W h moved asked c) (sym (append-nil heard)) is }
+  pub heard_none : (c : PlainCoordinatorActor) → IsCoordinatorActor W heard moved asked c → HeardSome 0 c
+  heard_none c is = record { more = []; number = refl; stands = subst (λ (h : Messages). IsCoordinatorActor W h moved asked c) (sym (append-nil heard)) is }
 
-  module _ (count : ℕ) (c : Coordinating) (some : HeardSome count c) where
+  module _ (count : ℕ) (c : PlainCoordinatorActor) (some : HeardSome count c) where
     abbrev pub heard_now : Messages
     heard_now = heard ++ map (message (record { 0 = node })) some.more
 
-    pub heard_one : (told : Told) (rest : List Told) → slice_get c.told node ≡ Some (told ∷ rest) → (c' : Coordinating) → IsCoordinating W (heard_now ++ message (record { 0 = node }) told ∷ []) moved asked c' → HeardSome (count + 1) c'
+    pub heard_one : (told : Told) (rest : List Told) → slice_get c.told node ≡ Some (told ∷ rest) → (c' : PlainCoordinatorActor) → IsCoordinatorActor W (heard_now ++ message (record { 0 = node }) told ∷ []) moved asked c' → HeardSome (count + 1) c'
     heard_one told rest at c' is =
         let all = append_assoc heard (map (message (name node)) some.more) (message (name node) told ∷ []) ∙ ap (λ (l : Messages). heard ++ l) (sym (map-append (message (name node)) some.more (told ∷ []))) in
         record {
           more = some.more ++ told ∷ [];
           number = length-append some.more (told ∷ []) ∙ ap (λ n. n + 1) some.number;
-          stands = subst (λ (h : Messages). IsCoordinating W h moved asked c') all is;
+          stands = subst (λ (h : Messages). IsCoordinatorActor W h moved asked c') all is;
         }
 
     counted : length (heard_of node heard_now) ≡ length (heard_of node heard) + length some.more
@@ -187,25 +187,25 @@ module _ (W : PlainWorkload) (heard : Messages) (moved : Tellings) (asked : Aski
 
 module _ (W : PlainWorkload) (heard : Messages) (moved : Tellings) (asked : Askings) where
   -- The messages of the first so many nodes were heard.
-  pub record HeardFirst (first : ℕ) (c : Coordinating) : Type 0 where
+  pub record HeardFirst (first : ℕ) (c : PlainCoordinatorActor) : Type 0 where
     pub more : Messages
-    pub stands : IsCoordinating W (heard ++ more) moved asked c
+    pub stands : IsCoordinatorActor W (heard ++ more) moved asked c
     pub few : (node : ℕ) → node < first → length (heard_of node more) ≤ MAX_TAKEN
     pub all : (node : ℕ) → node < first → min (length (heard_of node heard) + MAX_TAKEN) (length (moved node)) ≤ length (heard_of node heard) + length (heard_of node more)
     pub none : (node : ℕ) → first ≤ node → heard_of node more ≡ []
 
-  pub none_first : (c : Coordinating) → IsCoordinating W heard moved asked c → HeardFirst 0 c
+  pub none_first : (c : PlainCoordinatorActor) → IsCoordinatorActor W heard moved asked c → HeardFirst 0 c
   none_first c is =
       record {
         more = [];
-        stands = subst (λ (h : Messages). IsCoordinating W h moved asked c) (sym (append-nil heard)) is;
+        stands = subst (λ (h : Messages). IsCoordinatorActor W h moved asked c) (sym (append-nil heard)) is;
         few = λ node low. absurd (omega (arith, low));
         all = λ node low. absurd (omega (arith, low));
         none = λ node low. refl;
       }
 
-  module _ (first : ℕ) (c : Coordinating) (h : HeardFirst first c) where
-    pub first_more : (c' : Coordinating) → HearsNode W (heard ++ h.more) moved asked first c' → HeardFirst (first + 1) c'
+  module _ (first : ℕ) (c : PlainCoordinatorActor) (h : HeardFirst first c) where
+    pub first_more : (c' : PlainCoordinatorActor) → HearsNode W (heard ++ h.more) moved asked first c' → HeardFirst (first + 1) c'
     first_more c' n =
         let told = map (message (name first)) n.more in
         let other : (node : ℕ) → (first ≡ node → ⊥) → heard_of node (h.more ++ told) ≡ heard_of node h.more = λ node apart.
@@ -217,7 +217,7 @@ module _ (W : PlainWorkload) (heard : Messages) (moved : Tellings) (asked : Aski
         in
         record {
           more = h.more ++ told;
-          stands = subst (λ (l : Messages). IsCoordinating W l moved asked c') (append_assoc heard h.more told) n.stands;
+          stands = subst (λ (l : Messages). IsCoordinatorActor W l moved asked c') (append_assoc heard h.more told) n.stands;
           few = λ node low. elim (below first node low) [
             | inl less ↦ (let same = ap length (other node (λ e. omega (arith, e, less))) in let few = h.few node less in omega (arith, same, few))
             | inr e ↦ (let same = ap length (ap (λ k. heard_of k (h.more ++ told)) e ∙ here) in let few = n.few in omega (arith, same, few))
@@ -255,10 +255,10 @@ module _ (W : PlainWorkload) (heard : Messages) (moved : Tellings) (asked : Aski
 
 -- ---- between rounds
 
-module _ (W : PlainWorkload) (heard : Messages) (moved : Tellings) (asked : Askings) (c : Coordinating) (is : IsCoordinating W heard moved asked c) where
+module _ (W : PlainWorkload) (heard : Messages) (moved : Tellings) (asked : Askings) (c : PlainCoordinatorActor) (is : IsCoordinatorActor W heard moved asked c) where
   -- a message was brought
   pub brought : (node : ℕ) (told : Told) (queue : List Told) → slice_get c.told node ≡ Some queue → IsTellable W told → (moved' : Tellings) → IsMoved node told moved moved'
-      → IsCoordinating W heard moved' asked (record c { told = slice_set c.told node (queue ++ told ∷ []) })
+      → IsCoordinatorActor W heard moved' asked (record c { told = slice_set c.told node (queue ++ told ∷ []) })
   brought node told queue at tellable moved' more =
       record {
         few = is.few;
@@ -289,8 +289,8 @@ module _ (W : PlainWorkload) (heard : Messages) (moved : Tellings) (asked : Aski
       same_or_not (suc a) (suc b) = elim (same_or_not a b) [ inl e ↦ inl (ap suc e) | inr apart ↦ inr (λ e. apart (omega (arith, e))) ]
 
 -- asks were fetched
-pub fetched : (W : PlainWorkload) (heard : Messages) (moved : Tellings) (asked : Askings) (old : Coordinating) (asks : Asks) (rest : List Asks) → old.asks ≡ asks ∷ rest → IsCoordinating W heard moved asked old
-    → IsAskable W asks.ask × ((asked' : Askings) → AreFetched W asks asked asked' → IsCoordinating W heard moved asked' (record old { asks = rest }))
+pub fetched : (W : PlainWorkload) (heard : Messages) (moved : Tellings) (asked : Askings) (old : PlainCoordinatorActor) (asks : Asks) (rest : List Asks) → old.asks ≡ asks ∷ rest → IsCoordinatorActor W heard moved asked old
+    → IsAskable W asks.ask × ((asked' : Askings) → AreFetched W asks asked asked' → IsCoordinatorActor W heard moved asked' (record old { asks = rest }))
 fetched W heard moved asked old asks rest e is =
     let askable = subst (λ (l : List Asks). AllByRecursion (λ (a : Asks). IsAskable W a.ask) l) e is.askable in (
       askable.0,
@@ -309,7 +309,7 @@ fetched W heard moved asked old asks rest e is =
           },
     )
 
-pub brought_so : (W : PlainWorkload) (heard : Messages) (moved : Tellings) (asked : Askings) (old : Coordinating) (told' : List (List Told)) (node : ℕ) (told : Told) → IsPutBehind node told old.told told' → IsCoordinating W heard moved asked old → IsTellable W told
-    → (moved' : Tellings) → IsMoved node told moved moved' → IsCoordinating W heard moved' asked (record old { told = told' })
+pub brought_so : (W : PlainWorkload) (heard : Messages) (moved : Tellings) (asked : Askings) (old : PlainCoordinatorActor) (told' : List (List Told)) (node : ℕ) (told : Told) → IsPutBehind node told old.told told' → IsCoordinatorActor W heard moved asked old → IsTellable W told
+    → (moved' : Tellings) → IsMoved node told moved moved' → IsCoordinatorActor W heard moved' asked (record old { told = told' })
 brought_so W heard moved asked old told' node told put is tellable moved' more =
-    subst (λ (l : List (List Told)). IsCoordinating W heard moved' asked (record old { told = l })) (sym put.2) (brought W heard moved asked old is node told put.0 put.1 tellable moved' more)
+    subst (λ (l : List (List Told)). IsCoordinatorActor W heard moved' asked (record old { told = l })) (sym put.2) (brought W heard moved asked old is node told put.0 put.1 tellable moved' more)

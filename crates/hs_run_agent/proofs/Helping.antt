@@ -7,14 +7,14 @@ use Rattle.std.specs.List.{AllByRecursion}
 use Rattle.hs_base.specs.declared.limits.TheConstants.{MAX_TAKEN}
 use Rattle.hs_base.specs.declared.told.Crumb.{Crumb}
 use Rattle.hs_base.specs.declared.told.Trigger.{Trigger}
-use Rattle.hs_law_agent.specs.Stepping.{Event}
+use Rattle.hs_law_agent.specs.Stepping.{AgentEvent}
 use Rattle.hs_records.specs.Plain.{PlainWorkload}
 use Rattle.hs_ring.specs.Parts.{Leased}
 use Rattle.hs_words.specs.Buffers.{Buffer}
-use Rattle.hs_run_agent.specs.Lines.{Line, Lines, HandsOut, HandsOutAt, HandOutFirst}
+use Rattle.hs_run_agent.specs.Intakes.{Intake, Intakes, HandsOut, HandsOutAt, HandOutFirst}
 use Rattle.hs_run_agent.specs.Passing.{CanPass}
-use Rattle.hs_run_agent.specs.Stages.{Desking, Stands, CanTake, TakesChunks, TakesCrumbs, TakesTriggers, TakesHelping, TakesFirst, Helping, events_of, events_from, chunks_of}
-use Rattle.hs_run_agent.specs.Work.{Work, with_events, chunk_event, crumb_event, trigger_event, triggered}
+use Rattle.hs_run_agent.specs.Stages.{PlainWorkingAgent, WorkingAgentStands, AgentCanTake, TakesChunks, TakesCrumbs, TakesTriggers, TakesHelping, TakesFirst, Helping, events_of, events_from, chunks_of}
+use Rattle.hs_run_agent.specs.Work.{NodeWork, with_events, chunk_event, crumb_event, trigger_event, triggered}
 use Rattle.hs_run_agent.proofs.Stages.{with_none, with_more, triggered_more}
 
 -- ---- events without triggers
@@ -51,48 +51,48 @@ few_triggers client (h ∷ helpings) few =
 
 -- ---- one client
 
-module _ (W : PlainWorkload) (work : Work) (client : ℕ) (old : Lines) where
-  pub can_take_crumbs : (desk0 desk : Desking) (lines : Lines) → CanTake W work client desk0 old → (t : TakesChunks W work client old lines desk) → CanTake W (with_events (map (chunk_event client) t.items) t.items work) client desk lines
+module _ (W : PlainWorkload) (work : NodeWork) (client : ℕ) (old : Intakes) where
+  pub can_take_crumbs : (desk0 desk : PlainWorkingAgent) (lines : Intakes) → AgentCanTake W work client desk0 old → (t : TakesChunks W work client old lines desk) → AgentCanTake W (with_events (map (chunk_event client) t.items) t.items work) client desk lines
   can_take_crumbs desk0 desk lines can t =
       let none = chunks_untriggered client t.items in
       let both = triggered_more work.events (map (chunk_event client) t.items) in
       let few = can.few in
       record { low = can.low; few = omega (arith, none, both, few); stands = t.stands }
 
-  pub can_take_triggers : (desk0 desk : Desking) (lines : Lines) → CanTake W work client desk0 old → (t : TakesCrumbs W work client old lines desk) → CanTake W (with_events (map (crumb_event client) t.items) [] work) client desk lines
+  pub can_take_triggers : (desk0 desk : PlainWorkingAgent) (lines : Intakes) → AgentCanTake W work client desk0 old → (t : TakesCrumbs W work client old lines desk) → AgentCanTake W (with_events (map (crumb_event client) t.items) [] work) client desk lines
   can_take_triggers desk0 desk lines can t =
       let none = crumbs_untriggered client t.items in
       let both = triggered_more work.events (map (crumb_event client) t.items) in
       let few = can.few in
       record { low = can.low; few = omega (arith, none, both, few); stands = t.stands }
 
-pub helped : (W : PlainWorkload) (work : Work) (client : ℕ) (a b c d : Lines) (desk1 desk2 desk3 : Desking) (t : TakesChunks W work client a b desk1) (u : TakesCrumbs W (with_events (map (chunk_event client) t.items) t.items work) client b c desk2)
+pub helped : (W : PlainWorkload) (work : NodeWork) (client : ℕ) (a b c d : Intakes) (desk1 desk2 desk3 : PlainWorkingAgent) (t : TakesChunks W work client a b desk1) (u : TakesCrumbs W (with_events (map (chunk_event client) t.items) t.items work) client b c desk2)
     → TakesTriggers W (with_events (map (crumb_event client) u.items) [] (with_events (map (chunk_event client) t.items) t.items work)) client c d desk3 → TakesHelping W work client a d desk3
 helped W work client a b c d desk1 desk2 desk3 t u v =
     let h : Helping = record { chunks = t.items; crumbs = u.items; triggers = v.items } in
-    let crumbs_b : b.crumbs ≡ a.crumbs = ap (λ (l : Lines). l.crumbs) t.only in
-    let triggers_b : b.triggers ≡ a.triggers = ap (λ (l : Lines). l.triggers) t.only in
-    let chunks_c : c.chunks ≡ b.chunks = ap (λ (l : Lines). l.chunks) u.only in
-    let triggers_c : c.triggers ≡ b.triggers = ap (λ (l : Lines). l.triggers) u.only in
-    let chunks_d : d.chunks ≡ c.chunks = ap (λ (l : Lines). l.chunks) v.only in
-    let crumbs_d : d.crumbs ≡ c.crumbs = ap (λ (l : Lines). l.crumbs) v.only in
+    let crumbs_b : b.crumbs ≡ a.crumbs = ap (λ (l : Intakes). l.crumbs) t.only in
+    let triggers_b : b.triggers ≡ a.triggers = ap (λ (l : Intakes). l.triggers) t.only in
+    let chunks_c : c.chunks ≡ b.chunks = ap (λ (l : Intakes). l.chunks) u.only in
+    let triggers_c : c.triggers ≡ b.triggers = ap (λ (l : Intakes). l.triggers) u.only in
+    let chunks_d : d.chunks ≡ c.chunks = ap (λ (l : Intakes). l.chunks) v.only in
+    let crumbs_d : d.crumbs ≡ c.crumbs = ap (λ (l : Intakes). l.crumbs) v.only in
     let first = with_more work (map (chunk_event client) t.items) (map (crumb_event client) u.items) t.items [] in
     let second = with_more work (map (chunk_event client) t.items ++ map (crumb_event client) u.items) (map (trigger_event client) v.items) (t.items ++ []) [] in
     let came : (t.items ++ []) ++ [] ≡ t.items = append-nil (t.items ++ []) ∙ append-nil t.items in
-    let all = ap (λ (w : Work). with_events (map (trigger_event client) v.items) [] w) first ∙ second ∙ ap (λ (l : List (Buffer Leased)). with_events (events_of client h) l work) came in
+    let all = ap (λ (w : NodeWork). with_events (map (trigger_event client) v.items) [] w) first ∙ second ∙ ap (λ (l : List (Buffer Leased)). with_events (events_of client h) l work) came in
     record {
       helping = h;
-      chunks = subst (λ (l : List (Line (Buffer Leased))). HandsOutAt client t.items a.chunks l) (sym (chunks_d ∙ chunks_c)) t.out;
-      crumbs = subst (λ (l : List (Line Crumb)). HandsOutAt client u.items l d.crumbs) crumbs_b (subst (λ (l : List (Line Crumb)). HandsOutAt client u.items b.crumbs l) (sym crumbs_d) u.out);
-      triggers = subst (λ (l : List (Line Trigger)). HandsOutAt client v.items l d.triggers) (triggers_c ∙ triggers_b) v.out;
-      giver = ap (λ (l : Lines). l.giver) v.only ∙ ap (λ (l : Lines). l.giver) u.only ∙ ap (λ (l : Lines). l.giver) t.only;
-      stands = subst (λ (w : Work). Stands W w desk3 d) all v.stands;
+      chunks = subst (λ (l : List (Intake (Buffer Leased))). HandsOutAt client t.items a.chunks l) (sym (chunks_d ∙ chunks_c)) t.out;
+      crumbs = subst (λ (l : List (Intake Crumb)). HandsOutAt client u.items l d.crumbs) crumbs_b (subst (λ (l : List (Intake Crumb)). HandsOutAt client u.items b.crumbs l) (sym crumbs_d) u.out);
+      triggers = subst (λ (l : List (Intake Trigger)). HandsOutAt client v.items l d.triggers) (triggers_c ∙ triggers_b) v.out;
+      giver = ap (λ (l : Intakes). l.giver) v.only ∙ ap (λ (l : Intakes). l.giver) u.only ∙ ap (λ (l : Intakes). l.giver) t.only;
+      stands = subst (λ (w : NodeWork). WorkingAgentStands W w desk3 d) all v.stands;
     }
 
 -- ---- one client after another
 
 module _ {T : Type 0} where
-  pub first_more : (lists : List (List T)) (items : List T) (old mid new : List (Line T)) → HandOutFirst lists old mid → HandsOutAt (length lists) items mid new → HandOutFirst (lists ++ items ∷ []) old new
+  pub first_more : (lists : List (List T)) (items : List T) (old mid new : List (Intake T)) → HandOutFirst lists old mid → HandsOutAt (length lists) items mid new → HandOutFirst (lists ++ items ∷ []) old new
   first_more [] items old [] new same at = let none : None ≡ Some at.before = at.at in absurd cc
   first_more [] items [] (l ∷ mid) new same at = absurd cc
   first_more [] items (k ∷ old) (l ∷ mid) [] same at = absurd cc
@@ -102,18 +102,18 @@ module _ {T : Type 0} where
       let rest : mid ≡ old = cc in
       let set_first : n ≡ at.after = cc in
       let set_rest : new ≡ mid = cc in
-      (subst (λ (x : Line T). HandsOut items x n) (sym is ∙ first) (subst (λ (x : Line T). HandsOut items at.before x) (sym set_first) at.out), set_rest ∙ rest)
+      (subst (λ (x : Intake T). HandsOut items x n) (sym is ∙ first) (subst (λ (x : Intake T). HandsOut items at.before x) (sym set_first) at.out), set_rest ∙ rest)
   first_more (other ∷ lists) items [] mid new first at = absurd first
   first_more (other ∷ lists) items (k ∷ old) [] new first at = absurd first
   first_more (other ∷ lists) items (k ∷ old) (l ∷ mid) [] first at = absurd cc
   first_more (other ∷ lists) items (k ∷ old) (l ∷ mid) (n ∷ new) first at =
       let same : n ≡ l = cc in
       let rest : new ≡ slice_set mid (length lists) at.after = cc in (
-        subst (λ (x : Line T). HandsOut other k x) (sym same) first.0,
+        subst (λ (x : Intake T). HandsOut other k x) (sym same) first.0,
         first_more lists items old mid new first.1 (record { before = at.before; after = at.after; at = at.at; set = rest; out = at.out }),
       )
 
-  pub first_few : (lists : List (List T)) (old new : List (Line T)) → HandOutFirst lists old new → AllByRecursion (λ (items : List T). length items ≤ MAX_TAKEN) lists
+  pub first_few : (lists : List (List T)) (old new : List (Intake T)) → HandOutFirst lists old new → AllByRecursion (λ (items : List T). length items ≤ MAX_TAKEN) lists
   first_few [] old new first = tt
   first_few (items ∷ lists) [] new first = absurd first
   first_few (items ∷ lists) (l ∷ old) [] first = absurd first
@@ -123,7 +123,7 @@ events_more : (client : ℕ) (helpings : List Helping) (h : Helping) → events_
 events_more client [] h = let same : client ≡ client + 0 = omega arith in append-nil (events_of client h) ∙ ap (λ c. events_of c h) same
 events_more client (other ∷ helpings) h =
     let same : suc client + length helpings ≡ client + suc (length helpings) = omega arith in
-    ap (λ (l : List Event). events_of client other ++ l) (events_more (suc client) helpings h)
+    ap (λ (l : List AgentEvent). events_of client other ++ l) (events_more (suc client) helpings h)
     ∙ sym (append_assoc (events_of client other) (events_from (suc client) helpings) (events_of (suc client + length helpings) h))
     ∙ ap (λ c. (events_of client other ++ events_from (suc client) helpings) ++ events_of c h) same
 
@@ -131,14 +131,14 @@ chunks_more : (helpings : List Helping) (h : Helping) → chunks_of (helpings ++
 chunks_more [] h = append-nil h.chunks
 chunks_more (other ∷ helpings) h = ap (λ (l : List (Buffer Leased)). other.chunks ++ l) (chunks_more helpings h) ∙ sym (append_assoc other.chunks (chunks_of helpings) h.chunks)
 
-out_more : {T : Type 0} (client : ℕ) (helpings : List Helping) (h : Helping) → length helpings ≡ client → (f : Helping → List T) (a b c : List (Line T)) → HandOutFirst (map f helpings) a b → HandsOutAt client (f h) b c
+out_more : {T : Type 0} (client : ℕ) (helpings : List Helping) (h : Helping) → length helpings ≡ client → (f : Helping → List T) (a b c : List (Intake T)) → HandOutFirst (map f helpings) a b → HandsOutAt client (f h) b c
     → HandOutFirst (map f (helpings ++ h ∷ [])) a c
 out_more {T} client helpings h number f a b c outs at =
     let count : length (map f helpings) ≡ client = length-map helpings f ∙ number in
     subst (λ (l : List (List T)). HandOutFirst l a c) (sym (map-append f helpings (h ∷ []))) (first_more (map f helpings) (f h) a b c outs (subst (λ n. HandsOutAt n (f h) b c) (sym count) at))
 
-module _ (W : PlainWorkload) (work : Work) (old : Lines) where
-  pub first_none : (desk : Desking) → Stands W work desk old → TakesFirst W work 0 old old desk
+module _ (W : PlainWorkload) (work : NodeWork) (old : Intakes) where
+  pub first_none : (desk : PlainWorkingAgent) → WorkingAgentStands W work desk old → TakesFirst W work 0 old old desk
   first_none desk stands =
       record {
         helpings = [];
@@ -147,14 +147,14 @@ module _ (W : PlainWorkload) (work : Work) (old : Lines) where
         crumbs = refl;
         triggers = refl;
         giver = refl;
-        stands = subst (λ (w : Work). Stands W w desk old) (sym (with_none work)) stands;
+        stands = subst (λ (w : NodeWork). WorkingAgentStands W w desk old) (sym (with_none work)) stands;
       }
 
-  module _ (client : ℕ) (lines : Lines) (desk : Desking) (first : TakesFirst W work client old lines desk) where
-    abbrev pub first_work : Work
+  module _ (client : ℕ) (lines : Intakes) (desk : PlainWorkingAgent) (first : TakesFirst W work client old lines desk) where
+    abbrev pub first_work : NodeWork
     first_work = with_events (events_from 0 first.helpings) (chunks_of first.helpings) work
 
-    pub can_help : (desk0 : Desking) (clients : ℕ) → CanPass W work clients desk0 old → client < clients → CanTake W first_work client desk lines
+    pub can_help : (desk0 : PlainWorkingAgent) (clients : ℕ) → CanPass W work clients desk0 old → client < clients → AgentCanTake W first_work client desk lines
     can_help desk0 clients can below =
         let taken = few_triggers 0 first.helpings (first_few (map (λ (h : Helping). h.triggers) first.helpings) old.triggers lines.triggers first.triggers) in
         let both = triggered_more work.events (events_from 0 first.helpings) in
@@ -165,7 +165,7 @@ module _ (W : PlainWorkload) (work : Work) (old : Lines) where
         let low : client < W.settings.clients = omega (arith, below, are) in
         record { low = low; few = omega (arith, taken, both, number, few, few_clients, low); stands = first.stands }
 
-    pub help_more : (lines' : Lines) (desk' : Desking) → TakesHelping W first_work client lines lines' desk' → TakesFirst W work (client + 1) old lines' desk'
+    pub help_more : (lines' : Intakes) (desk' : PlainWorkingAgent) → TakesHelping W first_work client lines lines' desk' → TakesFirst W work (client + 1) old lines' desk'
     help_more lines' desk' t =
         let number = first.number in
         let h = t.helping in
@@ -179,7 +179,7 @@ module _ (W : PlainWorkload) (work : Work) (old : Lines) where
           triggers = out_more client first.helpings h number (λ (x : Helping). x.triggers) old.triggers lines.triggers lines'.triggers first.triggers t.triggers;
           giver = t.giver ∙ first.giver;
           stands =
-              subst (λ (w : Work). Stands W w desk' lines')
+              subst (λ (w : NodeWork). WorkingAgentStands W w desk' lines')
               (with_more work (events_from 0 first.helpings) (events_of client h) (chunks_of first.helpings) h.chunks
-              ∙ ap₂ (λ (e : List Event) (c : List (Buffer Leased)). with_events e c work) events (sym (chunks_more first.helpings h))) t.stands;
+              ∙ ap₂ (λ (e : List AgentEvent) (c : List (Buffer Leased)). with_events e c work) events (sym (chunks_more first.helpings h))) t.stands;
         }

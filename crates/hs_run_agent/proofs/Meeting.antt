@@ -7,15 +7,15 @@ use Rattle.hs_law_journal.specs.Turns.{AreTurns, Meets}
 use Rattle.hs_link.specs.Contents.{Incoming, Outgoing}
 use Rattle.hs_live.specs.Calls.{MeetsAt}
 use Rattle.hs_live.specs.Keys.{Key}
-use Rattle.hs_live.specs.Live.{Live, Port, IsEnd, MeetAt, is_told}
+use Rattle.hs_live.specs.Live.{PlainClient, Port, IsEnd, MeetAt, is_told}
 use Rattle.hs_records.specs.Plain.{PlainWorkload}
 use Rattle.hs_ring.specs.Parts.{Giving}
-use Rattle.hs_words.specs.Ends.{Turn, stamps_in}
+use Rattle.hs_words.specs.Ends.{GiverTurn, stamps_in}
 use Rattle.hs_words.specs.Pools.{PoolName}
-use Rattle.hs_run_agent.specs.Lines.{linked, AreLinesFor, key_of}
-use Rattle.hs_run_agent.specs.Manned.{Manned, IsManned}
+use Rattle.hs_run_agent.specs.Intakes.{linked, AreIntakesFor, key_of}
+use Rattle.hs_run_agent.specs.AgentActors.{PlainAgentActor, IsAgentActor}
 use Rattle.hs_run_agent.specs.Turns.{lent_of}
-use Rattle.hs_run_agent.specs.Work.{Work, came_of}
+use Rattle.hs_run_agent.specs.Work.{NodeWork, came_of}
 use Rattle.hs_run_agent.proofs.Hearing.{found_set}
 use Rattle.hs_run_agent.proofs.Ports.{lined, line_at, end_at}
 
@@ -31,7 +31,7 @@ module _ {T : Type 0} (number : ℕ) (receivers receivers' : List (Incoming T Ke
   pub still_received : (before : ℕ → List T) → ((client : ℕ) (r : Incoming T Key) → IsEnd client receivers r → r.received ≡ before client) → (client : ℕ) (q : Incoming T Key) → IsEnd client receivers' q → q.received ≡ before client
   still_received before was client q end = let (r, end_r, same, key) = met_end client q end in same ∙ was client r end_r
 
-  pub still_lines : (W : PlainWorkload) (node : ℕ) (pool : PoolName) → AreLinesFor W node pool (lined receivers) → AreLinesFor W node pool (lined receivers')
+  pub still_lines : (W : PlainWorkload) (node : ℕ) (pool : PoolName) → AreIntakesFor W node pool (lined receivers) → AreIntakesFor W node pool (lined receivers')
   still_lines W node pool are =
       record {
         count = length-map receivers' (λ (r : Incoming T Key). linked r) ∙ ap length met.receivers_are ∙ length-set receivers number (is_told met.receiver s) ∙ sym (length-map receivers (λ (r : Incoming T Key). linked r)) ∙ are.count;
@@ -41,7 +41,7 @@ module _ {T : Type 0} (number : ℕ) (receivers receivers' : List (Incoming T Ke
             ap key_of is ∙ key ∙ are.keys client (linked r) (line_at receivers client r end_r);
       }
 
-pub met_manned : (W : PlainWorkload) (work : Work) (number : ℕ) (old : Manned) (client client' : Live) (port' : Port) → MeetsAt number old.port client port' client' → IsManned W work old → IsManned W work (record old { port = port' })
+pub met_manned : (W : PlainWorkload) (work : NodeWork) (number : ℕ) (old : PlainAgentActor) (client client' : PlainClient) (port' : Port) → MeetsAt number old.port client port' client' → IsAgentActor W work old → IsAgentActor W work (record old { port = port' })
 met_manned W work number old client client' port' met manned =
     let giver = met.pool.giver_hears in
     let lines = manned.stands.lines_are in
@@ -60,7 +60,7 @@ met_manned W work number old client client' port' met manned =
                   triggers = still_lines number old.port.triggers port'.triggers client.triggers client'.triggers met.triggers W work.node work.pool lines.triggers;
                 };
             turns =
-                subst (λ (turns : List Turn). AreTurns W.settings work.node (map lent_of work.came) work.events turns) (sym (ap (λ (g : Giving). g.turns) giver))
+                subst (λ (turns : List GiverTurn). AreTurns W.settings work.node (map lent_of work.came) work.events turns) (sym (ap (λ (g : Giving). g.turns) giver))
                 (Meets work.events old.port.giver.turns (stamps_in client.drawer.answers) manned.stands.turns);
           };
       received =

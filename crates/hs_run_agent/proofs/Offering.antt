@@ -9,7 +9,7 @@ use Rattle.hs_words.specs.declared.token.TheConstants.{MAX_PUBLISHED}
 use Rattle.hs_law_journal.specs.Doings.{asks_in}
 use Rattle.hs_law_journal.specs.LoopPasses.{IsStamped}
 use Rattle.hs_law_journal.specs.Turns.{AreTurns, IsOffered, Offers}
-use Rattle.hs_agent.specs.Keeping.{Keeping}
+use Rattle.hs_agent.specs.Keeping.{PlainAgent}
 use Rattle.hs_agent.specs.Points.{sheet_in}
 use Rattle.hs_agent.specs.Runs.{Run, Follows, Knows, after_offer, after_answer, first_place, offered_next, state_of}
 use Rattle.hs_base.specs.declared.told.Ask.{Ask}
@@ -24,16 +24,16 @@ use Rattle.hs_ring.specs.Parts.{Leased, Giving, after_turn}
 use Rattle.hs_ring.specs.Parts as rings
 use Rattle.hs_words.specs.Buffers.{Buffer, buffer_of}
 use Rattle.hs_words.specs.Chunks.{Contents}
-use Rattle.hs_words.specs.Ends.{Answer, Turn, answered, unread, answers_in}
+use Rattle.hs_words.specs.Ends.{Answer, GiverTurn, answered, unread, answers_in}
 use Rattle.hs_words.specs.PoolHistory as pools
 use Rattle.hs_words.specs.declared.token.Held.{Held}
 use Rattle.hs_words.specs.declared.token.Given.{Given}
 use Rattle.hs_words.specs.declared.token.Given.TheVariants as given
 use Rattle.hs_run_agent.specs.Agents.{AgentIs, IsPooled, IsPageThere, IsWithin, Label, label_of, run_at, state_at}
-use Rattle.hs_run_agent.specs.Lines.{Line, Lines, AreLinesFor}
-use Rattle.hs_run_agent.specs.Stages.{Desking, Stands, OffersNext, stamps_of}
-use Rattle.hs_run_agent.specs.Turns.{Gives, IsOffer, lent_of, was_read}
-use Rattle.hs_run_agent.specs.Work.{Work, with_events}
+use Rattle.hs_run_agent.specs.Intakes.{Intake, Intakes, AreIntakesFor}
+use Rattle.hs_run_agent.specs.Stages.{PlainWorkingAgent, WorkingAgentStands, OffersNext, stamps_of}
+use Rattle.hs_run_agent.specs.Turns.{GiverGoesOn, IsOffer, lent_of, was_read}
+use Rattle.hs_run_agent.specs.Work.{NodeWork, with_events}
 use Rattle.hs_run_agent.proofs.Stages.{with_none, asks_more, turns_came}
 use Rattle.hs_run_agent.proofs.Taking.{brought_more, hands_gave}
 
@@ -79,15 +79,15 @@ none_first state e = ap (λ (l : List ℕ). slice_get l 0) e
 
 -- ---- an answer more
 
-module _ (W : PlainWorkload) (work : Work) (desk : Desking) (lines : Lines) (stands : Stands W work desk lines) where
+module _ (W : PlainWorkload) (work : NodeWork) (desk : PlainWorkingAgent) (lines : Intakes) (stands : WorkingAgentStands W work desk lines) where
   abbrev pub run : Run Leased
   run = run_at W work stands.works.is.buffers None
 
-  abbrev pub behind : Answered → Work
+  abbrev pub behind : Answered → NodeWork
   behind answer = with_events (Gave answer ∷ []) [] work
 
   -- the hand is empty
-  pub none_offered : (agent' : Keeping Leased) → Follows agent' (after_offer run) → (state_of run).hand ≡ [] → OffersNext W work lines lines (record desk { agent = agent' }) false
+  pub none_offered : (agent' : PlainAgent Leased) → Follows agent' (after_offer run) → (state_of run).hand ≡ [] → OffersNext W work lines lines (record desk { agent = agent' }) false
   none_offered agent' follows none =
       let same : after_offer run ≡ run = ap (λ (o : Option ℕ). run_at W work stands.works.is.buffers o) (none_first (state_of run) none) in
       inr (
@@ -106,7 +106,7 @@ module _ (W : PlainWorkload) (work : Work) (desk : Desking) (lines : Lines) (sta
               };
           only = refl;
           stands =
-              subst (λ (w : Work). Stands W w (record desk { agent = agent' }) lines) (sym (with_none work))
+              subst (λ (w : NodeWork). WorkingAgentStands W w (record desk { agent = agent' }) lines) (sym (with_none work))
               (record {
                 works =
                     record {
@@ -136,11 +136,11 @@ module _ (W : PlainWorkload) (work : Work) (desk : Desking) (lines : Lines) (sta
     pub pooled_first : IsPooled W work.pool buffer
     pooled_first = all_at (IsPooled W work.pool) stands.works.is.buffers first.place buffer stands.works.is.pooled first.at
 
-    pub is_offered : (agent' : Keeping Leased) → Follows agent' (after_offer run) → Knows agent' (λ (r : Run Leased). IsSome r.offered)
+    pub is_offered : (agent' : PlainAgent Leased) → Follows agent' (after_offer run) → Knows agent' (λ (r : Run Leased). IsSome r.offered)
     is_offered agent' follows = λ working. (after_offer run, follows, subst (λ (o : Option ℕ). IsSome o) (sym first.first) refl)
 
     -- the agent behind an answer, where its chunks stand in these buffers
-    answered_is : EventsGoOn → (answer : Answered) (buffers : List (Buffer Leased)) (agent' : Keeping Leased) → Follows agent' (run_at W (behind answer) buffers None) → map label_of buffers ≡ map label_of stands.works.is.buffers
+    answered_is : EventsGoOn → (answer : Answered) (buffers : List (Buffer Leased)) (agent' : PlainAgent Leased) → Follows agent' (run_at W (behind answer) buffers None) → map label_of buffers ≡ map label_of stands.works.is.buffers
         → AllByRecursion (IsPooled W work.pool) buffers → AgentIs W (behind answer) None agent'
     answered_is go_on answer buffers agent' follows labels pooled =
         record {
@@ -154,13 +154,13 @@ module _ (W : PlainWorkload) (work : Work) (desk : Desking) (lines : Lines) (sta
           hands = hands_gave W.settings work.node (start W.settings) work.events answer stands.works.is.hands (subst (λ (o : Option ℕ). IsSome o) (sym first.first) refl);
         }
 
-    answered_stands : EventsGoOn → StepsSayWhatTheyTell → (answer : Answered) (buffers : List (Buffer Leased)) (agent' : Keeping Leased) (lines' : Lines) → Follows agent' (run_at W (behind answer) buffers None)
+    answered_stands : EventsGoOn → StepsSayWhatTheyTell → (answer : Answered) (buffers : List (Buffer Leased)) (agent' : PlainAgent Leased) (lines' : Intakes) → Follows agent' (run_at W (behind answer) buffers None)
         → map label_of buffers ≡ map label_of stands.works.is.buffers → AllByRecursion (IsPooled W work.pool) buffers → lines'.giver.pool ≡ lines.giver.pool → lines'.giver.size ≡ lines.giver.size → lines' ≡ record lines { giver = lines'.giver }
-        → AreTurns W.settings work.node (map lent_of (work.came ++ [])) (work.events ++ Gave answer ∷ []) lines'.giver.turns → Stands W (behind answer) (record desk { agent = agent' }) lines'
+        → AreTurns W.settings work.node (map lent_of (work.came ++ [])) (work.events ++ Gave answer ∷ []) lines'.giver.turns → WorkingAgentStands W (behind answer) (record desk { agent = agent' }) lines'
     answered_stands go_on says answer buffers agent' lines' follows labels pooled pool size only turns =
-        let chunks : lines'.chunks ≡ lines.chunks = ap (λ (l : Lines). l.chunks) only in
-        let crumbs : lines'.crumbs ≡ lines.crumbs = ap (λ (l : Lines). l.crumbs) only in
-        let triggers : lines'.triggers ≡ lines.triggers = ap (λ (l : Lines). l.triggers) only in
+        let chunks : lines'.chunks ≡ lines.chunks = ap (λ (l : Intakes). l.chunks) only in
+        let crumbs : lines'.crumbs ≡ lines.crumbs = ap (λ (l : Intakes). l.crumbs) only in
+        let triggers : lines'.triggers ≡ lines.triggers = ap (λ (l : Intakes). l.triggers) only in
         record {
           works =
               record {
@@ -173,9 +173,9 @@ module _ (W : PlainWorkload) (work : Work) (desk : Desking) (lines : Lines) (sta
               record {
                 pool_is = pool ∙ stands.lines_are.pool_is;
                 size = size ∙ stands.lines_are.size;
-                chunks = subst (λ (l : List (Line (Buffer Leased))). AreLinesFor W work.node work.pool l) (sym chunks) stands.lines_are.chunks;
-                crumbs = subst (λ (l : List (Line Crumb)). AreLinesFor W work.node work.pool l) (sym crumbs) stands.lines_are.crumbs;
-                triggers = subst (λ (l : List (Line Trigger)). AreLinesFor W work.node work.pool l) (sym triggers) stands.lines_are.triggers;
+                chunks = subst (λ (l : List (Intake (Buffer Leased))). AreIntakesFor W work.node work.pool l) (sym chunks) stands.lines_are.chunks;
+                crumbs = subst (λ (l : List (Intake Crumb)). AreIntakesFor W work.node work.pool l) (sym crumbs) stands.lines_are.crumbs;
+                triggers = subst (λ (l : List (Intake Trigger)). AreIntakesFor W work.node work.pool l) (sym triggers) stands.lines_are.triggers;
               };
           turns = turns;
         }
@@ -193,7 +193,7 @@ module _ (W : PlainWorkload) (work : Work) (desk : Desking) (lines : Lines) (sta
         )
 
     -- a giver behind a turn
-    turned : (turn : Turn) (floor : ℕ) (giver : Giving) (stamps : List ℕ) → giver ≡ after_turn lines.giver turn floor → lines.giver.floor ≤ floor → IsOffer turn → AllByRecursion (λ (stamp : ℕ). lines.giver.floor ≤ stamp) stamps → Gives lines.giver giver stamps
+    turned : (turn : GiverTurn) (floor : ℕ) (giver : Giving) (stamps : List ℕ) → giver ≡ after_turn lines.giver turn floor → lines.giver.floor ≤ floor → IsOffer turn → AllByRecursion (λ (stamp : ℕ). lines.giver.floor ≤ stamp) stamps → GiverGoesOn lines.giver giver stamps
     turned turn floor giver stamps is above offer all =
         record {
           pool = ap (λ (x : Giving). x.pool) is;
@@ -208,7 +208,7 @@ module _ (W : PlainWorkload) (work : Work) (desk : Desking) (lines : Lines) (sta
         }
 
     -- what came back in place of the one that was offered
-    put_back : (answer : Answered) (back : Buffer Leased) (agent' : Keeping Leased)
+    put_back : (answer : Answered) (back : Buffer Leased) (agent' : PlainAgent Leased)
         → Follows agent' (run_at W (behind answer) (option_map_or (λ place. slice_set stands.works.is.buffers place back) (first_place (state_of run)) stands.works.is.buffers) None)
         → Follows agent' (run_at W (behind answer) (slice_set stands.works.is.buffers first.place back) None)
     put_back answer back agent' follows =
@@ -217,7 +217,7 @@ module _ (W : PlainWorkload) (work : Work) (desk : Desking) (lines : Lines) (sta
     back_label : (back : Buffer Leased) → back.chunk.number ≡ buffer.chunk.number → back.lease ≡ buffer.lease → label_of back ≡ label_of buffer
     back_label back number lease = ap₂ (λ (n : ℕ) (l : Leased). record { number = n; lease = l }) number lease
 
-    module _ (go_on : EventsGoOn) (says : StepsSayWhatTheyTell) (agent' : Keeping Leased) (lines' : Lines) (few : length (answers_in lines'.giver.turns) ≤ MAX_PUBLISHED) (only : lines' ≡ record lines { giver = lines'.giver }) where
+    module _ (go_on : EventsGoOn) (says : StepsSayWhatTheyTell) (agent' : PlainAgent Leased) (lines' : Intakes) (few : length (answers_in lines'.giver.turns) ≤ MAX_PUBLISHED) (only : lines' ≡ record lines { giver = lines'.giver }) where
       -- with a turn that has a stamp
       read : (answer : Answered) (a : Answer) (floor : ℕ) (buffers : List (Buffer Leased)) → IsStamped answer → lines'.giver ≡ after_turn lines.giver (answered a) floor → lines.giver.floor ≤ floor
           → AllByRecursion (λ (stamp : ℕ). lines.giver.floor ≤ stamp) (stamps_of (answer ∷ [])) → IsOffered (map lent_of (work.came ++ [])) (state_at W work) answer (answered a) → Follows agent' (run_at W (behind answer) buffers None)
@@ -231,9 +231,9 @@ module _ (W : PlainWorkload) (work : Work) (desk : Desking) (lines : Lines) (sta
               only = only;
               stands =
                   answered_stands go_on says answer buffers agent' lines' follows labels pooled (ap (λ (x : Giving). x.pool) is) (ap (λ (x : Giving). x.size) is) only
-                  (subst (λ (t : List Turn). AreTurns W.settings work.node (map lent_of (work.came ++ [])) (work.events ++ Gave answer ∷ []) t) (sym turns) (Offers work.events lines.giver.turns answer (answered a) answer_is turns_before));
+                  (subst (λ (t : List GiverTurn). AreTurns W.settings work.node (map lent_of (work.came ++ [])) (work.events ++ Gave answer ∷ []) t) (sym turns) (Offers work.events lines.giver.turns answer (answered a) answer_is turns_before));
             },
-            ap (λ (t : List Turn). length (answers_in t)) turns,
+            ap (λ (t : List GiverTurn). length (answers_in t)) turns,
             few,
           )
 
@@ -265,5 +265,5 @@ module _ (W : PlainWorkload) (work : Work) (desk : Desking) (lines : Lines) (sta
                 (labels_set label_of stands.works.is.buffers first.place buffer (buffer_of back) first.at (back_label (buffer_of back) number lease))
                 (all_set (IsPooled W work.pool) stands.works.is.buffers first.place (buffer_of back) stands.works.is.pooled (record { size = size ∙ pooled_first.size; pool_is = ap (λ (l : Leased). l.pool) lease ∙ pooled_first.pool_is }))
                 (ap (λ (x : Giving). x.pool) gives.0) (ap (λ (x : Giving). x.size) gives.0) only
-                (subst (λ (t : List Turn). AreTurns W.settings work.node (map lent_of (work.came ++ [])) (work.events ++ Gave model.Unread ∷ []) t) (sym turns) (Offers work.events lines.giver.turns model.Unread unread refl turns_before));
+                (subst (λ (t : List GiverTurn). AreTurns W.settings work.node (map lent_of (work.came ++ [])) (work.events ++ Gave model.Unread ∷ []) t) (sym turns) (Offers work.events lines.giver.turns model.Unread unread refl turns_before));
           })

@@ -10,18 +10,18 @@ use Rattle.hs_base.specs.declared.told.Trigger.{Trigger}
 use Rattle.hs_law_journal.specs.Doings.{asks_in}
 use Rattle.hs_law_journal.specs.LoopPasses.{IsStamped}
 use Rattle.hs_law_agent.specs.Stepping as model
-use Rattle.hs_law_agent.specs.Stepping.{Answered, Unread, Turn, Event, Took}
+use Rattle.hs_law_agent.specs.Stepping.{Answered, Unread, Turn, AgentEvent, Took}
 use Rattle.hs_records.specs.Plain.{PlainWorkload}
 use Rattle.hs_ring.specs.Parts.{Leased, Giving}
 use Rattle.hs_words.specs.Buffers.{Buffer}
 use Rattle.hs_words.specs.Ends as ends
 use Rattle.hs_words.specs.Ends.{answers_in}
 use Rattle.hs_run_agent.specs.Agents.{state_at}
-use Rattle.hs_run_agent.specs.Lines.{Line, Lines, HandOutFirst}
+use Rattle.hs_run_agent.specs.Intakes.{Intake, Intakes, HandOutFirst}
 use Rattle.hs_run_agent.specs.Passing.{MakesPass}
-use Rattle.hs_run_agent.specs.Stages.{Desking, Stands, TakesFirst, TakesAsks, Helping, Offers, OffersNext, OffersAll, stamps_of, events_from, chunks_of}
-use Rattle.hs_run_agent.specs.Turns.{Gives, IsOffer}
-use Rattle.hs_run_agent.specs.Work.{Work, with_events, chunk_event, crumb_event, trigger_event, ask_event, gave_event}
+use Rattle.hs_run_agent.specs.Stages.{PlainWorkingAgent, WorkingAgentStands, TakesFirst, TakesAsks, Helping, AgentOffers, OffersNext, OffersAll, stamps_of, events_from, chunks_of}
+use Rattle.hs_run_agent.specs.Turns.{GiverGoesOn, IsOffer}
+use Rattle.hs_run_agent.specs.Work.{NodeWork, with_events, chunk_event, crumb_event, trigger_event, ask_event, gave_event}
 use Rattle.hs_run_agent.proofs.Stages.{with_none, with_more, asks_more}
 use Rattle.hs_run_agent.proofs.ByClient.{asks_of_none}
 
@@ -31,7 +31,7 @@ stamps_more (model.Given stamp ∷ xs) ys = ap (λ (l : List ℕ). stamp ∷ l) 
 stamps_more (model.Missed stamp ∷ xs) ys = ap (λ (l : List ℕ). stamp ∷ l) (stamps_more xs ys)
 stamps_more (model.Unread ∷ xs) ys = stamps_more xs ys
 
-gives_none : (giver : Giving) → Gives giver giver []
+gives_none : (giver : Giving) → GiverGoesOn giver giver []
 gives_none giver =
     record {
       pool = refl;
@@ -45,7 +45,7 @@ gives_none giver =
       turns = refl;
     }
 
-gives_more : (a b c : Giving) (xs ys : List Answered) → Gives a b (stamps_of xs) → Gives b c (stamps_of ys) → Gives a c (stamps_of (xs ++ ys))
+gives_more : (a b c : Giving) (xs ys : List Answered) → GiverGoesOn a b (stamps_of xs) → GiverGoesOn b c (stamps_of ys) → GiverGoesOn a c (stamps_of (xs ++ ys))
 gives_more a b c xs ys g h =
     let low = g.floor in
     let high = h.floor in
@@ -61,39 +61,39 @@ gives_more a b c xs ys g h =
           (all_each (λ (stamp : ℕ). b.floor ≤ stamp) (λ (stamp : ℕ). a.floor ≤ stamp) (stamps_of ys) (λ stamp above. omega (arith, above, low)) h.above));
       added = h.added ++ g.added;
       offers = all_append IsOffer h.added g.added h.offers g.offers;
-      turns = h.turns ∙ ap (λ (l : List ends.Turn). h.added ++ l) g.turns ∙ sym (append_assoc h.added g.added a.turns);
+      turns = h.turns ∙ ap (λ (l : List ends.GiverTurn). h.added ++ l) g.turns ∙ sym (append_assoc h.added g.added a.turns);
     }
 
-module _ (W : PlainWorkload) (work : Work) (old : Lines) where
-  offers_more : (xs ys : List Answered) (mid new : Lines) (desk desk' : Desking) → Offers W work xs old mid desk → Offers W (with_events (map gave_event xs) [] work) ys mid new desk' → Offers W work (xs ++ ys) old new desk'
+module _ (W : PlainWorkload) (work : NodeWork) (old : Intakes) where
+  offers_more : (xs ys : List Answered) (mid new : Intakes) (desk desk' : PlainWorkingAgent) → AgentOffers W work xs old mid desk → AgentOffers W (with_events (map gave_event xs) [] work) ys mid new desk' → AgentOffers W work (xs ++ ys) old new desk'
   offers_more xs ys mid new desk desk' o p =
       record {
         gives = gives_more old.giver mid.giver new.giver xs ys o.gives p.gives;
-        only = p.only ∙ ap (λ (l : Lines). record l { giver = new.giver }) o.only;
+        only = p.only ∙ ap (λ (l : Intakes). record l { giver = new.giver }) o.only;
         stands =
-            subst (λ (w : Work). Stands W w desk' new)
-            (with_more work (map gave_event xs) (map gave_event ys) [] [] ∙ ap (λ (l : List Event). with_events l [] work) (sym (map-append gave_event xs ys))) p.stands;
+            subst (λ (w : NodeWork). WorkingAgentStands W w desk' new)
+            (with_more work (map gave_event xs) (map gave_event ys) [] [] ∙ ap (λ (l : List AgentEvent). with_events l [] work) (sym (map-append gave_event xs ys))) p.stands;
       }
 
   -- all offers so far were read
-  pub record OffersSoFar (lines : Lines) (desk : Desking) : Type 0 where
+  pub record OffersSoFar (lines : Intakes) (desk : PlainWorkingAgent) : Type 0 where
     pub answers : List Answered
     pub stamped : AllByRecursion IsStamped answers
-    pub offers : Offers W work answers old lines desk
+    pub offers : AgentOffers W work answers old lines desk
 
-  pub no_offers : (desk : Desking) → Stands W work desk old → OffersSoFar old desk
+  pub no_offers : (desk : PlainWorkingAgent) → WorkingAgentStands W work desk old → OffersSoFar old desk
   no_offers desk stands =
       record {
         answers = [];
         stamped = tt;
-        offers = record { gives = gives_none old.giver; only = refl; stands = subst (λ (w : Work). Stands W w desk old) (sym (with_none work)) stands };
+        offers = record { gives = gives_none old.giver; only = refl; stands = subst (λ (w : NodeWork). WorkingAgentStands W w desk old) (sym (with_none work)) stands };
       }
 
-  module _ (lines : Lines) (desk : Desking) (so_far : OffersSoFar lines desk) where
-    abbrev pub offers_work : Work
+  module _ (lines : Intakes) (desk : PlainWorkingAgent) (so_far : OffersSoFar lines desk) where
+    abbrev pub offers_work : NodeWork
     offers_work = with_events (map gave_event so_far.answers) [] work
 
-    pub offer_more : (lines' : Lines) (desk' : Desking) (b : Bool) → b ≡ true → OffersNext W offers_work lines lines' desk' b → OffersSoFar lines' desk'
+    pub offer_more : (lines' : Intakes) (desk' : PlainWorkingAgent) (b : Bool) → b ≡ true → OffersNext W offers_work lines lines' desk' b → OffersSoFar lines' desk'
     offer_more lines' desk' false e next = absurd cc
     offer_more lines' desk' true e next =
         record {
@@ -102,12 +102,12 @@ module _ (W : PlainWorkload) (work : Work) (old : Lines) where
           offers = offers_more so_far.answers (next.0 ∷ []) lines lines' desk desk' so_far.offers next.2;
         }
 
-    pub counts_on : (lines' : Lines) (desk' : Desking) (b : Bool) → b ≡ true → OffersNext W offers_work lines lines' desk' b
+    pub counts_on : (lines' : Intakes) (desk' : PlainWorkingAgent) (b : Bool) → b ≡ true → OffersNext W offers_work lines lines' desk' b
         → MAX_PUBLISHED - length (answers_in lines'.giver.turns) < MAX_PUBLISHED - length (answers_in lines.giver.turns)
     counts_on lines' desk' false e next = absurd cc
     counts_on lines' desk' true e next = let more = next.3 in let few = next.4 in omega (arith, more, few)
 
-    pub offers_end : (lines' : Lines) (desk' : Desking) (b : Bool) → b ≡ false → OffersNext W offers_work lines lines' desk' b → OffersAll W work old lines' desk'
+    pub offers_end : (lines' : Intakes) (desk' : PlainWorkingAgent) (b : Bool) → b ≡ false → OffersNext W offers_work lines lines' desk' b → OffersAll W work old lines' desk'
     offers_end lines' desk' true e next = absurd cc
     offers_end lines' desk' false e (inl unread) =
         record {
@@ -141,22 +141,22 @@ triggers_ask_none client [] = refl
 triggers_ask_none client (item ∷ items) = triggers_ask_none client items
 
 -- the work behind all stages
-all_stages : (work : Work) (a b c d : List Event) (came : List (Buffer Leased)) → with_events d [] (with_events c [] (with_events b [] (with_events a came work))) ≡ with_events (((a ++ b) ++ c) ++ d) came work
+all_stages : (work : NodeWork) (a b c d : List AgentEvent) (came : List (Buffer Leased)) → with_events d [] (with_events c [] (with_events b [] (with_events a came work))) ≡ with_events (((a ++ b) ++ c) ++ d) came work
 all_stages work a b c d came =
-    ap (λ (w : Work). with_events d [] (with_events c [] w)) (with_more work a b came []) ∙ ap (with_events d []) (with_more work (a ++ b) c (came ++ []) []) ∙ with_more work ((a ++ b) ++ c) d ((came ++ []) ++ []) []
+    ap (λ (w : NodeWork). with_events d [] (with_events c [] w)) (with_more work a b came []) ∙ ap (with_events d []) (with_more work (a ++ b) c (came ++ []) []) ∙ with_more work ((a ++ b) ++ c) d ((came ++ []) ++ []) []
     ∙ ap (λ (l : List (Buffer Leased)). with_events (((a ++ b) ++ c) ++ d) l work) (append-nil ((came ++ []) ++ []) ∙ append-nil (came ++ []) ∙ append-nil came)
 
-pub pass_made : (W : PlainWorkload) (work : Work) (old lines new : Lines) (desk1 desk2 desk3 desk4 : Desking) (first : TakesFirst W work W.settings.clients old lines desk1)
+pub pass_made : (W : PlainWorkload) (work : NodeWork) (old lines new : Intakes) (desk1 desk2 desk3 desk4 : PlainWorkingAgent) (first : TakesFirst W work W.settings.clients old lines desk1)
     → (asks : TakesAsks W (with_events (events_from 0 first.helpings) (chunks_of first.helpings) work) desk1 lines desk2)
-    → Stands W (with_events (Took Turn ∷ []) [] (with_events (map ask_event asks.items) [] (with_events (events_from 0 first.helpings) (chunks_of first.helpings) work))) desk3 lines
+    → WorkingAgentStands W (with_events (Took Turn ∷ []) [] (with_events (map ask_event asks.items) [] (with_events (events_from 0 first.helpings) (chunks_of first.helpings) work))) desk3 lines
     → OffersAll W (with_events (Took Turn ∷ []) [] (with_events (map ask_event asks.items) [] (with_events (events_from 0 first.helpings) (chunks_of first.helpings) work))) lines new desk4
     → MakesPass W work old new desk4
 pass_made W work old lines new desk1 desk2 desk3 desk4 first asks turn offers =
     let hs = first.helpings in
     let whole = all_stages work (events_from 0 hs) (map ask_event asks.items) (Took Turn ∷ []) (map gave_event offers.answers) (chunks_of hs) in
-    let chunks : new.chunks ≡ lines.chunks = ap (λ (l : Lines). l.chunks) offers.offers.only in
-    let crumbs : new.crumbs ≡ lines.crumbs = ap (λ (l : Lines). l.crumbs) offers.offers.only in
-    let triggers : new.triggers ≡ lines.triggers = ap (λ (l : Lines). l.triggers) offers.offers.only in
+    let chunks : new.chunks ≡ lines.chunks = ap (λ (l : Intakes). l.chunks) offers.offers.only in
+    let crumbs : new.crumbs ≡ lines.crumbs = ap (λ (l : Intakes). l.crumbs) offers.offers.only in
+    let triggers : new.triggers ≡ lines.triggers = ap (λ (l : Intakes). l.triggers) offers.offers.only in
     let waited = ap length first.stands.asks_are ∙ refl in
     let sum = length-append (asks_in (work.events ++ events_from 0 hs)) desk1.asks in
     let taken : length (asks_in (work.events ++ events_from 0 hs)) ≡ length (asks_in work.events) = ap length (asks_more work.events (events_from 0 hs) ∙ ap (λ (l : List Ask). asks_in work.events ++ l) (asks_of_none 0 hs) ∙ append-nil (asks_in work.events)) in
@@ -164,16 +164,16 @@ pass_made W work old lines new desk1 desk2 desk3 desk4 first asks turn offers =
     record {
       helpings = hs;
       number = first.number;
-      chunks = subst (λ (l : List (Line (Buffer Leased))). HandOutFirst (map (λ (h : Helping). h.chunks) hs) old.chunks l) (sym chunks) first.chunks;
-      crumbs = subst (λ (l : List (Line Crumb)). HandOutFirst (map (λ (h : Helping). h.crumbs) hs) old.crumbs l) (sym crumbs) first.crumbs;
-      triggers = subst (λ (l : List (Line Trigger)). HandOutFirst (map (λ (h : Helping). h.triggers) hs) old.triggers l) (sym triggers) first.triggers;
+      chunks = subst (λ (l : List (Intake (Buffer Leased))). HandOutFirst (map (λ (h : Helping). h.chunks) hs) old.chunks l) (sym chunks) first.chunks;
+      crumbs = subst (λ (l : List (Intake Crumb)). HandOutFirst (map (λ (h : Helping). h.crumbs) hs) old.crumbs l) (sym crumbs) first.crumbs;
+      triggers = subst (λ (l : List (Intake Trigger)). HandOutFirst (map (λ (h : Helping). h.triggers) hs) old.triggers l) (sym triggers) first.triggers;
       asks = asks.items;
       few_asks = asks.few;
       all_asks = omega (arith, waited, sum, taken, all);
       answers = offers.answers;
-      gives = subst (λ (g : Giving). Gives g new.giver (stamps_of offers.answers)) first.giver offers.offers.gives;
+      gives = subst (λ (g : Giving). GiverGoesOn g new.giver (stamps_of offers.answers)) first.giver offers.offers.gives;
       before = offers.before;
       stamped = offers.stamped;
-      ends = subst (λ (w : Work). ((offers.answers ≡ offers.before) × ((state_at W w).hand ≡ [])) ⊎ (offers.answers ≡ offers.before ++ Unread ∷ [])) whole offers.ends;
-      stands = subst (λ (w : Work). Stands W w desk4 new) whole offers.offers.stands;
+      ends = subst (λ (w : NodeWork). ((offers.answers ≡ offers.before) × ((state_at W w).hand ≡ [])) ⊎ (offers.answers ≡ offers.before ++ Unread ∷ [])) whole offers.ends;
+      stands = subst (λ (w : NodeWork). WorkingAgentStands W w desk4 new) whole offers.offers.stands;
     }

@@ -18,35 +18,35 @@ use Rattle.hs_link.specs.Contents.{Incoming}
 use Rattle.hs_live.specs.Keys.{Key}
 use Rattle.hs_live.specs.Live.{IsEnd}
 use Rattle.hs_law_agent.specs.Stepping as model
-use Rattle.hs_law_agent.specs.Stepping.{Answered, Event, Took, Turn, Gave, step_of_answer}
+use Rattle.hs_law_agent.specs.Stepping.{Answered, AgentEvent, Took, Turn, Gave, step_of_answer}
 use Rattle.hs_records.specs.Plain.{PlainWorkload}
 use Rattle.hs_ring.specs.Parts.{Leased}
 use Rattle.hs_words.specs.Buffers.{Buffer}
 use Rattle.hs_run_agent.specs.Agents.{IsWithin, state_at}
-use Rattle.hs_run_agent.specs.Lines.{Line, Lines, linked, HandsOut, HandOutFirst, lines_of}
-use Rattle.hs_run_agent.specs.Manned.{Manned, IsManned, HasReceived, Passes, EachReceives, TakesItsAsks, desk_of}
+use Rattle.hs_run_agent.specs.Intakes.{Intake, Intakes, linked, HandsOut, HandOutFirst, intakes_of}
+use Rattle.hs_run_agent.specs.AgentActors.{PlainAgentActor, IsAgentActor, HasReceived, Passes, EachReceives, TakesItsAsks, working_agent_of}
 use Rattle.hs_run_agent.specs.Passing.{CanPass, MakesPass, events_made}
-use Rattle.hs_run_agent.specs.Stages.{Desking, Helping, events_from, chunks_of, stamps_of}
-use Rattle.hs_run_agent.specs.Turns.{Gives}
-use Rattle.hs_run_agent.specs.Work.{Work, IsFew, with_events, came_of, is_of, chunk_event, crumb_event, trigger_event, ask_event, gave_event}
+use Rattle.hs_run_agent.specs.Stages.{PlainWorkingAgent, Helping, events_from, chunks_of, stamps_of}
+use Rattle.hs_run_agent.specs.Turns.{GiverGoesOn}
+use Rattle.hs_run_agent.specs.Work.{NodeWork, IsFew, with_events, came_of, is_of, chunk_event, crumb_event, trigger_event, ask_event, gave_event}
 use Rattle.hs_run_agent.proofs.ByClient.{crumbs_made, triggers_made, asks_made, own_chunks, came_at, came_more, is_pass}
 use Rattle.hs_run_agent.proofs.Helping.{first_few}
 use Rattle.hs_run_agent.proofs.Ports.{lined, line_at, end_at}
 
 -- ---- the stamps of a pass
 
-stamps_front : {T : Type 0} (event : T → Event) (items : List T) (more : List Event) → ((item : T) → (events : List Event) → log_stamps (steps_of (event item ∷ events)) ≡ log_stamps (steps_of events)) → log_stamps (steps_of (map event items ++ more)) ≡ log_stamps (steps_of more)
+stamps_front : {T : Type 0} (event : T → AgentEvent) (items : List T) (more : List AgentEvent) → ((item : T) → (events : List AgentEvent) → log_stamps (steps_of (event item ∷ events)) ≡ log_stamps (steps_of events)) → log_stamps (steps_of (map event items ++ more)) ≡ log_stamps (steps_of more)
 stamps_front event [] more none = refl
 stamps_front event (item ∷ items) more none = none item (map event items ++ more) ∙ stamps_front event items more none
 
-stamps_from : (client : ℕ) (helpings : List Helping) (more : List Event) → log_stamps (steps_of (events_from client helpings ++ more)) ≡ log_stamps (steps_of more)
+stamps_from : (client : ℕ) (helpings : List Helping) (more : List AgentEvent) → log_stamps (steps_of (events_from client helpings ++ more)) ≡ log_stamps (steps_of more)
 stamps_from client [] more = refl
 stamps_from client (h ∷ helpings) more =
     let a = map (chunk_event client) h.chunks in
     let b = map (crumb_event client) h.crumbs in
     let c = map (trigger_event client) h.triggers in
     let rest = events_from (suc client) helpings ++ more in
-    ap (λ (l : List Event). log_stamps (steps_of l)) (append_assoc ((a ++ b) ++ c) (events_from (suc client) helpings) more ∙ append_assoc (a ++ b) c rest ∙ append_assoc a b (c ++ rest))
+    ap (λ (l : List AgentEvent). log_stamps (steps_of l)) (append_assoc ((a ++ b) ++ c) (events_from (suc client) helpings) more ∙ append_assoc (a ++ b) c rest ∙ append_assoc a b (c ++ rest))
     ∙ stamps_front (chunk_event client) h.chunks (b ++ (c ++ rest)) (λ _ _. refl) ∙ stamps_front (crumb_event client) h.crumbs (c ++ rest) (λ _ _. refl) ∙ stamps_front (trigger_event client) h.triggers rest (λ _ _. refl) ∙ stamps_from (suc client) helpings more
 
 stamps_offered : (answers : List Answered) → log_stamps (steps_of (map gave_event answers)) ≡ stamps_of answers
@@ -58,21 +58,21 @@ stamps_offered (model.Unread ∷ answers) = stamps_offered answers
 pub stamps_made : (helpings : List Helping) (asks : List Ask) (answers : List Answered) → log_stamps (steps_of (events_made helpings asks answers)) ≡ stamps_of answers
 stamps_made helpings asks answers =
     let d = map gave_event answers in
-    ap (λ (l : List Event). log_stamps (steps_of l)) (append_assoc (events_from 0 helpings ++ map ask_event asks) (Took Turn ∷ []) d ∙ append_assoc (events_from 0 helpings) (map ask_event asks) (Took Turn ∷ d))
+    ap (λ (l : List AgentEvent). log_stamps (steps_of l)) (append_assoc (events_from 0 helpings ++ map ask_event asks) (Took Turn ∷ []) d ∙ append_assoc (events_from 0 helpings) (map ask_event asks) (Took Turn ∷ d))
     ∙ stamps_from 0 helpings (map ask_event asks ++ Took Turn ∷ d) ∙ stamps_front ask_event asks (Took Turn ∷ d) (λ _ _. refl) ∙ stamps_offered answers
 
 -- ---- the receivers
 
 module _ {T : Type 0} where
-  pub out_at : (lists : List (List T)) (old new : List (Line T)) (i : ℕ) (items : List T) (l : Line T) → HandOutFirst lists old new → slice_get lists i ≡ Some items → slice_get old i ≡ Some l → (k : Line T) × (slice_get new i ≡ Some k) × HandsOut items l k
+  pub out_at : (lists : List (List T)) (old new : List (Intake T)) (i : ℕ) (items : List T) (l : Intake T) → HandOutFirst lists old new → slice_get lists i ≡ Some items → slice_get old i ≡ Some l → (k : Intake T) × (slice_get new i ≡ Some k) × HandsOut items l k
   out_at [] old new i items l first at was = let none : None ≡ Some items = at in absurd cc
   out_at (x ∷ lists) [] new i items l first at was = absurd first
   out_at (x ∷ lists) (y ∷ old) [] i items l first at was = absurd first
   out_at (x ∷ lists) (y ∷ old) (z ∷ new) zero items l first at was =
-      (z, refl, subst (λ (k : Line T). HandsOut items k z) (same_Some y l was) (subst (λ (xs : List T). HandsOut xs y z) (same_Some x items at) first.0))
+      (z, refl, subst (λ (k : Intake T). HandsOut items k z) (same_Some y l was) (subst (λ (xs : List T). HandsOut xs y z) (same_Some x items at) first.0))
   out_at (x ∷ lists) (y ∷ old) (z ∷ new) (suc i) items l first at was = out_at lists old new i items l first.1 at was
 
-  pub out_count : (lists : List (List T)) (old new : List (Line T)) → HandOutFirst lists old new → length new ≡ length old
+  pub out_count : (lists : List (List T)) (old new : List (Intake T)) → HandOutFirst lists old new → length new ≡ length old
   out_count [] old new first = ap length first
   out_count (x ∷ lists) [] new first = absurd first
   out_count (x ∷ lists) (y ∷ old) [] first = absurd first
@@ -86,7 +86,7 @@ module _ {T : Type 0} where
     received_at client r h end at =
         let (k, there_k, out) = out_at (map field helpings) (lined old) (lined new) client (field h) (linked r) first (get_map field helpings client h at) (line_at old client r end) in
         let (q, end_q, is) = end_at new client k there_k in
-        (q, end_q, subst (λ (l : Line T). HandsOut (field h) (linked r) l) is out)
+        (q, end_q, subst (λ (l : Intake T). HandsOut (field h) (linked r) l) is out)
 
     pub each_receives : length helpings ≡ length old → EachReceives old new
     each_receives number =
@@ -118,8 +118,8 @@ module _ {T : Type 0} where
 
 -- ---- the pass
 
-module _ (W : PlainWorkload) (work : Work) (old new : Lines) (desk : Desking) (made : MakesPass W work old new desk) where
-  abbrev pub pass : List Event
+module _ (W : PlainWorkload) (work : NodeWork) (old new : Intakes) (desk : PlainWorkingAgent) (made : MakesPass W work old new desk) where
+  abbrev pub pass : List AgentEvent
   pass = events_made made.helpings made.asks made.answers
 
   abbrev pub came : List (Buffer Leased)
@@ -145,7 +145,7 @@ module _ (W : PlainWorkload) (work : Work) (old new : Lines) (desk : Desking) (m
       let zero_on : client ≡ 0 + client = omega arith in
       came_at client 0 client made.helpings h zero_on (own_chunks W work.node 0 made.helpings first) at
     where
-      tail_all : (xs ys : List Event) → AllByRecursion (IsWithin W work.node) (xs ++ ys) → AllByRecursion (IsWithin W work.node) ys
+      tail_all : (xs ys : List AgentEvent) → AllByRecursion (IsWithin W work.node) (xs ++ ys) → AllByRecursion (IsWithin W work.node) ys
       tail_all [] ys all = all
       tail_all (x ∷ xs) ys all = tail_all xs ys all.1
 
@@ -169,8 +169,8 @@ module _ (W : PlainWorkload) (work : Work) (old new : Lines) (desk : Desking) (m
         ends = subst (λ (l : List Answered). ((l ≡ made.before) × ((state_at W (with_events pass [] work)).hand ≡ [])) ⊎ (l ≡ made.before ++ model.Unread ∷ [])) (sym same) made.ends;
       }
 
-  pub gives_made : Gives old.giver new.giver (log_stamps (steps_of pass))
-  gives_made = subst (λ (stamps : List ℕ). Gives old.giver new.giver stamps) (sym (stamps_made made.helpings made.asks made.answers)) made.gives
+  pub gives_made : GiverGoesOn old.giver new.giver (log_stamps (steps_of pass))
+  gives_made = subst (λ (stamps : List ℕ). GiverGoesOn old.giver new.giver stamps) (sym (stamps_made made.helpings made.asks made.answers)) made.gives
 
   pub takes_asks : TakesItsAsks work pass
   takes_asks =
@@ -181,12 +181,12 @@ module _ (W : PlainWorkload) (work : Work) (old new : Lines) (desk : Desking) (m
 
 -- ---- over a port
 
-module _ (W : PlainWorkload) (work : Work) (old new : Manned) (manned : IsManned W work old) (made : MakesPass W work (lines_of old.port) (lines_of new.port) (desk_of new)) where
-  abbrev events : List Event
-  events = pass W work (lines_of old.port) (lines_of new.port) (desk_of new) made
+module _ (W : PlainWorkload) (work : NodeWork) (old new : PlainAgentActor) (manned : IsAgentActor W work old) (made : MakesPass W work (intakes_of old.port) (intakes_of new.port) (working_agent_of new)) where
+  abbrev events : List AgentEvent
+  events = pass W work (intakes_of old.port) (intakes_of new.port) (working_agent_of new) made
 
   abbrev brought : List (Buffer Leased)
-  brought = came W work (lines_of old.port) (lines_of new.port) (desk_of new) made
+  brought = came W work (intakes_of old.port) (intakes_of new.port) (working_agent_of new) made
 
   count_chunks : length made.helpings ≡ length old.port.chunks
   count_chunks = made.number ∙ sym manned.stands.lines_are.chunks.count ∙ length-map old.port.chunks (λ (r : Incoming (Buffer Leased) Key). linked r)
@@ -201,30 +201,30 @@ module _ (W : PlainWorkload) (work : Work) (old new : Manned) (manned : IsManned
   received =
       record {
         chunks = received_more (λ (h : Helping). h.chunks) made.helpings old.port.chunks new.port.chunks made.chunks count_chunks (λ c. came_of c work) (λ c. came_of c (with_events events brought work)) manned.received.chunks
-            (came_behind W work (lines_of old.port) (lines_of new.port) (desk_of new) made);
+            (came_behind W work (intakes_of old.port) (intakes_of new.port) (working_agent_of new) made);
         crumbs = received_more (λ (h : Helping). h.crumbs) made.helpings old.port.crumbs new.port.crumbs made.crumbs count_crumbs (λ c. crumbs_in c work.events) (λ c. crumbs_in c (work.events ++ events)) manned.received.crumbs
-            (crumbs_behind W work (lines_of old.port) (lines_of new.port) (desk_of new) made);
+            (crumbs_behind W work (intakes_of old.port) (intakes_of new.port) (working_agent_of new) made);
         triggers = received_more (λ (h : Helping). h.triggers) made.helpings old.port.triggers new.port.triggers made.triggers count_triggers (λ c. triggers_in c work.events) (λ c. triggers_in c (work.events ++ events)) manned.received.triggers
-            (triggers_behind W work (lines_of old.port) (lines_of new.port) (desk_of new) made);
+            (triggers_behind W work (intakes_of old.port) (intakes_of new.port) (working_agent_of new) made);
       }
 
-  pub passed : new.clients ≡ W.settings.clients → (p : List Event) × (c : List (Buffer Leased)) × Passes W work p c old new
+  pub passed : new.clients ≡ W.settings.clients → (p : List AgentEvent) × (c : List (Buffer Leased)) × Passes W work p c old new
   passed clients = (
     events,
     brought,
     record {
       stands = record { stands = made.stands; received = received; clients_are = clients };
-      ends = ends_pass W work (lines_of old.port) (lines_of new.port) (desk_of new) made;
-      gives = gives_made W work (lines_of old.port) (lines_of new.port) (desk_of new) made;
+      ends = ends_pass W work (intakes_of old.port) (intakes_of new.port) (working_agent_of new) made;
+      gives = gives_made W work (intakes_of old.port) (intakes_of new.port) (working_agent_of new) made;
       chunks = each_receives (λ (h : Helping). h.chunks) made.helpings old.port.chunks new.port.chunks made.chunks count_chunks;
       crumbs = each_receives (λ (h : Helping). h.crumbs) made.helpings old.port.crumbs new.port.crumbs made.crumbs count_crumbs;
       triggers = each_receives (λ (h : Helping). h.triggers) made.helpings old.port.triggers new.port.triggers made.triggers count_triggers;
-      asks = takes_asks W work (lines_of old.port) (lines_of new.port) (desk_of new) made;
+      asks = takes_asks W work (intakes_of old.port) (intakes_of new.port) (working_agent_of new) made;
     },
   )
 
 -- an agent may make a pass
-pub can_pass : (W : PlainWorkload) (work : Work) (manned : Manned) → IsManned W work manned → IsFew W work → CanPass W work manned.clients (desk_of manned) (lines_of manned.port)
+pub can_pass : (W : PlainWorkload) (work : NodeWork) (manned : PlainAgentActor) → IsAgentActor W work manned → IsFew W work → CanPass W work manned.clients (working_agent_of manned) (intakes_of manned.port)
 can_pass W work manned is few =
     record {
       clients_are = is.clients_are;

@@ -5,19 +5,19 @@ use Rattle.std.proofs.lemmas.Option.{same_Some}
 use Rattle.hs_link.specs.Contents.{Incoming}
 use Rattle.hs_live.specs.Keys.{Key}
 use Rattle.hs_live.specs.Live.{IsEnd, ReceivesAt}
-use Rattle.hs_run_agent.specs.Lines.{Line, linked, HandsAt, IsAt}
+use Rattle.hs_run_agent.specs.Intakes.{Intake, linked, HandsAt, IsIntakeAt}
 
 module _ {T : Type 0} where
-  abbrev pub lined : List (Incoming T Key) → List (Line T)
+  abbrev pub lined : List (Incoming T Key) → List (Intake T)
   lined receivers = map (λ (r : Incoming T Key). linked r) receivers
 
-  pub line_at : (receivers : List (Incoming T Key)) (client : ℕ) (r : Incoming T Key) → IsEnd client receivers r → IsAt client (lined receivers) (linked r)
+  pub line_at : (receivers : List (Incoming T Key)) (client : ℕ) (r : Incoming T Key) → IsEnd client receivers r → IsIntakeAt client (lined receivers) (linked r)
   line_at [] client r at = let none : None ≡ Some r = at in absurd cc
   line_at (q ∷ receivers) zero r at = ap (λ (x : Incoming T Key). Some (linked x)) (same_Some q r at)
   line_at (q ∷ receivers) (suc client) r at = line_at receivers client r at
 
   -- and the other way round
-  pub end_at : (receivers : List (Incoming T Key)) (client : ℕ) (l : Line T) → IsAt client (lined receivers) l → (r : Incoming T Key) × IsEnd client receivers r × (l ≡ linked r)
+  pub end_at : (receivers : List (Incoming T Key)) (client : ℕ) (l : Intake T) → IsIntakeAt client (lined receivers) l → (r : Incoming T Key) × IsEnd client receivers r × (l ≡ linked r)
   end_at [] client l at = let none : None ≡ Some l = at in absurd cc
   end_at (q ∷ receivers) zero l at = (q, refl, sym (same_Some (linked q) l at))
   end_at (q ∷ receivers) (suc client) l at = end_at receivers client l at
@@ -25,7 +25,7 @@ module _ {T : Type 0} where
   lined_set : (receivers : List (Incoming T Key)) (client : ℕ) (r : Incoming T Key) → lined (slice_set receivers client r) ≡ slice_set (lined receivers) client (linked r)
   lined_set [] client r = refl
   lined_set (q ∷ receivers) zero r = refl
-  lined_set (q ∷ receivers) (suc client) r = ap (λ (l : List (Line T)). linked q ∷ l) (lined_set receivers client r)
+  lined_set (q ∷ receivers) (suc client) r = ap (λ (l : List (Intake T)). linked q ∷ l) (lined_set receivers client r)
 
   pub hands_so : (receivers receivers' : List (Incoming T Key)) (client : ℕ) (item : Option T) → ReceivesAt client receivers item receivers' → HandsAt client (lined receivers) item (lined receivers')
   hands_so receivers receivers' client (Some item) h =

@@ -11,9 +11,9 @@ use Rattle.hs_live.specs.Live.{outgoing, incoming}
 use Rattle.hs_ring.specs.Parts.{Leased}
 use Rattle.hs_words.specs.Buffers.{Buffer, buffer_of, buffer_in}
 use Rattle.hs_words.specs.declared.token.Held.{Held}
-use Rattle.hs_run_agent.specs.Lines.{Line, closed, HandsAt, IsAt}
+use Rattle.hs_run_agent.specs.Intakes.{Intake, closed, HandsAt, IsIntakeAt}
 use Rattle.hs_run_agent.specs.Resting.{AreEndsOf, AreRests, GivesAt, is_given, are_given}
-use Rattle.hs_run_agent.specs.Shut.{remaining}
+use Rattle.hs_run_agent.specs.ClosedAgents.{remaining}
 use Rattle.hs_run_agent.proofs.Handing.{set_same}
 
 module _ {T F : Type 0} where
@@ -121,15 +121,15 @@ module _ {T F : Type 0} where
 -- ---- lines
 
 module _ {T : Type 0} where
-  abbrev pub shut_list : List (Remaining T Key) → List (Line T)
+  abbrev pub shut_list : List (Remaining T Key) → List (Intake T)
   shut_list rests = map (λ (r : Remaining T Key). closed r) rests
 
-  pub rest_at : (rests : List (Remaining T Key)) (client : ℕ) (r : Remaining T Key) → slice_get rests client ≡ Some r → IsAt client (shut_list rests) (closed r)
+  pub rest_at : (rests : List (Remaining T Key)) (client : ℕ) (r : Remaining T Key) → slice_get rests client ≡ Some r → IsIntakeAt client (shut_list rests) (closed r)
   rest_at [] client r at = let none : None ≡ Some r = at in absurd cc
   rest_at (q ∷ rests) zero r at = ap (λ (x : Remaining T Key). Some (closed x)) (same_Some q r at)
   rest_at (q ∷ rests) (suc client) r at = rest_at rests client r at
 
-  pub left_at : (rests : List (Remaining T Key)) (client : ℕ) (l : Line T) → IsAt client (shut_list rests) l → (r : Remaining T Key) × (slice_get rests client ≡ Some r) × (l ≡ closed r)
+  pub left_at : (rests : List (Remaining T Key)) (client : ℕ) (l : Intake T) → IsIntakeAt client (shut_list rests) l → (r : Remaining T Key) × (slice_get rests client ≡ Some r) × (l ≡ closed r)
   left_at [] client l at = let none : None ≡ Some l = at in absurd cc
   left_at (q ∷ rests) zero l at = (q, refl, sym (same_Some (closed q) l at))
   left_at (q ∷ rests) (suc client) l at = left_at rests client l at
@@ -137,7 +137,7 @@ module _ {T : Type 0} where
   shut_set : (rests : List (Remaining T Key)) (client : ℕ) (r : Remaining T Key) → shut_list (slice_set rests client r) ≡ slice_set (shut_list rests) client (closed r)
   shut_set [] client r = refl
   shut_set (q ∷ rests) zero r = refl
-  shut_set (q ∷ rests) (suc client) r = ap (λ (l : List (Line T)). closed q ∷ l) (shut_set rests client r)
+  shut_set (q ∷ rests) (suc client) r = ap (λ (l : List (Intake T)). closed q ∷ l) (shut_set rests client r)
 
   pub hands_left : (rests rests' : List (Remaining T Key)) (client : ℕ) (item : Option T) → GivesAt client rests item rests' → HandsAt client (shut_list rests) item (shut_list rests')
   hands_left rests rests' client (Some item) h = (closed h.0, closed h.1, rest_at rests client h.0 h.2, ap shut_list h.3 ∙ shut_set rests client h.1, (h.4, h.5))
@@ -164,7 +164,7 @@ module _ {g : _} where
       (remaining h.0, remaining h.1, buffered_at rests client h.0 h.2, ap buffered h.3 ∙ buffered_set rests client h.1, h.4, ap (map buffer_of) h.5)
   gives_buffered rests rests' client None h = (remaining h.0, buffered_at rests client h.0 h.1, ap buffered h.2, ap (map buffer_of) h.3)
 
-  pub buffered_line : (rests : List (Remaining (Held Leased g) Key)) (client : ℕ) (r : Remaining (Held Leased g) Key) → slice_get rests client ≡ Some r → IsAt client (shut_list (buffered rests)) (closed (remaining r))
+  pub buffered_line : (rests : List (Remaining (Held Leased g) Key)) (client : ℕ) (r : Remaining (Held Leased g) Key) → slice_get rests client ≡ Some r → IsIntakeAt client (shut_list (buffered rests)) (closed (remaining r))
   buffered_line rests client r at = rest_at (buffered rests) client (remaining r) (buffered_at rests client r at)
 
   pub rests_buffered : (senders : List (Outgoing (Held Leased g) Key)) (receivers : List (Incoming (Held Leased g) Key)) (rests : List (Remaining (Held Leased g) Key)) → AreRests senders receivers rests → AreRests (map outgoing senders) (map incoming receivers) (buffered rests)

@@ -19,21 +19,21 @@ use Rattle.hs_live.specs.Keys.{Key}
 use Rattle.hs_live.specs.Live.{IsEnd}
 use Rattle.hs_law_agent.specs.Laws.{EventsAddFew, StepsSayWhatTheyTell}
 use Rattle.hs_law_agent.specs.Leading.{CrumbsLeadBelow}
-use Rattle.hs_law_agent.specs.Stepping.{Event}
+use Rattle.hs_law_agent.specs.Stepping.{AgentEvent}
 use Rattle.hs_records.specs.Plain.{PlainWorkload}
 use Rattle.hs_ring.specs.Parts.{Leased, Giving}
 use Rattle.hs_words.specs.Buffers.{Buffer, buffer_of}
 use Rattle.hs_words.specs.Pools.{PoolName}
 use Rattle.hs_words.specs.declared.token.Held.{Held}
 use Rattle.hs_run_agent.specs.Agents.{IsPooled, IsTellable, run_at, state_at}
-use Rattle.hs_run_agent.specs.Lines.{Line, closed, linked, AreLinesFor, HandsOut, HandOutFirst, key_of}
-use Rattle.hs_run_agent.specs.Manned.{Manned, IsManned, desk_of}
+use Rattle.hs_run_agent.specs.Intakes.{Intake, closed, linked, AreIntakesFor, HandsOut, HandOutFirst, key_of}
+use Rattle.hs_run_agent.specs.AgentActors.{PlainAgentActor, IsAgentActor, working_agent_of}
 use Rattle.hs_run_agent.specs.Passing.{CanPass, MakesPass}
 use Rattle.hs_run_agent.specs.Resting.{AreEndsOf, AreRests, are_given}
-use Rattle.hs_run_agent.specs.Shut.{Shut, AllSent, IsShut, IsBare, PassesShut, TakesLeft, AreMatesOf, all_sent, sent_at, shut_desk, shut_lines}
-use Rattle.hs_run_agent.specs.Stages.{Desking, Helping, Stands}
+use Rattle.hs_run_agent.specs.ClosedAgents.{PlainClosedAgent, AllSent, IsClosedAgent, IsClosedAgentBare, ClosedAgentPasses, TakesLeft, AreMatesOf, all_sent, sent_at, closed_working_agent, closed_intakes}
+use Rattle.hs_run_agent.specs.Stages.{PlainWorkingAgent, Helping, WorkingAgentStands}
 use Rattle.hs_run_agent.specs.Turns.{lent_of}
-use Rattle.hs_run_agent.specs.Work.{Work, IsFew, with_events, with_moved, came_of}
+use Rattle.hs_run_agent.specs.Work.{NodeWork, IsFew, with_events, with_moved, came_of}
 use Rattle.hs_run_agent.proofs.Passed.{pass, came, came_behind, crumbs_behind, triggers_behind, ends_pass, gives_made, takes_asks, out_at, out_count}
 use Rattle.hs_run_agent.proofs.Ports.{lined, line_at}
 use Rattle.hs_run_agent.proofs.Resting.{shut_list, rest_at, left_at, all_empty, all_are_given}
@@ -49,7 +49,7 @@ module _ {T : Type 0} (field : Helping → List T) (helpings : List Helping) (ol
   at_pass client r h at helped =
       let (k, there_k, out) = out_at (map field helpings) (shut_list old) (shut_list new) client (field h) (closed r) first (get_map field helpings client h helped) (rest_at old client r at) in
       let (q, at_q, is) = left_at new client k there_k in
-      (q, at_q, subst (λ (l : Line T). HandsOut (field h) (closed r) l) is out)
+      (q, at_q, subst (λ (l : Intake T). HandsOut (field h) (closed r) l) is out)
 
   module _ (number : length helpings ≡ length old) (before behind all : ℕ → List T) (was : (client : ℕ) (r : Remaining T Key) → slice_get old client ≡ Some r → before client ++ r.items ≡ all client)
       (brings : (client : ℕ) (h : Helping) → slice_get helpings client ≡ Some h → behind client ≡ before client ++ field h) where
@@ -73,12 +73,12 @@ module _ {T : Type 0} (field : Helping → List T) (helpings : List Helping) (ol
         let most = out.all in
         omega (arith, sum, more, most)
 
-module _ (W : PlainWorkload) (work : Work) (all : AllSent) (old new : Shut) (shut : IsShut W work all old) (made : MakesPass W work (shut_lines old) (shut_lines new) (shut_desk new)) where
-  abbrev events : List Event
-  events = pass W work (shut_lines old) (shut_lines new) (shut_desk new) made
+module _ (W : PlainWorkload) (work : NodeWork) (all : AllSent) (old new : PlainClosedAgent) (shut : IsClosedAgent W work all old) (made : MakesPass W work (closed_intakes old) (closed_intakes new) (closed_working_agent new)) where
+  abbrev events : List AgentEvent
+  events = pass W work (closed_intakes old) (closed_intakes new) (closed_working_agent new) made
 
   abbrev brought : List (Buffer Leased)
-  brought = came W work (shut_lines old) (shut_lines new) (shut_desk new) made
+  brought = came W work (closed_intakes old) (closed_intakes new) (closed_working_agent new) made
 
   count_chunks : length old.chunks ≡ W.settings.clients
   count_chunks = sym (length-map old.chunks (λ (r : Remaining (Buffer Leased) Key). closed r)) ∙ shut.stands.lines_are.chunks.count
@@ -89,11 +89,11 @@ module _ (W : PlainWorkload) (work : Work) (all : AllSent) (old new : Shut) (shu
   count_triggers : length old.triggers ≡ W.settings.clients
   count_triggers = sym (length-map old.triggers (λ (r : Remaining Trigger Key). closed r)) ∙ shut.stands.lines_are.triggers.count
 
-  pub passed_shut : new.clients ≡ W.settings.clients → (p : List Event) × (c : List (Buffer Leased)) × PassesShut W work all p c old new
+  pub passed_shut : new.clients ≡ W.settings.clients → (p : List AgentEvent) × (c : List (Buffer Leased)) × ClosedAgentPasses W work all p c old new
   passed_shut clients =
-      let chunks_so = came_behind W work (shut_lines old) (shut_lines new) (shut_desk new) made in
-      let crumbs_so = crumbs_behind W work (shut_lines old) (shut_lines new) (shut_desk new) made in
-      let triggers_so = triggers_behind W work (shut_lines old) (shut_lines new) (shut_desk new) made in
+      let chunks_so = came_behind W work (closed_intakes old) (closed_intakes new) (closed_working_agent new) made in
+      let crumbs_so = crumbs_behind W work (closed_intakes old) (closed_intakes new) (closed_working_agent new) made in
+      let triggers_so = triggers_behind W work (closed_intakes old) (closed_intakes new) (closed_working_agent new) made in
       let n₁ = count_chunks in
       let n₂ = count_crumbs in
       let n₃ = count_triggers in (
@@ -112,8 +112,8 @@ module _ (W : PlainWorkload) (work : Work) (all : AllSent) (old new : Shut) (shu
                     };
                 clients_are = clients;
               };
-          ends = ends_pass W work (shut_lines old) (shut_lines new) (shut_desk new) made;
-          gives = gives_made W work (shut_lines old) (shut_lines new) (shut_desk new) made;
+          ends = ends_pass W work (closed_intakes old) (closed_intakes new) (closed_working_agent new) made;
+          gives = gives_made W work (closed_intakes old) (closed_intakes new) (closed_working_agent new) made;
           chunks = λ c low.
               takes_left (λ (h : Helping). h.chunks) made.helpings old.chunks new.chunks made.chunks (made.number ∙ sym n₁) (λ c. came_of c work) (λ c. came_of c (with_events events brought work)) all.chunks shut.left.chunks chunks_so c (omega (arith, low, n₁));
           crumbs = λ c low.
@@ -121,21 +121,21 @@ module _ (W : PlainWorkload) (work : Work) (all : AllSent) (old new : Shut) (shu
           triggers = λ c low.
               takes_left (λ (h : Helping). h.triggers) made.helpings old.triggers new.triggers made.triggers (made.number ∙ sym n₃) (λ c. triggers_in c work.events) (λ c. triggers_in c (work.events ++ events)) all.triggers shut.left.triggers triggers_so c
               (omega (arith, low, n₃));
-          asks = takes_asks W work (shut_lines old) (shut_lines new) (shut_desk new) made;
+          asks = takes_asks W work (closed_intakes old) (closed_intakes new) (closed_working_agent new) made;
         },
       )
 
-pub can_pass_shut : (W : PlainWorkload) (work : Work) (all : AllSent) (shut : Shut) → IsShut W work all shut → IsFew W work → CanPass W work shut.clients (shut_desk shut) (shut_lines shut)
+pub can_pass_shut : (W : PlainWorkload) (work : NodeWork) (all : AllSent) (shut : PlainClosedAgent) → IsClosedAgent W work all shut → IsFew W work → CanPass W work shut.clients (closed_working_agent shut) (closed_intakes shut)
 can_pass_shut W work all shut is few = record { clients_are = is.clients_are; few = few; stands = is.stands }
 
 -- ---- messages
 
-pub told_shut : (W : PlainWorkload) (work : Work) (all : AllSent) → CrumbsLeadBelow → EventsAddFew → StepsSayWhatTheyTell → (old : Shut) (told : Option Told) (rest : List Told) → old.said ≡ option_to_list told ++ rest → IsShut W work all old
-    → IfSome told (λ (t : Told). IsTellable W t × IsShut W (with_moved t work) all (record old { said = rest }))
+pub told_shut : (W : PlainWorkload) (work : NodeWork) (all : AllSent) → CrumbsLeadBelow → EventsAddFew → StepsSayWhatTheyTell → (old : PlainClosedAgent) (told : Option Told) (rest : List Told) → old.said ≡ option_to_list told ++ rest → IsClosedAgent W work all old
+    → IfSome told (λ (t : Told). IsTellable W t × IsClosedAgent W (with_moved t work) all (record old { said = rest }))
 told_shut W work all below few says old None rest e shut = tt
 told_shut W work all below few says old (Some told) rest e shut =
-    let before : Stands W work (record (shut_desk old) { said = told ∷ rest }) (shut_lines old) = subst (λ (l : List Told). Stands W work (record (shut_desk old) { said = l }) (shut_lines old)) e shut.stands in
-    let (tellable, stands) = tells W work (shut_lines old) below few says (record (shut_desk old) { said = rest }) told before in
+    let before : WorkingAgentStands W work (record (closed_working_agent old) { said = told ∷ rest }) (closed_intakes old) = subst (λ (l : List Told). WorkingAgentStands W work (record (closed_working_agent old) { said = l }) (closed_intakes old)) e shut.stands in
+    let (tellable, stands) = tells W work (closed_intakes old) below few says (record (closed_working_agent old) { said = rest }) told before in
     (tellable, record { stands = stands; left = record { chunks = shut.left.chunks; crumbs = shut.left.crumbs; triggers = shut.left.triggers }; clients_are = shut.clients_are })
 
 -- ---- closing
@@ -180,7 +180,7 @@ module _ {T : Type 0} where
         let (s, r, at_s, at_r, items, key) = rest_is senders receivers rests client x are at in
         ap (λ (l : List T). l ++ x.items) (sym (was client r at_r)) ∙ items ∙ sym (ap (λ (o : Option (Outgoing T Key)). option_map_or sent o []) at_s)
 
-    pub lines_shut : (W : PlainWorkload) (node : ℕ) (pool : PoolName) → AreLinesFor W node pool (lined receivers) → AreLinesFor W node pool (shut_list rests)
+    pub lines_shut : (W : PlainWorkload) (node : ℕ) (pool : PoolName) → AreIntakesFor W node pool (lined receivers) → AreIntakesFor W node pool (shut_list rests)
     lines_shut W node pool lines =
         record {
           count = length-map rests (λ (r : Remaining T Key). closed r) ∙ count_rests senders receivers rests are ∙ sym (length-map receivers (λ (r : Incoming T Key). linked r)) ∙ lines.count;
@@ -191,14 +191,14 @@ module _ {T : Type 0} where
         }
 
 -- all links are closed
-pub shut_so : (W : PlainWorkload) (work : Work) (manned : Manned) (shut : Shut) (chunks : List (Outgoing (Buffer Leased) Key)) (crumbs : List (Outgoing Crumb Key)) (triggers : List (Outgoing Trigger Key)) → IsManned W work manned
-    → AreRests chunks manned.port.chunks shut.chunks → AreRests crumbs manned.port.crumbs shut.crumbs → AreRests triggers manned.port.triggers shut.triggers → shut_desk shut ≡ desk_of manned → shut.giver ≡ manned.port.giver → shut.clients ≡ manned.clients
-    → IsShut W work (all_sent chunks crumbs triggers) shut
+pub shut_so : (W : PlainWorkload) (work : NodeWork) (manned : PlainAgentActor) (shut : PlainClosedAgent) (chunks : List (Outgoing (Buffer Leased) Key)) (crumbs : List (Outgoing Crumb Key)) (triggers : List (Outgoing Trigger Key)) → IsAgentActor W work manned
+    → AreRests chunks manned.port.chunks shut.chunks → AreRests crumbs manned.port.crumbs shut.crumbs → AreRests triggers manned.port.triggers shut.triggers → closed_working_agent shut ≡ working_agent_of manned → shut.giver ≡ manned.port.giver → shut.clients ≡ manned.clients
+    → IsClosedAgent W work (all_sent chunks crumbs triggers) shut
 shut_so W work manned shut chunks crumbs triggers is a b c desk giver clients =
     let lines = is.stands.lines_are in
     record {
       stands =
-          subst (λ (d : Desking). Stands W work d (shut_lines shut)) (sym desk)
+          subst (λ (d : PlainWorkingAgent). WorkingAgentStands W work d (closed_intakes shut)) (sym desk)
           (record {
             works = is.stands.works;
             asks_are = is.stands.asks_are;
@@ -236,7 +236,7 @@ held_pool : {g : _} (pool : PoolName) (rest : List (Held Leased g)) → AllByRec
 held_pool pool [] all = tt
 held_pool pool (x ∷ rest) all = (all.0, held_pool pool rest all.1)
 
-module _ (W : PlainWorkload) (work : Work) (all : AllSent) (shut : Shut) (is : IsShut W work all shut) where
+module _ (W : PlainWorkload) (work : NodeWork) (all : AllSent) (shut : PlainClosedAgent) (is : IsClosedAgent W work all shut) where
   abbrev pub last_run : Run Leased
   last_run = run_at W work is.stands.works.is.buffers None
 
@@ -259,9 +259,9 @@ pub nothing_waits : {A : Type 0} (items : List A) (count : ℕ) (flag : Bool) �
 nothing_waits [] count flag same e on = refl
 nothing_waits (x ∷ items) count flag same e on = let none = eqb-true count 0 (sym e ∙ on) in absurd (omega (arith, none, same))
 
-module _ (W : PlainWorkload) (work : Work) (shut : Shut) where
+module _ (W : PlainWorkload) (work : NodeWork) (shut : PlainClosedAgent) where
   -- where something is left of a link
-  pub not_bare : (are_given shut.chunks && are_given shut.crumbs && are_given shut.triggers) ≡ false → IsBare W work shut → ⊥
+  pub not_bare : (are_given shut.chunks && are_given shut.crumbs && are_given shut.triggers) ≡ false → IsClosedAgentBare W work shut → ⊥
   not_bare e bare =
       let a = all_are_given shut.chunks bare.chunks in
       let b = all_are_given shut.crumbs bare.crumbs in
@@ -271,7 +271,7 @@ module _ (W : PlainWorkload) (work : Work) (shut : Shut) where
 
   -- and where nothing waits, by what is pinned
   pub bare_by_pins : (are_given shut.chunks && are_given shut.crumbs && are_given shut.triggers) ≡ true → shut.asks ≡ [] → shut.said ≡ [] → (pins : ℕ) → pins ≡ length (state_at W work).pinned
-      → (eqb pins 0 ≡ true → IsBare W work shut) × (eqb pins 0 ≡ false → IsBare W work shut → ⊥)
+      → (eqb pins 0 ≡ true → IsClosedAgentBare W work shut) × (eqb pins 0 ≡ false → IsClosedAgentBare W work shut → ⊥)
   bare_by_pins given asks said pins count =
       let (a, b, c) = all_three (are_given shut.chunks) (are_given shut.crumbs) (are_given shut.triggers) given in (
         λ on.

@@ -6,51 +6,51 @@ use Rattle.hs_base.specs.declared.told.Ask.{Ask}
 use Rattle.hs_law_journal.specs.Doings.{ask_in, asks_in}
 use Rattle.hs_law_journal.specs.Turns.{Lent, AreTurns, Begins, Takes}
 use Rattle.hs_law_journal.proofs.Lents.{turns_more}
-use Rattle.hs_law_agent.specs.Stepping.{Input, Event, Took}
+use Rattle.hs_law_agent.specs.Stepping.{Input, AgentEvent, Took}
 use Rattle.hs_records.specs.Plain.{PlainSettings, PlainWorkload}
 use Rattle.hs_ring.specs.Parts.{Leased}
 use Rattle.hs_words.specs.Buffers.{Buffer}
-use Rattle.hs_words.specs.Ends.{Turn}
+use Rattle.hs_words.specs.Ends.{GiverTurn}
 use Rattle.hs_run_agent.specs.Agents.{AgentWorks}
-use Rattle.hs_run_agent.specs.Lines.{Lines, AreLines}
-use Rattle.hs_run_agent.specs.Stages.{Desking, Stands}
+use Rattle.hs_run_agent.specs.Intakes.{Intakes, AreIntakes}
+use Rattle.hs_run_agent.specs.Stages.{PlainWorkingAgent, WorkingAgentStands}
 use Rattle.hs_run_agent.specs.Turns.{lent_of}
-use Rattle.hs_run_agent.specs.Work.{Work, with_events, is_triggered, triggered}
+use Rattle.hs_run_agent.specs.Work.{NodeWork, with_events, is_triggered, triggered}
 
 -- ---- work
 
-pub with_none : (work : Work) → with_events [] [] work ≡ work
-with_none work = ap₂ (λ (events : List Event) (came : List (Buffer Leased)). record work { events = events; came = came }) (append-nil work.events) (append-nil work.came)
+pub with_none : (work : NodeWork) → with_events [] [] work ≡ work
+with_none work = ap₂ (λ (events : List AgentEvent) (came : List (Buffer Leased)). record work { events = events; came = came }) (append-nil work.events) (append-nil work.came)
 
-pub with_more : (work : Work) (events more : List Event) (came others : List (Buffer Leased)) → with_events more others (with_events events came work) ≡ with_events (events ++ more) (came ++ others) work
+pub with_more : (work : NodeWork) (events more : List AgentEvent) (came others : List (Buffer Leased)) → with_events more others (with_events events came work) ≡ with_events (events ++ more) (came ++ others) work
 with_more work events more came others =
-    ap₂ (λ (e : List Event) (c : List (Buffer Leased)). record work { events = e; came = c }) (append_assoc work.events events more) (append_assoc work.came came others)
+    ap₂ (λ (e : List AgentEvent) (c : List (Buffer Leased)). record work { events = e; came = c }) (append_assoc work.events events more) (append_assoc work.came came others)
 
-pub asks_more : (events more : List Event) → asks_in (events ++ more) ≡ asks_in events ++ asks_in more
+pub asks_more : (events more : List AgentEvent) → asks_in (events ++ more) ≡ asks_in events ++ asks_in more
 asks_more [] more = refl
 asks_more (event ∷ events) more = ap (λ (l : List Ask). ask_in event ++ l) (asks_more events more) ∙ sym (append_assoc (ask_in event) (asks_in events) (asks_in more))
 
-pub triggered_more : (events more : List Event) → triggered (events ++ more) ≡ triggered events + triggered more
-triggered_more events more = sum_by-append (λ (e : Event). cond (is_triggered e) 1 0) events more
+pub triggered_more : (events more : List AgentEvent) → triggered (events ++ more) ≡ triggered events + triggered more
+triggered_more events more = sum_by-append (λ (e : AgentEvent). cond (is_triggered e) 1 0) events more
 
 -- ---- turns
 
 module _ (settings : PlainSettings) (node : ℕ) where
   -- nothing was done
-  pub turns_begin : (lents : List Lent) (turns : List Turn) → turns ≡ [] → AreTurns settings node lents [] turns
+  pub turns_begin : (lents : List Lent) (turns : List GiverTurn) → turns ≡ [] → AreTurns settings node lents [] turns
   turns_begin lents turns none = subst (AreTurns settings node lents []) (sym none) Begins
 
   -- chunks that come leave the turns
-  pub turns_came : (came more : List (Buffer Leased)) (events : List Event) (turns : List Turn) → AreTurns settings node (map lent_of came) events turns → AreTurns settings node (map lent_of (came ++ more)) events turns
+  pub turns_came : (came more : List (Buffer Leased)) (events : List AgentEvent) (turns : List GiverTurn) → AreTurns settings node (map lent_of came) events turns → AreTurns settings node (map lent_of (came ++ more)) events turns
   turns_came came more events turns are =
       subst (λ (lents : List Lent). AreTurns settings node lents events turns) (sym (map-append lent_of came more)) (turns_more settings node (map lent_of came) (map lent_of more) events turns are)
 
 -- ---- what stands
 
-module _ (W : PlainWorkload) (work : Work) where
+module _ (W : PlainWorkload) (work : NodeWork) where
   -- an input more
-  pub stands_more : (input : Input) (came : List (Buffer Leased)) (old new : Desking) (lines lines' : Lines) → Stands W work old lines → AgentWorks W (with_events (Took input ∷ []) came work) new.agent new.said
-      → asks_in (Took input ∷ []) ++ new.asks ≡ old.asks → lines'.giver ≡ lines.giver → AreLines W work.node work.pool lines' → Stands W (with_events (Took input ∷ []) came work) new lines'
+  pub stands_more : (input : Input) (came : List (Buffer Leased)) (old new : PlainWorkingAgent) (lines lines' : Intakes) → WorkingAgentStands W work old lines → AgentWorks W (with_events (Took input ∷ []) came work) new.agent new.said
+      → asks_in (Took input ∷ []) ++ new.asks ≡ old.asks → lines'.giver ≡ lines.giver → AreIntakes W work.node work.pool lines' → WorkingAgentStands W (with_events (Took input ∷ []) came work) new lines'
   stands_more input came old new lines lines' stands works asks giver are =
       record {
         works = works;

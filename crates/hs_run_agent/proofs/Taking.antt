@@ -7,31 +7,31 @@ use Rattle.std.specs.Option.{option_map_or, option_to_list}
 use Rattle.hs_lists.proofs.Alls.{all_append}
 use Rattle.hs_agent.specs.declared.input.Input.{Input}
 use Rattle.hs_agent.specs.declared.input.Input.TheVariants as inputs
-use Rattle.hs_agent.specs.Keeping.{Keeping}
+use Rattle.hs_agent.specs.Keeping.{PlainAgent}
 use Rattle.hs_agent.specs.Points.{sheet_in}
 use Rattle.hs_agent.specs.Runs.{Run, Follows, IsTakable, Knows, after_input, buffers_in, input_of, point_of, told_in}
 use Rattle.hs_law_journal.specs.LoopPasses.{HandsReady}
 use Rattle.hs_base.specs.declared.told.Told.{Told}
 use Rattle.hs_law_agent.specs.Laws.{EventsGoOn, EventsAddFew, StepsSayWhatTheyTell, brought_by}
 use Rattle.hs_law_agent.specs.State.{AgentState, start}
-use Rattle.hs_law_agent.specs.Stepping.{Event, Took, Gave, Answered, after, after_from, after_event, told_by}
+use Rattle.hs_law_agent.specs.Stepping.{AgentEvent, Took, Gave, Answered, after, after_from, after_event, told_by}
 use Rattle.hs_law_agent.specs.Stepping as model
 use Rattle.hs_records.specs.Plain.{PlainSettings, PlainWorkload}
 use Rattle.hs_ring.specs.Parts.{Leased}
 use Rattle.hs_words.specs.Buffers.{Buffer, buffer_of}
 use Rattle.hs_words.specs.Pages.{Sheet}
 use Rattle.hs_run_agent.specs.Agents.{AgentIs, AgentWorks, IsPageThere, IsPooled, IsWithin, MayCome, Label, label_of, run_at, state_at, with_input}
-use Rattle.hs_run_agent.specs.Work.{Work}
+use Rattle.hs_run_agent.specs.Work.{NodeWork}
 use Rattle.hs_run_agent.proofs.Admitted.{admitted_few}
 
 -- ---- offers are made of what is in the hand
 
-pub hands_took : (settings : PlainSettings) (node : ℕ) (state : AgentState) (events : List Event) (input : model.Input) → HandsReady settings node state events → HandsReady settings node state (events ++ Took input ∷ [])
+pub hands_took : (settings : PlainSettings) (node : ℕ) (state : AgentState) (events : List AgentEvent) (input : model.Input) → HandsReady settings node state events → HandsReady settings node state (events ++ Took input ∷ [])
 hands_took settings node state [] input ready = tt
 hands_took settings node state (Took other ∷ events) input ready = hands_took settings node (after_event settings node state (Took other)) events input ready
 hands_took settings node state (Gave answer ∷ events) input ready = (ready.0, hands_took settings node (after_event settings node state (Gave answer)) events input ready.1)
 
-pub hands_gave : (settings : PlainSettings) (node : ℕ) (state : AgentState) (events : List Event) (answer : Answered) → HandsReady settings node state events → IsSome (slice_get (after_from settings node state events).hand 0)
+pub hands_gave : (settings : PlainSettings) (node : ℕ) (state : AgentState) (events : List AgentEvent) (answer : Answered) → HandsReady settings node state events → IsSome (slice_get (after_from settings node state events).hand 0)
     → HandsReady settings node state (events ++ Gave answer ∷ [])
 hands_gave settings node state [] answer ready there = (there, tt)
 hands_gave settings node state (Took other ∷ events) answer ready there = hands_gave settings node (after_event settings node state (Took other)) events answer ready there
@@ -39,7 +39,7 @@ hands_gave settings node state (Gave other ∷ events) answer ready there = (rea
 
 -- ---- the sheets of events
 
-pub brought_more : (events more : List Event) → flat_map brought_by (events ++ more) ≡ flat_map brought_by events ++ flat_map brought_by more
+pub brought_more : (events more : List AgentEvent) → flat_map brought_by (events ++ more) ≡ flat_map brought_by events ++ flat_map brought_by more
 brought_more [] more = refl
 brought_more (event ∷ events) more = ap (λ (l : List Sheet). brought_by event ++ l) (brought_more events more) ∙ sym (append_assoc (brought_by event) (flat_map brought_by events) (flat_map brought_by more))
 
@@ -56,7 +56,7 @@ brought (inputs.Trigger client trigger) = refl
 brought (inputs.Ask ask) = refl
 brought inputs.Turn = refl
 
-module _ (W : PlainWorkload) (work : Work) where
+module _ (W : PlainWorkload) (work : NodeWork) where
   may_take : {g : _} (few : EventsAddFew) (buffers : List (Buffer Leased)) (input : Input Leased g) → MayCome W work input → IsTakable (point_of (run_at W work buffers None)) input
   may_take few buffers (inputs.Chunk client held) may =
       record {
@@ -94,14 +94,14 @@ module _ (W : PlainWorkload) (work : Work) where
   is_within (inputs.Ask ask) may = may
   is_within inputs.Turn may = tt
 
-  module _ {g : _} (agent : Keeping Leased) (said : List Told) (input : Input Leased g) (works : AgentWorks W work agent said) (may : MayCome W work input) where
+  module _ {g : _} (agent : PlainAgent Leased) (said : List Told) (input : Input Leased g) (works : AgentWorks W work agent said) (may : MayCome W work input) where
     abbrev pub run : Run Leased
     run = run_at W work works.is.buffers None
 
     pub takable : EventsAddFew → Knows agent (λ r. IsTakable (point_of r) input)
     takable few = λ working. (run, works.is.follows, may_take few works.is.buffers input may)
 
-    pub took_is : EventsGoOn → (agent' : Keeping Leased) → Follows agent' (after_input run input) → AgentIs W (with_input input work) None agent'
+    pub took_is : EventsGoOn → (agent' : PlainAgent Leased) → Follows agent' (after_input run input) → AgentIs W (with_input input work) None agent'
     took_is go_on agent' follows =
         record {
           buffers = works.is.buffers ++ buffers_in input;
@@ -117,10 +117,10 @@ module _ (W : PlainWorkload) (work : Work) where
           hands = hands_took W.settings work.node (start W.settings) work.events (input_of input) works.is.hands;
         }
 
-    pub took : EventsGoOn → StepsSayWhatTheyTell → (agent' : Keeping Leased) (told : Option Told) (said' : List Told) → Follows agent' (after_input run input) → told ≡ told_in run input → said' ≡ said ++ option_to_list told
+    pub took : EventsGoOn → StepsSayWhatTheyTell → (agent' : PlainAgent Leased) (told : Option Told) (said' : List Told) → Follows agent' (after_input run input) → told ≡ told_in run input → said' ≡ said ++ option_to_list told
         → AgentWorks W (with_input input work) agent' said'
     took go_on says agent' told said' follows tells joins =
-        let e : Event = Took (input_of input) in
+        let e : AgentEvent = Took (input_of input) in
         let more = (says W.settings work.node (state_at W work)).inputs (input_of input) in
         record {
           is = took_is go_on agent' follows;

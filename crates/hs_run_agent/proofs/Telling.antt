@@ -16,13 +16,13 @@ use Rattle.hs_law_agent.specs.Laws.{EventsAddFew, StepsSayWhatTheyTell, AllPass,
 use Rattle.hs_law_agent.specs.Leading.{CrumbsLeadBelow, LeadsBelow, BringsBelow, IsToldBelow}
 use Rattle.hs_law_agent.specs.Messages.{has_crumb, late_of}
 use Rattle.hs_law_agent.specs.State.{AgentState, ClaimedTrace, start, claim_of}
-use Rattle.hs_law_agent.specs.Stepping.{Input, Chunk, Crumbed, Triggered, Asked, Turn, Event, Took, Gave, after, after_from, after_event, admits, group_of, told_by}
+use Rattle.hs_law_agent.specs.Stepping.{Input, Chunk, Crumbed, Triggered, Asked, Turn, AgentEvent, Took, Gave, after, after_from, after_event, admits, group_of, told_by}
 use Rattle.hs_records.specs.Plain.{PlainWorkload}
 use Rattle.hs_run_agent.specs.Agents.{IsAskable, IsTellable, IsWithin}
-use Rattle.hs_run_agent.specs.Manned.{Manned, IsManned, HasReceived, desk_of}
-use Rattle.hs_run_agent.specs.Stages.{Desking, Stands}
-use Rattle.hs_run_agent.specs.Lines.{Lines, lines_of}
-use Rattle.hs_run_agent.specs.Work.{Work, with_ask, with_moved, is_of}
+use Rattle.hs_run_agent.specs.AgentActors.{PlainAgentActor, IsAgentActor, HasReceived, working_agent_of}
+use Rattle.hs_run_agent.specs.Stages.{PlainWorkingAgent, WorkingAgentStands}
+use Rattle.hs_run_agent.specs.Intakes.{Intakes, intakes_of}
+use Rattle.hs_run_agent.specs.Work.{NodeWork, with_ask, with_moved, is_of}
 
 -- what is found is one of the list
 found_step : {A : Type 0} (P : A → Type 0) (b : Bool) (x y : A) (rest : Option A) → P x → (rest ≡ Some y → P y) → cond b (Some x) rest ≡ Some y → P y
@@ -74,7 +74,7 @@ module _ (W : PlainWorkload) (node : ℕ) where
   claims_declared state (Asked ask) within = within
   claims_declared state Turn within = tt
 
-  brings : (event : Event) → IsWithin W node event → BringsBelow W.settings.nodes event
+  brings : (event : AgentEvent) → IsWithin W node event → BringsBelow W.settings.nodes event
   brings (Took (Chunk client sheet)) within = tt
   brings (Took (Crumbed client crumb)) within = within.1
   brings (Took (Triggered client trigger)) within = tt
@@ -83,11 +83,11 @@ module _ (W : PlainWorkload) (node : ℕ) where
   brings (Gave answer) within = tt
 
   module _ (below : CrumbsLeadBelow) (few : EventsAddFew) (says : StepsSayWhatTheyTell) where
-    leads_from : (state : AgentState) (events : List Event) → LeadsBelow W.settings.nodes state → AllByRecursion (IsWithin W node) events → LeadsBelow W.settings.nodes (after_from W.settings node state events)
+    leads_from : (state : AgentState) (events : List AgentEvent) → LeadsBelow W.settings.nodes state → AllByRecursion (IsWithin W node) events → LeadsBelow W.settings.nodes (after_from W.settings node state events)
     leads_from state [] leads within = leads
     leads_from state (event ∷ events) leads within = leads_from (after_event W.settings node state event) events (below W.settings node W.settings.nodes state event (brings event within.0) leads) within.1
 
-    declared_from : (state : AgentState) (events : List Event) → AllPass test state.claims → AllByRecursion IsDeclared state.said → AllByRecursion (IsWithin W node) events → AllByRecursion IsDeclared (after_from W.settings node state events).said
+    declared_from : (state : AgentState) (events : List AgentEvent) → AllPass test state.claims → AllByRecursion IsDeclared state.said → AllByRecursion (IsWithin W node) events → AllByRecursion IsDeclared (after_from W.settings node state events).said
     declared_from state [] claims said within = said
     declared_from state (Took input ∷ events) claims said within =
         declared_from (after_event W.settings node state (Took input)) events ((few W.settings node state).claims test input claims (claims_declared state input within.0))
@@ -100,15 +100,15 @@ module _ (W : PlainWorkload) (node : ℕ) where
     tellable_both [] nodes triggers = tt
     tellable_both (x ∷ told) nodes triggers = (record { nodes = nodes.0; trigger = triggers.0 }, tellable_both told nodes.1 triggers.1)
 
-    pub all_tellable : (events : List Event) → AllByRecursion (IsWithin W node) events → AllByRecursion (IsTellable W) (after W.settings node events).said
+    pub all_tellable : (events : List AgentEvent) → AllByRecursion (IsWithin W node) events → AllByRecursion (IsTellable W) (after W.settings node events).said
     all_tellable events within =
         tellable_both (after W.settings node events).said (leads_from (start W.settings) events (record { crumbs = tt; said = tt }) within).said (declared_from (start W.settings) events tt tt within)
 
 -- ---- between rounds
 
-module _ (W : PlainWorkload) (work : Work) (lines : Lines) where
+module _ (W : PlainWorkload) (work : NodeWork) (lines : Intakes) where
   -- the first message was fetched
-  pub tells : CrumbsLeadBelow → EventsAddFew → StepsSayWhatTheyTell → (desk : Desking) (told : Told) → Stands W work (record desk { said = told ∷ desk.said }) lines → IsTellable W told × Stands W (with_moved told work) desk lines
+  pub tells : CrumbsLeadBelow → EventsAddFew → StepsSayWhatTheyTell → (desk : PlainWorkingAgent) (told : Told) → WorkingAgentStands W work (record desk { said = told ∷ desk.said }) lines → IsTellable W told × WorkingAgentStands W (with_moved told work) desk lines
   tells below few says desk told stands =
       let all = all_tellable W work.node below few says work.events stands.works.is.within in (
         all_mid (IsTellable W) work.moved desk.said told (subst (λ (l : List Told). AllByRecursion (IsTellable W) l) (sym stands.works.said_is) all),
@@ -136,7 +136,7 @@ module _ (W : PlainWorkload) (work : Work) (lines : Lines) where
       )
 
   -- an ask was sent
-  pub asked : (desk : Desking) (ask : Ask) → IsAskable W ask → Stands W work desk lines → Stands W (with_ask ask work) (record desk { asks = desk.asks ++ ask ∷ [] }) lines
+  pub asked : (desk : PlainWorkingAgent) (ask : Ask) → IsAskable W ask → WorkingAgentStands W work desk lines → WorkingAgentStands W (with_ask ask work) (record desk { asks = desk.asks ++ ask ∷ [] }) lines
   asked desk ask askable stands =
       record {
         works =
@@ -160,9 +160,9 @@ module _ (W : PlainWorkload) (work : Work) (lines : Lines) where
         turns = stands.turns;
       }
 
--- a manned agent, where its desk stands with another work of the same events
-pub still_manned : (W : PlainWorkload) (work work' : Work) (old new : Manned) → IsManned W work old → work'.events ≡ work.events → work'.came ≡ work.came → new.port ≡ old.port → new.clients ≡ old.clients → Stands W work' (desk_of new) (lines_of new.port)
-    → IsManned W work' new
+-- an agent actor, where its working agent stands with another work of the same events
+pub still_manned : (W : PlainWorkload) (work work' : NodeWork) (old new : PlainAgentActor) → IsAgentActor W work old → work'.events ≡ work.events → work'.came ≡ work.came → new.port ≡ old.port → new.clients ≡ old.clients → WorkingAgentStands W work' (working_agent_of new) (intakes_of new.port)
+    → IsAgentActor W work' new
 still_manned W work work' old new manned events came port clients stands =
     record {
       stands = stands;
@@ -176,10 +176,10 @@ still_manned W work work' old new manned events came port clients stands =
       clients_are = clients ∙ manned.clients_are;
     }
 
-module _ (W : PlainWorkload) (work : Work) (below : CrumbsLeadBelow) (few : EventsAddFew) (says : StepsSayWhatTheyTell) where
-  pub told_so : (old : Manned) (told : Option Told) (rest : List Told) → old.said ≡ option_to_list told ++ rest → IsManned W work old → IfSome told (λ (t : Told). IsTellable W t × IsManned W (with_moved t work) (record old { said = rest }))
+module _ (W : PlainWorkload) (work : NodeWork) (below : CrumbsLeadBelow) (few : EventsAddFew) (says : StepsSayWhatTheyTell) where
+  pub told_so : (old : PlainAgentActor) (told : Option Told) (rest : List Told) → old.said ≡ option_to_list told ++ rest → IsAgentActor W work old → IfSome told (λ (t : Told). IsTellable W t × IsAgentActor W (with_moved t work) (record old { said = rest }))
   told_so old None rest e manned = tt
   told_so old (Some told) rest e manned =
-      let before : Stands W work (record (desk_of old) { said = told ∷ rest }) (lines_of old.port) = subst (λ (l : List Told). Stands W work (record (desk_of old) { said = l }) (lines_of old.port)) e manned.stands in
-      let (tellable, stands) = tells W work (lines_of old.port) below few says (record (desk_of old) { said = rest }) told before in
+      let before : WorkingAgentStands W work (record (working_agent_of old) { said = told ∷ rest }) (intakes_of old.port) = subst (λ (l : List Told). WorkingAgentStands W work (record (working_agent_of old) { said = l }) (intakes_of old.port)) e manned.stands in
+      let (tellable, stands) = tells W work (intakes_of old.port) below few says (record (working_agent_of old) { said = rest }) told before in
       (tellable, still_manned W work (with_moved told work) old (record old { said = rest }) manned refl refl refl refl stands)

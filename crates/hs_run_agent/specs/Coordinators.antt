@@ -7,12 +7,12 @@ use Rattle.hs_base.specs.declared.limits.TheConstants.{MAX_TAKEN, MAX_NODES}
 use Rattle.hs_base.specs.declared.told.Ask.{Ask}
 use Rattle.hs_base.specs.declared.told.Told.{Told}
 use Rattle.hs_coord.specs.Messages.{Message, Messages, message}
-use Rattle.hs_coord.specs.Kept.{Kept, HasTaken}
+use Rattle.hs_coord.specs.Kept.{PlainCoordinator, HasTaken}
 use Rattle.hs_coord.specs.declared.asks.Asks.{Asks}
 use Rattle.hs_law_journal.specs.Following.{asks_to, is_from}
 use Rattle.hs_records.specs.Plain.{PlainWorkload}
 use Rattle.hs_run_agent.specs.Agents.{IsAskable, IsTellable}
-use Rattle.hs_run_agent.specs.Work.{Work, with_asks}
+use Rattle.hs_run_agent.specs.Work.{NodeWork, with_asks}
 
 -- the messages, and the asks, of each node
 abbrev pub Tellings : Type 0
@@ -21,15 +21,15 @@ Tellings = ℕ → List Told
 abbrev pub Askings : Type 0
 Askings = ℕ → List Ask
 
-pub record Coordinating : Type 0 where
-  pub kept : Kept
+pub record PlainCoordinatorActor : Type 0 where
+  pub kept : PlainCoordinator
   -- of each node
   pub told : List (List Told)
   pub asks : List Asks
 
 -- how it lies in its parts
-abbrev pub coordinating : Kept → List (List Told) → List Asks → Coordinating
-coordinating kept told asks = record { kept = kept; told = told; asks = asks }
+abbrev pub coordinator_actor_of : PlainCoordinator → List (List Told) → List Asks → PlainCoordinatorActor
+coordinator_actor_of kept told asks = record { kept = kept; told = told; asks = asks }
 
 abbrev pub is_empty : List Told → Bool
 is_empty [] = true
@@ -51,7 +51,7 @@ abbrev pub asks_for : ℕ → List Asks → List Ask
 asks_for node asks = flat_map (ask_for node) asks
 
 -- the works when an ask went to each node for which it is
-abbrev pub asked_all : Asks → (ℕ → Work) → ℕ → Work
+abbrev pub asked_all : Asks → (ℕ → NodeWork) → ℕ → NodeWork
 asked_all asks works node = with_asks (ask_for node asks) (works node)
 
 -- a message of a node that there is, which may be heard
@@ -60,7 +60,7 @@ pub record IsHearable (W : PlainWorkload) (m : Message) : Type 0 where
   pub told : IsTellable W m.told
 
 -- Where these messages were heard: of each node these were brought, and these asks were fetched for it.
-pub record IsCoordinating (W : PlainWorkload) (heard : Messages) (moved : Tellings) (asked : Askings) (c : Coordinating) : Type 0 where
+pub record IsCoordinatorActor (W : PlainWorkload) (heard : Messages) (moved : Tellings) (asked : Askings) (c : PlainCoordinatorActor) : Type 0 where
   pub few : W.settings.nodes ≤ MAX_NODES
   pub taken : HasTaken c.kept heard
   pub nodes : c.kept.nodes ≡ W.settings.nodes
@@ -72,17 +72,17 @@ pub record IsCoordinating (W : PlainWorkload) (heard : Messages) (moved : Tellin
   pub asks_are : (node : ℕ) → node < W.settings.nodes → asks_to node heard ≡ asked node ++ asks_for node c.asks
 
 -- Of each node the coordinator heard the messages that had been brought, all or as many as it hears in a pass.
-pub record Hears (W : PlainWorkload) (heard more : Messages) (moved : Tellings) (asked : Askings) (new : Coordinating) : Type 0 where
-  pub stands : IsCoordinating W (heard ++ more) moved asked new
+pub record Hears (W : PlainWorkload) (heard more : Messages) (moved : Tellings) (asked : Askings) (new : PlainCoordinatorActor) : Type 0 where
+  pub stands : IsCoordinatorActor W (heard ++ more) moved asked new
   pub few : (node : ℕ) → node < W.settings.nodes → length (heard_of node more) ≤ MAX_TAKEN
   pub all : (node : ℕ) → node < W.settings.nodes → min (length (heard_of node heard) + MAX_TAKEN) (length (moved node)) ≤ length (heard_of node (heard ++ more))
 
 -- Of one node the coordinator heard messages that had been brought, all or as many as it hears in a pass.
-pub record HearsNode (W : PlainWorkload) (heard : Messages) (moved : Tellings) (asked : Askings) (node : ℕ) (new : Coordinating) : Type 0 where
+pub record HearsNode (W : PlainWorkload) (heard : Messages) (moved : Tellings) (asked : Askings) (node : ℕ) (new : PlainCoordinatorActor) : Type 0 where
   pub more : List Told
   pub few : length more ≤ MAX_TAKEN
   pub all : min (length (heard_of node heard) + MAX_TAKEN) (length (moved node)) ≤ length (heard_of node heard) + length more
-  pub stands : IsCoordinating W (heard ++ map (message (record { 0 = node })) more) moved asked new
+  pub stands : IsCoordinatorActor W (heard ++ map (message (record { 0 = node })) more) moved asked new
 
 -- ---- between rounds
 

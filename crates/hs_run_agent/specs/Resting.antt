@@ -3,8 +3,8 @@ use Rattle.std.specs.Prelude.{◌≡◌, ℕ, Bool, true, false, List, [], ◌�
 use Rattle.std.specs.List.{list_all}
 use Rattle.hs_link.specs.Contents.{Incoming, Outgoing, Remaining, AreEnds, sent}
 use Rattle.hs_run_agent.specs.declared.rests.Rests.{Rests}
-use Rattle.hs_run_agent.specs.Lines.{Lines, closed}
-use Rattle.hs_run_agent.specs.Shut.{remaining}
+use Rattle.hs_run_agent.specs.Intakes.{Intakes, closed}
+use Rattle.hs_run_agent.specs.ClosedAgents.{remaining}
 
 module _ {T F : Type 0} where
   -- at each place the ends of one link
@@ -34,8 +34,8 @@ module _ {T F : Type 0} where
   GivesAt place rests None rests' = (r : Remaining T F) × (slice_get rests place ≡ Some r) × (rests' ≡ rests) × (r.items ≡ [])
 
 -- as an agent takes from them
-abbrev pub lines_left : Rests → Lines
-lines_left s =
+abbrev pub intakes_left : Rests → Intakes
+intakes_left s =
     record {
       giver = s.giver;
       chunks = map (λ r. closed r) (map remaining s.chunks.items);

@@ -2,28 +2,27 @@
 
 ghost use Rattle.std.specs.Prelude.{◌≡◌, ◌<◌, [], ◌∷◌, ◌++◌, List, OnOk, IfOk, IfSome, IfNone};
 ghost use Rattle.hs_base.specs.declared.ids.ClientId.{ClientId};
-ghost use Rattle.hs_run_client.specs.Standing.{IsAt};
+ghost use Rattle.hs_run_client.specs.Standing.{ClientActorIsAt};
 ghost use Rattle.hs_live.specs.Calls.{AreMates, MeetsAt};
-ghost use Rattle.hs_law_agent.specs.Stepping.{Event};
+ghost use Rattle.hs_law_agent.specs.Stepping.{AgentEvent};
 ghost use Rattle.hs_records.specs.Plain.{Operation, PlainSettings, PlainWorkload, settings_of};
 ghost use Rattle.hs_ring.specs.Parts.{Leased};
 ghost use Rattle.hs_workload.specs.Validity.{IsValid};
 ghost use Rattle.hs_words.specs.Buffers.{Buffer};
 ghost use Rattle.hs_run_agent.specs.Agents.{IsAskable, IsTellable};
-ghost use Rattle.hs_run_agent.specs.Manned.{IsManned, BeginsAt, Passes};
-ghost use Rattle.hs_run_agent.specs.Work.{Work, IsFew, no_work, with_ask, with_moved};
+ghost use Rattle.hs_run_agent.specs.AgentActors.{IsAgentActor, BeginsAt, Passes};
+ghost use Rattle.hs_run_agent.specs.Work.{NodeWork, IsFew, no_work, with_ask, with_moved};
 
-use crate::desk::Desk;
 use crate::steps::Steps;
+use crate::working::WorkingAgent;
 use hs_agent::Agent;
 use hs_base::{Ask, Gate, Memory, NodeId, Settings, Told};
-use hs_run_client::Caller;
 use hs_journal::Step;
+use hs_law_agent::laws::{
+    crumbs_lead_below, events_add_few, events_go_on, steps_say_what_they_tell,
+};
 use hs_live::AgentPort;
-use hs_law_agent::laws::crumbs_lead_below;
-use hs_law_agent::laws::events_add_few;
-use hs_law_agent::laws::events_go_on;
-use hs_law_agent::laws::steps_say_what_they_tell;
+use hs_run_client::ClientActor;
 use std::alloc::Global;
 use std::collections::VecDeque;
 use std::marker::Model;
@@ -32,19 +31,19 @@ use std::marker::Model;
 /// wanted, it is of no more use.
 #[derive(Drop)]
 pub struct AgentActor {
-    pub(crate) desk: Desk,
+    pub(crate) desk: WorkingAgent,
     pub(crate) port: AgentPort,
     pub(crate) clients: u16,
 }
 
 impl Model for AgentActor {
-    ghost use Rattle.hs_run_agent.specs.Manned.{Manned};
+    ghost use Rattle.hs_run_agent.specs.AgentActors.{PlainAgentActor};
 
-    ghost Value = { Manned };
+    ghost Value = { PlainAgentActor };
 
-    ghost use Rattle.hs_run_agent.specs.AgentLayout.{manned_in};
+    ghost use Rattle.hs_run_agent.specs.AgentLayout.{agent_actor_in};
 
-    ghost view = { manned_in };
+    ghost view = { agent_actor_in };
 }
 
 impl AgentActor {
@@ -59,10 +58,10 @@ impl AgentActor {
     ) -> Result<AgentActor, Memory>
         requires { (W : PlainWorkload) × IsValid W × (settings_of settings.now ≡ W.settings) × (node < W.settings.nodes) × BeginsAt W node port }
         ensures { (W : PlainWorkload) → settings_of settings.now ≡ W.settings → BeginsAt W node port
-            → IfOk result (λ agent. IsManned W (no_work node port.giver.pool) agent × (agent.port ≡ port)) }
+            → IfOk result (λ agent. IsAgentActor W (no_work node port.giver.pool) agent × (agent.port ≡ port)) }
     {
         Ok(AgentActor {
-            desk: Desk {
+            desk: WorkingAgent {
                 agent: Agent::make(alloc, NodeId(node), settings)?,
                 asks: VecDeque::new(alloc),
                 said: VecDeque::new(alloc),
@@ -76,22 +75,22 @@ impl AgentActor {
     /// A pass: of each client's three links and then of the asks the agent takes what has come, at most 64 items each. It
     /// makes its turn, and offers its hand to the pool until that is empty or an offer is unread.
     pub fn pass<G: Gate>(&mut self, gate: &G) -> Result<(), Memory>
-        requires { (W : PlainWorkload) × (work : Work) × IsManned W work self.old × IsFew W work }
-        ensures { (W : PlainWorkload) (work : Work) → IsManned W work self.old → IsFew W work
-            → OnOk result ((pass : List Event) × (came : List (Buffer Leased)) × Passes W work pass came self.old self.new) }
+        requires { (W : PlainWorkload) × (work : NodeWork) × IsAgentActor W work self.old × IsFew W work }
+        ensures { (W : PlainWorkload) (work : NodeWork) → IsAgentActor W work self.old → IsFew W work
+            → OnOk result ((pass : List AgentEvent) × (came : List (Buffer Leased)) × Passes W work pass came self.old self.new) }
     {
         self.desk.pass(&mut self.port, gate, self.clients)?;
         Ok(())
     }
 
     /// Brings a client of the node, which has this number there, together with the port.
-    pub fn meet(&mut self, caller: &mut Caller, number: u16)
+    pub fn meet(&mut self, caller: &mut ClientActor, number: u16)
         requires { AreMates number self.old.port caller.old.client }
         ensures met { MeetsAt number self.old.port caller.old.client self.new.port caller.new.client }
         ensures only { self.new ≡ record self.old { port = self.new.port } }
-        ensures manned { (W : PlainWorkload) (work : Work) → IsManned W work self.old → IsManned W work self.new }
+        ensures manned { (W : PlainWorkload) (work : NodeWork) → IsAgentActor W work self.old → IsAgentActor W work self.new }
         ensures done { caller.new.done ≡ caller.old.done }
-        ensures at { (settings : PlainSettings) (client : ClientId) (ops : List Operation) → IsAt settings client ops caller.old → IsAt settings client ops caller.new }
+        ensures at { (settings : PlainSettings) (client : ClientId) (ops : List Operation) → ClientActorIsAt settings client ops caller.old → ClientActorIsAt settings client ops caller.new }
     {
         caller.meet(&mut self.port, number);
     }
@@ -107,7 +106,7 @@ impl AgentActor {
     pub fn tell(&mut self) -> Option<Told>
         ensures some { IfSome result (λ told. self.old ≡ record self.new { said = told ∷ self.new.said }) }
         ensures none { IfNone result ((self.old.said ≡ []) × (self.new ≡ self.old)) }
-        ensures manned { (W : PlainWorkload) (work : Work) → IsManned W work self.old → IfSome result (λ told. IsTellable W told × IsManned W (with_moved told work) self.new) }
+        ensures manned { (W : PlainWorkload) (work : NodeWork) → IsAgentActor W work self.old → IfSome result (λ told. IsTellable W told × IsAgentActor W (with_moved told work) self.new) }
     {
         crumbs_lead_below();
         events_add_few();
@@ -119,7 +118,7 @@ impl AgentActor {
     /// An ask is sent, and waits behind those that were.
     pub fn ask(&mut self, ask: Ask) -> Result<(), Memory>
         ensures only { OnOk result (self.new ≡ record self.old { asks = self.old.asks ++ ask ∷ [] }) }
-        ensures manned { (W : PlainWorkload) (work : Work) → IsManned W work self.old → IsAskable W ask → OnOk result (IsManned W (with_ask ask work) self.new) }
+        ensures manned { (W : PlainWorkload) (work : NodeWork) → IsAgentActor W work self.old → IsAskable W ask → OnOk result (IsAgentActor W (with_ask ask work) self.new) }
     {
         self.desk.asks.push_back(ask)?;
         Ok(())

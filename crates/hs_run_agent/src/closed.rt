@@ -8,22 +8,21 @@ ghost use Rattle.hs_records.specs.Plain.{PlainWorkload};
 ghost use Rattle.hs_ring.specs.Parts.{AreAllEnds, Closes};
 ghost use Rattle.hs_words.specs.declared.token.Tally.{Tally};
 ghost use Rattle.hs_run_agent.specs.Agents.{IsAskable, IsTellable, state_at};
-ghost use Rattle.hs_run_agent.specs.Manned.{IsManned};
-ghost use Rattle.hs_run_agent.specs.Shut.{Events, Buffers, AllSent, IsShut, IsBare, PassesShut, AreMatesOf, all_sent};
-ghost use Rattle.hs_run_agent.specs.Work.{Work, IsFew, with_ask, with_moved};
+ghost use Rattle.hs_run_agent.specs.AgentActors.{IsAgentActor};
+ghost use Rattle.hs_run_agent.specs.ClosedAgents.{Events, Buffers, AllSent, IsClosedAgent, IsClosedAgentBare, ClosedAgentPasses, AreMatesOf, all_sent};
+ghost use Rattle.hs_run_agent.specs.Work.{NodeWork, IsFew, with_ask, with_moved};
 
 use crate::agent::AgentActor;
-use crate::desk::Desk;
 use crate::rests::{Rests, rests_of};
+use crate::working::WorkingAgent;
 use hs_agent::Finished;
 use hs_base::{Ask, Crumb, List, Memory, OpenGate, Told, Trigger};
 use hs_journal::AgentBook;
+use hs_law_agent::laws::{
+    crumbs_lead_below, events_add_few, events_go_on, steps_say_what_they_tell,
+};
 use hs_link::Sender;
 use hs_live::{ClientKey, PortParts};
-use hs_law_agent::laws::crumbs_lead_below;
-use hs_law_agent::laws::events_add_few;
-use hs_law_agent::laws::events_go_on;
-use hs_law_agent::laws::steps_say_what_they_tell;
 use hs_ring::{Drawer, Lease, close};
 use hs_words::Held;
 use std::alloc::Global;
@@ -32,20 +31,20 @@ use std::marker::Model;
 /// An agent with what is left of the links of its node's clients, the giver of the pool, the asks that wait for it, and its messages
 /// that wait to be fetched. Where a call answers that memory is wanted, it is of no more use.
 #[derive(Drop)]
-pub struct ClosedNode {
-    desk: Desk,
+pub struct ClosedAgent {
+    desk: WorkingAgent,
     rests: Rests,
     clients: u16,
 }
 
-impl Model for ClosedNode {
-    ghost use Rattle.hs_run_agent.specs.Shut.{Shut};
+impl Model for ClosedAgent {
+    ghost use Rattle.hs_run_agent.specs.ClosedAgents.{PlainClosedAgent};
 
-    ghost Value = { Shut };
+    ghost Value = { PlainClosedAgent };
 
-    ghost use Rattle.hs_run_agent.specs.ShutLayout.{shut_in};
+    ghost use Rattle.hs_run_agent.specs.ClosedAgentLayout.{closed_agent_in};
 
-    ghost view = { shut_in };
+    ghost view = { closed_agent_in };
 }
 
 impl AgentActor {
@@ -56,11 +55,11 @@ impl AgentActor {
         chunks: List<Sender<Held<Lease>, ClientKey>>,
         crumbs: List<Sender<Crumb, ClientKey>>,
         triggers: List<Sender<Trigger, ClientKey>>,
-    ) -> Result<ClosedNode, Memory>
+    ) -> Result<ClosedAgent, Memory>
         requires chunks { AreMatesOf (map outgoing chunks.items) self.port.chunks }
         requires crumbs { AreMatesOf crumbs.items self.port.crumbs }
         requires triggers { AreMatesOf triggers.items self.port.triggers }
-        ensures shut { (W : PlainWorkload) (work : Work) → IsManned W work self → IfOk result (IsShut W work (all_sent (map outgoing chunks.items) crumbs.items triggers.items)) }
+        ensures shut { (W : PlainWorkload) (work : NodeWork) → IsAgentActor W work self → IfOk result (IsClosedAgent W work (all_sent (map outgoing chunks.items) crumbs.items triggers.items)) }
         ensures only { IfOk result (λ node. (node.agent ≡ self.agent) × (node.giver ≡ self.port.giver) × (node.asks ≡ self.asks) × (node.said ≡ self.said)) }
     {
         let AgentActor {
@@ -80,7 +79,7 @@ impl AgentActor {
             crumbs: rests_of(alloc, crumbs, crumb_ends)?,
             triggers: rests_of(alloc, triggers, trigger_ends)?,
         };
-        Ok(ClosedNode {
+        Ok(ClosedAgent {
             desk,
             rests,
             clients,
@@ -88,12 +87,12 @@ impl AgentActor {
     }
 }
 
-impl ClosedNode {
+impl ClosedAgent {
     /// A pass: as in the rounds, over what is left.
     pub fn pass(&mut self) -> Result<(), Memory>
-        requires { (W : PlainWorkload) × (work : Work) × (all : AllSent) × IsShut W work all self.old × IsFew W work }
-        ensures { (W : PlainWorkload) (work : Work) (all : AllSent) → IsShut W work all self.old → IsFew W work
-            → OnOk result ((pass : Events) × (came : Buffers) × PassesShut W work all pass came self.old self.new) }
+        requires { (W : PlainWorkload) × (work : NodeWork) × (all : AllSent) × IsClosedAgent W work all self.old × IsFew W work }
+        ensures { (W : PlainWorkload) (work : NodeWork) (all : AllSent) → IsClosedAgent W work all self.old → IsFew W work
+            → OnOk result ((pass : Events) × (came : Buffers) × ClosedAgentPasses W work all pass came self.old self.new) }
     {
         self.desk.pass(&mut self.rests, &OpenGate, self.clients)?;
         Ok(())
@@ -103,7 +102,7 @@ impl ClosedNode {
     pub fn tell(&mut self) -> Option<Told>
         ensures some { IfSome result (λ told. self.old ≡ record self.new { said = told ∷ self.new.said }) }
         ensures none { IfNone result ((self.old.said ≡ []) × (self.new ≡ self.old)) }
-        ensures shut { (W : PlainWorkload) (work : Work) (all : AllSent) → IsShut W work all self.old → IfSome result (λ told. IsTellable W told × IsShut W (with_moved told work) all self.new) }
+        ensures shut { (W : PlainWorkload) (work : NodeWork) (all : AllSent) → IsClosedAgent W work all self.old → IfSome result (λ told. IsTellable W told × IsClosedAgent W (with_moved told work) all self.new) }
     {
         crumbs_lead_below();
         events_add_few();
@@ -115,7 +114,7 @@ impl ClosedNode {
     /// An ask is sent, and waits behind those that were.
     pub fn ask(&mut self, ask: Ask) -> Result<(), Memory>
         ensures only { OnOk result (self.new ≡ record self.old { asks = self.old.asks ++ ask ∷ [] }) }
-        ensures shut { (W : PlainWorkload) (work : Work) (all : AllSent) → IsShut W work all self.old → IsAskable W ask → OnOk result (IsShut W (with_ask ask work) all self.new) }
+        ensures shut { (W : PlainWorkload) (work : NodeWork) (all : AllSent) → IsClosedAgent W work all self.old → IsAskable W ask → OnOk result (IsClosedAgent W (with_ask ask work) all self.new) }
     {
         self.desk.asks.push_back(ask)?;
         Ok(())
@@ -123,8 +122,8 @@ impl ClosedNode {
 
     /// Whether nothing waits at the node, and nothing is pinned.
     pub fn is_bare(&self) -> bool
-        ensures { (W : PlainWorkload) (work : Work) (all : AllSent) → IsShut W work all self.now
-            → (result ≡ true → IsBare W work self.now) × (result ≡ false → IsBare W work self.now → ⊥) }
+        ensures { (W : PlainWorkload) (work : NodeWork) (all : AllSent) → IsClosedAgent W work all self.now
+            → (result ≡ true → IsClosedAgentBare W work self.now) × (result ≡ false → IsClosedAgentBare W work self.now → ⊥) }
     {
         if !self.rests.are_empty() {
             return false;
@@ -140,12 +139,12 @@ impl ClosedNode {
 
     /// The book of the agent. The pool is closed, of which these are all drawers, in the order of their numbers. Nothing is pinned.
     pub fn finish(self, drawers: List<Drawer>) -> Result<AgentBook, Memory>
-        requires done { (W : PlainWorkload) × (work : Work) × (all : AllSent) × IsShut W work all self × ((state_at W work).pinned ≡ []) }
+        requires done { (W : PlainWorkload) × (work : NodeWork) × (all : AllSent) × IsClosedAgent W work all self × ((state_at W work).pinned ≡ []) }
         requires ends { AreAllEnds self.giver drawers.items }
-        ensures book { (W : PlainWorkload) (work : Work) (all : AllSent) → IsShut W work all self → IfOk result (λ book. agent_book_of book ≡ book_of work.node (state_at W work)) }
+        ensures book { (W : PlainWorkload) (work : NodeWork) (all : AllSent) → IsClosedAgent W work all self → IfOk result (λ book. agent_book_of book ≡ book_of work.node (state_at W work)) }
         ensures closes { IfOk result (λ _. (tally : Tally) × Closes self.giver drawers.items tally) }
     {
-        let ClosedNode {
+        let ClosedAgent {
             desk,
             rests,
             clients: _,

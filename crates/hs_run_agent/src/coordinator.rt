@@ -5,7 +5,7 @@ ghost use Rattle.hs_base.specs.declared.limits.TheConstants.{MAX_NODES};
 ghost use Rattle.hs_coord.specs.Messages.{Messages};
 ghost use Rattle.hs_records.specs.Plain.{PlainWorkload};
 ghost use Rattle.hs_run_agent.specs.Agents.{IsAskable, IsTellable};
-ghost use Rattle.hs_run_agent.specs.Coordinators.{Tellings, Askings, IsCoordinating, Hears, HearsNode, IsMoved, AreFetched, IsTakenOut, IsPutBehind, coordinating, all_empty};
+ghost use Rattle.hs_run_agent.specs.Coordinators.{Tellings, Askings, IsCoordinatorActor, Hears, HearsNode, IsMoved, AreFetched, IsTakenOut, IsPutBehind, coordinator_actor_of, all_empty};
 
 use crate::inbox::Inbox;
 use crate::steps::Steps;
@@ -27,18 +27,18 @@ pub struct CoordinatorActor {
 }
 
 impl Model for CoordinatorActor {
-    ghost use Rattle.hs_run_agent.specs.Coordinators.{Coordinating, coordinating};
+    ghost use Rattle.hs_run_agent.specs.Coordinators.{PlainCoordinatorActor, coordinator_actor_of};
 
-    ghost Value = { Coordinating };
+    ghost Value = { PlainCoordinatorActor };
 
-    ghost view = { λ s. coordinating s.coordinator s.told.items s.asks.items };
+    ghost view = { λ s. coordinator_actor_of s.coordinator s.told.items s.asks.items };
 }
 
 impl CoordinatorActor {
     /// A coordinator of so many nodes that has heard nothing. It is the actor with this number.
     pub fn make(alloc: Global, actor: u32, nodes: u16) -> Result<CoordinatorActor, Memory>
         requires { nodes ≤ MAX_NODES }
-        ensures { (W : PlainWorkload) → W.settings.nodes ≡ nodes → IfOk result (IsCoordinating W [] (λ node. []) (λ node. [])) }
+        ensures { (W : PlainWorkload) → W.settings.nodes ≡ nodes → IfOk result (IsCoordinatorActor W [] (λ node. []) (λ node. [])) }
     {
         Ok(CoordinatorActor {
             coordinator: Coordinator::make(alloc, nodes)?,
@@ -50,8 +50,8 @@ impl CoordinatorActor {
 
     /// A pass: of each node in turn it hears what waits, at most 64 messages.
     pub fn pass<G: Gate>(&mut self, gate: &G) -> Result<(), Memory>
-        requires { (W : PlainWorkload) × (heard : Messages) × (moved : Tellings) × (asked : Askings) × IsCoordinating W heard moved asked self.old }
-        ensures { (W : PlainWorkload) (heard : Messages) (moved : Tellings) (asked : Askings) → IsCoordinating W heard moved asked self.old
+        requires { (W : PlainWorkload) × (heard : Messages) × (moved : Tellings) × (asked : Askings) × IsCoordinatorActor W heard moved asked self.old }
+        ensures { (W : PlainWorkload) (heard : Messages) (moved : Tellings) (asked : Askings) → IsCoordinatorActor W heard moved asked self.old
             → OnOk result ((more : Messages) × Hears W heard more moved asked self.new) }
     {
         self.steps.pass(gate);
@@ -69,8 +69,8 @@ impl CoordinatorActor {
     pub fn hear(&mut self, node: NodeId, told: Told) -> Result<(), Memory>
         requires { node.0 < length self.old.told }
         ensures only { (self.new.kept ≡ self.old.kept) × (self.new.asks ≡ self.old.asks) × (length self.new.told ≡ length self.old.told) }
-        ensures stands { (W : PlainWorkload) (heard : Messages) (moved : Tellings) (asked : Askings) → IsCoordinating W heard moved asked self.old → IsTellable W told
-            → OnOk result ((moved' : Tellings) → IsMoved node.0 told moved moved' → IsCoordinating W heard moved' asked self.new) }
+        ensures stands { (W : PlainWorkload) (heard : Messages) (moved : Tellings) (asked : Askings) → IsCoordinatorActor W heard moved asked self.old → IsTellable W told
+            → OnOk result ((moved' : Tellings) → IsMoved node.0 told moved moved' → IsCoordinatorActor W heard moved' asked self.new) }
     {
         bring(&mut self.told, node.0 as usize, told)?;
         Ok(())
@@ -80,15 +80,15 @@ impl CoordinatorActor {
     pub fn next_asks(&mut self) -> Option<Asks>
         ensures some { IfSome result (λ asks. self.old ≡ record self.new { asks = asks ∷ self.new.asks }) }
         ensures none { IfNone result ((self.old.asks ≡ []) × (self.new ≡ self.old)) }
-        ensures stands { (W : PlainWorkload) (heard : Messages) (moved : Tellings) (asked : Askings) → IsCoordinating W heard moved asked self.old
-            → IfSome result (λ asks. IsAskable W asks.ask × ((asked' : Askings) → AreFetched W asks asked asked' → IsCoordinating W heard moved asked' self.new)) }
+        ensures stands { (W : PlainWorkload) (heard : Messages) (moved : Tellings) (asked : Askings) → IsCoordinatorActor W heard moved asked self.old
+            → IfSome result (λ asks. IsAskable W asks.ask × ((asked' : Askings) → AreFetched W asks asked asked' → IsCoordinatorActor W heard moved asked' self.new)) }
     {
         self.asks.pop_front()
     }
 
     /// The nodes whose messages were heard, in their order.
     pub fn log(&self) -> &List<NodeId>
-        ensures { (W : PlainWorkload) (heard : Messages) (moved : Tellings) (asked : Askings) → IsCoordinating W heard moved asked self.now
+        ensures { (W : PlainWorkload) (heard : Messages) (moved : Tellings) (asked : Askings) → IsCoordinatorActor W heard moved asked self.now
             → result.now.items ≡ map (λ m. m.node) heard }
     {
         self.coordinator.log()
@@ -141,10 +141,10 @@ fn hear_node<G: Gate>(
 ) -> Result<(), Memory>
     requires node { node < length told.old.items }
     requires stands { (W : PlainWorkload) × (heard : Messages) × (moved : Tellings) × (asked : Askings)
-        × IsCoordinating W heard moved asked (coordinating coordinator.old told.old.items asks.old.items) }
+        × IsCoordinatorActor W heard moved asked (coordinator_actor_of coordinator.old told.old.items asks.old.items) }
     ensures { (W : PlainWorkload) (heard : Messages) (moved : Tellings) (asked : Askings)
-        → IsCoordinating W heard moved asked (coordinating coordinator.old told.old.items asks.old.items)
-        → OnOk result (HearsNode W heard moved asked node (coordinating coordinator.new told.new.items asks.new.items)) }
+        → IsCoordinatorActor W heard moved asked (coordinator_actor_of coordinator.old told.old.items asks.old.items)
+        → OnOk result (HearsNode W heard moved asked node (coordinator_actor_of coordinator.new told.new.items asks.new.items)) }
 {
     for count in 0..MAX_TAKEN {
         let Some(message) = next_told(told, node) else {
@@ -166,10 +166,10 @@ fn hear_all<G: Gate>(
     gate: &G,
 ) -> Result<(), Memory>
     requires { (W : PlainWorkload) × (heard : Messages) × (moved : Tellings) × (asked : Askings)
-        × IsCoordinating W heard moved asked (coordinating coordinator.old told.old.items asks.old.items) }
+        × IsCoordinatorActor W heard moved asked (coordinator_actor_of coordinator.old told.old.items asks.old.items) }
     ensures { (W : PlainWorkload) (heard : Messages) (moved : Tellings) (asked : Askings)
-        → IsCoordinating W heard moved asked (coordinating coordinator.old told.old.items asks.old.items)
-        → OnOk result ((more : Messages) × Hears W heard more moved asked (coordinating coordinator.new told.new.items asks.new.items)) }
+        → IsCoordinatorActor W heard moved asked (coordinator_actor_of coordinator.old told.old.items asks.old.items)
+        → OnOk result ((more : Messages) × Hears W heard more moved asked (coordinator_actor_of coordinator.new told.new.items asks.new.items)) }
 {
     let count = told.len();
     for node in 0..count {

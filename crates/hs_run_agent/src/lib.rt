@@ -5,13 +5,13 @@
 mod agent;
 mod closed;
 mod coordinator;
-mod desk;
 mod ends;
 mod inbox;
 mod port;
 mod rests;
 mod steps;
+mod working;
 
 pub use agent::AgentActor;
-pub use closed::ClosedNode;
+pub use closed::ClosedAgent;
 pub use coordinator::CoordinatorActor;

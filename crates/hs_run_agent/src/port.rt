@@ -1,17 +1,17 @@
 //! The ports of agents as what an agent takes from.
 
-ghost use Rattle.hs_run_agent.specs.Lines.{lines_of};
+ghost use Rattle.hs_run_agent.specs.Intakes.{intakes_of};
 
-use crate::ends::Ends;
+use crate::ends::IntakeEnds;
 use hs_base::{Crumb, Trigger};
 use hs_live::AgentPort;
 use hs_ring::Lease;
 use hs_words::{Given, Held};
 
-impl Ends for AgentPort {
-    ghost use Rattle.hs_run_agent.specs.Lines.{lines_of};
+impl IntakeEnds for AgentPort {
+    ghost use Rattle.hs_run_agent.specs.Intakes.{intakes_of};
 
-    ghost sees = { lines_of };
+    ghost sees = { intakes_of };
 
     fn chunk(&mut self, client: u16) -> Option<Held<Lease>> {
         self.chunk(client)

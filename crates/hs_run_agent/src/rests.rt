@@ -4,7 +4,7 @@ ghost use Rattle.std.specs.Prelude.{◌≡◌, ◌<◌, ◌&&◌, length, slice_
 ghost use Rattle.hs_link.specs.Contents.{Remaining};
 ghost use Rattle.hs_run_agent.specs.Resting.{AreRests, AreEndsOf, GivesAt, are_given};
 
-use crate::ends::Ends;
+use crate::ends::IntakeEnds;
 use hs_base::{Crumb, List, Memory, Trigger};
 use hs_link::{Fact, Receiver, Rest, Sender, close_both};
 use hs_live::ClientKey;
@@ -30,10 +30,10 @@ impl Rests {
     }
 }
 
-impl Ends for Rests {
-    ghost use Rattle.hs_run_agent.specs.Resting.{lines_left};
+impl IntakeEnds for Rests {
+    ghost use Rattle.hs_run_agent.specs.Resting.{intakes_left};
 
-    ghost sees = { lines_left };
+    ghost sees = { intakes_left };
 
     fn chunk(&mut self, client: u16) -> Option<Held<Lease>> {
         next_at(&mut self.chunks, client)

@@ -1,4 +1,4 @@
--- A caller that was made has done nothing.
+-- A client that was made has done nothing.
 use Rattle.std.proofs.Common.{◌≡◌, ℕ, suc, true, List, [], ◌∷◌, ◌++◌, length, map, sym, ap, ◌∙◌, subst, subst₂, arith}
 use Rattle.std.specs.List.{All, AllByRecursion}
 use Rattle.hs_auto.specs.Watching.{Watch}
@@ -14,7 +14,7 @@ use Rattle.hs_link.specs.Contents.{Outgoing, Incoming, sent, AreNewEnds}
 use Rattle.hs_live.specs.Calls.{IsNew, IsUnused, made_of}
 use Rattle.hs_live.specs.Done.{HasDone}
 use Rattle.hs_live.specs.Keys.{Key}
-use Rattle.hs_live.specs.Live.{Live, outgoing, incoming}
+use Rattle.hs_live.specs.Live.{PlainClient, outgoing, incoming}
 use Rattle.hs_live.specs.Writing.{Made, IsDrawn}
 use Rattle.hs_law_sends.specs.Playable.{IsPlayable}
 use Rattle.hs_records.specs.Plain.{Operation, PlainSettings}
@@ -22,15 +22,15 @@ use Rattle.hs_ring.specs.Parts.{Drawing, Giving, Leased}
 use Rattle.hs_words.specs.Buffers.{Buffer, buffer_of}
 use Rattle.hs_words.specs.declared.token.Held.{Held}
 use Rattle.hs_workload.specs.Validity.{client_pieces}
-use Rattle.hs_run_client.specs.Calling.{Calling}
+use Rattle.hs_run_client.specs.ClientActors.{PlainClientActor}
 use Rattle.hs_run_client.specs.Counting.{crumbs_of, triggers_of}
 use Rattle.hs_run_client.specs.Making.{AreNewFor, IsConnected}
-use Rattle.hs_run_client.specs.declared.making.Connected.{Connected}
-use Rattle.hs_run_client.specs.Standing.{IsAt, IsDrawerFor, made_for, key_for}
+use Rattle.hs_run_client.specs.declared.making.ConnectedClient.{ConnectedClient}
+use Rattle.hs_run_client.specs.Standing.{ClientActorIsAt, IsDrawerFor, made_for, key_for}
 use Rattle.hs_run_client.proofs.Operations.{fewer_crumbs, fewer_triggers}
 
 -- the new parts of a client
-pub record AreParts (settings : PlainSettings) (id : ClientId) (ops : List Operation) (giver : Giving) (client : Live) (chunks : Incoming (Buffer Leased) Key) (crumbs : Incoming Crumb Key) (triggers : Incoming Trigger Key) : Type 0 where
+pub record AreParts (settings : PlainSettings) (id : ClientId) (ops : List Operation) (giver : Giving) (client : PlainClient) (chunks : Incoming (Buffer Leased) Key) (crumbs : Incoming Crumb Key) (triggers : Incoming Trigger Key) : Type 0 where
   pub core : client.core ≡ new_core id settings.size (client_pieces settings.size ops)
   pub autos : AreNewFor settings.autos client.autos
   pub drawer : IsDrawerFor settings ops giver client.drawer
@@ -85,7 +85,7 @@ are_parts settings id ops giver core autos drawer s r sc rc st rt links core_is 
 nothing_sent : {T : Type 0} (key : Key) (capacity room : ℕ) (s : Outgoing T Key) (r : Incoming T Key) → AreNewEnds key capacity room s r → sent s ≡ []
 nothing_sent key capacity room s r new = ap (λ l. l ++ s.outbox) new.sender.0 ∙ new.sender.1
 
-unused : {T : Type 0} (settings : PlainSettings) (id : ClientId) (ops : List Operation) (giver : Giving) (client : Live) (capacity room : ℕ) (s : Outgoing T Key) (r : Incoming T Key)
+unused : {T : Type 0} (settings : PlainSettings) (id : ClientId) (ops : List Operation) (giver : Giving) (client : PlainClient) (capacity room : ℕ) (s : Outgoing T Key) (r : Incoming T Key)
     → client.core ≡ new_core id settings.size (client_pieces settings.size ops) → IsDrawerFor settings ops giver client.drawer → AreNewEnds (key_for settings id giver) capacity room s r → IsUnused client s
 unused settings id ops giver client capacity room s r core drawer new =
     record {
@@ -106,7 +106,7 @@ declared : (rules : List TriggerRule) (autos : List Watch) → AllByRecursion (�
 declared rules [] all = tt
 declared rules (watch ∷ autos) all = (all.0, declared rules autos all.1)
 
-pub is_new : (settings : PlainSettings) (id : ClientId) (ops : List Operation) (giver : Giving) (client : Live) (chunks : Incoming (Buffer Leased) Key) (crumbs : Incoming Crumb Key) (triggers : Incoming Trigger Key) → IsPlayable settings ops → AreParts settings id ops giver client chunks crumbs triggers
+pub is_new : (settings : PlainSettings) (id : ClientId) (ops : List Operation) (giver : Giving) (client : PlainClient) (chunks : Incoming (Buffer Leased) Key) (crumbs : Incoming Crumb Key) (triggers : Incoming Trigger Key) → IsPlayable settings ops → AreParts settings id ops giver client chunks crumbs triggers
     → IsNew client
 is_new settings id ops giver client chunks crumbs triggers playable is =
     let size : client.core.size ≡ settings.size = ap (λ (c : Core Leased). c.size) is.core in
@@ -129,12 +129,12 @@ is_new settings id ops giver client chunks crumbs triggers playable is =
       rooms = omega (arith, playable.few, few, fewer, is.new_chunks.sizes.1, is.new_crumbs.sizes.1, is.new_triggers.sizes.1);
     }
 
-made_so : (settings : PlainSettings) (id : ClientId) (ops : List Operation) (giver : Giving) (client : Live) (chunks : Incoming (Buffer Leased) Key) (crumbs : Incoming Crumb Key) (triggers : Incoming Trigger Key) → AreParts settings id ops giver client chunks crumbs triggers → made_of client ≡ made_for settings id ops
+made_so : (settings : PlainSettings) (id : ClientId) (ops : List Operation) (giver : Giving) (client : PlainClient) (chunks : Incoming (Buffer Leased) Key) (crumbs : Incoming Crumb Key) (triggers : Incoming Trigger Key) → AreParts settings id ops giver client chunks crumbs triggers → made_of client ≡ made_for settings id ops
 made_so settings id ops giver client chunks crumbs triggers is =
     λ i. record { client = (is.core i).client; size = (is.core i).size; calls = (is.core i).calls; autos = is.autos.rules_are i; answers = is.drawer.fresh i }
 
-pub new_at : (settings : PlainSettings) (id : ClientId) (ops : List Operation) (giver : Giving) (client : Live) (chunks : Incoming (Buffer Leased) Key) (crumbs : Incoming Crumb Key) (triggers : Incoming Trigger Key) → IsPlayable settings ops → AreParts settings id ops giver client chunks crumbs triggers → HasDone (made_of client) [] client
-    → IsAt settings id ops (record { done = 0; client = client })
+pub new_at : (settings : PlainSettings) (id : ClientId) (ops : List Operation) (giver : Giving) (client : PlainClient) (chunks : Incoming (Buffer Leased) Key) (crumbs : Incoming Crumb Key) (triggers : Incoming Trigger Key) → IsPlayable settings ops → AreParts settings id ops giver client chunks crumbs triggers → HasDone (made_of client) [] client
+    → ClientActorIsAt settings id ops (record { done = 0; client = client })
 new_at settings id ops giver client chunks crumbs triggers playable is has =
     let size = settings.size in
     let key = key_for settings id giver in
@@ -168,16 +168,16 @@ new_at settings id ops giver client chunks crumbs triggers playable is has =
     }
 
 -- what was made, where its client has these parts
-pub connected : (settings : PlainSettings) (id : ClientId) (ops : List Operation) (giver : Giving) (drawer : Drawing) (c : Connected) (client : Live) → IsPlayable settings ops
+pub connected : (settings : PlainSettings) (id : ClientId) (ops : List Operation) (giver : Giving) (drawer : Drawing) (c : ConnectedClient) (client : PlainClient) → IsPlayable settings ops
     → AreParts settings id ops giver client (incoming c.chunks) c.crumbs c.triggers → client.drawer ≡ drawer → c.caller ≡ record { done = 0; client = client } → HasDone (made_of client) [] client
     → IsConnected settings id ops giver drawer c
 connected settings id ops giver drawer c client playable parts drawer_is caller has =
     let key = key_for settings id giver in
     record {
-      at = subst (λ (caller : Calling). IsAt settings id ops caller) (sym caller) (new_at settings id ops giver client (incoming c.chunks) c.crumbs c.triggers playable parts has);
-      done = ap (λ (caller : Calling). caller.done) caller;
-      drawer_is = ap (λ (caller : Calling). caller.client.drawer) caller ∙ drawer_is;
-      chunks = subst (λ (caller : Calling). AreNewEnds key MAX_TAKEN (client_pieces settings.size ops) caller.client.chunks (incoming c.chunks)) (sym caller) parts.new_chunks;
-      crumbs = subst (λ (caller : Calling). AreNewEnds key MAX_TAKEN (crumbs_of ops) caller.client.crumbs c.crumbs) (sym caller) parts.new_crumbs;
-      triggers = subst (λ (caller : Calling). AreNewEnds key MAX_TAKEN (triggers_of ops) caller.client.triggers c.triggers) (sym caller) parts.new_triggers;
+      at = subst (λ (caller : PlainClientActor). ClientActorIsAt settings id ops caller) (sym caller) (new_at settings id ops giver client (incoming c.chunks) c.crumbs c.triggers playable parts has);
+      done = ap (λ (caller : PlainClientActor). caller.done) caller;
+      drawer_is = ap (λ (caller : PlainClientActor). caller.client.drawer) caller ∙ drawer_is;
+      chunks = subst (λ (caller : PlainClientActor). AreNewEnds key MAX_TAKEN (client_pieces settings.size ops) caller.client.chunks (incoming c.chunks)) (sym caller) parts.new_chunks;
+      crumbs = subst (λ (caller : PlainClientActor). AreNewEnds key MAX_TAKEN (crumbs_of ops) caller.client.crumbs c.crumbs) (sym caller) parts.new_crumbs;
+      triggers = subst (λ (caller : PlainClientActor). AreNewEnds key MAX_TAKEN (triggers_of ops) caller.client.triggers c.triggers) (sym caller) parts.new_triggers;
     }

@@ -1,4 +1,4 @@
--- A caller that has done all its operations.
+-- A client that has done all its operations.
 use Rattle.std.proofs.Common.{◌≡◌, List, length, map, take, Option, None, IsNone, sym, ap, ◌∙◌, subst, arith}
 use Rattle.std.proofs.lemmas.List.{append-nil, take_all}
 use Rattle.std.specs.Prelude.{is_some}
@@ -8,7 +8,7 @@ use Rattle.hs_base.specs.declared.ids.TraceId.{TraceId}
 use Rattle.hs_client.specs.Core.{Core, all_pages}
 use Rattle.hs_client.specs.Calls.{note_of}
 use Rattle.hs_journal.specs.Books.{PlainClientBook}
-use Rattle.hs_live.specs.Live.{Live}
+use Rattle.hs_live.specs.Live.{PlainClient}
 use Rattle.hs_live.specs.Writing.{Made}
 use Rattle.hs_live.specs.Done.{HasDone, HasSent}
 use Rattle.hs_records.specs.Pages.{pages_of}
@@ -16,15 +16,15 @@ use Rattle.hs_records.specs.Plain.{Operation, PlainSettings}
 use Rattle.hs_ring.specs.Parts.{Leased}
 use Rattle.hs_law_sends.specs.OneMore.{open_after}
 use Rattle.hs_law_sends.proofs.OneMore.{none_open}
-use Rattle.hs_run_client.specs.Calling.{Calling}
-use Rattle.hs_run_client.specs.Standing.{IsAt, IsDone, Notes, made_for}
+use Rattle.hs_run_client.specs.ClientActors.{PlainClientActor}
+use Rattle.hs_run_client.specs.Standing.{ClientActorIsAt, IsDone, Notes, made_for}
 
-all_done : (settings : PlainSettings) (id : ClientId) (ops : List Operation) (caller : Calling) → IsAt settings id ops caller → caller.done ≡ length ops → HasDone (made_for settings id ops) ops caller.client
+all_done : (settings : PlainSettings) (id : ClientId) (ops : List Operation) (caller : PlainClientActor) → ClientActorIsAt settings id ops caller → caller.done ≡ length ops → HasDone (made_for settings id ops) ops caller.client
 all_done settings id ops caller a all =
     let whole : take caller.done ops ≡ ops = take_all caller.done ops (omega (arith, all)) in
     subst (λ (l : List Operation). HasDone (made_for settings id ops) l caller.client) whole a.inside
 
-pub is_closed : (caller : Calling) → IsDone caller → IsNone caller.client.core.trace
+pub is_closed : (caller : PlainClientActor) → IsDone caller → IsNone caller.client.core.trace
 is_closed caller is =
     let has = all_done is.settings is.client is.ops caller is.at is.all in
     ap (λ (t : Option TraceId). is_some t) has.trace ∙ none_open is.ops is.at.playable.client.bracketed
@@ -37,12 +37,12 @@ closed_pages core none = sym (append-nil core.pages) ∙ ap (λ (c : Core Leased
     same = λ i. record core { current = none i }
 
 -- what the book of a client was made of
-pub record IsBookOf (client : Live) (book : PlainClientBook) : Type 0 where
+pub record IsBookOf (client : PlainClient) (book : PlainClientBook) : Type 0 where
   pub owner : book.client ≡ client.core.client
   pub draws : book.draws ≡ client.core.draws
   pub pages : book.pages ≡ client.core.pages
 
-pub notes : ((made : Made) (ops : List Operation) (client : Live) → HasDone made ops client → HasSent made ops client) → (caller : Calling) (book : PlainClientBook) → IsBookOf caller.client book → Notes caller book
+pub notes : ((made : Made) (ops : List Operation) (client : PlainClient) → HasDone made ops client → HasSent made ops client) → (caller : PlainClientActor) (book : PlainClientBook) → IsBookOf caller.client book → Notes caller book
 notes sent_is caller book is = λ settings id ops a all.
     let has = all_done settings id ops caller a all in
     let sent = sent_is (made_for settings id ops) ops caller.client has in

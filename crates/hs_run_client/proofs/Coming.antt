@@ -1,4 +1,4 @@
--- A caller goes through the operations of a round.
+-- A client goes through the operations of a round.
 use Rattle.std.proofs.Common.{◌≡◌, ℕ, ◌+◌, List, sym, ap, subst}
 use Rattle.hs_base.specs.declared.ids.ClientId.{ClientId}
 use Rattle.hs_base.specs.declared.told.Crumb.{Crumb}
@@ -7,7 +7,7 @@ use Rattle.hs_link.specs.Contents.{Outgoing}
 use Rattle.hs_live.specs.declared.called.Called.TheVariants.{Done}
 use Rattle.hs_live.specs.Done.{Does, DoesNothing}
 use Rattle.hs_live.specs.Keys.{Key}
-use Rattle.hs_live.specs.Live.{Live, GoesOn, Flushes}
+use Rattle.hs_live.specs.Live.{PlainClient, GoesOn, Flushes}
 use Rattle.hs_live.specs.Writing.{DrawsOn}
 use Rattle.hs_live.proofs.Cuts.{draws_none}
 use Rattle.hs_live.proofs.Senders.{goes_same}
@@ -15,9 +15,9 @@ use Rattle.hs_records.specs.Plain.{Operation, PlainSettings}
 use Rattle.hs_ring.specs.Parts.{Drawing, Leased}
 use Rattle.hs_law_sends.specs.SoFar.{done_behind}
 use Rattle.hs_words.specs.Buffers.{Buffer}
-use Rattle.hs_run_client.specs.Calling.{Calling}
+use Rattle.hs_run_client.specs.ClientActors.{PlainClientActor}
 use Rattle.hs_run_client.specs.Counting.{Uses}
-use Rattle.hs_run_client.specs.Standing.{IsAt, Goes}
+use Rattle.hs_run_client.specs.Standing.{ClientActorIsAt, Goes}
 use Rattle.hs_run_client.proofs.Operations.{Stands}
 use Rattle.hs_run_client.proofs.Going.{Stays, StaysSo, at_next, at_same}
 
@@ -28,22 +28,22 @@ pub record GoOn : Type 0 where
   pub triggers : (s t u : Outgoing Trigger Key) → GoesOn s t → GoesOn t u → GoesOn s u
   pub drawer : (a b c : Drawing) → DrawsOn a b → DrawsOn b c → DrawsOn a c
 
-abbrev pub calling : ℕ → Live → Calling
+abbrev pub calling : ℕ → PlainClient → PlainClientActor
 calling place client = record { done = place; client = client }
 
 -- From where it stood at the start it came to this place.
-pub record HasCome (settings : PlainSettings) (ops : List Operation) (start place : ℕ) (old now : Live) : Type 0 where
-  pub at : (id : ClientId) → IsAt settings id ops (calling start old) → IsAt settings id ops (calling place now)
+pub record HasCome (settings : PlainSettings) (ops : List Operation) (start place : ℕ) (old now : PlainClient) : Type 0 where
+  pub at : (id : ClientId) → ClientActorIsAt settings id ops (calling start old) → ClientActorIsAt settings id ops (calling place now)
   pub draws : DrawsOn old.drawer now.drawer
   pub chunks : GoesOn old.chunks now.chunks
   pub crumbs : GoesOn old.crumbs now.crumbs
   pub triggers : GoesOn old.triggers now.triggers
 
-pub come_none : (settings : PlainSettings) (ops : List Operation) (start : ℕ) (client : Live) → HasCome settings ops start start client client
+pub come_none : (settings : PlainSettings) (ops : List Operation) (start : ℕ) (client : PlainClient) → HasCome settings ops start start client client
 come_none settings ops start client =
     record { at = λ id a. a; draws = draws_none client.drawer; chunks = goes_same client.chunks; crumbs = goes_same client.crumbs; triggers = goes_same client.triggers }
 
-pub come_more : GoOn → (settings : PlainSettings) (ops : List Operation) (start place : ℕ) (op : Operation) (old now new : Live) → HasCome settings ops start place old now → Stands ops place op → Does op Done now new → Uses op now new
+pub come_more : GoOn → (settings : PlainSettings) (ops : List Operation) (start place : ℕ) (op : Operation) (old now new : PlainClient) → HasCome settings ops start place old now → Stands ops place op → Does op Done now new → Uses op now new
     → HasCome settings ops start (place + 1) old new
 come_more laws settings ops start place op old now new is there does uses =
     record {
@@ -56,20 +56,20 @@ come_more laws settings ops start place op old now new is there does uses =
 
 -- ---- the flush at the end of a round
 
-abbrev pub with_links : Live → Live → Live
+abbrev pub with_links : PlainClient → PlainClient → PlainClient
 with_links now new = record now { chunks = new.chunks; crumbs = new.crumbs; triggers = new.triggers }
 
 flushed : {T : Type 0} (s t : Outgoing T Key) → Flushes s t → Stays s t
 flushed s t f = record { key = f.goes.same.1; room = f.goes.same.3; items = f.items }
 
-pub went : GoOn → (settings : PlainSettings) (ops : List Operation) (start end : ℕ) (old now new : Live) → HasCome settings ops start end old now → end ≡ done_behind settings.stride start ops
+pub went : GoOn → (settings : PlainSettings) (ops : List Operation) (start end : ℕ) (old now new : PlainClient) → HasCome settings ops start end old now → end ≡ done_behind settings.stride start ops
     → Flushes now.chunks new.chunks → Flushes now.crumbs new.crumbs → Flushes now.triggers new.triggers → new ≡ with_links now new → DoesNothing now new → Goes settings ops (calling start old) (calling end new)
 went laws settings ops start end old now new is end_is chunks crumbs triggers only nothing =
-    let drawer : new.drawer ≡ now.drawer = ap (λ (l : Live). l.drawer) only in
+    let drawer : new.drawer ≡ now.drawer = ap (λ (l : PlainClient). l.drawer) only in
     let stays : StaysSo now new =
     record {
       nothing = nothing;
-      core = ap (λ (l : Live). l.core) only;
+      core = ap (λ (l : PlainClient). l.core) only;
       left = ap (λ (d : Drawing). d.left) drawer;
       answers = ap (λ (d : Drawing). d.answers) drawer;
       chunks = flushed now.chunks new.chunks chunks;

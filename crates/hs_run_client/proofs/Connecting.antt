@@ -15,10 +15,10 @@ use Rattle.hs_records.specs.Plain.{PlainWorkload}
 use Rattle.hs_ring.specs.Parts.{Drawing, Giving, Leased}
 use Rattle.hs_law_sends.specs.Sending.{ops_of}
 use Rattle.hs_words.specs.Buffers.{Buffer}
-use Rattle.hs_run_client.specs.Calling.{Calling}
-use Rattle.hs_run_client.specs.declared.making.Connected.{Connected}
+use Rattle.hs_run_client.specs.ClientActors.{PlainClientActor}
+use Rattle.hs_run_client.specs.declared.making.ConnectedClient.{ConnectedClient}
 use Rattle.hs_run_client.specs.Making.{IsConnected}
-use Rattle.hs_run_client.specs.Nodes.{LinkBegins, CallerBegins, AreBegun, NodeBegins, Receiving, drawer_for}
+use Rattle.hs_run_client.specs.Nodes.{LinkBegins, ClientActorBegins, AreBegun, NodeBegins, Receiving, drawer_for}
 
 -- ---- lists with an item more
 
@@ -46,11 +46,11 @@ more receiving chunk crumb trigger = record { chunks = receiving.chunks ++ chunk
 pub none_begun : (W : PlainWorkload) (node : ℕ) (giver : Giving) → AreBegun W node giver 0 [] (record { chunks = []; crumbs = []; triggers = [] })
 none_begun W node giver = record { callers_are = refl; chunks = refl; crumbs = refl; triggers = refl; each = λ number caller at. nobody number caller at }
   where
-    nobody : (number : ℕ) (caller : Calling) → slice_get [] number ≡ Some caller → CallerBegins W node giver number (record { chunks = []; crumbs = []; triggers = [] }) caller
+    nobody : (number : ℕ) (caller : PlainClientActor) → slice_get [] number ≡ Some caller → ClientActorBegins W node giver number (record { chunks = []; crumbs = []; triggers = [] }) caller
     nobody number caller at = let never : None ≡ Some caller = at in absurd cc
 
-still_begins : (W : PlainWorkload) (node : ℕ) (giver : Giving) (number : ℕ) (receiving : Receiving) (caller : Calling) (chunk : Incoming (Buffer Leased) Key) (crumb : Incoming Crumb Key) (trigger : Incoming Trigger Key)
-    → CallerBegins W node giver number receiving caller → CallerBegins W node giver number (more receiving chunk crumb trigger) caller
+still_begins : (W : PlainWorkload) (node : ℕ) (giver : Giving) (number : ℕ) (receiving : Receiving) (caller : PlainClientActor) (chunk : Incoming (Buffer Leased) Key) (crumb : Incoming Crumb Key) (trigger : Incoming Trigger Key)
+    → ClientActorBegins W node giver number receiving caller → ClientActorBegins W node giver number (more receiving chunk crumb trigger) caller
 still_begins W node giver number receiving caller chunk crumb trigger b =
     record {
       at = b.at;
@@ -61,12 +61,12 @@ still_begins W node giver number receiving caller chunk crumb trigger b =
       triggers = still _ _ number caller.client.triggers receiving.triggers trigger b.triggers;
     }
 
-pub begun_more : (W : PlainWorkload) (node : ℕ) (giver : Giving) (count : ℕ) (callers : List Calling) (receiving : Receiving) (drawer : Drawing) (c : Connected) → AreBegun W node giver count callers receiving
+pub begun_more : (W : PlainWorkload) (node : ℕ) (giver : Giving) (count : ℕ) (callers : List PlainClientActor) (receiving : Receiving) (drawer : Drawing) (c : ConnectedClient) → AreBegun W node giver count callers receiving
     → drawer ≡ drawer_for W.settings giver count (ops_of W node count) → IsConnected W.settings (client_of node count) (ops_of W node count) giver drawer c
     → AreBegun W node giver (count + 1) (callers ++ c.caller ∷ []) (more receiving (incoming c.chunks) c.crumbs c.triggers)
 begun_more W node giver count callers receiving drawer c are drawer_is is =
     let next = more receiving (incoming c.chunks) c.crumbs c.triggers in
-    let here : CallerBegins W node giver count next c.caller =
+    let here : ClientActorBegins W node giver count next c.caller =
     record {
       at = is.at;
       done = is.done;
@@ -86,7 +86,7 @@ begun_more W node giver count callers receiving drawer c are drawer_is is =
             | inl h ↦ still_begins W node giver number receiving caller (incoming c.chunks) c.crumbs c.triggers (are.each number caller h)
             | inr h ↦
                 let same : count ≡ number = sym are.callers_are ∙ h.0 in
-                subst (λ (other : Calling). CallerBegins W node giver number next other) h.1 (subst (λ n. CallerBegins W node giver n next c.caller) same here)
+                subst (λ (other : PlainClientActor). ClientActorBegins W node giver number next other) h.1 (subst (λ n. ClientActorBegins W node giver n next c.caller) same here)
           ];
     }
 
@@ -103,10 +103,10 @@ of_link giver node number room key s receivers r client pool size l end =
       number_is = ap (λ (k : Key). k.client.number) named ∙ ap (λ (c : _). c.number) client;
     }
 
-pub is_port : (W : PlainWorkload) (node : ℕ) (giver : Giving) (callers : List Calling) (receiving : Receiving) → AreBegun W node giver W.settings.clients callers receiving → 1 ≤ W.settings.clients → W.settings.clients ≤ MAX_CLIENTS
+pub is_port : (W : PlainWorkload) (node : ℕ) (giver : Giving) (callers : List PlainClientActor) (receiving : Receiving) → AreBegun W node giver W.settings.clients callers receiving → 1 ≤ W.settings.clients → W.settings.clients ≤ MAX_CLIENTS
     → IsPort (record { giver = giver; chunks = receiving.chunks; crumbs = receiving.crumbs; triggers = receiving.triggers })
 is_port W node giver callers receiving are some few =
-    let there : (number count : ℕ) → number < count → count ≡ W.settings.clients → (caller : Calling) × (slice_get callers number ≡ Some caller) = λ number count low is.
+    let there : (number count : ℕ) → number < count → count ≡ W.settings.clients → (caller : PlainClientActor) × (slice_get callers number ≡ Some caller) = λ number count low is.
     get_there callers number (omega (arith, low, is, are.callers_are)) in
     record {
       some = omega (arith, some, are.chunks);
@@ -127,7 +127,7 @@ is_port W node giver callers receiving are some few =
           of_link giver node number _ _ found.0.client.triggers receiving.triggers r refl refl refl b.triggers end;
     }
 
-pub node_begins : (W : PlainWorkload) (node : ℕ) (giver : Giving) (buffers drawers : ℕ) (callers : List Calling) (receiving : Receiving)
+pub node_begins : (W : PlainWorkload) (node : ℕ) (giver : Giving) (buffers drawers : ℕ) (callers : List PlainClientActor) (receiving : Receiving)
     → giver ≡ record { pool = giver.pool; buffers = buffers; size = W.settings.size; drawers = drawers; floor = 0; turns = [] } → buffers ≡ W.settings.buffers → drawers ≡ W.settings.clients
     → AreBegun W node giver W.settings.clients callers receiving
     → NodeBegins W node callers (record { giver = giver; chunks = receiving.chunks; crumbs = receiving.crumbs; triggers = receiving.triggers })

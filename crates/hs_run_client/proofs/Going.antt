@@ -1,4 +1,4 @@
--- The next operation of a caller may be done, and then the caller stands behind it.
+-- The next operation of a client may be done, and then the client stands behind it.
 use Rattle.std.proofs.Common.{◌≡◌, ℕ, ◌+◌, ◌<◌, true, List, ◌∷◌, length, map, take, drop, Option, None, inl, inr, sym, ap, ◌∙◌, subst, arith}
 use Rattle.std.proofs.lemmas.List.{length-map}
 use Rattle.std.proofs.lemmas.Option.{slice_get-map, slice_get_cases}
@@ -16,7 +16,7 @@ use Rattle.hs_link.specs.Contents.{Outgoing, sent}
 use Rattle.hs_live.specs.declared.called.Called.TheVariants.{Done}
 use Rattle.hs_live.specs.Done.{HasDone, Does, DoesNothing}
 use Rattle.hs_live.specs.Keys.{Key}
-use Rattle.hs_live.specs.Live.{Live}
+use Rattle.hs_live.specs.Live.{PlainClient}
 use Rattle.hs_live.specs.Writing.{IsDrawn}
 use Rattle.hs_live.proofs.Cuts.{all_drawn}
 use Rattle.hs_words.specs.Ends.{Answer}
@@ -26,16 +26,16 @@ use Rattle.hs_records.specs.Records.{AreBracketed, piece_count}
 use Rattle.hs_law_sends.specs.OneMore.{open_after}
 use Rattle.hs_workload.specs.LookBack.{operation_pieces}
 use Rattle.hs_workload.specs.Validity.{IsOperation}
-use Rattle.hs_run_client.specs.Calling.{Calling}
+use Rattle.hs_run_client.specs.ClientActors.{PlainClientActor}
 use Rattle.hs_run_client.specs.Counting.{Uses}
 use Rattle.hs_run_client.specs.Performing.{MayDo, MayRecord, HasRule}
-use Rattle.hs_run_client.specs.Standing.{IsAt, IsOf, HasEnough, made_for}
+use Rattle.hs_run_client.specs.Standing.{ClientActorIsAt, IsClientOf, HasEnough, made_for}
 use Rattle.hs_run_client.proofs.Operations.{Stands, all_at, bracketed_at}
 
 -- ---- what the next operation needs
 
 -- the autotrigger that a sample names, with its rule
-rule_at : (rules : List AutoRule) (auto : ℕ) (client : Live) → map (λ (w : Watch). w.rule) client.autos ≡ rules → auto < length rules → HasRule rules auto client
+rule_at : (rules : List AutoRule) (auto : ℕ) (client : PlainClient) → map (λ (w : Watch). w.rule) client.autos ≡ rules → auto < length rules → HasRule rules auto client
 rule_at rules auto client same within =
     elim (slice_get_cases client.autos auto).1 [
       | inl there ↦
@@ -43,7 +43,7 @@ rule_at rules auto client same within =
       | inr past ↦ absurd (omega (arith, past.0, within, ap length same, length-map client.autos (λ (w : Watch). w.rule)))
     ]
 
-may_do_so : (settings : PlainSettings) (version : ℕ) (id : ClientId) (rest : List Operation) (op : Operation) (client : Live) → map (λ (w : Watch). w.rule) client.autos ≡ settings.autos → IsOf settings id client
+may_do_so : (settings : PlainSettings) (version : ℕ) (id : ClientId) (rest : List Operation) (op : Operation) (client : PlainClient) → map (λ (w : Watch). w.rule) client.autos ≡ settings.autos → IsClientOf settings id client
     → HasEnough settings.size (op ∷ rest) client → AreBracketed (is_some client.core.trace) (op ∷ rest) → IsOperation version settings op → MayDo settings.autos op client
 may_do_so settings version id rest (Begin trace) client same is_of enough bracketed word = (omega (arith, enough.calls), is_some_false client.core.trace bracketed.0)
 may_do_so settings version id rest (Point moment payload) client same is_of enough bracketed word =
@@ -63,10 +63,10 @@ may_do_so settings version id rest (Fire trigger) client same is_of enough brack
 may_do_so settings version id rest (Sample moment auto value) client same is_of enough bracketed word =
     (bracketed.0, omega (arith, enough.triggers), rule_at settings.autos auto client same word.1)
 
-abbrev calling : ℕ → Live → Calling
+abbrev calling : ℕ → PlainClient → PlainClientActor
 calling place client = record { done = place; client = client }
 
-pub may_do : (settings : PlainSettings) (id : ClientId) (ops : List Operation) (place : ℕ) (op : Operation) (client : Live) → IsAt settings id ops (calling place client) → Stands ops place op → MayDo settings.autos op client
+pub may_do : (settings : PlainSettings) (id : ClientId) (ops : List Operation) (place : ℕ) (op : Operation) (client : PlainClient) → ClientActorIsAt settings id ops (calling place client) → Stands ops place op → MayDo settings.autos op client
 may_do settings id ops place op client a is =
     let rest = drop (place + 1) ops in
     let enough = subst (λ (l : List Operation). HasEnough settings.size l client) is.rest a.enough in
@@ -76,8 +76,8 @@ may_do settings id ops place op client a is =
 
 -- ---- behind it
 
-pub at_next : (settings : PlainSettings) (id : ClientId) (ops : List Operation) (place : ℕ) (op : Operation) (old new : Live) → IsAt settings id ops (calling place old) → Stands ops place op → Does op Done old new
-    → Uses op old new → IsAt settings id ops (calling (place + 1) new)
+pub at_next : (settings : PlainSettings) (id : ClientId) (ops : List Operation) (place : ℕ) (op : Operation) (old new : PlainClient) → ClientActorIsAt settings id ops (calling place old) → Stands ops place op → Does op Done old new
+    → Uses op old new → ClientActorIsAt settings id ops (calling (place + 1) new)
 at_next settings id ops place op old new a is does uses =
     let size = settings.size in
     let rest = drop (place + 1) ops in
@@ -114,7 +114,7 @@ pub record Stays {T : Type 0} (s t : Outgoing T Key) : Type 0 where
   pub items : sent t ≡ sent s
 
 -- the client is the same one, and its links were given nothing
-pub record StaysSo (old new : Live) : Type 0 where
+pub record StaysSo (old new : PlainClient) : Type 0 where
   pub nothing : DoesNothing old new
   pub core : new.core ≡ old.core
   pub left : new.drawer.left ≡ old.drawer.left
@@ -123,7 +123,7 @@ pub record StaysSo (old new : Live) : Type 0 where
   pub crumbs : Stays old.crumbs new.crumbs
   pub triggers : Stays old.triggers new.triggers
 
-pub at_same : (settings : PlainSettings) (id : ClientId) (ops : List Operation) (place : ℕ) (old new : Live) → IsAt settings id ops (calling place old) → StaysSo old new → IsAt settings id ops (calling place new)
+pub at_same : (settings : PlainSettings) (id : ClientId) (ops : List Operation) (place : ℕ) (old new : PlainClient) → ClientActorIsAt settings id ops (calling place old) → StaysSo old new → ClientActorIsAt settings id ops (calling place new)
 at_same settings id ops place old new a stays =
     let enough = a.enough in
     record {

@@ -4,7 +4,7 @@ use Rattle.hs_link.specs.Contents.{Outgoing, Incoming}
 use Rattle.hs_live.specs.Calls.{MeetsAt}
 use Rattle.hs_live.specs.Done.{DoesNothing}
 use Rattle.hs_live.specs.Keys.{Key}
-use Rattle.hs_live.specs.Live.{Live, Port, MeetAt}
+use Rattle.hs_live.specs.Live.{PlainClient, Port, MeetAt}
 use Rattle.hs_ring.specs.Parts.{Drawing}
 use Rattle.hs_run_client.proofs.Going.{Stays, StaysSo}
 
@@ -16,7 +16,7 @@ heard number receivers receivers' s s' met =
       items = ap (λ (o : Outgoing _ Key). Rattle.hs_link.specs.Contents.sent o) met.sender_is;
     }
 
-pub meets_so : (number : ℕ) (port port' : Port) (client client' : Live) → MeetsAt number port client port' client' → DoesNothing client client' → StaysSo client client'
+pub meets_so : (number : ℕ) (port port' : Port) (client client' : PlainClient) → MeetsAt number port client port' client' → DoesNothing client client' → StaysSo client client'
 meets_so number port port' client client' met nothing =
     record {
       nothing = nothing;

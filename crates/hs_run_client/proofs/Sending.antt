@@ -1,4 +1,4 @@
--- What a caller sent, from the steps of its client's core.
+-- What a client sent, from the steps of its client's core.
 use Rattle.std.proofs.Common.{◌≡◌, ℕ, suc, ◌+◌, ◌≤◌, false, List, [], ◌∷◌, ◌++◌, length, map, take, drop, reverse, Option, Some, None, refl, sym, ap, ap₂, ◌∙◌, subst, arith}
 use Rattle.std.proofs.lemmas.List.{append-nil, length-take-le, take-append-drop}
 use Rattle.std.specs.Prelude.{is_some, slice_get}
@@ -10,7 +10,7 @@ use Rattle.hs_client.specs.Calls.{AreSteps, IsBook, after, draws_supplied, fille
 use Rattle.hs_journal.specs.declared.journal.Draw.{Draw}
 use Rattle.hs_journal.specs.declared.journal.Draw.TheVariants as noted
 use Rattle.hs_link.specs.Contents.{sent}
-use Rattle.hs_live.specs.Live.{Live}
+use Rattle.hs_live.specs.Live.{PlainClient}
 use Rattle.hs_live.specs.Writing.{Made, new_of, noted as noted_as, buffer_got, buffers_by, draws_by}
 use Rattle.hs_live.specs.Done.{HasDone, HasSent}
 use Rattle.hs_law_sends.specs.Playable.{IsPlayable}
@@ -28,22 +28,22 @@ use Rattle.hs_law_sends.specs.SoFar.{has_open_page, FirstCrumbsAreSent, FirstTri
 use Rattle.hs_words.specs.Buffers.{Buffer}
 use Rattle.hs_words.specs.Ends.{Answer}
 use Rattle.hs_words.specs.Pages.{Sheet}
-use Rattle.hs_words.specs.PoolHistory.{Event, Got, Empty, Given, Missed}
+use Rattle.hs_words.specs.PoolHistory.{PoolEvent, Got, Empty, Given, Missed}
 use Rattle.hs_words.specs.Pools.{PoolName}
 use Rattle.hs_workload.specs.Validity.{client_pieces}
-use Rattle.hs_run_client.specs.Calling.{Calling}
-use Rattle.hs_run_client.specs.Standing.{IsAt, IsLeasedTo, HasSentSoFar, HasSentAll, made_for, sheets_in}
+use Rattle.hs_run_client.specs.ClientActors.{PlainClientActor}
+use Rattle.hs_run_client.specs.Standing.{ClientActorIsAt, IsLeasedTo, HasSentSoFar, HasSentAll, made_for, sheets_in}
 
 -- what is known of cores and of clients
 pub record Laws : Type 0 where
   pub books : (client : ClientId) (size calls : ℕ) (steps : List (Step Leased)) → AreSteps (new_core client size calls) steps → IsBook (new_core client size calls) steps
-  pub sent_is : (made : Made) (ops : List Operation) (client : Live) → HasDone made ops client → HasSent made ops client
+  pub sent_is : (made : Made) (ops : List Operation) (client : PlainClient) → HasDone made ops client → HasSent made ops client
   pub handed : CoresHandOutSoFar Leased
   pub crumbs : FirstCrumbsAreSent
   pub triggers : FirstTriggersAreSent
 
 -- the segments that the steps gave are those of the operations
-recorded : (made : Made) (ops : List Operation) (client : Live) (h : HasDone made ops client) → reverse (segments_of_steps (h.writes []).steps) ≡ segments_of made.size ops
+recorded : (made : Made) (ops : List Operation) (client : PlainClient) (h : HasDone made ops client) → reverse (segments_of_steps (h.writes []).steps) ≡ segments_of made.size ops
 recorded made ops client h =
     let is = h.writes [] in
     let segments = segments_of_steps is.steps in
@@ -64,7 +64,7 @@ Agree (buffer ∷ buffers) [] = ⊥
 Agree (None ∷ buffers) (draw ∷ draws) = Agree buffers draws
 Agree (Some b ∷ buffers) (draw ∷ draws) = (draw ≡ noted.Got b.chunk.number b.lease.draw) × Agree buffers draws
 
-one_agrees : (pool : PoolName) (size stamp : ℕ) (event : Event) → Agree (buffer_got pool size stamp event ∷ []) (noted_as stamp event ∷ [])
+one_agrees : (pool : PoolName) (size stamp : ℕ) (event : PoolEvent) → Agree (buffer_got pool size stamp event ∷ []) (noted_as stamp event ∷ [])
 one_agrees pool size stamp (Got buffer) = (refl, tt)
 one_agrees pool size stamp Empty = tt
 one_agrees pool size stamp (Given buffer) = tt
@@ -104,7 +104,7 @@ filled_leased id number (p ∷ pages) (Some b ∷ buffers) (d ∷ draws) all agr
   filled_leased id (number + 1) pages buffers draws all agree.1 (next_behind number d draws all behind),
 )
 
-leased : (id : ClientId) (pages : List PlainPage) (client : Live) (answers : List Answer) (chunks rest : List (Buffer Leased)) → client.core.draws ≡ draws_by answers
+leased : (id : ClientId) (pages : List PlainPage) (client : PlainClient) (answers : List Answer) (chunks rest : List (Buffer Leased)) → client.core.draws ≡ draws_by answers
     → chunks ++ rest ≡ filled_chunks id 0 pages (buffers_by client.drawer.pool client.drawer.size answers) → AllByRecursion (IsLeasedTo id client.core.draws) chunks
 leased id pages client answers chunks rest draws is =
     let buffers = buffers_by client.drawer.pool client.drawer.size answers in
@@ -112,10 +112,10 @@ leased id pages client answers chunks rest draws is =
     subst (λ (l : List Draw). AllByRecursion (IsLeasedTo id l) chunks) (sym draws)
     (all_front (IsLeasedTo id (draws_by answers)) chunks rest (subst (λ (l : List (Buffer Leased)). AllByRecursion (IsLeasedTo id (draws_by answers)) l) (sym is) all))
 
-abbrev calling : ℕ → Live → Calling
+abbrev calling : ℕ → PlainClient → PlainClientActor
 calling place client = record { done = place; client = client }
 
-so_far_of : Laws → (settings : PlainSettings) (id : ClientId) (front rest : List Operation) (calls : ℕ) (client : Live) → IsPlayable settings (front ++ rest)
+so_far_of : Laws → (settings : PlainSettings) (id : ClientId) (front rest : List Operation) (calls : ℕ) (client : PlainClient) → IsPlayable settings (front ++ rest)
     → HasDone (record { client = id; size = settings.size; calls = calls; autos = settings.autos; answers = [] }) front client
     → length (sent client.triggers) ≤ client_pieces settings.size (front ++ rest) → HasSentSoFar settings id (front ++ rest) (calling (length front) client)
 so_far_of laws settings id front rest calls client playable h few =
@@ -143,7 +143,7 @@ so_far_of laws settings id front rest calls client playable h few =
       few = few;
     }
 
-pub so_far : Laws → (settings : PlainSettings) (id : ClientId) (ops : List Operation) (caller : Calling) → IsAt settings id ops caller → HasSentSoFar settings id ops caller
+pub so_far : Laws → (settings : PlainSettings) (id : ClientId) (ops : List Operation) (caller : PlainClientActor) → ClientActorIsAt settings id ops caller → HasSentSoFar settings id ops caller
 so_far laws settings id ops caller a =
     let done = caller.done in
     let whole : take done ops ++ drop done ops ≡ ops = take-append-drop done ops in
@@ -161,7 +161,7 @@ pub record AllLaws : Type 0 where
   pub crumbs : AllCrumbsAreSent
   pub triggers : AllTriggersAreSent
 
-pub in_all : AllLaws → (settings : PlainSettings) (id : ClientId) (ops : List Operation) (caller : Calling) → IsAt settings id ops caller → HasSentSoFar settings id ops caller → caller.done ≡ length ops → HasSentAll settings id ops caller
+pub in_all : AllLaws → (settings : PlainSettings) (id : ClientId) (ops : List Operation) (caller : PlainClientActor) → ClientActorIsAt settings id ops caller → HasSentSoFar settings id ops caller → caller.done ≡ length ops → HasSentAll settings id ops caller
 in_all laws settings id ops caller a far done =
     let size = settings.size in
     let draws = caller.client.core.draws in

@@ -13,7 +13,7 @@ use Rattle.hs_live.specs.declared.called.Called.{Called}
 use Rattle.hs_live.specs.declared.called.Called.TheVariants as called
 use Rattle.hs_live.specs.Calls.{BeginsBy, PointsBy, NotesBy, EndsBy, WritesOnly, begun, counts}
 use Rattle.hs_live.specs.Keys.{Key}
-use Rattle.hs_live.specs.Live.{Live, GoesOn, Sends}
+use Rattle.hs_live.specs.Live.{PlainClient, GoesOn, Sends}
 use Rattle.hs_live.specs.Writing.{Spends, writing_of}
 use Rattle.hs_live.proofs.Cuts.{draws_none}
 use Rattle.hs_records.specs.Plain.{Operation, Begin, Point, End, Fire, Sample}
@@ -60,11 +60,11 @@ ends core called.TooWide left some by = absurd by
 sends_none : {T F : Type 0} (items : ℕ) (s : Outgoing T F) → SendsFew items s s
 sends_none items s = record { goes = record { same = (refl, refl, refl, refl, refl); put = take-length s.put }; few = omega arith }
 
-pub begin_uses : (trace : TraceId) (answer : Called) (old new : Live) → answer ≡ called.Done → new ≡ record old { core = begun trace answer old.core } → Uses (Begin trace) old new
+pub begin_uses : (trace : TraceId) (answer : Called) (old new : PlainClient) → answer ≡ called.Done → new ≡ record old { core = begun trace answer old.core } → Uses (Begin trace) old new
 begin_uses trace answer old new done is =
-    let began : Live = record old { core = after_step old.core (Began trace) } in
-    let same : new ≡ began = is ∙ ap (λ (a : Called). let l : Live = record old { core = begun trace a old.core } in l) done in
-    subst (λ (l : Live). Uses (Begin trace) old l) (sym same)
+    let began : PlainClient = record old { core = after_step old.core (Began trace) } in
+    let same : new ≡ began = is ∙ ap (λ (a : Called). let l : PlainClient = record old { core = begun trace a old.core } in l) done in
+    subst (λ (l : PlainClient). Uses (Begin trace) old l) (sym same)
     (record {
       owner = refl;
       size = refl;
@@ -77,7 +77,7 @@ begin_uses trace answer old new done is =
       triggers_are = sends_none 0 old.triggers;
     })
 
-written : (calls : ℕ) (old new : Live) → Spends calls (writing_of old) (writing_of new) → WritesOnly old new → UsesUp calls 0 0 old new
+written : (calls : ℕ) (old new : PlainClient) → Spends calls (writing_of old) (writing_of new) → WritesOnly old new → UsesUp calls 0 0 old new
 written calls old new spends only =
     record {
       owner = spends.owner;
@@ -91,12 +91,12 @@ written calls old new spends only =
       triggers_are = subst (λ (s : Outgoing Trigger Key). SendsFew 0 old.triggers s) (sym only.triggers) (sends_none 0 old.triggers);
     }
 
-pub writes : (calls : ℕ) (answer : Called) (old new : Live) → answer ≡ called.Done → Spends (counts calls answer) (writing_of old) (writing_of new) → WritesOnly old new → UsesUp calls 0 0 old new
+pub writes : (calls : ℕ) (answer : Called) (old new : PlainClient) → answer ≡ called.Done → Spends (counts calls answer) (writing_of old) (writing_of new) → WritesOnly old new → UsesUp calls 0 0 old new
 writes calls answer old new done spends only = written calls old new (subst (λ (a : Called). Spends (counts calls a) (writing_of old) (writing_of new)) done spends) only
 
-pub crumb_uses : (node : NodeId) (old new : Live) → new ≡ record old { crumbs = new.crumbs } → GoesOn old.crumbs new.crumbs → length (sent new.crumbs) ≤ length (sent old.crumbs) + 1 → Uses (plain.Crumb node) old new
+pub crumb_uses : (node : NodeId) (old new : PlainClient) → new ≡ record old { crumbs = new.crumbs } → GoesOn old.crumbs new.crumbs → length (sent new.crumbs) ≤ length (sent old.crumbs) + 1 → Uses (plain.Crumb node) old new
 crumb_uses node old new is goes most =
-    subst (λ (l : Live). Uses (plain.Crumb node) old l) (sym is)
+    subst (λ (l : PlainClient). Uses (plain.Crumb node) old l) (sym is)
     (record {
       owner = refl;
       size = refl;
@@ -109,7 +109,7 @@ crumb_uses node old new is goes most =
       triggers_are = sends_none 0 old.triggers;
     })
 
-triggered : (old : Live) (autos : List Watch) (triggers : Outgoing Trigger Key) → SendsFew 1 old.triggers triggers → UsesUp 1 0 1 old (record old { autos = autos; triggers = triggers })
+triggered : (old : PlainClient) (autos : List Watch) (triggers : Outgoing Trigger Key) → SendsFew 1 old.triggers triggers → UsesUp 1 0 1 old (record old { autos = autos; triggers = triggers })
 triggered old autos triggers sends =
     record {
       owner = refl;
@@ -123,13 +123,13 @@ triggered old autos triggers sends =
       triggers_are = sends;
     }
 
-pub fire_uses : (trigger : Trigger) (old new : Live) → new ≡ record old { triggers = new.triggers } → Sends trigger old.triggers new.triggers → Uses (Fire trigger) old new
+pub fire_uses : (trigger : Trigger) (old new : PlainClient) → new ≡ record old { triggers = new.triggers } → Sends trigger old.triggers new.triggers → Uses (Fire trigger) old new
 fire_uses trigger old new is sends =
     let more = length-append (sent old.triggers) (trigger ∷ []) in
-    subst (λ (l : Live). Uses (Fire trigger) old l) (sym is)
+    subst (λ (l : PlainClient). Uses (Fire trigger) old l) (sym is)
     (triggered old old.autos new.triggers (record { goes = sends.goes; few = omega (arith, ap length sends.items, more) }))
 
-pub sample_uses : (moment auto value : ℕ) (old new : Live) → new ≡ record old { autos = new.autos; triggers = new.triggers } → GoesOn old.triggers new.triggers → length (sent new.triggers) ≤ length (sent old.triggers) + 1
+pub sample_uses : (moment auto value : ℕ) (old new : PlainClient) → new ≡ record old { autos = new.autos; triggers = new.triggers } → GoesOn old.triggers new.triggers → length (sent new.triggers) ≤ length (sent old.triggers) + 1
     → Uses (Sample moment auto value) old new
 sample_uses moment auto value old new is goes most =
-    subst (λ (l : Live). Uses (Sample moment auto value) old l) (sym is) (triggered old new.autos new.triggers (record { goes = goes; few = most }))
+    subst (λ (l : PlainClient). Uses (Sample moment auto value) old l) (sym is) (triggered old new.autos new.triggers (record { goes = goes; few = most }))

@@ -2,7 +2,7 @@
 -- for each crumb, and at most a trigger for each trigger and each sample.
 use Rattle.std.specs.Prelude.{◌≡◌, ℕ, ◌+◌, ◌≤◌, List, [], ◌∷◌, length, replicate, refl}
 use Rattle.hs_link.specs.Contents.{Outgoing, sent}
-use Rattle.hs_live.specs.Live.{Live, GoesOn}
+use Rattle.hs_live.specs.Live.{PlainClient, GoesOn}
 use Rattle.hs_live.specs.Writing.{DrawsOn}
 use Rattle.hs_records.specs.Plain.{Operation, Begin, Point, Crumb, End, Fire, Sample}
 use Rattle.hs_law_sends.specs.Samples.{begin, crumb, fire}
@@ -42,7 +42,7 @@ pub record SendsFew {T F : Type 0} (items : ℕ) (s t : Outgoing T F) : Type 0 w
 
 -- The client is the same one. So many calls were counted at most, as many draws made and chunks sent, and so many crumbs and
 -- triggers sent at most.
-pub record UsesUp (calls crumbs triggers : ℕ) (old new : Live) : Type 0 where
+pub record UsesUp (calls crumbs triggers : ℕ) (old new : PlainClient) : Type 0 where
   pub owner : new.core.client ≡ old.core.client
   pub size : new.core.size ≡ old.core.size
   pub calls_are : new.core.calls ≡ old.core.calls
@@ -54,10 +54,10 @@ pub record UsesUp (calls crumbs triggers : ℕ) (old new : Live) : Type 0 where
   pub triggers_are : SendsFew triggers old.triggers new.triggers
 
 -- what one operation uses, and what some do
-abbrev pub Uses : Operation → Live → Live → Type 0
+abbrev pub Uses : Operation → PlainClient → PlainClient → Type 0
 Uses op old new = UsesUp (operation_pieces old.core.size op) (crumbs_in op) (triggers_in op) old new
 
-abbrev pub UseAll : List Operation → Live → Live → Type 0
+abbrev pub UseAll : List Operation → PlainClient → PlainClient → Type 0
 UseAll ops old new = UsesUp (client_pieces old.core.size ops) (crumbs_of ops) (triggers_of ops) old new
 
 -- ---- examples

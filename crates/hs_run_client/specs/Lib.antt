@@ -1,8 +1,8 @@
-pub mod Calling
+pub mod ClientActors
 pub mod Counting
 pub mod Performing
 pub mod Standing
 pub mod Making
 pub mod Nodes
-pub mod CallerInside
+pub mod ClientActorInside
 pub mod Examples

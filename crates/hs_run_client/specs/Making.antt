@@ -1,4 +1,4 @@
--- A caller that was made, with the other ends of its links.
+-- A client that was made, with the other ends of its links.
 use Rattle.std.specs.Prelude.{◌≡◌, List, [], map}
 use Rattle.std.specs.List.{AllByRecursion}
 use Rattle.hs_auto.specs.Watching.{Watch, HasSampled}
@@ -10,19 +10,19 @@ use Rattle.hs_live.specs.Live.{incoming}
 use Rattle.hs_records.specs.Plain.{Operation, PlainSettings}
 use Rattle.hs_ring.specs.Parts.{Drawing, Giving}
 use Rattle.hs_workload.specs.Validity.{client_pieces}
-use Rattle.hs_run_client.specs.declared.making.Connected.{Connected}
+use Rattle.hs_run_client.specs.declared.making.ConnectedClient.{ConnectedClient}
 use Rattle.hs_run_client.specs.Counting.{crumbs_of, triggers_of}
-use Rattle.hs_run_client.specs.Standing.{IsAt, key_for}
+use Rattle.hs_run_client.specs.Standing.{ClientActorIsAt, key_for}
 
 -- An autotrigger of each rule, which was given nothing.
 pub record AreNewFor (rules : List AutoRule) (autos : List Watch) : Type 0 where
   pub rules_are : map (λ (watch : Watch). watch.rule) autos ≡ rules
   pub fresh : AllByRecursion (λ (watch : Watch). HasSampled watch []) autos
 
--- Nothing is done. The caller has the drawer, and each of its links is new, with a ring of as many entries as a pass takes, and the
+-- Nothing is done. The client has the drawer, and each of its links is new, with a ring of as many entries as a pass takes, and the
 -- key of the client.
-pub record IsConnected (settings : PlainSettings) (client : ClientId) (ops : List Operation) (giver : Giving) (drawer : Drawing) (c : Connected) : Type 0 where
-  pub at : IsAt settings client ops c.caller
+pub record IsConnected (settings : PlainSettings) (client : ClientId) (ops : List Operation) (giver : Giving) (drawer : Drawing) (c : ConnectedClient) : Type 0 where
+  pub at : ClientActorIsAt settings client ops c.caller
   pub done : c.caller.done ≡ 0
   pub drawer_is : c.caller.client.drawer ≡ drawer
   pub chunks : AreNewEnds (key_for settings client giver) MAX_TAKEN (client_pieces settings.size ops) c.caller.client.chunks (incoming c.chunks)

@@ -18,9 +18,9 @@ use Rattle.hs_workload.specs.Validity.{IsValid, client_pieces}
 use Rattle.hs_workload.specs.Views.{operations_of, workload_of}
 use Rattle.hs_workload.specs.declared.operation.Op.{Op}
 use Rattle.hs_workload.specs.declared.operation.Workload.{Workload}
-use Rattle.hs_run_client.specs.Calling.{Calling}
+use Rattle.hs_run_client.specs.ClientActors.{PlainClientActor}
 use Rattle.hs_run_client.specs.Counting.{crumbs_of, triggers_of}
-use Rattle.hs_run_client.specs.Standing.{IsAt, Notes, key_for}
+use Rattle.hs_run_client.specs.Standing.{ClientActorIsAt, Notes, key_for}
 
 -- ---- the clients
 
@@ -66,8 +66,8 @@ pub record Receiving : Type 0 where
   pub triggers : List (Incoming Trigger Key)
 
 -- The client has done nothing, with its drawer of the pool and its links.
-pub record CallerBegins (W : PlainWorkload) (node : ℕ) (giver : Giving) (number : ℕ) (receiving : Receiving) (caller : Calling) : Type 0 where
-  pub at : IsAt W.settings (client_of node number) (ops_of W node number) caller
+pub record ClientActorBegins (W : PlainWorkload) (node : ℕ) (giver : Giving) (number : ℕ) (receiving : Receiving) (caller : PlainClientActor) : Type 0 where
+  pub at : ClientActorIsAt W.settings (client_of node number) (ops_of W node number) caller
   pub done : caller.done ≡ 0
   pub drawer_is : caller.client.drawer ≡ drawer_for W.settings giver number (ops_of W node number)
   pub chunks : LinkBegins (key_for W.settings (client_of node number) giver) (client_pieces W.settings.size (ops_of W node number)) number caller.client.chunks receiving.chunks
@@ -75,25 +75,25 @@ pub record CallerBegins (W : PlainWorkload) (node : ℕ) (giver : Giving) (numbe
   pub triggers : LinkBegins (key_for W.settings (client_of node number) giver) (triggers_of (ops_of W node number)) number caller.client.triggers receiving.triggers
 
 -- So many clients of the node, the first ones, with the other ends of their links.
-pub record AreBegun (W : PlainWorkload) (node : ℕ) (giver : Giving) (count : ℕ) (callers : List Calling) (receiving : Receiving) : Type 0 where
+pub record AreBegun (W : PlainWorkload) (node : ℕ) (giver : Giving) (count : ℕ) (callers : List PlainClientActor) (receiving : Receiving) : Type 0 where
   pub callers_are : length callers ≡ count
   pub chunks : length receiving.chunks ≡ count
   pub crumbs : length receiving.crumbs ≡ count
   pub triggers : length receiving.triggers ≡ count
-  pub each : (number : ℕ) (caller : Calling) → slice_get callers number ≡ Some caller → CallerBegins W node giver number receiving caller
+  pub each : (number : ℕ) (caller : PlainClientActor) → slice_get callers number ≡ Some caller → ClientActorBegins W node giver number receiving caller
 
 abbrev pub receiving_of : Port → Receiving
 receiving_of port = record { chunks = port.chunks; crumbs = port.crumbs; triggers = port.triggers }
 
 -- All clients of the node, and the port with the other ends and the pool's giver.
-pub record NodeBegins (W : PlainWorkload) (node : ℕ) (callers : List Calling) (port : Port) : Type 0 where
+pub record NodeBegins (W : PlainWorkload) (node : ℕ) (callers : List PlainClientActor) (port : Port) : Type 0 where
   pub giver : IsGiverFor W.settings port.giver
   pub begun : AreBegun W node port.giver W.settings.clients callers (receiving_of port)
 
 -- ---- the end
 
--- Each book notes what its caller did.
-abbrev pub AreNotes : List Calling → List PlainClientBook → Type 0
+-- Each book notes what its client did.
+abbrev pub AreNotes : List PlainClientActor → List PlainClientBook → Type 0
 AreNotes [] [] = Unit {0}
 AreNotes [] (book ∷ books) = ⊥
 AreNotes (caller ∷ callers) [] = ⊥

@@ -7,7 +7,7 @@ use Rattle.hs_base.specs.declared.settings.AutoRule.{AutoRule}
 use Rattle.hs_client.specs.Core.{IsLeft}
 use Rattle.hs_link.specs.Contents.{Outgoing, sent}
 use Rattle.hs_live.specs.Keys.{IsTriggerOf}
-use Rattle.hs_live.specs.Live.{Live}
+use Rattle.hs_live.specs.Live.{PlainClient}
 use Rattle.hs_records.specs.Plain.{Operation, Begin, Point, End, Fire, Sample}
 use Rattle.hs_records.specs.Plain as plain
 use Rattle.hs_records.specs.Records.{piece_count}
@@ -17,10 +17,10 @@ abbrev pub HasRoom : {T F : Type 0} → ℕ → Outgoing T F → Type 0
 HasRoom items s = length (sent s) + items ≤ s.room
 
 -- The autotrigger of this number has the rule of this number.
-abbrev pub HasRule : List AutoRule → ℕ → Live → Type 0
+abbrev pub HasRule : List AutoRule → ℕ → PlainClient → Type 0
 HasRule rules auto client = (watch : Watch) × (slice_get client.autos auto ≡ Some watch) × (slice_get rules auto ≡ Some watch.rule)
 
-pub record MayRecord (pieces bytes : ℕ) (client : Live) : Type 0 where
+pub record MayRecord (pieces bytes : ℕ) (client : PlainClient) : Type 0 where
   pub opened : IsSome client.core.trace
   pub few : bytes ≤ MAX_PAYLOAD
   pub calls : client.core.counted + pieces ≤ client.core.calls
@@ -28,7 +28,7 @@ pub record MayRecord (pieces bytes : ℕ) (client : Live) : Type 0 where
   pub room : HasRoom pieces client.chunks
 
 -- Where these are the rules of the autotriggers, the client may do the operation.
-abbrev pub MayDo : List AutoRule → Operation → Live → Type 0
+abbrev pub MayDo : List AutoRule → Operation → PlainClient → Type 0
 MayDo rules (Begin trace) client = IsLeft client.core × (client.core.trace ≡ None)
 MayDo rules (Point moment payload) client = MayRecord (piece_count client.core.size (length payload)) (length payload) client
 MayDo rules (plain.Crumb node) client = IsSome client.core.trace × HasRoom 1 client.crumbs × (node.0 < client.crumbs.key.nodes)

@@ -4,11 +4,11 @@ ghost use Rattle.std.specs.Prelude.{◌≡◌, ◌∷◌, ◌++◌, [], map, IfO
 ghost use Rattle.std.specs.List.{AllByRecursion};
 ghost use Rattle.hs_journal.specs.Books.{client_book_of};
 ghost use Rattle.hs_live.specs.Live.{outgoing};
-ghost use Rattle.hs_run_client.specs.Calling.{Calling};
+ghost use Rattle.hs_run_client.specs.ClientActors.{PlainClientActor};
 ghost use Rattle.hs_run_client.specs.Nodes.{AreNotes};
 ghost use Rattle.hs_run_client.specs.Standing.{IsDone};
 
-use crate::caller::Caller;
+use crate::client_actor::ClientActor;
 use hs_base::{Crumb, List, Memory, Trigger};
 use hs_journal::ClientBook;
 use hs_link::Sender;
@@ -19,7 +19,7 @@ use std::alloc::Global;
 
 /// What clients noted, and their ends, each by the place of its client.
 #[derive(Drop)]
-pub struct Apart {
+pub struct PartedClients {
     pub books: List<ClientBook>,
     pub drawers: List<Drawer>,
     pub chunks: List<Sender<Held<Lease>, ClientKey>>,
@@ -27,7 +27,7 @@ pub struct Apart {
     pub triggers: List<Sender<Trigger, ClientKey>>,
 }
 
-impl Apart {
+impl PartedClients {
     /// What a closed client noted, and its ends, go behind those of the others.
     fn add(&mut self, closed: Closed) -> Result<(), Memory>
         ensures books { OnOk result (self.new.books.items ≡ self.old.books.items ++ closed.book ∷ []) }
@@ -46,15 +46,15 @@ impl Apart {
 }
 
 /// Takes clients apart that have done all their operations.
-pub fn take_apart(alloc: Global, callers: List<Caller>) -> Result<Apart, Memory>
+pub fn take_apart(alloc: Global, callers: List<ClientActor>) -> Result<PartedClients, Memory>
     requires { AllByRecursion IsDone callers.items }
     ensures books { IfOk result (λ apart. AreNotes callers.items (map client_book_of apart.books.items)) }
-    ensures drawers { IfOk result (λ apart. apart.drawers.items ≡ map (λ (c : Calling). c.client.drawer) callers.items) }
-    ensures chunks { IfOk result (λ apart. map outgoing apart.chunks.items ≡ map (λ (c : Calling). c.client.chunks) callers.items) }
-    ensures crumbs { IfOk result (λ apart. apart.crumbs.items ≡ map (λ (c : Calling). c.client.crumbs) callers.items) }
-    ensures triggers { IfOk result (λ apart. apart.triggers.items ≡ map (λ (c : Calling). c.client.triggers) callers.items) }
+    ensures drawers { IfOk result (λ apart. apart.drawers.items ≡ map (λ (c : PlainClientActor). c.client.drawer) callers.items) }
+    ensures chunks { IfOk result (λ apart. map outgoing apart.chunks.items ≡ map (λ (c : PlainClientActor). c.client.chunks) callers.items) }
+    ensures crumbs { IfOk result (λ apart. apart.crumbs.items ≡ map (λ (c : PlainClientActor). c.client.crumbs) callers.items) }
+    ensures triggers { IfOk result (λ apart. apart.triggers.items ≡ map (λ (c : PlainClientActor). c.client.triggers) callers.items) }
 {
-    let mut apart = Apart {
+    let mut apart = PartedClients {
         books: List::new(alloc),
         drawers: List::new(alloc),
         chunks: List::new(alloc),

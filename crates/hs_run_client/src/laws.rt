@@ -1,23 +1,22 @@
-//! Laws of callers. Each is the contract of a function that does nothing.
+//! Laws of clients. Each is the contract of a function that does nothing.
 
 ghost use Rattle.std.specs.Prelude.{◌≡◌, List, length};
 ghost use Rattle.hs_base.specs.declared.ids.ClientId.{ClientId};
 ghost use Rattle.hs_records.specs.Plain.{Operation, PlainSettings};
-ghost use Rattle.hs_run_client.specs.Calling.{Calling};
-ghost use Rattle.hs_run_client.specs.Standing.{IsAt, HasSentSoFar, HasSentAll};
+ghost use Rattle.hs_run_client.specs.ClientActors.{PlainClientActor};
+ghost use Rattle.hs_run_client.specs.Standing.{ClientActorIsAt, HasSentSoFar, HasSentAll};
 
 use hs_client::any_steps_make_the_book;
+use hs_law_sends::laws::{
+    all_is_sent_in_the_end, cores_hand_out_so_far, the_first_crumbs_are_sent,
+    the_first_operations_send, the_first_triggers_are_sent,
+};
 use hs_live::what_was_done_was_sent;
 use hs_ring::Lease;
-use hs_law_sends::laws::all_is_sent_in_the_end;
-use hs_law_sends::laws::cores_hand_out_so_far;
-use hs_law_sends::laws::the_first_crumbs_are_sent;
-use hs_law_sends::laws::the_first_operations_send;
-use hs_law_sends::laws::the_first_triggers_are_sent;
 
-/// What a caller sent and drew between rounds is what its operations so far send and start.
+/// What a client sent and drew between rounds is what its operations so far send and start.
 pub fn callers_have_sent()
-    ensures { (settings : PlainSettings) (client : ClientId) (ops : List Operation) (caller : Calling) → IsAt settings client ops caller → HasSentSoFar settings client ops caller }
+    ensures { (settings : PlainSettings) (client : ClientId) (ops : List Operation) (caller : PlainClientActor) → ClientActorIsAt settings client ops caller → HasSentSoFar settings client ops caller }
 {
     any_steps_make_the_book::<Lease>();
     what_was_done_was_sent();
@@ -26,9 +25,9 @@ pub fn callers_have_sent()
     the_first_triggers_are_sent();
 }
 
-/// A caller that has done all operations sent all that these send, and drew for each page.
+/// A client that has done all operations sent all that these send, and drew for each page.
 pub fn callers_sent_all()
-    ensures { (settings : PlainSettings) (client : ClientId) (ops : List Operation) (caller : Calling) → IsAt settings client ops caller → caller.done ≡ length ops → HasSentAll settings client ops caller }
+    ensures { (settings : PlainSettings) (client : ClientId) (ops : List Operation) (caller : PlainClientActor) → ClientActorIsAt settings client ops caller → caller.done ≡ length ops → HasSentAll settings client ops caller }
 {
     callers_have_sent();
     all_is_sent_in_the_end();

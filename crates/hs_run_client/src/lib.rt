@@ -4,15 +4,15 @@
 
 mod amounts;
 mod apart;
-mod caller;
+mod client_actor;
 mod laws;
 mod making;
 mod node;
 mod performing;
 
 pub use amounts::calls_of;
-pub use apart::{Apart, take_apart};
-pub use caller::Caller;
+pub use apart::{PartedClients, take_apart};
+pub use client_actor::ClientActor;
 pub use laws::{callers_have_sent, callers_sent_all};
-pub use making::Connected;
-pub use node::{Begun, begin_node};
+pub use making::ConnectedClient;
+pub use node::{NewNode, begin_node};

@@ -1,4 +1,4 @@
-//! How a caller is made.
+//! How a client of a run is made.
 
 ghost use Rattle.std.specs.Prelude.{map, IfOk};
 ghost use Rattle.hs_base.specs.Rules.{AreAutoRules};
@@ -10,7 +10,7 @@ ghost use Rattle.hs_run_client.specs.Making.{IsConnected, AreNewFor};
 ghost use Rattle.hs_run_client.specs.Standing.{IsDrawerFor};
 
 use crate::amounts::{Amounts, amounts_of};
-use crate::caller::Caller;
+use crate::client_actor::ClientActor;
 use hs_auto::Auto;
 use hs_base::limits::MAX_TAKEN;
 use hs_base::{ClientId, Crumb, List, Memory, Settings, Trigger};
@@ -22,17 +22,17 @@ use hs_words::Held;
 use hs_workload::Op;
 use std::alloc::Global;
 
-/// A new caller, and the other ends of its three links, which are for its agent.
+/// A new client, and the other ends of its three links, which are for its agent.
 #[derive(Drop)]
-pub struct Connected {
-    pub caller: Caller,
+pub struct ConnectedClient {
+    pub caller: ClientActor,
     pub chunks: Receiver<Held<Lease>, ClientKey>,
     pub crumbs: Receiver<Crumb, ClientKey>,
     pub triggers: Receiver<Trigger, ClientKey>,
 }
 
-impl Caller {
-    /// A caller that has done none of these operations, which are those of a client of a valid workload with these settings. It
+impl ClientActor {
+    /// A client that has done none of these operations, which are those of a client of a valid workload with these settings. It
     /// draws by this drawer of the giver's pool, and has this number among the actors.
     pub fn make(
         alloc: Global,
@@ -42,7 +42,7 @@ impl Caller {
         operations: &[Op],
         giver: &Giver,
         drawer: Drawer,
-    ) -> Result<Connected, Memory>
+    ) -> Result<ConnectedClient, Memory>
         requires playable { IsPlayable (settings_of settings.now) (map operation_of operations.now) }
         requires drawer { IsDrawerFor (settings_of settings.now) (map operation_of operations.now) giver.now drawer }
         ensures { IfOk result (IsConnected (settings_of settings.now) client (map operation_of operations.now) giver.now drawer) }
@@ -60,8 +60,8 @@ impl Caller {
             links.crumbs,
             links.triggers,
         );
-        Ok(Connected {
-            caller: Caller {
+        Ok(ConnectedClient {
+            caller: ClientActor {
                 client,
                 actor,
                 done: 0,

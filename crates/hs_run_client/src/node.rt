@@ -10,12 +10,12 @@ ghost use Rattle.hs_workload.specs.Views.{operations_of, workload_of};
 ghost use Rattle.hs_run_client.specs.Nodes.{AreClientsOf, AreBegun, NodeBegins, lefts_of};
 
 use crate::amounts::calls_of;
-use crate::caller::Caller;
-use crate::making::Connected;
+use crate::client_actor::ClientActor;
+use crate::making::ConnectedClient;
 use hs_base::{ClientId, Crumb, List, Memory, Trigger};
+use hs_law_sends::laws::valid_clients_may_be_played;
 use hs_link::Receiver;
 use hs_live::{AgentPort, ClientKey};
-use hs_law_sends::laws::valid_clients_may_be_played;
 use hs_ring::{Drawer, Giver, Lease, RingPool};
 use hs_words::{Held, Stock};
 use hs_workload::{Op, Workload};
@@ -24,29 +24,29 @@ use std::alloc::Global;
 /// The clients of a node, by number, and the port of its agent, which has the other ends of their links and the giver of the
 /// node's pool.
 #[derive(Drop)]
-pub struct Begun {
-    pub callers: List<Caller>,
+pub struct NewNode {
+    pub callers: List<ClientActor>,
     pub port: AgentPort,
 }
 
 /// Clients of a node, and the other ends of their links.
 #[derive(Drop)]
-struct Ends {
-    callers: List<Caller>,
+struct NewClients {
+    callers: List<ClientActor>,
     chunks: List<Receiver<Held<Lease>, ClientKey>>,
     crumbs: List<Receiver<Crumb, ClientKey>>,
     triggers: List<Receiver<Trigger, ClientKey>>,
 }
 
-impl Ends {
+impl NewClients {
     /// No client, with room for so many.
-    fn none(alloc: Global, room: usize) -> Result<Ends, Memory>
+    fn none(alloc: Global, room: usize) -> Result<NewClients, Memory>
         ensures callers { IfOk result (λ ends. (ends.callers.items ≡ []) × (ends.callers.room ≡ room)) }
         ensures chunks { IfOk result (λ ends. (ends.chunks.items ≡ []) × (ends.chunks.room ≡ room)) }
         ensures crumbs { IfOk result (λ ends. (ends.crumbs.items ≡ []) × (ends.crumbs.room ≡ room)) }
         ensures triggers { IfOk result (λ ends. (ends.triggers.items ≡ []) × (ends.triggers.room ≡ room)) }
     {
-        Ok(Ends {
+        Ok(NewClients {
             callers: List::with_room(alloc, room)?,
             chunks: List::with_room(alloc, room)?,
             crumbs: List::with_room(alloc, room)?,
@@ -55,7 +55,7 @@ impl Ends {
     }
 
     /// A client more, behind the others.
-    fn add(&mut self, connected: Connected)
+    fn add(&mut self, connected: ConnectedClient)
         requires callers { length self.old.callers.items < self.old.callers.room }
         requires chunks { length self.old.chunks.items < self.old.chunks.room }
         requires crumbs { length self.old.crumbs.items < self.old.crumbs.room }
@@ -65,7 +65,7 @@ impl Ends {
         ensures crumbs { (self.new.crumbs.items ≡ self.old.crumbs.items ++ connected.crumbs ∷ []) × (self.old.crumbs.room ≤ self.new.crumbs.room) }
         ensures triggers { (self.new.triggers.items ≡ self.old.triggers.items ++ connected.triggers ∷ []) × (self.old.triggers.room ≤ self.new.triggers.room) }
     {
-        let Connected {
+        let ConnectedClient {
             caller,
             chunks,
             crumbs,
@@ -80,7 +80,7 @@ impl Ends {
 
 /// The clients of a node of a valid workload, where nothing was done, and the port of its agent. Each link's ring has as many
 /// entries as an agent takes items in a pass.
-pub fn begin_node(alloc: Global, workload: &Workload, node: u16) -> Result<Begun, Memory>
+pub fn begin_node(alloc: Global, workload: &Workload, node: u16) -> Result<NewNode, Memory>
     requires valid { IsValid (workload_of workload.now) }
     requires low { node < workload.now.settings.nodes }
     ensures { IfOk result (λ begun. NodeBegins (workload_of workload.now) node begun.callers.items begun.port) }
@@ -92,14 +92,14 @@ pub fn begin_node(alloc: Global, workload: &Workload, node: u16) -> Result<Begun
     let allowances = allowances_of(alloc, settings.size, clients)?;
     let stock = Stock::make(alloc, settings.buffers, settings.size)?;
     let (giver, drawers) = RingPool::make(alloc, stock, allowances.as_slice())?;
-    let Ends {
+    let NewClients {
         callers,
         chunks,
         crumbs,
         triggers,
     } = connect_all(alloc, workload, node, clients, &giver, drawers)?;
     let port = AgentPort::make(giver, chunks, crumbs, triggers);
-    Ok(Begun { callers, port })
+    Ok(NewNode { callers, port })
 }
 
 /// How many draws each client may make: one for each piece of its records at most.
@@ -123,7 +123,7 @@ fn connect_all(
     clients: &[List<Op>],
     giver: &Giver,
     drawers: List<Drawer>,
-) -> Result<Ends, Memory>
+) -> Result<NewClients, Memory>
     requires clients { AreClientsOf workload.now node clients.now }
     requires size { giver.now.size ≡ workload.now.settings.size }
     requires drawers { drawers.items ≡ new_drawers giver.now.pool workload.now.settings.buffers workload.now.settings.size 0 (lefts_of workload.now.settings.size clients.now) }
@@ -132,13 +132,13 @@ fn connect_all(
 {
     valid_clients_may_be_played();
     let settings = &workload.settings;
-    let mut ends = Ends::none(alloc, clients.len())?;
+    let mut ends = NewClients::none(alloc, clients.len())?;
     let mut number = 0u16;
     for drawer in drawers.into_vec() {
         let client = ClientId { node, number };
         let actor = u32::from(node) * u32::from(settings.clients) + u32::from(number);
         let operations = clients[number as usize].as_slice();
-        ends.add(Caller::make(alloc, actor, client, settings, operations, giver, drawer)?);
+        ends.add(ClientActor::make(alloc, actor, client, settings, operations, giver, drawer)?);
         number += 1;
     }
     Ok(ends)

@@ -5,7 +5,7 @@ use Rattle.hs_lists.proofs.Filters.{filter_mapped}
 use Rattle.hs_agent.specs.Points.{sheet_in}
 use Rattle.hs_law_agent.specs.Laws.{EventsAddThis, sheets_of, brought_by}
 use Rattle.hs_law_agent.specs.State.{AgentState, start}
-use Rattle.hs_law_agent.specs.Stepping.{Chunk, Crumbed, Triggered, Asked, Turn, Event, Took, Gave, after, after_from, after_event}
+use Rattle.hs_law_agent.specs.Stepping.{Chunk, Crumbed, Triggered, Asked, Turn, AgentEvent, Took, Gave, after, after_from, after_event}
 use Rattle.hs_records.specs.Plain.{PlainSettings, PlainWorkload}
 use Rattle.hs_ring.specs.Parts.{Leased}
 use Rattle.hs_words.specs.Buffers.{Buffer}
@@ -16,11 +16,11 @@ use Rattle.hs_run_agent.proofs.Taking.{sheet_is}
 use Rattle.hs_law_journal.specs.Doings.{chunks_in}
 use Rattle.hs_law_journal.specs.LoopPasses.{IsOwn}
 
-pub own_events : (W : PlainWorkload) (node : ℕ) (events : List Event) → AllByRecursion (IsWithin W node) events → AllByRecursion (IsOwn W) events
+pub own_events : (W : PlainWorkload) (node : ℕ) (events : List AgentEvent) → AllByRecursion (IsWithin W node) events → AllByRecursion (IsOwn W) events
 own_events W node [] all = tt
 own_events W node (event ∷ events) all = (one event all.0, own_events W node events all.1)
   where
-    one : (event : Event) → IsWithin W node event → IsOwn W event
+    one : (event : AgentEvent) → IsWithin W node event → IsOwn W event
     one (Took (Chunk client sheet)) is = is.0
     one (Took (Crumbed client crumb)) is = is.0
     one (Took (Triggered client trigger)) is = is.0
@@ -32,7 +32,7 @@ own_events W node (event ∷ events) all = (one event all.0, own_events W node e
 abbrev pub is_page_of : ℕ → Sheet → Bool
 is_page_of client sheet = sheet.header.client.number == client
 
-chunks_filtered : (W : PlainWorkload) (node client : ℕ) (events : List Event) → AllByRecursion (IsWithin W node) events → chunks_in client events ≡ filter (is_page_of client) (flat_map brought_by events)
+chunks_filtered : (W : PlainWorkload) (node client : ℕ) (events : List AgentEvent) → AllByRecursion (IsWithin W node) events → chunks_in client events ≡ filter (is_page_of client) (flat_map brought_by events)
 chunks_filtered W node client [] all = refl
 chunks_filtered W node client (Took (Chunk other sheet) ∷ events) all =
     ap (λ m. cond (m == client) (sheet ∷ []) [] ++ chunks_in client events) (ap (λ owner. owner.number) (sym all.0.1)) ∙ either (is_page_of client sheet) (chunks_filtered W node client events all.1)
@@ -48,16 +48,16 @@ chunks_filtered W node client (Took Turn ∷ events) all = chunks_filtered W nod
 chunks_filtered W node client (Gave answer ∷ events) all = chunks_filtered W node client events all.1
 
 -- the chunks of a client are the pages in its buffers
-pub chunks_came : (W : PlainWorkload) (node client : ℕ) (events : List Event) (came : List (Buffer Leased)) → map sheet_in came ≡ flat_map brought_by events → AllByRecursion (IsWithin W node) events
+pub chunks_came : (W : PlainWorkload) (node client : ℕ) (events : List AgentEvent) (came : List (Buffer Leased)) → map sheet_in came ≡ flat_map brought_by events → AllByRecursion (IsWithin W node) events
     → chunks_in client events ≡ map sheet_in (filter (is_of client) came)
 chunks_came W node client events came sheets all =
     chunks_filtered W node client events all ∙ ap (filter (is_page_of client)) (sym sheets) ∙ filter_mapped sheet_in (is_page_of client) came
 
 -- the chunks of an agent are those that its events brought
-pub sheets_taken : EventsAddThis → (settings : PlainSettings) (node : ℕ) (events : List Event) → sheets_of (after settings node events).taken ≡ flat_map brought_by events
+pub sheets_taken : EventsAddThis → (settings : PlainSettings) (node : ℕ) (events : List AgentEvent) → sheets_of (after settings node events).taken ≡ flat_map brought_by events
 sheets_taken adds settings node events = from (start settings) events
   where
-    from : (state : AgentState) (events : List Event) → sheets_of (after_from settings node state events).taken ≡ sheets_of state.taken ++ flat_map brought_by events
+    from : (state : AgentState) (events : List AgentEvent) → sheets_of (after_from settings node state events).taken ≡ sheets_of state.taken ++ flat_map brought_by events
     from state [] = sym (append-nil (sheets_of state.taken))
     from state (event ∷ events) =
         from (after_event settings node state event) events ∙ ap (λ front. front ++ flat_map brought_by events) ((adds settings node state).chunks event)

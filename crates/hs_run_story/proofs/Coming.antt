@@ -3,7 +3,7 @@ use Rattle.std.proofs.Common.{◌≡◌, inl, inr, ℕ, suc, ◌<◌, refl, sym,
 use Rattle.hs_lists.proofs.Numbers.{same_or_less}
 use Rattle.hs_base.proofs.Updates.{put, put_here, put_else}
 use Rattle.hs_records.specs.Plain.{PlainWorkload}
-use Rattle.hs_run_story.specs.Standing.{Moment, IsBegun}
+use Rattle.hs_run_story.specs.RunStates.{RunState, IsBegun}
 use Rattle.hs_run_story.specs.Acting.{Acts}
 use Rattle.hs_run_story.specs.Meeting.{AllMeet}
 use Rattle.hs_run_story.specs.Moving.{Moves}
@@ -13,8 +13,8 @@ pub no_rounds_come : NoRoundsCome
 no_rounds_come W m begun =
     (record { at = λ _. m; acted = λ _. m; met = λ _. m; begun = begun; acts = λ k low. absurd (omega arith); meets = λ k low. absurd (omega arith); moves = λ k low. absurd (omega arith); last = refl }, refl)
 
-module _ (W : PlainWorkload) (rounds : ℕ) (m acted met m' : Moment) (came : Came W rounds m) where
-  at : ℕ → Moment
+module _ (W : PlainWorkload) (rounds : ℕ) (m acted met m' : RunState) (came : Came W rounds m) where
+  at : ℕ → RunState
   at = put came.at (suc rounds) m'
 
   at_new : at (suc rounds) ≡ m'
@@ -28,10 +28,10 @@ module _ (W : PlainWorkload) (rounds : ℕ) (m acted met m' : Moment) (came : Ca
   at_end : at rounds ≡ m
   at_end = at_old rounds (omega arith) ∙ came.last
 
-  acted_at : ℕ → Moment
+  acted_at : ℕ → RunState
   acted_at = put came.acted rounds acted
 
-  met_at : ℕ → Moment
+  met_at : ℕ → RunState
   met_at = put came.met rounds met
 
   acts : Acts W m acted → (k : ℕ) → k < suc rounds → Acts W (at k) (acted_at k)
@@ -39,11 +39,11 @@ module _ (W : PlainWorkload) (rounds : ℕ) (m acted met m' : Moment) (came : Ca
   acts new k low =
       elim (same_or_less k rounds low) [
         | inl less ↦
-            subst (λ (a : Moment). Acts W a (put came.acted rounds acted k)) (sym (at_old k low))
+            subst (λ (a : RunState). Acts W a (put came.acted rounds acted k)) (sym (at_old k low))
             (subst (Acts W (came.at k)) (sym (put_else came.acted rounds acted k (λ e. omega (arith, e, less)))) (came.acts k less))
         | inr same ↦
             subst (λ (n : ℕ). Acts W (at n) (put came.acted rounds acted n)) (sym same)
-            (subst (λ (a : Moment). Acts W a (put came.acted rounds acted rounds)) (sym at_end)
+            (subst (λ (a : RunState). Acts W a (put came.acted rounds acted rounds)) (sym at_end)
             (subst (Acts W m) (sym (put_here came.acted rounds acted)) new))
       ]
 
@@ -52,11 +52,11 @@ module _ (W : PlainWorkload) (rounds : ℕ) (m acted met m' : Moment) (came : Ca
   meets new k low =
       elim (same_or_less k rounds low) [
         | inl less ↦
-            subst (λ (a : Moment). AllMeet W a (put came.met rounds met k)) (sym (put_else came.acted rounds acted k (λ e. omega (arith, e, less))))
+            subst (λ (a : RunState). AllMeet W a (put came.met rounds met k)) (sym (put_else came.acted rounds acted k (λ e. omega (arith, e, less))))
             (subst (AllMeet W (came.acted k)) (sym (put_else came.met rounds met k (λ e. omega (arith, e, less)))) (came.meets k less))
         | inr same ↦
             subst (λ (n : ℕ). AllMeet W (put came.acted rounds acted n) (put came.met rounds met n)) (sym same)
-            (subst (λ (a : Moment). AllMeet W a (put came.met rounds met rounds)) (sym (put_here came.acted rounds acted))
+            (subst (λ (a : RunState). AllMeet W a (put came.met rounds met rounds)) (sym (put_here came.acted rounds acted))
             (subst (AllMeet W acted) (sym (put_here came.met rounds met)) new))
       ]
 
@@ -65,11 +65,11 @@ module _ (W : PlainWorkload) (rounds : ℕ) (m acted met m' : Moment) (came : Ca
   moves new k low =
       elim (same_or_less k rounds low) [
         | inl less ↦
-            subst (λ (a : Moment). Moves W a (at (suc k))) (sym (put_else came.met rounds met k (λ e. omega (arith, e, less))))
+            subst (λ (a : RunState). Moves W a (at (suc k))) (sym (put_else came.met rounds met k (λ e. omega (arith, e, less))))
             (subst (Moves W (came.met k)) (sym (at_old (suc k) (omega (arith, less)))) (came.moves k less))
         | inr same ↦
             subst (λ (n : ℕ). Moves W (put came.met rounds met n) (at (suc n))) (sym same)
-            (subst (λ (a : Moment). Moves W a (at (suc rounds))) (sym (put_here came.met rounds met))
+            (subst (λ (a : RunState). Moves W a (at (suc rounds))) (sym (put_here came.met rounds met))
             (subst (Moves W met) (sym at_new) new))
       ]
 

@@ -4,11 +4,11 @@ use Rattle.std.specs.List.{AllByRecursion}
 use Rattle.std.proofs.lemmas.List.{length-append, map-append}
 use Rattle.hs_lists.proofs.Parts.{reverse_cons}
 use Rattle.hs_words.specs.Ends.{Answer}
-use Rattle.hs_words.specs.PoolHistory.{Event, Got, Empty, Given, Missed}
+use Rattle.hs_words.specs.PoolHistory.{PoolEvent, Got, Empty, Given, Missed}
 use Rattle.hs_live.specs.Writing.{IsDraw, IsDrawn, noted, draws_by}
 use Rattle.hs_law_run.specs.Pools.{draw_answer}
 
-noted_answer : (stamp draw : ℕ) (event : Event) → IsDraw event → draw ≡ 0 → draw_answer (noted stamp event) ≡ record { stamp = stamp; event = event; draw = draw }
+noted_answer : (stamp draw : ℕ) (event : PoolEvent) → IsDraw event → draw ≡ 0 → draw_answer (noted stamp event) ≡ record { stamp = stamp; event = event; draw = draw }
 noted_answer stamp draw (Got buffer) is zeroth = ap (λ d. record { stamp = stamp; event = Got buffer; draw = d }) (sym zeroth)
 noted_answer stamp draw Empty is zeroth = ap (λ d. record { stamp = stamp; event = Empty; draw = d }) (sym zeroth)
 noted_answer stamp draw (Given buffer) is zeroth = absurd is

@@ -3,9 +3,9 @@ use Rattle.std.proofs.Common.{◌≡◌, ℕ, zero, suc, ◌<◌, ◌≤◌, Lis
 use Rattle.hs_records.specs.Plain.{PlainWorkload}
 use Rattle.hs_law_sends.specs.Draws.{count_started}
 use Rattle.hs_workload.specs.Validity.{IsValid}
-use Rattle.hs_run_client.specs.Calling.{Calling}
+use Rattle.hs_run_client.specs.ClientActors.{PlainClientActor}
 use Rattle.hs_law_run.specs.Ends.{done_by}
-use Rattle.hs_run_story.specs.Standing.{Site, Moment}
+use Rattle.hs_run_story.specs.RunStates.{PlainNodeActors, RunState}
 use Rattle.hs_run_story.specs.Coming.{Came}
 use Rattle.hs_run_story.specs.Laws.{RoundsAreNoted}
 use Rattle.hs_run_story.specs.Noting.{NotesClient, JournalsNoteRounds}
@@ -24,13 +24,13 @@ front_of [] more (suc n) long = absurd (omega (arith, long))
 front_of (x ∷ xs) more zero long = absurd (omega (arith, long))
 front_of (x ∷ xs) more (suc n) long = ap (λ rest. x ∷ rest) (front_of xs more n (omega (arith, long)))
 
-module _ (sends : HaveSent) (W : PlainWorkload) (rounds : ℕ) (m : Moment) (valid : IsValid W) (came : Came W rounds m) (node : ℕ) (few : node < W.settings.nodes) (client : ℕ) (own : client < W.settings.clients) where
+module _ (sends : HaveSent) (W : PlainWorkload) (rounds : ℕ) (m : RunState) (valid : IsValid W) (came : Came W rounds m) (node : ℕ) (few : node < W.settings.nodes) (client : ℕ) (own : client < W.settings.clients) where
   -- the client, as it stands at a moment
-  is_caller : (k : ℕ) → k ≤ rounds → (site : Site) (caller : Calling) → slice_get (came.at k).standing.nodes node ≡ Some site → slice_get site.callers client ≡ Some caller → caller_at W valid rounds m came node k client ≡ caller
+  is_caller : (k : ℕ) → k ≤ rounds → (site : PlainNodeActors) (caller : PlainClientActor) → slice_get (came.at k).standing.nodes node ≡ Some site → slice_get site.callers client ≡ Some caller → caller_at W valid rounds m came node k client ≡ caller
   is_caller k low site caller there mine =
       let same : Some (site_of W valid rounds m came (came.at k) node) ≡ Some site = sym (site_there W valid rounds m came (came.at k) (stands_at W valid rounds m came k low) node few) ∙ there in
       let is : site_of W valid rounds m came (came.at k) node ≡ site = cc in
-      let one : Some (caller_at W valid rounds m came node k client) ≡ Some caller = sym (here_at W valid rounds m came node few k client low own) ∙ ap (λ (s : Site). slice_get s.callers client) is ∙ mine in
+      let one : Some (caller_at W valid rounds m came node k client) ≡ Some caller = sym (here_at W valid rounds m came node few k client low own) ∙ ap (λ (s : PlainNodeActors). slice_get s.callers client) is ∙ mine in
       cc
 
   had_drawn : (J : PlainJournal) → draws_at J (place_of W.settings.clients node client) ≡ (caller_at W valid rounds m came node rounds client).client.core.draws → (k : ℕ) → k ≤ rounds
@@ -62,7 +62,7 @@ notes_rounds sends noted W rounds m passes nodes heard valid came closing J r =
           let here = is_caller sends W rounds m valid came node few client own k low site caller there mine in
           let last = site_of W valid rounds m came (came.at rounds) node in
           let there_last : slice_get m.standing.nodes node ≡ Some last =
-          ap (λ (moment : Moment). slice_get moment.standing.nodes node) (sym came.last) ∙ site_there W valid rounds m came (came.at rounds) (stands_at W valid rounds m came rounds (omega arith)) node few in
+          ap (λ (moment : RunState). slice_get moment.standing.nodes node) (sym came.last) ∙ site_there W valid rounds m came (came.at rounds) (stands_at W valid rounds m came rounds (omega arith)) node few in
           let draws = r.draws node client last (caller_at W valid rounds m came node rounds client) there_last (here_at W valid rounds m came node few rounds client (omega arith) own) in
           subst (NotesClient W J node client k) here (had_drawn sends W rounds m valid came node few client own J draws k low);
     }

@@ -2,8 +2,8 @@
 use Rattle.std.proofs.Common.{◌≡◌, ℕ, suc, ◌<◌, ◌≤◌, Bool, true, false, cond, nat_lt, ltb-true, ltb-false, lt-ltb, ◌++◌, refl, sym, ap, subst, ◌∙◌, Some, arith, slice_get}
 use Rattle.hs_coord.specs.Messages.{Messages}
 use Rattle.hs_records.specs.Plain.{PlainWorkload}
-use Rattle.hs_run_story.specs.Standing.{Site}
-use Rattle.hs_run_story.specs.Spans.{Post}
+use Rattle.hs_run_story.specs.RunStates.{PlainNodeActors}
+use Rattle.hs_run_story.specs.Spans.{NodeBetweenPasses}
 use Rattle.hs_run_story.specs.Closing.{IsPassAlone}
 use Rattle.hs_run_story.specs.Laws.{ClosingGoesOn}
 
@@ -21,7 +21,7 @@ earlier passes f x k low = either (nat_lt passes k) refl
 later : {X : Type 0} (passes : ℕ) (f : ℕ → X) (x : X) (k : ℕ) → passes < k → more_of passes f x k ≡ x
 later passes f x k high = ap (λ b. cond b x (f k)) (lt-ltb passes k high)
 
-pass_so : (W : PlainWorkload) (node : ℕ) (site : Site) {h h' g g' : Messages} {p p' q q' : Post} → h ≡ g → h' ≡ g' → p ≡ q → p' ≡ q' → IsPassAlone W node site g g' q q' → IsPassAlone W node site h h' p p'
+pass_so : (W : PlainWorkload) (node : ℕ) (site : PlainNodeActors) {h h' g g' : Messages} {p p' q q' : NodeBetweenPasses} → h ≡ g → h' ≡ g' → p ≡ q → p' ≡ q' → IsPassAlone W node site g g' q q' → IsPassAlone W node site h h' p p'
 pass_so W node site {h} {h'} {g} {g'} {p} {p'} {q} {q'} a b c d pass =
     subst (λ x. IsPassAlone W node site x h' p p') (sym a) (subst (λ x. IsPassAlone W node site g x p p') (sym b) (subst (λ x. IsPassAlone W node site g g' x p') (sym c) (subst (λ x. IsPassAlone W node site g g' q x) (sym d) pass)))
 
@@ -39,13 +39,13 @@ goes_on W rounds m passes nodes nodes' heard more closing step =
       ends_heard = later passes closing.heards (heard ++ more) (suc passes) (omega arith);
     }
   where
-    posts : ℕ → ℕ → Post
+    posts : ℕ → ℕ → NodeBetweenPasses
     posts node k = cond (nat_lt passes k) (nodes' node) (closing.posts node k)
 
     heards : ℕ → Messages
     heards k = cond (nat_lt passes k) (heard ++ more) (closing.heards k)
 
-    each : (k node : ℕ) (site : Site) → rounds ≤ k → k < suc passes → slice_get m.standing.nodes node ≡ Some site → (b : Bool) → nat_lt k passes ≡ b
+    each : (k node : ℕ) (site : PlainNodeActors) → rounds ≤ k → k < suc passes → slice_get m.standing.nodes node ≡ Some site → (b : Bool) → nat_lt k passes ≡ b
         → IsPassAlone W node site (more_of passes closing.heards (heard ++ more) k) (more_of passes closing.heards (heard ++ more) (suc k)) (more_of passes (closing.posts node) (nodes' node) k) (more_of passes (closing.posts node) (nodes' node) (suc k))
     each k node site high low there true e =
         let less = ltb-true k passes e in

@@ -4,18 +4,18 @@ use Rattle.hs_lists.proofs.Parts.{drop_front}
 use Rattle.hs_coord.specs.Messages.{Messages}
 use Rattle.hs_records.specs.Plain.{PlainWorkload}
 use Rattle.hs_workload.specs.Validity.{IsValid}
-use Rattle.hs_run_story.specs.Standing.{Moment, Stands}
+use Rattle.hs_run_story.specs.RunStates.{RunState, RunStands}
 use Rattle.hs_run_story.specs.Coming.{Came}
-use Rattle.hs_law_run.specs.Ends.{Ends, HasMet}
+use Rattle.hs_law_run.specs.Ends.{PoolEnds, PoolEndsMeet}
 use Rattle.hs_law_run.specs.Stories.{added}
-use Rattle.hs_run_story.specs.Spans.{Post, IsPost, IsStep}
+use Rattle.hs_run_story.specs.Spans.{NodeBetweenPasses, IsNodeBetweenPasses, IsStep}
 use Rattle.hs_run_story.specs.Closing.{left_at, Closing}
 use Rattle.hs_run_story.proofs.Moments.{site_of, site_there, stands_at, post_at, post_stands, round_steps, heard_same}
 use Rattle.hs_run_story.proofs.Meetings.{caller_at, ends_at, has_met}
 
-module _ (W : PlainWorkload) (valid : IsValid W) (rounds : ℕ) (m : Moment) (came : Came W rounds m) (passes : ℕ) (nodes : ℕ → Post) (heard : Messages) (closing : Closing W rounds m passes nodes heard) where
+module _ (W : PlainWorkload) (valid : IsValid W) (rounds : ℕ) (m : RunState) (came : Came W rounds m) (passes : ℕ) (nodes : ℕ → NodeBetweenPasses) (heard : Messages) (closing : Closing W rounds m passes nodes heard) where
   -- where a node stands, and what was heard, behind so many passes
-  abbrev pub post : ℕ → ℕ → Post
+  abbrev pub post : ℕ → ℕ → NodeBetweenPasses
   post node k = cond (nat_lt rounds k) (closing.posts node k) (post_at W valid rounds m came node k)
 
   abbrev pub heard_by : ℕ → Messages
@@ -39,7 +39,7 @@ module _ (W : PlainWorkload) (valid : IsValid W) (rounds : ℕ) (m : Moment) (ca
   post_low node k low = low_so (closing.posts node k) (post_at W valid rounds m came node k) k low
 
   pub last_site : (node : ℕ) → node < W.settings.nodes → slice_get m.standing.nodes node ≡ Some (site_of W valid rounds m came m node)
-  last_site node few = site_there W valid rounds m came m (subst (λ moment. Stands W moment) came.last (stands_at W valid rounds m came rounds (omega arith))) node few
+  last_site node few = site_there W valid rounds m came m (subst (λ moment. RunStands W moment) came.last (stands_at W valid rounds m came rounds (omega arith))) node few
 
   pub post_left : (node : ℕ) → post_at W valid rounds m came node rounds ≡ left_at m node (site_of W valid rounds m came m node)
   post_left node = ap (λ moment. left_at moment node (site_of W valid rounds m came moment node)) came.last
@@ -77,24 +77,24 @@ module _ (W : PlainWorkload) (valid : IsValid W) (rounds : ℕ) (m : Moment) (ca
 
   -- ---- all passes
 
-  pub all_posts : (node : ℕ) → node < W.settings.nodes → (k : ℕ) → k ≤ passes → IsPost W node (heard_by k) (post node k)
+  pub all_posts : (node : ℕ) → node < W.settings.nodes → (k : ℕ) → k ≤ passes → IsNodeBetweenPasses W node (heard_by k) (post node k)
   all_posts node few zero most =
-      subst (λ h. IsPost W node h (post node 0)) (sym (heard_low 0 (omega arith)))
-      (subst (IsPost W node (came.at 0).heard) (sym (post_low node 0 (omega arith))) (post_stands W valid rounds m came 0 node (omega arith) few))
+      subst (λ h. IsNodeBetweenPasses W node h (post node 0)) (sym (heard_low 0 (omega arith)))
+      (subst (IsNodeBetweenPasses W node (came.at 0).heard) (sym (post_low node 0 (omega arith))) (post_stands W valid rounds m came 0 node (omega arith) few))
   all_posts node few (suc k) most = either (nat_lt k rounds) refl
     where
-      either : (b : Bool) → nat_lt k rounds ≡ b → IsPost W node (heard_by (suc k)) (post node (suc k))
+      either : (b : Bool) → nat_lt k rounds ≡ b → IsNodeBetweenPasses W node (heard_by (suc k)) (post node (suc k))
       either true e =
           let low = ltb-true k rounds e in
-          subst (λ h. IsPost W node h (post node (suc k))) (sym (heard_low (suc k) (omega (arith, low))))
-          (subst (IsPost W node (came.at (suc k)).heard) (sym (post_low node (suc k) (omega (arith, low)))) (post_stands W valid rounds m came (suc k) node (omega (arith, low)) few))
+          subst (λ h. IsNodeBetweenPasses W node h (post node (suc k))) (sym (heard_low (suc k) (omega (arith, low))))
+          (subst (IsNodeBetweenPasses W node (came.at (suc k)).heard) (sym (post_low node (suc k) (omega (arith, low)))) (post_stands W valid rounds m came (suc k) node (omega (arith, low)) few))
       either false e =
           let high = ltb-false k rounds e in
-          subst (λ h. IsPost W node h (post node (suc k))) (sym (heard_high (suc k) (omega (arith, high))))
-          (subst (IsPost W node (closing.heards (suc k))) (sym (post_high node (suc k) few (omega (arith, high))))
+          subst (λ h. IsNodeBetweenPasses W node h (post node (suc k))) (sym (heard_high (suc k) (omega (arith, high))))
+          (subst (IsNodeBetweenPasses W node (closing.heards (suc k))) (sym (post_high node (suc k) few (omega (arith, high))))
           (closing.each k node (site_of W valid rounds m came m node) high (omega (arith, most)) (last_site node few)).stands)
 
-  step_so : (node : ℕ) {h h' g g' : Messages} {p p' q q' : Post} → h ≡ g → h' ≡ g' → p ≡ q → p' ≡ q' → IsStep W node g g' q q' → IsStep W node h h' p p'
+  step_so : (node : ℕ) {h h' g g' : Messages} {p p' q q' : NodeBetweenPasses} → h ≡ g → h' ≡ g' → p ≡ q → p' ≡ q' → IsStep W node g g' q q' → IsStep W node h h' p p'
   step_so node {h} {h'} {g} {g'} {p} {p'} {q} {q'} a b c d step =
       subst (λ x. IsStep W node x h' p p') (sym a) (subst (λ x. IsStep W node g x p p') (sym b) (subst (λ x. IsStep W node g g' x p') (sym c) (subst (λ x. IsStep W node g g' q x) (sym d) step)))
 
@@ -113,7 +113,7 @@ module _ (W : PlainWorkload) (valid : IsValid W) (rounds : ℕ) (m : Moment) (ca
 
   -- ---- ends
 
-  abbrev ends_of : Post → ℕ → ℕ → Ends
+  abbrev ends_of : NodeBetweenPasses → ℕ → ℕ → PoolEnds
   ends_of p node round =
       record {
         turns = p.giver.turns;
@@ -122,14 +122,14 @@ module _ (W : PlainWorkload) (valid : IsValid W) (rounds : ℕ) (m : Moment) (ca
         floors = λ client. (caller_at W valid rounds m came node round client).client.drawer.floor;
       }
 
-  abbrev pub ends_by : ℕ → ℕ → Ends
+  abbrev pub ends_by : ℕ → ℕ → PoolEnds
   ends_by node k = ends_of (post node k) node (min k rounds)
 
   pub ends_low : (node k : ℕ) → k ≤ rounds → ends_by node k ≡ ends_at W valid rounds m came node k
   ends_low node k low =
       let least : min k rounds ≡ k = omega (arith, low) in ap (λ p. ends_of p node (min k rounds)) (post_low node k low) ∙ ap (ends_of (post_at W valid rounds m came node k) node) least
 
-  pub all_met : (node : ℕ) → node < W.settings.nodes → (k client : ℕ) → k < rounds → client < W.settings.clients → HasMet client (ends_by node k) (ends_by node (suc k))
+  pub all_met : (node : ℕ) → node < W.settings.nodes → (k client : ℕ) → k < rounds → client < W.settings.clients → PoolEndsMeet client (ends_by node k) (ends_by node (suc k))
   all_met node few k client low own =
-      subst (λ e. HasMet client e (ends_by node (suc k))) (sym (ends_low node k (omega (arith, low))))
-      (subst (HasMet client (ends_at W valid rounds m came node k)) (sym (ends_low node (suc k) (omega (arith, low)))) (has_met W valid rounds m came node few k client low own))
+      subst (λ e. PoolEndsMeet client e (ends_by node (suc k))) (sym (ends_low node k (omega (arith, low))))
+      (subst (PoolEndsMeet client (ends_at W valid rounds m came node k)) (sym (ends_low node (suc k) (omega (arith, low)))) (has_met W valid rounds m came node few k client low own))

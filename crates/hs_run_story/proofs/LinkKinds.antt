@@ -5,13 +5,13 @@ use Rattle.hs_base.specs.declared.told.Crumb.{Crumb}
 use Rattle.hs_base.specs.declared.told.Trigger.{Trigger}
 use Rattle.hs_link.specs.Contents.{Incoming}
 use Rattle.hs_live.specs.Keys.{Key}
-use Rattle.hs_live.specs.Live.{Live, Port}
+use Rattle.hs_live.specs.Live.{PlainClient, Port}
 use Rattle.hs_records.specs.Plain.{PlainWorkload}
 use Rattle.hs_ring.specs.Parts.{Leased}
 use Rattle.hs_words.specs.Buffers.{Buffer}
 use Rattle.hs_law_journal.specs.Doings.{crumbs_in, triggers_in}
-use Rattle.hs_run_agent.specs.Lines.{linked}
-use Rattle.hs_run_agent.specs.Work.{Work, is_of, came_of}
+use Rattle.hs_run_agent.specs.Intakes.{linked}
+use Rattle.hs_run_agent.specs.Work.{NodeWork, is_of, came_of}
 use Rattle.hs_run_story.proofs.Links.{Kind}
 
 module _ (W : PlainWorkload) (node client : ℕ) where
@@ -19,7 +19,7 @@ module _ (W : PlainWorkload) (node client : ℕ) where
   chunk_links =
       record {
         ends = λ (p : Port). p.chunks;
-        sender = λ (c : Live). c.chunks;
+        sender = λ (c : PlainClient). c.chunks;
         got = came_of client;
         received = λ work port has r end. has.chunks client r end;
         each = λ work pass came old new passes. passes.chunks;
@@ -33,8 +33,8 @@ module _ (W : PlainWorkload) (node client : ℕ) where
   crumb_links =
       record {
         ends = λ (p : Port). p.crumbs;
-        sender = λ (c : Live). c.crumbs;
-        got = λ (work : Work). crumbs_in client work.events;
+        sender = λ (c : PlainClient). c.crumbs;
+        got = λ (work : NodeWork). crumbs_in client work.events;
         received = λ work port has r end. has.crumbs client r end;
         each = λ work pass came old new passes. passes.crumbs;
         flushed = λ ops old new goes. goes.crumbs;
@@ -47,8 +47,8 @@ module _ (W : PlainWorkload) (node client : ℕ) where
   trigger_links =
       record {
         ends = λ (p : Port). p.triggers;
-        sender = λ (c : Live). c.triggers;
-        got = λ (work : Work). triggers_in client work.events;
+        sender = λ (c : PlainClient). c.triggers;
+        got = λ (work : NodeWork). triggers_in client work.events;
         received = λ work port has r end. has.triggers client r end;
         each = λ work pass came old new passes. passes.triggers;
         flushed = λ ops old new goes. goes.triggers;

@@ -7,15 +7,15 @@ use Rattle.hs_lists.proofs.Places.{HasItem, get_some}
 use Rattle.hs_base.specs.declared.limits.TheConstants.{MAX_TAKEN}
 use Rattle.hs_link.specs.Contents.{Outgoing, Incoming, sent}
 use Rattle.hs_live.specs.Keys.{Key}
-use Rattle.hs_live.specs.Live.{Live, Port, IsEnd}
+use Rattle.hs_live.specs.Live.{PlainClient, Port, IsEnd}
 use Rattle.hs_records.specs.Plain.{Operation, PlainWorkload}
 use Rattle.hs_workload.specs.Validity.{IsValid}
-use Rattle.hs_run_client.specs.Calling.{Calling}
+use Rattle.hs_run_client.specs.ClientActors.{PlainClientActor}
 use Rattle.hs_run_client.specs.Standing.{Goes, IsFlushed}
-use Rattle.hs_run_agent.specs.Manned.{Manned, HasReceived, Passes, ReceivesInPass, EachReceives}
-use Rattle.hs_run_agent.specs.Work.{Work}
-use Rattle.hs_run_story.specs.Standing.{Site, Moment, SiteStands}
-use Rattle.hs_run_story.specs.Meeting.{EndsMet, CallerMet}
+use Rattle.hs_run_agent.specs.AgentActors.{PlainAgentActor, HasReceived, Passes, ReceivesInPass, EachReceives}
+use Rattle.hs_run_agent.specs.Work.{NodeWork}
+use Rattle.hs_run_story.specs.RunStates.{PlainNodeActors, RunState, NodeActorsStand}
+use Rattle.hs_run_story.specs.Meeting.{EndsMet, ClientActorMet}
 use Rattle.hs_run_story.specs.Moving.{IsSameDoing}
 use Rattle.hs_run_story.specs.Coming.{Came}
 use Rattle.hs_law_sends.specs.Sending.{ops_of}
@@ -25,16 +25,16 @@ use Rattle.hs_run_story.proofs.Meetings.{caller_at, acted_at, met_at, goes_at, c
 -- one kind of links: where its ends stand, and what was received by the work
 pub record Kind (T : Type 0) (W : PlainWorkload) (node client : ℕ) : Type 0 where
   pub ends : Port → List (Incoming T Key)
-  pub sender : Live → Outgoing T Key
-  pub got : Work → List T
-  pub received : (work : Work) (port : Port) → HasReceived work port → (r : Incoming T Key) → IsEnd client (ends port) r → r.received ≡ got work
-  pub each : (work : Work) (pass : _) (came : _) (old new : Manned) → Passes W work pass came old new → EachReceives (ends old.port) (ends new.port)
-  pub flushed : (ops : List Operation) (old new : Calling) → Goes W.settings ops old new → IsFlushed (sender old.client) (sender new.client)
-  pub met : (port port' : Port) (old new : Calling) → CallerMet client port port' old new → EndsMet client (ends port) (sender old.client) (ends port') (sender new.client)
-  pub long : (work : Work) (site : Site) → SiteStands W node work site → length (ends site.agent.port) ≡ W.settings.clients
-  pub same : (old new : Work) → IsSameDoing old new → got new ≡ got old
+  pub sender : PlainClient → Outgoing T Key
+  pub got : NodeWork → List T
+  pub received : (work : NodeWork) (port : Port) → HasReceived work port → (r : Incoming T Key) → IsEnd client (ends port) r → r.received ≡ got work
+  pub each : (work : NodeWork) (pass : _) (came : _) (old new : PlainAgentActor) → Passes W work pass came old new → EachReceives (ends old.port) (ends new.port)
+  pub flushed : (ops : List Operation) (old new : PlainClientActor) → Goes W.settings ops old new → IsFlushed (sender old.client) (sender new.client)
+  pub met : (port port' : Port) (old new : PlainClientActor) → ClientActorMet client port port' old new → EndsMet client (ends port) (sender old.client) (ends port') (sender new.client)
+  pub long : (work : NodeWork) (site : PlainNodeActors) → NodeActorsStand W node work site → length (ends site.agent.port) ≡ W.settings.clients
+  pub same : (old new : NodeWork) → IsSameDoing old new → got new ≡ got old
 
-module _ (W : PlainWorkload) (valid : IsValid W) (rounds : ℕ) (m : Moment) (came : Came W rounds m) (node : ℕ) (few : node < W.settings.nodes) (client : ℕ) (own : client < W.settings.clients) {T : Type 0}
+module _ (W : PlainWorkload) (valid : IsValid W) (rounds : ℕ) (m : RunState) (came : Came W rounds m) (node : ℕ) (few : node < W.settings.nodes) (client : ℕ) (own : client < W.settings.clients) {T : Type 0}
     (kind : Kind T W node client)
   where
     abbrev port_at : ℕ → Port
@@ -109,8 +109,8 @@ module _ (W : PlainWorkload) (valid : IsValid W) (rounds : ℕ) (m : Moment) (ca
         let moved = caller_moved W valid rounds m came node few k client low own in
         record {
           told = told_is (suc k) behind.item behind.there ∙ ap (λ (q : Incoming T Key). length q.told) met.receiver;
-          taken = ap (λ (c : Calling). (kind.sender c.client).taken) moved ∙ ap (λ (s : Outgoing T Key). s.taken) met.sender ∙ r.new_got;
-          capacity = ap (λ (c : Calling). (kind.sender c.client).capacity) moved ∙ ap (λ (s : Outgoing T Key). s.capacity) met.sender;
+          taken = ap (λ (c : PlainClientActor). (kind.sender c.client).taken) moved ∙ ap (λ (s : Outgoing T Key). s.taken) met.sender ∙ r.new_got;
+          capacity = ap (λ (c : PlainClientActor). (kind.sender c.client).capacity) moved ∙ ap (λ (s : Outgoing T Key). s.capacity) met.sender;
         }
 
     -- at the beginning the client was told of nothing taken, and the agent of nothing put

@@ -9,21 +9,21 @@ use Rattle.hs_ring.specs.Parts.{AllBelow}
 use Rattle.hs_law_sends.specs.Draws.{count_started}
 use Rattle.hs_law_sends.specs.Timing.{TimedPage, timed_pages}
 use Rattle.hs_law_sends.specs.Sending.{ops_of}
-use Rattle.hs_words.specs.Ends.{Answer, Turn, met, answers_in, told_in, stamps_in}
+use Rattle.hs_words.specs.Ends.{Answer, GiverTurn, met, answers_in, told_in, stamps_in}
 use Rattle.hs_workload.specs.Validity.{IsValid}
-use Rattle.hs_run_client.specs.Calling.{Calling}
-use Rattle.hs_run_client.specs.Standing.{IsAt, Goes, HasSentSoFar}
-use Rattle.hs_run_story.specs.Standing.{Moment}
-use Rattle.hs_run_story.specs.Meeting.{told_of, CallerMet}
+use Rattle.hs_run_client.specs.ClientActors.{PlainClientActor}
+use Rattle.hs_run_client.specs.Standing.{ClientActorIsAt, Goes, HasSentSoFar}
+use Rattle.hs_run_story.specs.RunStates.{RunState}
+use Rattle.hs_run_story.specs.Meeting.{told_of, ClientActorMet}
 use Rattle.hs_run_story.specs.Coming.{Came}
-use Rattle.hs_law_run.specs.Ends.{done_by, Ends, HasMet}
+use Rattle.hs_law_run.specs.Ends.{done_by, PoolEnds, PoolEndsMeet}
 use Rattle.hs_law_run.proofs.UnreadShown.{told_more}
 use Rattle.hs_run_story.proofs.Drawing.{draws_long}
 use Rattle.hs_run_story.proofs.Moments.{site_of, caller_of, site_there, caller_there, site_stands, site_acts, site_meets, site_moves, giver_same}
 
 -- ---- meetings among turns
 
-pub answers_behind : (callers : List Calling) (turns : List Turn) → answers_in (reverse (map told_of callers) ++ turns) ≡ answers_in turns
+pub answers_behind : (callers : List PlainClientActor) (turns : List GiverTurn) → answers_in (reverse (map told_of callers) ++ turns) ≡ answers_in turns
 answers_behind [] turns = refl
 answers_behind (caller ∷ callers) turns =
     ap (λ front. answers_in (front ++ turns)) (reverse_cons (told_of caller) (map told_of callers)) ∙ ap answers_in (append_assoc (reverse (map told_of callers)) (told_of caller ∷ []) turns)
@@ -46,7 +46,7 @@ any_behind q (x ∷ xs) ys h = or_right (q x) (list_any q (xs ++ ys)) (any_behin
     or_right false b h = h
 
 -- who was met told of all draws
-told_by_met : (q : ℕ → Bool) (callers : List Calling) (turns : List Turn) (number : ℕ) (caller : Calling) → slice_get callers number ≡ Some caller → list_any q (stamps_in caller.client.drawer.answers) ≡ true
+told_by_met : (q : ℕ → Bool) (callers : List PlainClientActor) (turns : List GiverTurn) (number : ℕ) (caller : PlainClientActor) → slice_get callers number ≡ Some caller → list_any q (stamps_in caller.client.drawer.answers) ≡ true
     → list_any q (told_in (reverse (map told_of callers) ++ turns)) ≡ true
 told_by_met q [] turns number caller h any = let no : None ≡ Some caller = h in absurd cc
 told_by_met q (c ∷ callers) turns zero caller h any =
@@ -55,7 +55,7 @@ told_by_met q (c ∷ callers) turns zero caller h any =
     subst (λ list. list_any q (told_in list) ≡ true)
     (sym (append_assoc (reverse (map told_of callers)) (told_of c ∷ []) turns) ∙ ap (λ front. front ++ turns) (sym (reverse_cons (told_of c) (map told_of callers))))
     (told_more q (reverse (map told_of callers)) (told_of c ∷ turns)
-    (any_front q (stamps_in c.client.drawer.answers) (told_in turns) (subst (λ (x : Calling). list_any q (stamps_in x.client.drawer.answers) ≡ true) is any)))
+    (any_front q (stamps_in c.client.drawer.answers) (told_in turns) (subst (λ (x : PlainClientActor). list_any q (stamps_in x.client.drawer.answers) ≡ true) is any)))
 told_by_met q (c ∷ callers) turns (suc number) caller h any =
     subst (λ list. list_any q (told_in list) ≡ true)
     (sym (append_assoc (reverse (map told_of callers)) (told_of c ∷ []) turns) ∙ ap (λ front. front ++ turns) (sym (reverse_cons (told_of c) (map told_of callers))))
@@ -70,19 +70,19 @@ own_stamps (a ∷ answers) = (
 )
 
 abbrev pub HaveSent : Type 0
-HaveSent = (settings : PlainSettings) (client : ClientId) (ops : List Operation) (caller : Calling) → IsAt settings client ops caller → HasSentSoFar settings client ops caller
+HaveSent = (settings : PlainSettings) (client : ClientId) (ops : List Operation) (caller : PlainClientActor) → ClientActorIsAt settings client ops caller → HasSentSoFar settings client ops caller
 
-module _ (W : PlainWorkload) (valid : IsValid W) (rounds : ℕ) (m : Moment) (came : Came W rounds m) where
-  abbrev pub caller_at : (node k client : ℕ) → Calling
+module _ (W : PlainWorkload) (valid : IsValid W) (rounds : ℕ) (m : RunState) (came : Came W rounds m) where
+  abbrev pub caller_at : (node k client : ℕ) → PlainClientActor
   caller_at node k client = caller_of W valid rounds m came (site_of W valid rounds m came (came.at k) node) client
 
-  abbrev pub acted_at : (node k client : ℕ) → Calling
+  abbrev pub acted_at : (node k client : ℕ) → PlainClientActor
   acted_at node k client = caller_of W valid rounds m came (site_of W valid rounds m came (came.acted k) node) client
 
-  abbrev pub met_at : (node k client : ℕ) → Calling
+  abbrev pub met_at : (node k client : ℕ) → PlainClientActor
   met_at node k client = caller_of W valid rounds m came (site_of W valid rounds m came (came.met k) node) client
 
-  abbrev pub ends_at : (node k : ℕ) → Ends
+  abbrev pub ends_at : (node k : ℕ) → PoolEnds
   ends_at node k =
       record {
         turns = (site_of W valid rounds m came (came.at k) node).agent.port.giver.turns;
@@ -108,7 +108,7 @@ module _ (W : PlainWorkload) (valid : IsValid W) (rounds : ℕ) (m : Moment) (ca
         (site_acts W valid rounds m came k node low few).goes client (caller_at node k client) (acted_at node k client) (here_at k client (omega (arith, low)) own) (here_acted k client low own)
 
     pub caller_met : (k client : ℕ) → k < rounds → client < W.settings.clients
-        → CallerMet client (site_of W valid rounds m came (came.acted k) node).agent.port (site_of W valid rounds m came (came.met k) node).agent.port (acted_at node k client) (met_at node k client)
+        → ClientActorMet client (site_of W valid rounds m came (came.acted k) node).agent.port (site_of W valid rounds m came (came.met k) node).agent.port (acted_at node k client) (met_at node k client)
     caller_met k client low own =
         (site_meets W valid rounds m came k node low few).callers client (acted_at node k client) (met_at node k client) (here_acted k client low own) (here_met k client low own)
 
@@ -119,7 +119,7 @@ module _ (W : PlainWorkload) (valid : IsValid W) (rounds : ℕ) (m : Moment) (ca
         let same = ap (λ callers. slice_get callers client) (site_moves W valid rounds m came k node low few).callers in
         let is : Some (caller_at node (suc k) client) ≡ Some (met_at node k client) = sym some ∙ same ∙ other in cc
 
-    pub is_at : (k client : ℕ) → k ≤ rounds → client < W.settings.clients → IsAt W.settings (record { node = node; number = client }) (ops_of W node client) (caller_at node k client)
+    pub is_at : (k client : ℕ) → k ≤ rounds → client < W.settings.clients → ClientActorIsAt W.settings (record { node = node; number = client }) (ops_of W node client) (caller_at node k client)
     is_at k client low own = (site_stands W valid rounds m came k node low few).callers client (caller_at node k client) (here_at k client low own)
 
     -- ---- operations
@@ -132,20 +132,20 @@ module _ (W : PlainWorkload) (valid : IsValid W) (rounds : ℕ) (m : Moment) (ca
         let before = done_at k client (omega (arith, low)) own in
         let goes = (goes_at k client (omega (arith, low)) own).done in
         let met = (caller_met k client (omega (arith, low)) own).done in
-        let moved = ap (λ (c : Calling). c.done) (caller_moved k client (omega (arith, low)) own) in
+        let moved = ap (λ (c : PlainClientActor). c.done) (caller_moved k client (omega (arith, low)) own) in
         let next : suc k * W.settings.stride ≡ k * W.settings.stride + W.settings.stride = omega arith in
         omega (arith, before, goes, met, moved, next)
 
     -- ---- draws
 
-    pub has_met : (k client : ℕ) → k < rounds → client < W.settings.clients → HasMet client (ends_at node k) (ends_at node (suc k))
+    pub has_met : (k client : ℕ) → k < rounds → client < W.settings.clients → PoolEndsMeet client (ends_at node k) (ends_at node (suc k))
     has_met k client low own =
         let draws = (goes_at k client low own).draws in
         let met = caller_met k client low own in
         let giver = (site_meets W valid rounds m came k node low few).giver in
         let moved = caller_moved k client low own in
         let same = giver_same W valid rounds m came k node low few in
-        let drawer = ap (λ (c : Calling). c.client.drawer) moved ∙ met.drawer in
+        let drawer = ap (λ (c : PlainClientActor). c.client.drawer) moved ∙ met.drawer in
         let answers : (caller_at node (suc k) client).client.drawer.answers ≡ (acted_at node k client).client.drawer.answers = ap (λ d. d.answers) drawer in
         let floor : (caller_at node (suc k) client).client.drawer.floor ≡ met.floor = ap (λ d. d.floor) drawer in
         let turns : (ends_at node (suc k)).turns ≡ reverse (map told_of (site_of W valid rounds m came (came.acted k) node).callers) ++ (site_of W valid rounds m came (came.acted k) node).agent.port.giver.turns =

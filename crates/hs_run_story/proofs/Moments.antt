@@ -4,7 +4,7 @@ use Rattle.std.specs.List.{AllByRecursion}
 use Rattle.std.proofs.lemmas.List.{length-append}
 use Rattle.hs_lists.proofs.Places.{HasItem, get_some}
 use Rattle.hs_law_agent.specs.State.{start}
-use Rattle.hs_law_agent.specs.Stepping.{Event, after}
+use Rattle.hs_law_agent.specs.Stepping.{AgentEvent, after}
 use Rattle.hs_records.specs.Plain.{PlainWorkload}
 use Rattle.hs_workload.specs.Validity.{IsValid}
 use Rattle.hs_workload.specs.declared.word.Setting.TheVariants as settings
@@ -12,23 +12,23 @@ use Rattle.hs_law_journal.specs.Following.{asks_to}
 use Rattle.hs_law_journal.specs.Doings.{asks_in}
 use Rattle.hs_law_journal.specs.LoopPasses.{HandsReady}
 use Rattle.hs_law_journal.specs.Turns.{AreTurns}
-use Rattle.hs_run_client.specs.Calling.{Calling}
+use Rattle.hs_run_client.specs.ClientActors.{PlainClientActor}
 use Rattle.hs_coord.specs.declared.asks.Asks.{Asks}
 use Rattle.hs_run_agent.specs.Agents.{IsPageThere, IsWithin}
 use Rattle.hs_run_agent.specs.Coordinators.{heard_of, asks_for}
 use Rattle.hs_run_agent.specs.Turns.{lent_of}
-use Rattle.hs_run_agent.specs.Work.{Work}
-use Rattle.hs_run_story.specs.Standing.{Site, Moment, SiteStands, Stands}
-use Rattle.hs_run_story.specs.Acting.{SiteActs}
-use Rattle.hs_run_story.specs.Meeting.{told_of, SiteMeets}
-use Rattle.hs_run_story.specs.Moving.{IsSameDoing, SiteMoves}
+use Rattle.hs_run_agent.specs.Work.{NodeWork}
+use Rattle.hs_run_story.specs.RunStates.{PlainNodeActors, RunState, NodeActorsStand, RunStands}
+use Rattle.hs_run_story.specs.Acting.{NodeActorsAct}
+use Rattle.hs_run_story.specs.Meeting.{told_of, NodeActorsMeet}
+use Rattle.hs_run_story.specs.Moving.{IsSameDoing, NodeActorsMove}
 use Rattle.hs_run_story.specs.Coming.{Came}
-use Rattle.hs_run_story.specs.Spans.{Post, IsPost, IsStep}
+use Rattle.hs_run_story.specs.Spans.{NodeBetweenPasses, IsNodeBetweenPasses, IsStep}
 
 pub found : {X : Type 0} (xs : List X) (i : ℕ) (other : X) → i < length xs → slice_get xs i ≡ Some (unwrap_or (slice_get xs i) other)
 found xs i other low = let s = get_some xs i low in s.there ∙ ap (λ x. Some x) (ap (λ o. unwrap_or o other) (sym s.there))
 
-module _ (W : PlainWorkload) (valid : IsValid W) (rounds : ℕ) (m : Moment) (came : Came W rounds m) where
+module _ (W : PlainWorkload) (valid : IsValid W) (rounds : ℕ) (m : RunState) (came : Came W rounds m) where
   -- ---- who stands where
 
   first_site : HasItem (came.at 0).standing.nodes 0
@@ -40,37 +40,37 @@ module _ (W : PlainWorkload) (valid : IsValid W) (rounds : ℕ) (m : Moment) (ca
       let count = (came.begun.stands.each 0 first_site.item first_site.there).count in
       get_some (first_site).item.callers 0 (omega (arith, clients, count))
 
-  pub site_of : Moment → ℕ → Site
+  pub site_of : RunState → ℕ → PlainNodeActors
   site_of moment node = unwrap_or (slice_get moment.standing.nodes node) first_site.item
 
-  pub caller_of : Site → ℕ → Calling
+  pub caller_of : PlainNodeActors → ℕ → PlainClientActor
   caller_of site client = unwrap_or (slice_get site.callers client) first_caller.item
 
-  pub site_there : (moment : Moment) → Stands W moment → (node : ℕ) → node < W.settings.nodes → slice_get moment.standing.nodes node ≡ Some (site_of moment node)
+  pub site_there : (moment : RunState) → RunStands W moment → (node : ℕ) → node < W.settings.nodes → slice_get moment.standing.nodes node ≡ Some (site_of moment node)
   unfolding site_of
   site_there moment stands node low = let count = stands.count in found moment.standing.nodes node first_site.item (omega (arith, low, count))
 
-  pub caller_there : (node : ℕ) (work : Work) (site : Site) → SiteStands W node work site → (client : ℕ) → client < W.settings.clients → slice_get site.callers client ≡ Some (caller_of site client)
+  pub caller_there : (node : ℕ) (work : NodeWork) (site : PlainNodeActors) → NodeActorsStand W node work site → (client : ℕ) → client < W.settings.clients → slice_get site.callers client ≡ Some (caller_of site client)
   unfolding caller_of
   caller_there node work site stands client few = let count = stands.count in found site.callers client first_caller.item (omega (arith, few, count))
 
-  pub stands_at : (k : ℕ) → k ≤ rounds → Stands W (came.at k)
+  pub stands_at : (k : ℕ) → k ≤ rounds → RunStands W (came.at k)
   stands_at zero low = came.begun.stands
   stands_at (suc k) low = (came.moves k (omega (arith, low))).stands
 
-  pub site_stands : (k node : ℕ) → k ≤ rounds → node < W.settings.nodes → SiteStands W node ((came.at k).works node) (site_of (came.at k) node)
+  pub site_stands : (k node : ℕ) → k ≤ rounds → node < W.settings.nodes → NodeActorsStand W node ((came.at k).works node) (site_of (came.at k) node)
   site_stands k node low few = (stands_at k low).each node (site_of (came.at k) node) (site_there (came.at k) (stands_at k low) node few)
 
   -- ---- between rounds
 
-  abbrev pub post_at : (node k : ℕ) → Post
+  abbrev pub post_at : (node k : ℕ) → NodeBetweenPasses
   post_at node k = record { work = (came.at k).works node; giver = (site_of (came.at k) node).agent.port.giver }
 
   moved_all : (k node : ℕ) → k ≤ rounds → node < W.settings.nodes → ((came.at k).works node).moved ≡ (after W.settings node ((came.at k).works node).events).said
   moved_all zero node low few =
       let work = (came.at 0).works node in
       let none = came.begun.works node in
-      ap (λ (w : Work). w.moved) none ∙ sym (ap (λ (events : List Event). (after W.settings node events).said) (ap (λ (w : Work). w.events) none))
+      ap (λ (w : NodeWork). w.moved) none ∙ sym (ap (λ (events : List AgentEvent). (after W.settings node events).said) (ap (λ (w : NodeWork). w.events) none))
   moved_all (suc k) node low few =
       let s = site_stands (suc k) node low few in
       let moves = came.moves k (omega (arith, low)) in
@@ -80,13 +80,13 @@ module _ (W : PlainWorkload) (valid : IsValid W) (rounds : ℕ) (m : Moment) (ca
       ∙ ap (λ m. (after W.settings m ((came.at (suc k)).works node).events).said) s.node_is
 
   asked_all : (k node : ℕ) → k ≤ rounds → node < W.settings.nodes → asks_to node (came.at k).heard ≡ ((came.at k).works node).asked
-  asked_all zero node low few = ap (asks_to node) came.begun.heard ∙ sym (ap (λ (w : Work). w.asked) (came.begun.works node))
+  asked_all zero node low few = ap (asks_to node) came.begun.heard ∙ sym (ap (λ (w : NodeWork). w.asked) (came.begun.works node))
   asked_all (suc k) node low few =
       let moves = came.moves k (omega (arith, low)) in
       (stands_at (suc k) low).coordinator.asks_are node few ∙ ap (λ (asks : List Asks). ((came.at (suc k)).works node).asked ++ asks_for node asks) moves.asks
       ∙ append-nil ((came.at (suc k)).works node).asked
 
-  pub post_stands : (k node : ℕ) → k ≤ rounds → node < W.settings.nodes → IsPost W node (came.at k).heard (post_at node k)
+  pub post_stands : (k node : ℕ) → k ≤ rounds → node < W.settings.nodes → IsNodeBetweenPasses W node (came.at k).heard (post_at node k)
   post_stands k node low few =
       let s = site_stands k node low few in
       let work = (came.at k).works node in
@@ -115,14 +115,14 @@ module _ (W : PlainWorkload) (valid : IsValid W) (rounds : ℕ) (m : Moment) (ca
   pub met_there : (k node : ℕ) → k < rounds → node < W.settings.nodes → slice_get (came.met k).standing.nodes node ≡ Some (site_of (came.met k) node)
   met_there k node low few = site_there (came.met k) (came.meets k low).stands node few
 
-  pub site_acts : (k node : ℕ) → k < rounds → node < W.settings.nodes → SiteActs W node ((came.at k).works node) ((came.acted k).works node) (site_of (came.at k) node) (site_of (came.acted k) node)
+  pub site_acts : (k node : ℕ) → k < rounds → node < W.settings.nodes → NodeActorsAct W node ((came.at k).works node) ((came.acted k).works node) (site_of (came.at k) node) (site_of (came.acted k) node)
   site_acts k node low few =
       (came.acts k low).each node (site_of (came.at k) node) (site_of (came.acted k) node) (site_there (came.at k) (stands_at k (omega (arith, low))) node few) (acted_there k node low few)
 
-  pub site_meets : (k node : ℕ) → k < rounds → node < W.settings.nodes → SiteMeets W node ((came.acted k).works node) (site_of (came.acted k) node) (site_of (came.met k) node)
+  pub site_meets : (k node : ℕ) → k < rounds → node < W.settings.nodes → NodeActorsMeet W node ((came.acted k).works node) (site_of (came.acted k) node) (site_of (came.met k) node)
   site_meets k node low few = (came.meets k low).each node (site_of (came.acted k) node) (site_of (came.met k) node) (acted_there k node low few) (met_there k node low few)
 
-  pub site_moves : (k node : ℕ) → k < rounds → node < W.settings.nodes → SiteMoves (site_of (came.met k) node) (site_of (came.at (suc k)) node)
+  pub site_moves : (k node : ℕ) → k < rounds → node < W.settings.nodes → NodeActorsMove (site_of (came.met k) node) (site_of (came.at (suc k)) node)
   site_moves k node low few =
       (came.moves k low).each node (site_of (came.met k) node) (site_of (came.at (suc k)) node) (met_there k node low few) (site_there (came.at (suc k)) (stands_at (suc k) (omega (arith, low))) node few)
 
@@ -141,12 +141,12 @@ module _ (W : PlainWorkload) (valid : IsValid W) (rounds : ℕ) (m : Moment) (ca
       let met = (site_meets k node low few).giver in
       let same = doing_same k node low in
       let gives = a.passes.gives in
-      let events : ((came.at (suc k)).works node).events ≡ ((came.at k).works node).events ++ a.pass = same.events ∙ ap (λ (w : Work). w.events) a.work_is in
+      let events : ((came.at (suc k)).works node).events ≡ ((came.at k).works node).events ++ a.pass = same.events ∙ ap (λ (w : NodeWork). w.events) a.work_is in
       let asks_are = ap length (a.stands.agent.stands.asks_are) in
       let both = length-append (asks_in ((came.acted k).works node).events) (site_of (came.acted k) node).agent.asks in
-      let asked = ap (λ (w : Work). length w.asked) a.work_is in
-      let taken = ap (λ (list : List Event). length (asks_in list)) events in
-      let acted = ap (λ (w : Work). length (asks_in w.events)) a.work_is in
+      let asked = ap (λ (w : NodeWork). length w.asked) a.work_is in
+      let taken = ap (λ (list : List AgentEvent). length (asks_in list)) events in
+      let acted = ap (λ (w : NodeWork). length (asks_in w.events)) a.work_is in
       let all = a.passes.asks in
       let hears = (came.acts k low).hears.all node few in
       let heard = ap (λ heard. length (heard_of node heard)) (heard_same k low) in
@@ -157,7 +157,7 @@ module _ (W : PlainWorkload) (valid : IsValid W) (rounds : ℕ) (m : Moment) (ca
         pass = a.pass;
         events = events;
         came = a.came;
-        came_is = same.came ∙ ap (λ (w : Work). w.came) a.work_is;
+        came_is = same.came ∙ ap (λ (w : NodeWork). w.came) a.work_is;
         ends = a.passes.ends;
         more = reverse (map told_of (site_of (came.acted k) node).callers) ++ gives.added;
         turns = ap (λ giver. giver.turns) (giver_same k node low few) ∙ met.turns ∙ ap (λ turns. reverse (map told_of (site_of (came.acted k) node).callers) ++ turns) gives.turns

@@ -9,10 +9,10 @@ use Rattle.hs_law_run.proofs.Grown.{grown, grown_all}
 use Rattle.hs_law_run.specs.Stories.{added}
 use Rattle.hs_journal.specs.declared.journal.Step.{Step}
 use Rattle.hs_law_journal.specs.Passes.{passes_of}
-use Rattle.hs_law_agent.specs.Stepping.{Event}
-use Rattle.hs_run_agent.specs.Work.{Work}
+use Rattle.hs_law_agent.specs.Stepping.{AgentEvent}
+use Rattle.hs_run_agent.specs.Work.{NodeWork}
 use Rattle.hs_run_story.specs.Laws.{RoundsAreNoted}
-use Rattle.hs_run_story.specs.Spans.{Post}
+use Rattle.hs_run_story.specs.Spans.{NodeBetweenPasses}
 use Rattle.hs_run_story.proofs.Joined.{post, heard_by, post_low, post_last, all_posts, all_steps}
 use Rattle.hs_run_story.proofs.Spanning.{grows, ends_pass}
 
@@ -23,19 +23,19 @@ ranged P f from (suc count) each = (each from (omega arith) (omega arith), range
 
 pub noted : RoundsAreNoted
 noted W rounds m passes nodes heard valid came closing node few k low =
-    let here : ℕ → Post = post W valid rounds m came passes nodes heard closing node in
-    let events : ℕ → List Event = λ j. (here j).work.events in
+    let here : ℕ → NodeBetweenPasses = post W valid rounds m came passes nodes heard closing node in
+    let events : ℕ → List AgentEvent = λ j. (here j).work.events in
     let heards = heard_by W valid rounds m came passes nodes heard closing in
     let stands = all_posts W valid rounds m came passes nodes heard closing node few in
     let steps = all_steps W valid rounds m came passes nodes heard closing node few in
     let begins : events 0 ≡ [] =
-    ap (λ (p : Post). p.work.events) (post_low W valid rounds m came passes nodes heard closing node 0 (omega arith)) ∙ ap (λ (w : Work). w.events) (came.begun.works node) in
+    ap (λ (p : NodeBetweenPasses). p.work.events) (post_low W valid rounds m came passes nodes heard closing node 0 (omega arith)) ∙ ap (λ (w : NodeWork). w.events) (came.begun.works node) in
     let grow = grows W node passes heards here stands steps in
     let lists = map (added events) (range_with_len 0 passes) in
     let all : AllByRecursion (IsPass W) lists = ranged (IsPass W) (added events) 0 passes (λ j from high. (ends_pass W node passes heards here stands steps j (omega (arith, high))).is_pass) in
     let enough = closing.enough in
-    let end : joined lists ≡ (nodes node).work.events = grown_all events passes begins grow ∙ ap (λ (p : Post). p.work.events) (post_last W valid rounds m came passes nodes heard closing node few) in
+    let end : joined lists ≡ (nodes node).work.events = grown_all events passes begins grow ∙ ap (λ (p : NodeBetweenPasses). p.work.events) (post_last W valid rounds m came passes nodes heard closing node few) in
     let front : joined (take k lists) ≡ ((came.at k).works node).events =
-    grown events passes begins grow k (omega (arith, low, enough)) ∙ ap (λ (p : Post). p.work.events) (post_low W valid rounds m came passes nodes heard closing node k low) in
-    ap (λ (l : List Event). flat_map (λ pass. pass) (take k (passes_of (steps_of l)))) (sym end)
+    grown events passes begins grow k (omega (arith, low, enough)) ∙ ap (λ (p : NodeBetweenPasses). p.work.events) (post_low W valid rounds m came passes nodes heard closing node k low) in
+    ap (λ (l : List AgentEvent). flat_map (λ pass. pass) (take k (passes_of (steps_of l)))) (sym end)
     ∙ ap (λ (l : List (List Step)). flat_map (λ pass. pass) (take k l)) (passes_are W lists all) ∙ steps_joined k lists ∙ ap steps_of front

@@ -16,9 +16,9 @@ use Rattle.hs_records.specs.Plain.{PlainWorkload}
 use Rattle.hs_law_sends.specs.Sending.{draws_at, place_of}
 use Rattle.hs_workload.specs.Validity.{IsValid}
 use Rattle.hs_law_journal.specs.Doings.{NodeDoings, all_events, crumbs_in, triggers_in, journal_of, steps_of}
-use Rattle.hs_run_client.specs.Calling.{Calling}
-use Rattle.hs_run_agent.specs.Work.{Work, is_of}
-use Rattle.hs_run_story.specs.Standing.{Site, Moment}
+use Rattle.hs_run_client.specs.ClientActors.{PlainClientActor}
+use Rattle.hs_run_agent.specs.Work.{NodeWork, is_of}
+use Rattle.hs_run_story.specs.RunStates.{PlainNodeActors, RunState}
 use Rattle.hs_run_story.specs.Coming.{Came}
 use Rattle.hs_law_run.specs.Laws.{AgentAt, agent_of, agent_behind, IsTold, StoriesAreLawful}
 use Rattle.hs_law_run.specs.Stories.{Story, doings_of, node_doings}
@@ -26,9 +26,9 @@ use Rattle.hs_law_run.proofs.Grown.{grown_all}
 use Rattle.hs_journal.specs.declared.journal.Step.{Step}
 use Rattle.std.proofs.lemmas.Option.{slice_get-map, slice_get_within}
 use Rattle.hs_lists.proofs.Ranges.{map_range_at}
-use Rattle.hs_run_story.specs.Spans.{Post}
+use Rattle.hs_run_story.specs.Spans.{NodeBetweenPasses}
 use Rattle.hs_run_story.specs.Closing.{Closing, IsOver}
-use Rattle.hs_run_story.specs.Laws.{LinkBegins, AllLinksBegin, IsRecounted}
+use Rattle.hs_run_story.specs.Laws.{LinkIsNew, AllLinksBegin, IsRecounted}
 use Rattle.hs_run_story.proofs.Joined.{heard_last, post_last}
 use Rattle.hs_run_story.proofs.LinkKinds.{chunk_links, crumb_links, trigger_links}
 use Rattle.hs_run_story.proofs.Links.{Kind, LinkBegan}
@@ -36,9 +36,9 @@ use Rattle.hs_run_story.proofs.Moments.{site_of, site_there, stands_at}
 use Rattle.hs_run_story.proofs.Meetings.{HaveSent, caller_at, here_at}
 use Rattle.hs_run_story.proofs.Whole.{HaveSentAll, LinksBegan, story, is_story, callers_drew, callers_few, agents_last}
 
-module _ (W : PlainWorkload) (valid : IsValid W) (rounds : ℕ) (m : Moment) (came : Came W rounds m) (begins : AllLinksBegin (came.at 0)) (node : ℕ) (few : node < W.settings.nodes) (client : ℕ) (own : client < W.settings.clients) where
+module _ (W : PlainWorkload) (valid : IsValid W) (rounds : ℕ) (m : RunState) (came : Came W rounds m) (begins : AllLinksBegin (came.at 0)) (node : ℕ) (few : node < W.settings.nodes) (client : ℕ) (own : client < W.settings.clients) where
   link_began : {T : Type 0} (kind : Kind T W node client) → length (kind.got ((came.at 0).works node)) ≡ 0
-      → LinkBegins client (kind.ends (site_of W valid rounds m came (came.at 0) node).agent.port) (kind.sender (caller_at W valid rounds m came node 0 client).client) → LinkBegan W valid rounds m came node few client own kind
+      → LinkIsNew client (kind.ends (site_of W valid rounds m came (came.at 0) node).agent.port) (kind.sender (caller_at W valid rounds m came node 0 client).client) → LinkBegan W valid rounds m came node few client own kind
   link_began {T} kind none b =
       record {
         taken = b.taken ∙ sym none;
@@ -58,12 +58,12 @@ module _ (W : PlainWorkload) (valid : IsValid W) (rounds : ℕ) (m : Moment) (ca
       (here_at W valid rounds m came node few 0 client (omega arith) own) in
       let none = came.begun.works node in
       record {
-        chunks = link_began (chunk_links W node client) (ap (λ (w : Work). length (filter (is_of client) w.came)) none) b.chunks;
-        crumbs = link_began (crumb_links W node client) (ap (λ (w : Work). length (crumbs_in client w.events)) none) b.crumbs;
-        triggers = link_began (trigger_links W node client) (ap (λ (w : Work). length (triggers_in client w.events)) none) b.triggers;
+        chunks = link_began (chunk_links W node client) (ap (λ (w : NodeWork). length (filter (is_of client) w.came)) none) b.chunks;
+        crumbs = link_began (crumb_links W node client) (ap (λ (w : NodeWork). length (crumbs_in client w.events)) none) b.crumbs;
+        triggers = link_began (trigger_links W node client) (ap (λ (w : NodeWork). length (triggers_in client w.events)) none) b.triggers;
       }
 
-module _ (adds : EventsAddThis) (sends : HaveSent) (sends_all : HaveSentAll) (lawful : StoriesAreLawful) (W : PlainWorkload) (rounds : ℕ) (m : Moment) (passes : ℕ) (nodes : ℕ → Post) (heard : Messages) (valid : IsValid W) (came : Came W rounds m)
+module _ (adds : EventsAddThis) (sends : HaveSent) (sends_all : HaveSentAll) (lawful : StoriesAreLawful) (W : PlainWorkload) (rounds : ℕ) (m : RunState) (passes : ℕ) (nodes : ℕ → NodeBetweenPasses) (heard : Messages) (valid : IsValid W) (came : Came W rounds m)
     (begins : AllLinksBegin (came.at 0)) (closing : Closing W rounds m passes nodes heard) (over : IsOver W m nodes heard)
   where
     abbrev told_by : Story
@@ -73,9 +73,9 @@ module _ (adds : EventsAddThis) (sends : HaveSent) (sends_all : HaveSentAll) (la
     is_told = lawful W told_by valid (is_story adds sends sends_all W valid rounds m came passes nodes heard closing over (links_began W valid rounds m came begins))
 
     count : length m.standing.nodes ≡ W.settings.nodes
-    count = subst (λ (moment : Moment). length moment.standing.nodes ≡ W.settings.nodes) came.last (stands_at W valid rounds m came rounds (omega arith)).count
+    count = subst (λ (moment : RunState). length moment.standing.nodes ≡ W.settings.nodes) came.last (stands_at W valid rounds m came rounds (omega arith)).count
 
-    drew : (node client : ℕ) (site : Site) (caller : Calling) → slice_get m.standing.nodes node ≡ Some site → slice_get site.callers client ≡ Some caller
+    drew : (node client : ℕ) (site : PlainNodeActors) (caller : PlainClientActor) → slice_get m.standing.nodes node ≡ Some site → slice_get site.callers client ≡ Some caller
         → draws_at (journal_of W (doings_of W told_by)) (place_of W.settings.clients node client) ≡ caller.client.core.draws
     drew node client site caller there mine =
         let within = slice_get_within m.standing.nodes node site there in
@@ -97,7 +97,7 @@ module _ (adds : EventsAddThis) (sends : HaveSent) (sends_all : HaveSentAll) (la
     logs_are : (node : ℕ) → node < W.settings.nodes → log_at (journal_of W (doings_of W told_by)) node ≡ steps_of (nodes node).work.events
     logs_are node few =
         let story_at = (is_story adds sends sends_all W valid rounds m came passes nodes heard closing over (links_began W valid rounds m came begins)).each node few in
-        let last = ap (λ (p : Post). p.work.events) (post_last W valid rounds m came passes nodes heard closing node few) in
+        let last = ap (λ (p : NodeBetweenPasses). p.work.events) (post_last W valid rounds m came passes nodes heard closing node few) in
         let log : NodeDoings → List Step = λ n. steps_of (all_events n) in
         ap (λ (o : Option (List Step)). unwrap_or o [])
         (slice_get-map log (map (node_doings told_by) (range_with_len 0 W.settings.nodes)) node ∙ ap (option_map log) (map_range_at (node_doings told_by) W.settings.nodes node few))

@@ -12,9 +12,9 @@ use Rattle.hs_words.specs.Pages.{Sheet}
 use Rattle.hs_ring.specs.Parts.{Leased}
 use Rattle.hs_live.specs.Writing.{draws_by}
 use Rattle.hs_workload.specs.Validity.{IsValid}
-use Rattle.hs_run_client.specs.Calling.{Calling}
+use Rattle.hs_run_client.specs.ClientActors.{PlainClientActor}
 use Rattle.hs_run_client.specs.Standing.{HasSentSoFar, sheets_in}
-use Rattle.hs_run_story.specs.Standing.{Moment}
+use Rattle.hs_run_story.specs.RunStates.{RunState}
 use Rattle.hs_run_story.specs.Coming.{Came}
 use Rattle.hs_law_run.specs.Ends.{done_by}
 use Rattle.hs_law_run.specs.Stories.{sent_by}
@@ -22,7 +22,7 @@ use Rattle.hs_run_story.proofs.Drawing.{draws_more}
 use Rattle.hs_run_story.proofs.Moments.{site_acts}
 use Rattle.hs_run_story.proofs.Meetings.{HaveSent, caller_at, acted_at, ends_at, here_acted, caller_met, caller_moved, done_at, has_met, sent_at}
 
-module _ (W : PlainWorkload) (valid : IsValid W) (rounds : ℕ) (m : Moment) (came : Came W rounds m) (sends : HaveSent) (node : ℕ) (few : node < W.settings.nodes) (client : ℕ) (own : client < W.settings.clients) where
+module _ (W : PlainWorkload) (valid : IsValid W) (rounds : ℕ) (m : RunState) (came : Came W rounds m) (sends : HaveSent) (node : ℕ) (few : node < W.settings.nodes) (client : ℕ) (own : client < W.settings.clients) where
   abbrev pub last_draws : List Draw
   last_draws = (caller_at W valid rounds m came node rounds client).client.core.draws
 
@@ -67,12 +67,12 @@ module _ (W : PlainWorkload) (valid : IsValid W) (rounds : ℕ) (m : Moment) (ca
 
   acted_done : (k : ℕ) → k < rounds → (acted_at W valid rounds m came node k client).done ≡ done_by W node client (suc k)
   acted_done k low =
-      sym (caller_met W valid rounds m came node few k client low own).done ∙ sym (ap (λ (c : Calling). c.done) (caller_moved W valid rounds m came node few k client low own))
+      sym (caller_met W valid rounds m came node few k client low own).done ∙ sym (ap (λ (c : PlainClientActor). c.done) (caller_moved W valid rounds m came node few k client low own))
       ∙ done_at W valid rounds m came node few (suc k) client (omega (arith, low)) own
 
   acted_draws : (k : ℕ) → k < rounds → (acted_at W valid rounds m came node k client).client.core.draws ≡ (caller_at W valid rounds m came node (suc k) client).client.core.draws
   acted_draws k low =
-      ap (λ core. core.draws) (sym (caller_met W valid rounds m came node few k client low own).core) ∙ ap (λ (c : Calling). c.client.core.draws) (sym (caller_moved W valid rounds m came node few k client low own))
+      ap (λ core. core.draws) (sym (caller_met W valid rounds m came node few k client low own).core) ∙ ap (λ (c : PlainClientActor). c.client.core.draws) (sym (caller_moved W valid rounds m came node few k client low own))
 
   pub chunks_sent : (k : ℕ) → k < rounds → length (sent (acted_at W valid rounds m came node k client).client.chunks) ≡ sent_by W node client sends_last.chunks (suc k)
   chunks_sent k low =

@@ -7,7 +7,7 @@ use Rattle.hs_lists.proofs.Parts.{drop_front}
 use Rattle.hs_base.specs.declared.limits.TheConstants.{MAX_TAKEN}
 use Rattle.hs_coord.specs.Messages.{Message, Messages, message}
 use Rattle.hs_law_agent.specs.Laws.{EventsAddThis, sheets_of}
-use Rattle.hs_law_agent.specs.Stepping.{Event, after}
+use Rattle.hs_law_agent.specs.Stepping.{AgentEvent, after}
 use Rattle.hs_law_agent.specs.State.{AgentState}
 use Rattle.hs_records.specs.Plain.{PlainWorkload}
 use Rattle.hs_ring.specs.Parts.{Leased}
@@ -20,7 +20,7 @@ use Rattle.hs_run_agent.specs.Turns.{lent_of}
 use Rattle.hs_law_run.specs.Stories.{added}
 use Rattle.hs_law_journal.specs.Turns.{Lent, AreTurns}
 use Rattle.hs_law_journal.proofs.Lents.{turns_more}
-use Rattle.hs_run_story.specs.Spans.{Post, IsPost, IsStep}
+use Rattle.hs_run_story.specs.Spans.{NodeBetweenPasses, IsNodeBetweenPasses, IsStep}
 use Rattle.hs_run_story.proofs.Chunks.{sheets_taken}
 
 -- ---- messages
@@ -47,10 +47,10 @@ heard_messages node (m ∷ heard) = either (is_from (record { 0 = node }) m) ref
 
 -- ---- passes
 
-module _ (W : PlainWorkload) (node passes : ℕ) (heard : ℕ → Messages) (post : ℕ → Post)
-    (posts : (k : ℕ) → k ≤ passes → IsPost W node (heard k) (post k)) (steps : (k : ℕ) → k < passes → IsStep W node (heard k) (heard (suc k)) (post k) (post (suc k)))
+module _ (W : PlainWorkload) (node passes : ℕ) (heard : ℕ → Messages) (post : ℕ → NodeBetweenPasses)
+    (posts : (k : ℕ) → k ≤ passes → IsNodeBetweenPasses W node (heard k) (post k)) (steps : (k : ℕ) → k < passes → IsStep W node (heard k) (heard (suc k)) (post k) (post (suc k)))
   where
-    abbrev pub events_by : ℕ → List Event
+    abbrev pub events_by : ℕ → List AgentEvent
     events_by k = (post k).work.events
 
     pub added_is : (k : ℕ) (few : k < passes) → added events_by k ≡ (steps k few).pass

@@ -14,7 +14,7 @@ use Rattle.hs_coord.specs.Messages.{Message, Messages, message}
 use Rattle.hs_link.specs.Contents.{sent}
 use Rattle.hs_law_agent.specs.Books.{book_of}
 use Rattle.hs_law_agent.specs.Laws.{EventsAddThis}
-use Rattle.hs_law_agent.specs.Stepping.{Event, after}
+use Rattle.hs_law_agent.specs.Stepping.{AgentEvent, after}
 use Rattle.hs_records.specs.Plain.{Operation, PlainSettings, PlainWorkload}
 use Rattle.hs_ring.specs.Parts.{Leased}
 use Rattle.hs_law_sends.specs.Sending.{Sent, ClientSends, sends_of, place_of, ops_of}
@@ -27,18 +27,18 @@ use Rattle.hs_law_journal.specs.Following.{is_from}
 use Rattle.hs_law_journal.specs.Shape.{log_stamps}
 use Rattle.hs_law_journal.specs.Doings.{steps_of, chunks_in, crumbs_in, triggers_in}
 use Rattle.hs_law_run.specs.Pools.{draw_answer}
-use Rattle.hs_run_client.specs.Calling.{Calling}
-use Rattle.hs_run_client.specs.Standing.{IsAt, IsLeasedTo, HasSentAll}
+use Rattle.hs_run_client.specs.ClientActors.{PlainClientActor}
+use Rattle.hs_run_client.specs.Standing.{ClientActorIsAt, IsLeasedTo, HasSentAll}
 use Rattle.hs_run_agent.specs.Agents.{IsPageThere}
-use Rattle.hs_run_agent.specs.Work.{Work, is_of, came_of}
+use Rattle.hs_run_agent.specs.Work.{NodeWork, is_of, came_of}
 use Rattle.hs_run_agent.specs.Turns.{lent_of}
 use Rattle.hs_run_agent.proofs.Taking.{sheet_is}
-use Rattle.hs_run_story.specs.Standing.{Site, Moment}
+use Rattle.hs_run_story.specs.RunStates.{PlainNodeActors, RunState}
 use Rattle.hs_run_story.specs.Coming.{Came}
-use Rattle.hs_law_run.specs.Ends.{done_by, Ends}
+use Rattle.hs_law_run.specs.Ends.{done_by, PoolEnds}
 use Rattle.hs_law_run.specs.Stories.{NodeStory, Story, draws_of, sends_at, state_by, IsQueueStory, sent_by, TakesFrom, TalksWith, IsDrawnFor, PoolsWith, IsNodeStory, IsStory}
-use Rattle.hs_run_story.specs.Spans.{Post, IsPost, IsStep}
-use Rattle.hs_run_story.specs.Closing.{Closing, TakesLeft, IsBare, drawn_at, IsOver}
+use Rattle.hs_run_story.specs.Spans.{NodeBetweenPasses, IsNodeBetweenPasses, IsStep}
+use Rattle.hs_run_story.specs.Closing.{Closing, TakesAllOfClient, IsNodeBare, drawn_at, IsOver}
 use Rattle.hs_run_story.proofs.Chunks.{own_events, chunks_came, sheets_are}
 use Rattle.hs_run_story.proofs.Drawing.{draws_answers}
 use Rattle.hs_run_story.proofs.Joined.{post, heard_by, post_low, post_high, last_site, heard_low, heard_last, post_last, heard_grows, all_posts, all_steps, ends_by, all_met, ends_low}
@@ -51,21 +51,21 @@ use Rattle.hs_run_story.proofs.Sending.{last_draws, sends_last, chunks_sent, cru
 use Rattle.hs_run_story.proofs.Spanning.{added_is, grows, ends_pass, turns_by, lents_are, asked_before, asks_taken, said_before, hears_said, heard_messages}
 
 abbrev pub HaveSentAll : Type 0
-HaveSentAll = (settings : PlainSettings) (client : ClientId) (ops : List Operation) (caller : Calling) → IsAt settings client ops caller → caller.done ≡ length ops → HasSentAll settings client ops caller
+HaveSentAll = (settings : PlainSettings) (client : ClientId) (ops : List Operation) (caller : PlainClientActor) → ClientActorIsAt settings client ops caller → caller.done ≡ length ops → HasSentAll settings client ops caller
 
 -- each kind of links of each client began with nothing told
-pub record LinksBegan (W : PlainWorkload) (valid : IsValid W) (rounds : ℕ) (m : Moment) (came : Came W rounds m) (node : ℕ) (few : node < W.settings.nodes) (client : ℕ) (own : client < W.settings.clients) : Type 0 where
+pub record LinksBegan (W : PlainWorkload) (valid : IsValid W) (rounds : ℕ) (m : RunState) (came : Came W rounds m) (node : ℕ) (few : node < W.settings.nodes) (client : ℕ) (own : client < W.settings.clients) : Type 0 where
   pub chunks : LinkBegan W valid rounds m came node few client own (chunk_links W node client)
   pub crumbs : LinkBegan W valid rounds m came node few client own (crumb_links W node client)
   pub triggers : LinkBegan W valid rounds m came node few client own (trigger_links W node client)
 
-module _ (adds : EventsAddThis) (sends : HaveSent) (sends_all : HaveSentAll) (W : PlainWorkload) (valid : IsValid W) (rounds : ℕ) (m : Moment) (came : Came W rounds m) (passes : ℕ) (nodes : ℕ → Post) (heard : Messages)
+module _ (adds : EventsAddThis) (sends : HaveSent) (sends_all : HaveSentAll) (W : PlainWorkload) (valid : IsValid W) (rounds : ℕ) (m : RunState) (came : Came W rounds m) (passes : ℕ) (nodes : ℕ → NodeBetweenPasses) (heard : Messages)
     (closing : Closing W rounds m passes nodes heard) (over : IsOver W m nodes heard)
     (began : (node : ℕ) (few : node < W.settings.nodes) (client : ℕ) (own : client < W.settings.clients) → LinksBegan W valid rounds m came node few client own)
   where
     -- ---- the story
 
-    pub log_in : (node : ℕ) (o : Option Site) → slice_get m.standing.nodes node ≡ o → List Deed
+    pub log_in : (node : ℕ) (o : Option PlainNodeActors) → slice_get m.standing.nodes node ≡ o → List Deed
     log_in node None is = []
     log_in node (Some site) is = (over.pools node site is).0
 
@@ -91,16 +91,16 @@ module _ (adds : EventsAddThis) (sends : HaveSent) (sends_all : HaveSentAll) (W 
     -- ---- one node
 
     module _ (node : ℕ) (few : node < W.settings.nodes) where
-      abbrev last : Post
+      abbrev last : NodeBetweenPasses
       last = post W valid rounds m came passes nodes heard closing node passes
 
       last_caller : (client : ℕ) → client < W.settings.clients → slice_get (site_of W valid rounds m came m node).callers client ≡ Some (caller_at W valid rounds m came node rounds client)
       last_caller client own =
           ap (λ moment. slice_get (site_of W valid rounds m came moment node).callers client) (sym came.last) ∙ here_at W valid rounds m came node few rounds client (omega arith) own
 
-      bare : IsBare W node (site_of W valid rounds m came m node) heard (post W valid rounds m came passes nodes heard closing node passes)
+      bare : IsNodeBare W node (site_of W valid rounds m came m node) heard (post W valid rounds m came passes nodes heard closing node passes)
       bare =
-          subst (IsBare W node (site_of W valid rounds m came m node) heard) (sym (post_last W valid rounds m came passes nodes heard closing node few))
+          subst (IsNodeBare W node (site_of W valid rounds m came m node) heard) (sym (post_last W valid rounds m came passes nodes heard closing node few))
           (over.bare node (site_of W valid rounds m came m node) (last_site W valid rounds m came passes nodes heard closing node few))
 
       -- ---- the pool
@@ -117,7 +117,7 @@ module _ (adds : EventsAddThis) (sends : HaveSent) (sends_all : HaveSentAll) (W 
       sends_are : (client : ℕ) (own : client < W.settings.clients) → sends_at W story node client ≡ sends_last W valid rounds m came sends node few client own
       sends_are client own = ap (sends_of W.settings (record { node = node; number = client }) (ops_of W node client)) (draws_last client own)
 
-      last_at : (client : ℕ) → client < W.settings.clients → IsAt W.settings (record { node = node; number = client }) (ops_of W node client) (caller_at W valid rounds m came node rounds client)
+      last_at : (client : ℕ) → client < W.settings.clients → ClientActorIsAt W.settings (record { node = node; number = client }) (ops_of W node client) (caller_at W valid rounds m came node rounds client)
       last_at client own = is_at W valid rounds m came node few rounds client (omega arith) own
 
       all_done : (client : ℕ) → client < W.settings.clients → (caller_at W valid rounds m came node rounds client).done ≡ length (ops_of W node client)
@@ -129,7 +129,7 @@ module _ (adds : EventsAddThis) (sends : HaveSent) (sends_all : HaveSentAll) (W 
       done : (client : ℕ) → client < W.settings.clients → length (ops_of W node client) ≤ rounds * W.settings.stride
       done client own = let is = done_at W valid rounds m came node few rounds client (omega arith) own in let all = all_done client own in omega (arith, is, all)
 
-      post_stands_at : (k : ℕ) → k ≤ passes → IsPost W node (heard_by W valid rounds m came passes nodes heard closing k) (post W valid rounds m came passes nodes heard closing node k)
+      post_stands_at : (k : ℕ) → k ≤ passes → IsNodeBetweenPasses W node (heard_by W valid rounds m came passes nodes heard closing k) (post W valid rounds m came passes nodes heard closing node k)
       post_stands_at k low = all_posts W valid rounds m came passes nodes heard closing node few k low
 
       post_steps : (k : ℕ) → k < passes → IsStep W node (heard_by W valid rounds m came passes nodes heard closing k) (heard_by W valid rounds m came passes nodes heard closing (suc k)) (post W valid rounds m came passes nodes heard closing node k)
@@ -172,13 +172,13 @@ module _ (adds : EventsAddThis) (sends : HaveSent) (sends_all : HaveSentAll) (W 
               (all_passing (IsLeasedTo (record { node = node; number = there.client }) draws) (is_of there.client) (post W valid rounds m came passes nodes heard closing node passes).work.came came_leases) h
               (eq-eqb (sheet_in buffer).header.client.number there.client owner))
 
-      closed_in : (o : Option Site) (is : slice_get m.standing.nodes node ≡ o) → o ≡ Some (site_of W valid rounds m came m node)
+      closed_in : (o : Option PlainNodeActors) (is : slice_get m.standing.nodes node ≡ o) → o ≡ Some (site_of W valid rounds m came m node)
           → IsTogether W.settings.buffers (nodes node).giver.turns (drawn_at (site_of W valid rounds m came m node)) (log_in node o is)
       unfolding log_in
       closed_in None is some = let no : None ≡ Some (site_of W valid rounds m came m node) = some in absurd cc
       closed_in (Some site) is some =
           let same : site ≡ site_of W valid rounds m came m node = cc in
-          subst (λ (s : Site). IsTogether W.settings.buffers (nodes node).giver.turns (drawn_at s) (over.pools node site is).0) same (over.pools node site is).1
+          subst (λ (s : PlainNodeActors). IsTogether W.settings.buffers (nodes node).giver.turns (drawn_at s) (over.pools node site is).0) same (over.pools node site is).1
 
       -- the drawers by the numbers of their clients
       drawers_are : drawn_at (site_of W valid rounds m came m node) ≡ map (ends_by W valid rounds m came passes nodes heard closing node rounds).answers (range_with_len 0 W.settings.clients)
@@ -190,20 +190,20 @@ module _ (adds : EventsAddThis) (sends : HaveSent) (sends_all : HaveSentAll) (W 
           let is : caller ≡ caller_at W valid rounds m came node rounds i = cc in
           let zeroth : i ≡ 0 + i = omega arith in
           let least : rounds ≡ min rounds rounds = omega arith in
-          ap (λ (c : Calling). c.client.drawer.answers) is ∙ ap (λ r. (caller_at W valid rounds m came node r i).client.drawer.answers) least
+          ap (λ (c : PlainClientActor). c.client.drawer.answers) is ∙ ap (λ r. (caller_at W valid rounds m came node r i).client.drawer.answers) least
           ∙ ap (λ j. (caller_at W valid rounds m came node (min rounds rounds) j).client.drawer.answers) zeroth)
         where
           count : length (site_of W valid rounds m came m node).callers ≡ W.settings.clients
           count = subst (λ moment. length (site_of W valid rounds m came moment node).callers ≡ W.settings.clients) came.last (site_stands W valid rounds m came rounds node (omega arith) few).count
 
-          by_numbers : (callers : List Calling) (start count : ℕ) → length callers ≡ count → ((i : ℕ) (caller : Calling) → slice_get callers i ≡ Some caller → caller.client.drawer.answers ≡ (ends_by W valid rounds m came passes nodes heard closing node rounds).answers (start + i))
-              → map (λ (caller : Calling). caller.client.drawer.answers) callers ≡ map (ends_by W valid rounds m came passes nodes heard closing node rounds).answers (range_with_len start count)
+          by_numbers : (callers : List PlainClientActor) (start count : ℕ) → length callers ≡ count → ((i : ℕ) (caller : PlainClientActor) → slice_get callers i ≡ Some caller → caller.client.drawer.answers ≡ (ends_by W valid rounds m came passes nodes heard closing node rounds).answers (start + i))
+              → map (λ (caller : PlainClientActor). caller.client.drawer.answers) callers ≡ map (ends_by W valid rounds m came passes nodes heard closing node rounds).answers (range_with_len start count)
           by_numbers [] start zero long each = refl
           by_numbers [] start (suc count) long each = absurd (omega (arith, long))
           by_numbers (caller ∷ callers) start zero long each = absurd (omega (arith, long))
           by_numbers (caller ∷ callers) start (suc count) long each =
               let zeroth : start + 0 ≡ start = omega arith in
-              ap (λ x. x ∷ map (λ (caller : Calling). caller.client.drawer.answers) callers) (each 0 caller refl ∙ ap (ends_by W valid rounds m came passes nodes heard closing node rounds).answers zeroth)
+              ap (λ x. x ∷ map (λ (caller : PlainClientActor). caller.client.drawer.answers) callers) (each 0 caller refl ∙ ap (ends_by W valid rounds m came passes nodes heard closing node rounds).answers zeroth)
               ∙ ap (λ rest. (ends_by W valid rounds m came passes nodes heard closing node rounds).answers start ∷ rest)
               (by_numbers callers (start + 1) count (omega (arith, long))
               (λ i c h. let next : start + suc i ≡ start + 1 + i = omega arith in each (suc i) c h ∙ ap (ends_by W valid rounds m came passes nodes heard closing node rounds).answers next))
@@ -212,28 +212,28 @@ module _ (adds : EventsAddThis) (sends : HaveSent) (sends_all : HaveSentAll) (W 
           (map (ends_by W valid rounds m came passes nodes heard closing node rounds).answers (range_with_len 0 W.settings.clients)) (log_in node (slice_get m.standing.nodes node) refl)
       together =
           subst (λ (lists : List (List Answer)). IsTogether W.settings.buffers (ends_by W valid rounds m came passes nodes heard closing node passes).turns lists (log_in node (slice_get m.standing.nodes node) refl)) drawers_are
-          (subst (λ (p : Post). IsTogether W.settings.buffers p.giver.turns (drawn_at (site_of W valid rounds m came m node)) (log_in node (slice_get m.standing.nodes node) refl)) (sym (post_last W valid rounds m came passes nodes heard closing node few))
+          (subst (λ (p : NodeBetweenPasses). IsTogether W.settings.buffers p.giver.turns (drawn_at (site_of W valid rounds m came m node)) (log_in node (slice_get m.standing.nodes node) refl)) (sym (post_last W valid rounds m came passes nodes heard closing node few))
           (closed_in (slice_get m.standing.nodes node) refl (last_site W valid rounds m came passes nodes heard closing node few)))
 
       pools_with : PoolsWith W story node
       pools_with =
           record {
-            new = λ client own. ap (λ (e : Ends). e.answers client) (ends_low W valid rounds m came passes nodes heard closing node 0 (omega arith)) ∙ none_drawn W valid rounds m came node few sends client own;
+            new = λ client own. ap (λ (e : PoolEnds). e.answers client) (ends_low W valid rounds m came passes nodes heard closing node 0 (omega arith)) ∙ none_drawn W valid rounds m came node few sends client own;
             passes = λ k low.
                 let step = post_steps k low in
                 record {
                   more = step.more;
                   turns = step.turns;
-                  high = subst (λ (pass : List Event). AllByRecursion (λ stamp. (ends_by W valid rounds m came passes nodes heard closing node k).floor ≤ stamp) (log_stamps (steps_of pass)))
+                  high = subst (λ (pass : List AgentEvent). AllByRecursion (λ stamp. (ends_by W valid rounds m came passes nodes heard closing node k).floor ≤ stamp) (log_stamps (steps_of pass)))
                       (sym (added_is W node passes (heard_by W valid rounds m came passes nodes heard closing) (post W valid rounds m came passes nodes heard closing node) post_stands_at post_steps k low)) step.high;
                   floor = step.floor;
                 };
             meets = λ k client low own. all_met W valid rounds m came passes nodes heard closing node few k client low own;
-            started = λ k client low own. ap (λ (e : Ends). length (e.answers client)) (ends_low W valid rounds m came passes nodes heard closing node k low) ∙ started_at W valid rounds m came node few sends k client low own;
+            started = λ k client low own. ap (λ (e : PoolEnds). length (e.answers client)) (ends_low W valid rounds m came passes nodes heard closing node k low) ∙ started_at W valid rounds m came node few sends k client low own;
             drawn = λ client own.
                 ap (map draw_answer) (draws_last client own ∙ (sent_at W valid rounds m came node few sends rounds client (omega arith) own).draws)
                 ∙ draws_answers (caller_at W valid rounds m came node rounds client).client.drawer.answers (last_at client own).answered
-                ∙ ap (λ (e : Ends). reverse (e.answers client)) (sym (ends_low W valid rounds m came passes nodes heard closing node rounds (omega arith)));
+                ∙ ap (λ (e : PoolEnds). reverse (e.answers client)) (sym (ends_low W valid rounds m came passes nodes heard closing node rounds (omega arith)));
             turns = λ k low. turns_by W node passes (heard_by W valid rounds m came passes nodes heard closing) (post W valid rounds m came passes nodes heard closing node) post_stands_at post_steps k low;
             sheets = lents_are W node passes (heard_by W valid rounds m came passes nodes heard closing) (post W valid rounds m came passes nodes heard closing node) post_stands_at post_steps adds;
             leases = leases;
@@ -242,7 +242,7 @@ module _ (adds : EventsAddThis) (sends : HaveSent) (sends_all : HaveSentAll) (W 
 
       -- ---- queues
 
-      abbrev work_at : ℕ → Work
+      abbrev work_at : ℕ → NodeWork
       work_at k = (post W valid rounds m came passes nodes heard closing node k).work
 
       -- the chunks of a client are as many as the buffers in which they came
@@ -252,13 +252,13 @@ module _ (adds : EventsAddThis) (sends : HaveSent) (sends_all : HaveSentAll) (W 
           ap length (chunks_came W node client (work_at k).events (work_at k).came p.sheets p.within) ∙ length-map (came_of client (work_at k)) sheet_in
 
       low_work : (k : ℕ) → k ≤ rounds → work_at k ≡ (came.at k).works node
-      low_work k low = ap (λ (p : Post). p.work) (post_low W valid rounds m came passes nodes heard closing node k low)
+      low_work k low = ap (λ (p : NodeBetweenPasses). p.work) (post_low W valid rounds m came passes nodes heard closing node k low)
 
       -- behind the rounds
-      left_in : (client : ℕ) → client < W.settings.clients → (k : ℕ) → rounds ≤ k → k < passes → TakesLeft client (caller_at W valid rounds m came node rounds client) (work_at k) (work_at (suc k))
+      left_in : (client : ℕ) → client < W.settings.clients → (k : ℕ) → rounds ≤ k → k < passes → TakesAllOfClient client (caller_at W valid rounds m came node rounds client) (work_at k) (work_at (suc k))
       left_in client own k high low =
-          subst (λ (p : Post). TakesLeft client (caller_at W valid rounds m came node rounds client) p.work (work_at (suc k))) (sym (post_high W valid rounds m came passes nodes heard closing node k few high))
-          (subst (λ (p : Post). TakesLeft client (caller_at W valid rounds m came node rounds client) (closing.posts node k).work p.work) (sym (post_high W valid rounds m came passes nodes heard closing node (suc k) few (omega (arith, high))))
+          subst (λ (p : NodeBetweenPasses). TakesAllOfClient client (caller_at W valid rounds m came node rounds client) p.work (work_at (suc k))) (sym (post_high W valid rounds m came passes nodes heard closing node k few high))
+          (subst (λ (p : NodeBetweenPasses). TakesAllOfClient client (caller_at W valid rounds m came node rounds client) (closing.posts node k).work p.work) (sym (post_high W valid rounds m came passes nodes heard closing node (suc k) few (omega (arith, high))))
           ((closing.each k node (site_of W valid rounds m came m node) high low (last_site W valid rounds m came passes nodes heard closing node few)).takes client (caller_at W valid rounds m came node rounds client) (last_caller client own)))
 
       told_last : {T : Type 0} (client : ℕ) (own : client < W.settings.clients) (kind : Kind T W node client) → LinkBegan W valid rounds m came node few client own kind → (sent_upto : ℕ → ℕ)
@@ -332,7 +332,7 @@ module _ (adds : EventsAddThis) (sends : HaveSent) (sends_all : HaveSentAll) (W 
             crumbs_all = bare_all.crumbs client caller (last_caller client own) ∙ all.crumbs;
             triggers_all = bare_all.triggers client caller (last_caller client own) ∙ all.triggers;
             chunks = queue_of client own (chunk_links W node client) b.chunks (λ k. length (chunks_in client (work_at k).events)) (sent_by W node client s.chunks) (length s.chunks)
-                (λ k low. let enough = closing.enough in chunk_count client k (omega (arith, low, enough)) ∙ ap (λ (w : Work). length (came_of client w)) (low_work k low)) (chunks_sent W valid rounds m came sends node few client own) (λ k. sent_most client k s.chunks)
+                (λ k low. let enough = closing.enough in chunk_count client k (omega (arith, low, enough)) ∙ ap (λ (w : NodeWork). length (came_of client w)) (low_work k low)) (chunks_sent W valid rounds m came sends node few client own) (λ k. sent_most client k s.chunks)
                 (λ k high low.
                 let t = (left_in client own k high low).chunks in
                 let x = chunk_count client k (omega (arith, low)) in
@@ -340,10 +340,10 @@ module _ (adds : EventsAddThis) (sends : HaveSent) (sends_all : HaveSentAll) (W 
                 let z = chunk_total in
                 omega (arith, t, x, y, z));
             crumbs = queue_of client own (crumb_links W node client) b.crumbs (λ k. length (crumbs_in client (work_at k).events)) (sent_by W node client s.crumbs) (length s.crumbs)
-                (λ k low. ap (λ (w : Work). length (crumbs_in client w.events)) (low_work k low)) (crumbs_sent W valid rounds m came sends node few client own) (λ k. sent_most client k s.crumbs)
+                (λ k low. ap (λ (w : NodeWork). length (crumbs_in client w.events)) (low_work k low)) (crumbs_sent W valid rounds m came sends node few client own) (λ k. sent_most client k s.crumbs)
                 (λ k high low. let t = (left_in client own k high low).crumbs in let z = crumb_total in omega (arith, t, z));
             triggers = queue_of client own (trigger_links W node client) b.triggers (λ k. length (triggers_in client (work_at k).events)) (sent_by W node client s.triggers) (length s.triggers)
-                (λ k low. ap (λ (w : Work). length (triggers_in client w.events)) (low_work k low)) (triggers_sent W valid rounds m came sends node few client own) (λ k. sent_most client k s.triggers)
+                (λ k low. ap (λ (w : NodeWork). length (triggers_in client w.events)) (low_work k low)) (triggers_sent W valid rounds m came sends node few client own) (λ k. sent_most client k s.triggers)
                 (λ k high low. let t = (left_in client own k high low).triggers in let z = trigger_total in omega (arith, t, z));
           })
 
@@ -371,7 +371,7 @@ module _ (adds : EventsAddThis) (sends : HaveSent) (sends_all : HaveSentAll) (W 
           let hb = heard_by W valid rounds m came passes nodes heard closing in
           let ps = post W valid rounds m came passes nodes heard closing node in
           record {
-            begins = ap (λ (w : Work). w.events) (low_work 0 (omega arith)) ∙ ap (λ (w : Work). w.events) (came.begun.works node);
+            begins = ap (λ (w : NodeWork). w.events) (low_work 0 (omega arith)) ∙ ap (λ (w : NodeWork). w.events) (came.begun.works node);
             grows = grows W node passes hb ps post_stands_at post_steps;
             ends = ends_pass W node passes hb ps post_stands_at post_steps;
             own = own_events W node (work_at passes).events p.within;
@@ -397,28 +397,28 @@ module _ (adds : EventsAddThis) (sends : HaveSent) (sends_all : HaveSentAll) (W 
 
     -- ---- what it tells
 
-    pub callers_drew : (node client : ℕ) (site : Site) (caller : Calling) → node < W.settings.nodes → client < W.settings.clients → slice_get m.standing.nodes node ≡ Some site → slice_get site.callers client ≡ Some caller
+    pub callers_drew : (node client : ℕ) (site : PlainNodeActors) (caller : PlainClientActor) → node < W.settings.nodes → client < W.settings.clients → slice_get m.standing.nodes node ≡ Some site → slice_get site.callers client ≡ Some caller
         → draws_of W story node client ≡ caller.client.core.draws
     callers_drew node client site caller few own there mine =
         let same : Some site ≡ Some (site_of W valid rounds m came m node) = sym there ∙ last_site W valid rounds m came passes nodes heard closing node few in
         let is : site_of W valid rounds m came m node ≡ site = cc in
-        let caller_same : Some (caller_at W valid rounds m came node rounds client) ≡ Some caller = sym (last_caller node few client own) ∙ ap (λ (s : Site). slice_get s.callers client) is ∙ mine in
+        let caller_same : Some (caller_at W valid rounds m came node rounds client) ≡ Some caller = sym (last_caller node few client own) ∙ ap (λ (s : PlainNodeActors). slice_get s.callers client) is ∙ mine in
         let caller_is : caller_at W valid rounds m came node rounds client ≡ caller = cc in
-        draws_last node few client own ∙ ap (λ (c : Calling). c.client.core.draws) caller_is
+        draws_last node few client own ∙ ap (λ (c : PlainClientActor). c.client.core.draws) caller_is
 
-    pub callers_few : (node client : ℕ) (site : Site) (caller : Calling) → node < W.settings.nodes → slice_get m.standing.nodes node ≡ Some site → slice_get site.callers client ≡ Some caller → client < W.settings.clients
+    pub callers_few : (node client : ℕ) (site : PlainNodeActors) (caller : PlainClientActor) → node < W.settings.nodes → slice_get m.standing.nodes node ≡ Some site → slice_get site.callers client ≡ Some caller → client < W.settings.clients
     callers_few node client site caller few there mine =
         let same : Some site ≡ Some (site_of W valid rounds m came m node) = sym there ∙ last_site W valid rounds m came passes nodes heard closing node few in
         let is : site_of W valid rounds m came m node ≡ site = cc in
         let within = slice_get_within site.callers client caller mine in
         let count = subst (λ moment. length (site_of W valid rounds m came moment node).callers ≡ W.settings.clients) came.last (site_stands W valid rounds m came rounds node (omega arith) few).count in
-        let long = ap (λ (s : Site). length s.callers) is in
+        let long = ap (λ (s : PlainNodeActors). length s.callers) is in
         omega (arith, within, count, long)
 
     pub agents_last : (start count : ℕ) → start + count ≤ W.settings.nodes
         → map (λ (node : ℕ). book_of node (state_by W story node passes)) (range_with_len start count) ≡ map (λ node. book_of node (after W.settings node (nodes node).work.events)) (range_with_len start count)
     agents_last start zero low = refl
     agents_last start (suc count) low =
-        ap (λ (p : Post). book_of start (after W.settings start p.work.events) ∷ map (λ (node : ℕ). book_of node (state_by W story node passes)) (range_with_len (start + 1) count))
+        ap (λ (p : NodeBetweenPasses). book_of start (after W.settings start p.work.events) ∷ map (λ (node : ℕ). book_of node (state_by W story node passes)) (range_with_len (start + 1) count))
         (post_last W valid rounds m came passes nodes heard closing start (omega (arith, low)))
         ∙ ap (λ rest. book_of start (after W.settings start (nodes start).work.events) ∷ rest) (agents_last (start + 1) count (omega (arith, low)))

@@ -1,4 +1,4 @@
-pub mod Standing
+pub mod RunStates
 pub mod Acting
 pub mod Meeting
 pub mod Moving

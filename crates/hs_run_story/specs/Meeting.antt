@@ -6,10 +6,10 @@ use Rattle.hs_live.specs.Keys.{Key}
 use Rattle.hs_live.specs.Live.{Port, hears, is_told, IsEnd}
 use Rattle.hs_records.specs.Plain.{PlainWorkload}
 use Rattle.hs_ring.specs.Parts.{Giving, AllBelow, with_floor}
-use Rattle.hs_words.specs.Ends.{Turn, met, answers_in, stamps_in}
-use Rattle.hs_run_client.specs.Calling.{Calling}
-use Rattle.hs_run_agent.specs.Work.{Work}
-use Rattle.hs_run_story.specs.Standing.{Site, Moment, SiteStands, Stands}
+use Rattle.hs_words.specs.Ends.{GiverTurn, met, answers_in, stamps_in}
+use Rattle.hs_run_client.specs.ClientActors.{PlainClientActor}
+use Rattle.hs_run_agent.specs.Work.{NodeWork}
+use Rattle.hs_run_story.specs.RunStates.{PlainNodeActors, RunState, NodeActorsStand, RunStands}
 
 -- ---- one client
 
@@ -23,7 +23,7 @@ pub record LinkMet {T : Type 0} (s : Outgoing T Key) (r : Incoming T Key) (s' : 
 abbrev pub EndsMet : {T : Type 0} → ℕ → List (Incoming T Key) → Outgoing T Key → List (Incoming T Key) → Outgoing T Key → Type 0
 EndsMet number ends s ends' s' = (r r' : Incoming _ Key) → IsEnd number ends r → IsEnd number ends' r' → LinkMet s r s' r'
 
-pub record CallerMet (number : ℕ) (port port' : Port) (old new : Calling) : Type 0 where
+pub record ClientActorMet (number : ℕ) (port port' : Port) (old new : PlainClientActor) : Type 0 where
   pub done : new.done ≡ old.done
   pub chunks : EndsMet number port.chunks old.client.chunks port'.chunks new.client.chunks
   pub crumbs : EndsMet number port.crumbs old.client.crumbs port'.crumbs new.client.crumbs
@@ -39,32 +39,32 @@ pub record CallerMet (number : ℕ) (port port' : Port) (old new : Calling) : Ty
 -- ---- one node
 
 -- what the giver is told of a client's draws
-abbrev pub told_of : Calling → Turn
+abbrev pub told_of : PlainClientActor → GiverTurn
 told_of caller = met (stamps_in caller.client.drawer.answers)
 
 -- The giver met these clients, the last one last.
-pub record GiverMet (callers : List Calling) (old new : Giving) : Type 0 where
+pub record GiverMet (callers : List PlainClientActor) (old new : Giving) : Type 0 where
   pub pool : new.pool ≡ old.pool
   pub buffers : new.buffers ≡ old.buffers
   pub size : new.size ≡ old.size
   pub drawers : new.drawers ≡ old.drawers
   pub turns : new.turns ≡ reverse (map told_of callers) ++ old.turns
   pub rises : old.floor ≤ new.floor
-  pub above_drawn : (number : ℕ) (caller : Calling) → slice_get callers number ≡ Some caller → AllBelow new.floor caller.client.drawer.answers
+  pub above_drawn : (number : ℕ) (caller : PlainClientActor) → slice_get callers number ≡ Some caller → AllBelow new.floor caller.client.drawer.answers
 
 -- The agent's port met each client of its node.
-pub record SiteMeets (W : PlainWorkload) (node : ℕ) (work : Work) (old new : Site) : Type 0 where
-  pub stands : SiteStands W node work new
-  pub callers : (number : ℕ) (caller caller' : Calling) → slice_get old.callers number ≡ Some caller → slice_get new.callers number ≡ Some caller'
-      → CallerMet number old.agent.port new.agent.port caller caller'
+pub record NodeActorsMeet (W : PlainWorkload) (node : ℕ) (work : NodeWork) (old new : PlainNodeActors) : Type 0 where
+  pub stands : NodeActorsStand W node work new
+  pub callers : (number : ℕ) (caller caller' : PlainClientActor) → slice_get old.callers number ≡ Some caller → slice_get new.callers number ≡ Some caller'
+      → ClientActorMet number old.agent.port new.agent.port caller caller'
   pub giver : GiverMet old.callers old.agent.port.giver new.agent.port.giver
   pub desk : new.agent ≡ record old.agent { port = new.agent.port }
 
 -- All nodes' agents met their clients.
-pub record AllMeet (W : PlainWorkload) (m m' : Moment) : Type 0 where
-  pub stands : Stands W m'
-  pub each : (node : ℕ) (site site' : Site) → slice_get m.standing.nodes node ≡ Some site → slice_get m'.standing.nodes node ≡ Some site'
-      → SiteMeets W node (m.works node) site site'
+pub record AllMeet (W : PlainWorkload) (m m' : RunState) : Type 0 where
+  pub stands : RunStands W m'
+  pub each : (node : ℕ) (site site' : PlainNodeActors) → slice_get m.standing.nodes node ≡ Some site → slice_get m'.standing.nodes node ≡ Some site'
+      → NodeActorsMeet W node (m.works node) site site'
   pub works : m'.works ≡ m.works
   pub heard : m'.heard ≡ m.heard
   pub coordinator : m'.standing.coordinator ≡ m.standing.coordinator

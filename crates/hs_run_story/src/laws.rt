@@ -2,12 +2,11 @@
 
 ghost use Rattle.hs_run_story.specs.Coming.{NoRoundsCome, RoundsGoOn, RoundsKeepWhatCame};
 ghost use Rattle.hs_run_story.specs.Noting.{JournalsNoteRounds};
-ghost use Rattle.hs_run_story.specs.Laws.{ClosingBegins, ClosingGoesOn, DesksArePosts, PoolsAreKept, RunsAreLawful, RoundsAreNoted};
+ghost use Rattle.hs_run_story.specs.Laws.{ClosingBegins, ClosingGoesOn, AgentsAreBetweenPasses, PoolsAreKept, RunsAreLawful, RoundsAreNoted};
 
-use hs_run_client::callers_have_sent;
-use hs_run_client::callers_sent_all;
-use hs_law_run::laws::stories_are_lawful;
 use hs_law_agent::laws::events_add_this;
+use hs_law_run::laws::stories_are_lawful;
+use hs_run_client::{callers_have_sent, callers_sent_all};
 
 /// A moment that stands at the beginning came by no round.
 pub fn no_rounds_come()
@@ -29,9 +28,9 @@ pub fn pools_are_kept()
     ensures { PoolsAreKept }
 {}
 
-/// A desk whose messages were all fetched stands between two passes.
-pub fn desks_are_posts()
-    ensures { DesksArePosts }
+/// An agent whose messages were all fetched stands between two passes.
+pub fn agents_are_between_passes()
+    ensures { AgentsAreBetweenPasses }
 {}
 
 /// Where the rounds end no pass was made behind them.

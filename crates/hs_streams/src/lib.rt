@@ -8,7 +8,7 @@ mod standard;
 mod status;
 mod writing;
 
-pub use reading::{Input, read_all};
+pub use reading::{ReadInput, read_all};
 pub use refusing::{refusal_line, refuse_too_long};
 pub use standard::{StdinSource, StdoutSink};
 pub use status::Status;

@@ -12,7 +12,7 @@ const PIECE: usize = 65_536;
 
 /// What came from a source.
 #[derive(Drop)]
-pub enum Input {
+pub enum ReadInput {
     /// All of it.
     Whole(Vec<u8>),
     /// One byte more than an input may have.
@@ -31,25 +31,25 @@ fn zeros(alloc: Global, count: usize) -> Result<Vec<u8>, Memory>
 }
 
 /// Reads all that the source has, and stops at the first byte beyond the longest input.
-pub fn read_all<S: Source>(alloc: Global, source: &mut S) -> Input
+pub fn read_all<S: Source>(alloc: Global, source: &mut S) -> ReadInput
     ensures read { IsReadBy (S.left source.old) (S.left source.new) (S.faults source.old) (S.faults source.new) result }
 {
     let Ok(mut piece) = zeros(alloc, PIECE) else {
-        return Input::NoMemory;
+        return ReadInput::NoMemory;
     };
     let mut text = Vec::new(alloc);
     while text.len() <= MAX_INPUT {
         let most = PIECE.min(MAX_INPUT + 1 - text.len());
         let front = &mut piece[..most];
         let Ok(count) = source.read(front) else {
-            return Input::Fault;
+            return ReadInput::Fault;
         };
         if count == 0 {
-            return Input::Whole(text);
+            return ReadInput::Whole(text);
         }
         let Ok(()) = text.extend_from_slice(&front[..count]) else {
-            return Input::NoMemory;
+            return ReadInput::NoMemory;
         };
     }
-    Input::TooLong
+    ReadInput::TooLong
 }

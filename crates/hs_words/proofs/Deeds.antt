@@ -3,8 +3,8 @@ use Rattle.std.proofs.Common.{◌≡◌, ◌≢◌, ◌⊎◌, ℕ, zero, suc, �
 use Rattle.std.specs.List.{AllByRecursion}
 use Rattle.std.specs.Prelude.{count_by}
 use borrow.Author.Tests.{eqb-true, eq-eqb, ne_eqb}
-use Rattle.hs_words.specs.PoolHistory.{Event, Got, Empty, Given, Missed}
-use Rattle.hs_words.specs.Ends.{Deed, Answer, Turn, answered, unread, met, got_by, draws, gives, drawn_in, given_in, answer_to, put_if, answers_by, answers_in, told_in, IsAt, IsDraw, IsGot, Names, NoneSince, Spends, EachSpends, SpendsThe, IsUnread, EachUnread, AreAnswers}
+use Rattle.hs_words.specs.PoolHistory.{PoolEvent, Got, Empty, Given, Missed}
+use Rattle.hs_words.specs.Ends.{Deed, Answer, GiverTurn, answered, unread, met, got_by, draws, gives, drawn_in, given_in, answer_to, put_if, answers_by, answers_in, told_in, IsDeedAt, IsDraw, IsGot, Names, NoneSince, Spends, EachSpends, SpendsThe, IsUnread, EachUnread, AreAnswers}
 
 -- ---- lists
 
@@ -14,28 +14,28 @@ all_of (x ∷ xs) f all = (f x all.0, all_of xs f all.1)
 
 -- ---- deeds at their stamps
 
-pub at_below : (log : List Deed) (stamp : ℕ) (deed : Deed) → IsAt log stamp deed → stamp < length log
+pub at_below : (log : List Deed) (stamp : ℕ) (deed : Deed) → IsDeedAt log stamp deed → stamp < length log
 at_below [] stamp deed at = absurd at
 at_below (last ∷ earlier) stamp deed (inl here) = let e : stamp ≡ length earlier = here.0 in omega arith
 at_below (last ∷ earlier) stamp deed (inr before) = let less = at_below earlier stamp deed before in omega arith
 
-pub at_more : (added log : List Deed) (stamp : ℕ) (deed : Deed) → IsAt log stamp deed → IsAt (added ++ log) stamp deed
+pub at_more : (added log : List Deed) (stamp : ℕ) (deed : Deed) → IsDeedAt log stamp deed → IsDeedAt (added ++ log) stamp deed
 at_more [] log stamp deed at = at
 at_more (x ∷ xs) log stamp deed at = inr (at_more xs log stamp deed at)
 
-pub at_split : (added log : List Deed) (stamp : ℕ) (deed : Deed) → IsAt (added ++ log) stamp deed → IsAt log stamp deed ⊎ (length log ≤ stamp)
+pub at_split : (added log : List Deed) (stamp : ℕ) (deed : Deed) → IsDeedAt (added ++ log) stamp deed → IsDeedAt log stamp deed ⊎ (length log ≤ stamp)
 at_split [] log stamp deed at = inl at
 at_split (x ∷ xs) log stamp deed (inl here) = let e : stamp ≡ length (xs ++ log) = here.0 in inr (omega (arith, length-append xs log))
 at_split (x ∷ xs) log stamp deed (inr before) = at_split xs log stamp deed before
 
-pub at_once : (log : List Deed) (stamp : ℕ) (one other : Deed) → IsAt log stamp one → IsAt log stamp other → one ≡ other
+pub at_once : (log : List Deed) (stamp : ℕ) (one other : Deed) → IsDeedAt log stamp one → IsDeedAt log stamp other → one ≡ other
 at_once [] stamp one other at at' = absurd at
 at_once (last ∷ earlier) stamp one other (inl here) (inl here') = sym here.1 ∙ here'.1
 at_once (last ∷ earlier) stamp one other (inl here) (inr before) = let e : stamp ≡ length earlier = here.0 in let less = at_below earlier stamp other before in absurd (omega arith)
 at_once (last ∷ earlier) stamp one other (inr before) (inl here) = let e : stamp ≡ length earlier = here.0 in let less = at_below earlier stamp one before in absurd (omega arith)
 at_once (last ∷ earlier) stamp one other (inr before) (inr before') = at_once earlier stamp one other before before'
 
-pub draw_is_at : (log : List Deed) (number stamp : ℕ) (deed : Deed) → IsDraw log number stamp deed → IsAt log stamp deed
+pub draw_is_at : (log : List Deed) (number stamp : ℕ) (deed : Deed) → IsDraw log number stamp deed → IsDeedAt log stamp deed
 draw_is_at [] number stamp deed draw = draw
 draw_is_at (last ∷ earlier) number stamp deed (inl here) = inl (here.2, here.3)
 draw_is_at (last ∷ earlier) number stamp deed (inr before) = inr (draw_is_at earlier number stamp deed before)
@@ -116,17 +116,17 @@ unspent_from (x ∷ xs) stamp buffer spent none only =
     put_all (λ (a : Answer). SpendsThe stamp a.event a.draw → ⊥) (x.by == 0) (answer_to x (length xs)) (answers_by 0 xs) (this x.event refl)
     (unspent_from xs stamp buffer spent.1 none.1 (λ other (by, at). only other (by, inr at)))
   where
-    this : (event : Event) → event ≡ x.event → SpendsThe stamp x.event x.draw → ⊥
-    this (Got b) e = subst (λ (v : Event). SpendsThe stamp v x.draw → ⊥) e (λ n. n)
-    this Empty e = subst (λ (v : Event). SpendsThe stamp v x.draw → ⊥) e (λ n. n)
+    this : (event : PoolEvent) → event ≡ x.event → SpendsThe stamp x.event x.draw → ⊥
+    this (Got b) e = subst (λ (v : PoolEvent). SpendsThe stamp v x.draw → ⊥) e (λ n. n)
+    this Empty e = subst (λ (v : PoolEvent). SpendsThe stamp v x.draw → ⊥) e (λ n. n)
     this (Given b) e =
-        let told : Spends xs (Given b) x.draw = subst (λ (v : Event). Spends xs v x.draw) (sym e) spent.0 in
-        let later : stamp < length xs → Names buffer (Given b) → ⊥ = subst (λ (v : Event). stamp < length xs → Names buffer v → ⊥) (sym e) none.0 in
-        subst (λ (v : Event). SpendsThe stamp v x.draw → ⊥) e
+        let told : Spends xs (Given b) x.draw = subst (λ (v : PoolEvent). Spends xs v x.draw) (sym e) spent.0 in
+        let later : stamp < length xs → Names buffer (Given b) → ⊥ = subst (λ (v : PoolEvent). stamp < length xs → Names buffer v → ⊥) (sym e) none.0 in
+        subst (λ (v : PoolEvent). SpendsThe stamp v x.draw → ⊥) e
         (λ (same : x.draw ≡ stamp).
         let got : IsGot xs stamp b = subst (λ (s : ℕ). IsGot xs s b) same told.0 in
         later (got_below xs stamp b got) (only b (got.0, inr got.1)))
-    this Missed e = subst (λ (v : Event). SpendsThe stamp v x.draw → ⊥) e (λ n. n)
+    this Missed e = subst (λ (v : PoolEvent). SpendsThe stamp v x.draw → ⊥) e (λ n. n)
 
 -- where no event since a draw has its buffer, its lease was not spent
 pub unspent : (log : List Deed) (stamp buffer : ℕ) → EachSpends log → NoneSince buffer stamp log → IsGot log stamp buffer
@@ -135,7 +135,7 @@ unspent log stamp buffer spent none got = unspent_from log stamp buffer spent no
 
 -- ---- gives that were unread
 
-pub unread_more : (n : ℕ) (added log : List Deed) (turns : List Turn) → AllByRecursion (λ (a : Answer). a.stamp < length log) (answers_in turns) → EachUnread n log turns → EachUnread n (added ++ log) turns
+pub unread_more : (n : ℕ) (added log : List Deed) (turns : List GiverTurn) → AllByRecursion (λ (a : Answer). a.stamp < length log) (answers_in turns) → EachUnread n log turns → EachUnread n (added ++ log) turns
 unread_more n added log [] below each = tt
 unread_more n added log (answered answer ∷ before) below each = unread_more n added log before below.1 each
 unread_more n added log (unread ∷ before) below each =
@@ -158,7 +158,7 @@ unread_more n added log (met stamps ∷ before) below each = unread_more n added
 
 -- ---- counts
 
-pub event_counts : (event : Event) → draws event + gives event ≡ 1
+pub event_counts : (event : PoolEvent) → draws event + gives event ≡ 1
 event_counts (Got buffer) = refl
 event_counts Empty = refl
 event_counts (Given buffer) = refl

@@ -11,7 +11,7 @@ use Rattle.std.proofs.lemmas.Bool.{cases_lt}
 use Rattle.std.proofs.lemmas.List.FromFn.{length-range_with_len}
 use borrow.Author.Tests.{eqb-true, eq-eqb, ne_eqb}
 use Rattle.hs_lists.proofs.Counts.{count_cons}
-use Rattle.hs_words.specs.PoolHistory.{Event, Got, Empty, Given, Missed, is_got, is_given, is_empty, is_missed, queue_after, MayFollow, IsHistoryBack}
+use Rattle.hs_words.specs.PoolHistory.{PoolEvent, Got, Empty, Given, Missed, is_got, is_given, is_empty, is_missed, queue_after, MayFollow, IsHistoryBack}
 use Rattle.hs_words.specs.Ends.{Deed, events_of, drawn_in, given_in, is_any_got, is_any_given}
 use Rattle.hs_words.specs.PoolHistory as pool
 
@@ -31,7 +31,7 @@ front_counted number buffer (x ∷ xs) front =
     subst (λ (b : ℕ). count_by (is number) (x ∷ xs) ≡ cond (b == number) 1 0 + count_by (is number) xs) same (count_cons (is number) x xs)
 
 -- What waits and what was got are together what was given and what was there at first.
-pub balance : (n number : ℕ) (earlier : List Event) → IsHistoryBack n earlier
+pub balance : (n number : ℕ) (earlier : List PoolEvent) → IsHistoryBack n earlier
     → count_by (is number) (queue_after n earlier) + count_by (is_got number) earlier ≡ count_by (is_given number) earlier + count_by (is number) (range_with_len 0 n)
 balance n number [] history = omega arith
 balance n number (Got buffer ∷ earlier) history =
@@ -78,7 +78,7 @@ at_most_one n number =
     ⊎_elim (λ less. omega (arith, once_within 0 n number (omega arith) (omega arith))) (λ above. omega (arith, none_above 0 n number (omega arith))) (cases_lt number n)
 
 -- no buffer was given more often than it was got
-given_le_got : (n number : ℕ) (earlier : List Event) → IsHistoryBack n earlier → count_by (is_given number) earlier ≤ count_by (is_got number) earlier
+given_le_got : (n number : ℕ) (earlier : List PoolEvent) → IsHistoryBack n earlier → count_by (is_given number) earlier ≤ count_by (is_got number) earlier
 given_le_got n number [] history = omega arith
 given_le_got n number (Got buffer ∷ earlier) history =
     omega (arith, count_cons (is_got number) (Got buffer) earlier, count_cons (is_given number) (Got buffer) earlier, given_le_got n number earlier history.0)
@@ -98,10 +98,10 @@ given_le_got n number (Missed ∷ earlier) history =
 
 -- ---- the queue has each buffer at most once
 
-pub waits_once : (n number : ℕ) (earlier : List Event) → IsHistoryBack n earlier → count_by (is number) (queue_after n earlier) ≤ 1
+pub waits_once : (n number : ℕ) (earlier : List PoolEvent) → IsHistoryBack n earlier → count_by (is number) (queue_after n earlier) ≤ 1
 waits_once n number earlier history = omega (arith, balance n number earlier history, given_le_got n number earlier history, at_most_one n number)
 
-waits_below : (n number : ℕ) (earlier : List Event) → IsHistoryBack n earlier → n ≤ number → count_by (is number) (queue_after n earlier) ≡ 0
+waits_below : (n number : ℕ) (earlier : List PoolEvent) → IsHistoryBack n earlier → n ≤ number → count_by (is number) (queue_after n earlier) ≡ 0
 waits_below n number earlier history high = omega (arith, balance n number earlier history, given_le_got n number earlier history, none_above 0 n number (omega arith))
 
 -- what stands in a list is counted
@@ -117,7 +117,7 @@ none_counted number (x ∷ xs) none =
     omega (arith, count_cons (is number) x xs, apart (x == number) (ne_eqb x number (λ e. none 0 (ap some e))), none_counted number xs (λ i at. none (suc i) at))
 
 -- a buffer that waits has a number below n
-pub waiting_below : (n : ℕ) (earlier : List Event) → IsHistoryBack n earlier → (i buffer : ℕ) → get_elem? (queue_after n earlier) i ≡ some buffer → buffer < n
+pub waiting_below : (n : ℕ) (earlier : List PoolEvent) → IsHistoryBack n earlier → (i buffer : ℕ) → get_elem? (queue_after n earlier) i ≡ some buffer → buffer < n
 waiting_below n earlier history i buffer at =
     let some_there = some_counted buffer (queue_after n earlier) i at in
     ⊎_elim (λ less. less) (λ above. let none = waits_below n buffer earlier history (omega arith) in absurd (omega arith)) (cases_lt buffer n)
@@ -148,7 +148,7 @@ any_counted number (x ∷ xs) any = step (eqb number x) refl any (any_counted nu
     step false e any tail = let split = count_cons (is number) x xs in let rest = tail any in omega arith
 
 -- At most n buffers wait.
-pub few : (n : ℕ) (earlier : List Event) → IsHistoryBack n earlier → length (queue_after n earlier) ≤ n
+pub few : (n : ℕ) (earlier : List PoolEvent) → IsHistoryBack n earlier → length (queue_after n earlier) ≤ n
 few n earlier history =
     let queue = queue_after n earlier in
     length-le_from_distinct_below queue n (distinct queue (λ number. waits_once n number earlier history))
@@ -157,7 +157,7 @@ few n earlier history =
     ⊎_elim (λ less. less) (λ above. let none = waits_below n number earlier history (omega arith) in absurd (omega arith)) (cases_lt number n))
 
 -- A buffer that does not wait may be given.
-pub may_give : (n buffer : ℕ) (earlier : List Event) → IsHistoryBack n earlier → buffer < n → ((i : ℕ) → get_elem? (queue_after n earlier) i ≡ some buffer → ⊥)
+pub may_give : (n buffer : ℕ) (earlier : List PoolEvent) → IsHistoryBack n earlier → buffer < n → ((i : ℕ) → get_elem? (queue_after n earlier) i ≡ some buffer → ⊥)
     → MayFollow n earlier (Given buffer)
 may_give n buffer earlier history below out =
     let none = none_counted buffer (queue_after n earlier) out in
@@ -171,7 +171,7 @@ front_length : (buffer : ℕ) (queue : List ℕ) → slice_get queue 0 ≡ Some 
 front_length buffer [] front = absurd cc
 front_length buffer (x ∷ xs) front = refl
 
-pub waiting_length : (n : ℕ) (earlier : List Event) → IsHistoryBack n earlier → length (queue_after n earlier) + count_by is_any_got earlier ≡ n + count_by is_any_given earlier
+pub waiting_length : (n : ℕ) (earlier : List PoolEvent) → IsHistoryBack n earlier → length (queue_after n earlier) + count_by is_any_got earlier ≡ n + count_by is_any_given earlier
 waiting_length n [] history = let e = length-range_with_len 0 n in omega arith
 waiting_length n (Got buffer ∷ earlier) history =
     omega (arith, count_cons is_any_got (Got buffer) earlier, count_cons is_any_given (Got buffer) earlier, waiting_length n earlier history.0, front_length buffer (queue_after n earlier) history.1)
@@ -185,7 +185,7 @@ pub drawn_kinds : (log : List Deed) → drawn_in log ≡ count_by is_any_got (ev
 drawn_kinds [] = refl
 drawn_kinds (x ∷ xs) = step x.event (count_cons is_any_got x.event (events_of xs)) (count_cons is_empty x.event (events_of xs)) (drawn_kinds xs)
   where
-    step : (e : Event) → count_by is_any_got (e ∷ events_of xs) ≡ cond (is_any_got e) 1 0 + count_by is_any_got (events_of xs) → count_by is_empty (e ∷ events_of xs) ≡ cond (is_empty e) 1 0 + count_by is_empty (events_of xs)
+    step : (e : PoolEvent) → count_by is_any_got (e ∷ events_of xs) ≡ cond (is_any_got e) 1 0 + count_by is_any_got (events_of xs) → count_by is_empty (e ∷ events_of xs) ≡ cond (is_empty e) 1 0 + count_by is_empty (events_of xs)
         → drawn_in xs ≡ count_by is_any_got (events_of xs) + count_by is_empty (events_of xs)
         → Rattle.hs_words.specs.Ends.draws e + drawn_in xs ≡ count_by is_any_got (e ∷ events_of xs) + count_by is_empty (e ∷ events_of xs)
     step (Got b) p q r = omega arith
@@ -197,7 +197,7 @@ pub given_kinds : (log : List Deed) → given_in log ≡ count_by is_any_given (
 given_kinds [] = refl
 given_kinds (x ∷ xs) = step x.event (count_cons is_any_given x.event (events_of xs)) (count_cons is_missed x.event (events_of xs)) (given_kinds xs)
   where
-    step : (e : Event) → count_by is_any_given (e ∷ events_of xs) ≡ cond (is_any_given e) 1 0 + count_by is_any_given (events_of xs) → count_by is_missed (e ∷ events_of xs) ≡ cond (is_missed e) 1 0 + count_by is_missed (events_of xs)
+    step : (e : PoolEvent) → count_by is_any_given (e ∷ events_of xs) ≡ cond (is_any_given e) 1 0 + count_by is_any_given (events_of xs) → count_by is_missed (e ∷ events_of xs) ≡ cond (is_missed e) 1 0 + count_by is_missed (events_of xs)
         → given_in xs ≡ count_by is_any_given (events_of xs) + count_by is_missed (events_of xs)
         → Rattle.hs_words.specs.Ends.gives e + given_in xs ≡ count_by is_any_given (e ∷ events_of xs) + count_by is_missed (e ∷ events_of xs)
     step (Got b) p q r = omega arith
@@ -205,7 +205,7 @@ given_kinds (x ∷ xs) = step x.event (count_cons is_any_given x.event (events_o
     step (Given b) p q r = omega arith
     step Missed p q r = omega arith
 
-pub few_missed : (n : ℕ) (earlier : List Event) → IsHistoryBack n earlier → count_by is_missed earlier ≤ count_by is_empty earlier
+pub few_missed : (n : ℕ) (earlier : List PoolEvent) → IsHistoryBack n earlier → count_by is_missed earlier ≤ count_by is_empty earlier
 few_missed n [] history = omega arith
 few_missed n (pool.Got b ∷ earlier) history = omega (arith, count_cons is_missed (pool.Got b) earlier, count_cons is_empty (pool.Got b) earlier, few_missed n earlier history.0)
 few_missed n (pool.Empty ∷ earlier) history = omega (arith, count_cons is_missed pool.Empty earlier, count_cons is_empty pool.Empty earlier, few_missed n earlier history.0)

@@ -4,27 +4,27 @@
 use Rattle.std.specs.Prelude.{◌≡◌, ◌⊎◌, ℕ, zero, suc, ◌+◌, ◌*◌, ◌<◌, ◌≤◌, Bool, true, false, ◌==◌, List, [], ◌∷◌, ◌++◌, length, map, count_by, refl}
 use Rattle.std.specs.List.{AllByRecursion}
 use Rattle.std.proofs.Common.{lit<, lit≤, arith, ap, ◌∙◌, inl, inr}
-use Rattle.hs_words.specs.PoolHistory.{Event, Got, Empty, Given, Missed, is_empty, is_missed, IsHistoryBack, queue_after}
+use Rattle.hs_words.specs.PoolHistory.{PoolEvent, Got, Empty, Given, Missed, is_empty, is_missed, IsHistoryBack, queue_after}
 use Rattle.hs_words.specs.declared.token.Tally.{Tally}
 
 -- An event and the end that made it: 0 is the giver, and the drawer with the number d is d + 1. A give also names, by
 -- its stamp, the draw to which the lease is owed.
 pub record Deed : Type 0 where
   pub by : ℕ
-  pub event : Event
+  pub event : PoolEvent
   pub draw : ℕ
 
 -- what an end was told of its own deed
 pub record Answer : Type 0 where
   pub stamp : ℕ
-  pub event : Event
+  pub event : PoolEvent
   pub draw : ℕ
 
-pub data Turn : Type 0 where
-  answered : Answer → Turn
-  unread : Turn
+pub data GiverTurn : Type 0 where
+  answered : Answer → GiverTurn
+  unread : GiverTurn
   -- a drawer was met, and the giver was told of the stamps of its draws
-  met : List ℕ → Turn
+  met : List ℕ → GiverTurn
 
 abbrev pub got_by : ℕ → ℕ → Deed
 got_by by buffer = record { by = by; event = Got buffer; draw = 0 }
@@ -38,10 +38,10 @@ given_of buffer draw = record { by = 0; event = Given buffer; draw = draw }
 abbrev pub missed : Deed
 missed = record { by = 0; event = Missed; draw = 0 }
 
-abbrev pub event_in : Deed → Event
+abbrev pub event_in : Deed → PoolEvent
 event_in deed = deed.event
 
-abbrev pub events_of : List Deed → List Event
+abbrev pub events_of : List Deed → List PoolEvent
 events_of log = map event_in log
 
 -- what waits behind these deeds
@@ -51,13 +51,13 @@ queue_of n log = queue_after n (events_of log)
 -- ---- counts
 
 -- 1 for a draw, and 1 for a give that has a stamp
-abbrev pub draws : Event → ℕ
+abbrev pub draws : PoolEvent → ℕ
 draws (Got buffer) = 1
 draws Empty = 1
 draws (Given buffer) = 0
 draws Missed = 0
 
-abbrev pub gives : Event → ℕ
+abbrev pub gives : PoolEvent → ℕ
 gives (Got buffer) = 0
 gives Empty = 0
 gives (Given buffer) = 1
@@ -73,13 +73,13 @@ abbrev pub given_in : List Deed → ℕ
 given_in [] = 0
 given_in (deed ∷ earlier) = gives deed.event + given_in earlier
 
-abbrev pub is_any_got : Event → Bool
+abbrev pub is_any_got : PoolEvent → Bool
 is_any_got (Got buffer) = true
 is_any_got Empty = false
 is_any_got (Given buffer) = false
 is_any_got Missed = false
 
-abbrev pub is_any_given : Event → Bool
+abbrev pub is_any_given : PoolEvent → Bool
 is_any_given (Got buffer) = false
 is_any_given Empty = false
 is_any_given (Given buffer) = true
@@ -107,14 +107,14 @@ answers_by end [] = []
 answers_by end (deed ∷ earlier) = put_if (deed.by == end) (answer_to deed (length earlier)) (answers_by end earlier)
 
 -- the answers that stand among a giver's turns
-abbrev pub answers_in : List Turn → List Answer
+abbrev pub answers_in : List GiverTurn → List Answer
 answers_in [] = []
 answers_in (answered answer ∷ before) = answer ∷ answers_in before
 answers_in (unread ∷ before) = answers_in before
 answers_in (met stamps ∷ before) = answers_in before
 
 -- the stamps of all draws that the giver was told of
-abbrev pub told_in : List Turn → List ℕ
+abbrev pub told_in : List GiverTurn → List ℕ
 told_in [] = []
 told_in (answered answer ∷ before) = told_in before
 told_in (unread ∷ before) = told_in before
@@ -129,9 +129,9 @@ stamps_in answers = map stamp_in answers
 -- ---- leases
 
 -- the deed with this stamp
-abbrev pub IsAt : List Deed → ℕ → Deed → Type 0
-IsAt [] stamp deed = ⊥
-IsAt (last ∷ earlier) stamp deed = ((stamp ≡ length earlier) × (last ≡ deed)) ⊎ IsAt earlier stamp deed
+abbrev pub IsDeedAt : List Deed → ℕ → Deed → Type 0
+IsDeedAt [] stamp deed = ⊥
+IsDeedAt (last ∷ earlier) stamp deed = ((stamp ≡ length earlier) × (last ≡ deed)) ⊎ IsDeedAt earlier stamp deed
 
 -- the draw with this number, counting from 0, and its stamp
 abbrev pub IsDraw : List Deed → ℕ → ℕ → Deed → Type 0
@@ -141,10 +141,10 @@ IsDraw (last ∷ earlier) number stamp deed =
 
 -- the deed with this stamp is a draw that got this buffer
 abbrev pub IsGot : List Deed → ℕ → ℕ → Type 0
-IsGot log stamp buffer = (by : ℕ) × IsAt log stamp (got_by by buffer)
+IsGot log stamp buffer = (by : ℕ) × IsDeedAt log stamp (got_by by buffer)
 
 -- the event has this buffer
-abbrev pub Names : ℕ → Event → Type 0
+abbrev pub Names : ℕ → PoolEvent → Type 0
 Names buffer (Got other) = other ≡ buffer
 Names buffer Empty = ⊥
 Names buffer (Given other) = other ≡ buffer
@@ -156,7 +156,7 @@ NoneSince buffer stamp [] = Unit {0}
 NoneSince buffer stamp (deed ∷ earlier) = (stamp < length earlier → Names buffer deed.event → ⊥) × NoneSince buffer stamp earlier
 
 -- The give spends the lease of a draw that got this buffer, and between the two no event has the buffer.
-abbrev pub Spends : List Deed → Event → ℕ → Type 0
+abbrev pub Spends : List Deed → PoolEvent → ℕ → Type 0
 Spends earlier (Got buffer) draw = Unit {0}
 Spends earlier Empty draw = Unit {0}
 Spends earlier (Given buffer) draw = IsGot earlier draw buffer × NoneSince buffer draw earlier
@@ -169,7 +169,7 @@ EachSpends (deed ∷ earlier) = Spends earlier deed.event deed.draw × EachSpend
 -- ---- gives that were unread
 
 -- the answer is that the lease of this draw was spent
-abbrev pub SpendsThe : ℕ → Event → ℕ → Type 0
+abbrev pub SpendsThe : ℕ → PoolEvent → ℕ → Type 0
 SpendsThe stamp (Got buffer) draw = ⊥
 SpendsThe stamp Empty draw = ⊥
 SpendsThe stamp (Given buffer) draw = draw ≡ stamp
@@ -177,7 +177,7 @@ SpendsThe stamp Missed draw = ⊥
 
 -- A give was unread after these turns, in a pool of n buffers. The number p that it would have published is n and the answers
 -- before it, and the draw with the number p - 2 n, whose entry it would have taken, was not collected yet.
-pub record IsUnread (n : ℕ) (log : List Deed) (before : List Turn) : Type 0 where
+pub record IsUnread (n : ℕ) (log : List Deed) (before : List GiverTurn) : Type 0 where
   pub number : ℕ
   pub stamp : ℕ
   pub drawer : ℕ
@@ -188,11 +188,11 @@ pub record IsUnread (n : ℕ) (log : List Deed) (before : List Turn) : Type 0 wh
   -- its lease was spent by no earlier answer
   pub unspent : AllByRecursion (λ (a : Answer). SpendsThe stamp a.event a.draw → ⊥) (answers_in before)
   -- a later draw of that drawer is above every answer before the unread one
-  pub last : (later : ℕ) (deed : Deed) → IsAt log later deed → deed.by ≡ drawer → stamp < later → AllByRecursion (λ (a : Answer). a.stamp < later) (answers_in before)
+  pub last : (later : ℕ) (deed : Deed) → IsDeedAt log later deed → deed.by ≡ drawer → stamp < later → AllByRecursion (λ (a : Answer). a.stamp < later) (answers_in before)
   -- the giver was not told of it
   pub untold : AllByRecursion (λ (told : ℕ). told ≡ stamp → ⊥) (told_in before)
 
-abbrev pub EachUnread : ℕ → List Deed → List Turn → Type 0
+abbrev pub EachUnread : ℕ → List Deed → List GiverTurn → Type 0
 EachUnread n log [] = Unit {0}
 EachUnread n log (answered answer ∷ before) = EachUnread n log before
 EachUnread n log (unread ∷ before) = IsUnread n log before × EachUnread n log before
@@ -206,7 +206,7 @@ AreAnswers end log [] = Unit {0}
 AreAnswers end log (answers ∷ others) = (answers ≡ answers_by end log) × AreAnswers (suc end) log others
 
 -- The deeds are those of the giver and the drawers and of nobody else, each in its end's order, and are a history of the pool.
-pub record IsTogether (n : ℕ) (turns : List Turn) (drawers : List (List Answer)) (log : List Deed) : Type 0 where
+pub record IsTogether (n : ℕ) (turns : List GiverTurn) (drawers : List (List Answer)) (log : List Deed) : Type 0 where
   pub lawful : IsHistoryBack n (events_of log)
   pub spent : EachSpends log
   pub giver : answers_in turns ≡ answers_by 0 log
@@ -243,7 +243,7 @@ none_after = ((λ low _. omega arith), ((λ _ none. none), ((λ _ none. none), (
 second_draw : IsDraw four_deeds 1 1 (empty_by 2)
 second_draw = inr (inr (inl (refl, refl, refl, refl)))
 
-abbrev given_at : ℕ → ℕ → ℕ → Turn
+abbrev given_at : ℕ → ℕ → ℕ → GiverTurn
 given_at stamp buffer draw = answered (record { stamp = stamp; event = Given buffer; draw = draw })
 
 -- all four are one history
@@ -268,7 +268,7 @@ four_counted = record { gots = refl; empties = refl; gives = refl; misses = refl
 abbrev slow_drawer : List Deed
 slow_drawer = got_by 1 0 ∷ given_of 0 5 ∷ got_by 1 0 ∷ given_of 0 3 ∷ got_by 1 0 ∷ given_of 0 0 ∷ got_by 2 1 ∷ got_by 1 0 ∷ []
 
-nothing_later : (later : ℕ) (deed : Deed) → IsAt slow_drawer later deed → deed.by ≡ 2 → 1 < later → ⊥
+nothing_later : (later : ℕ) (deed : Deed) → IsDeedAt slow_drawer later deed → deed.by ≡ 2 → 1 < later → ⊥
 nothing_later later deed at by above =
     let not_by : (other : Deed) → other ≡ deed → (other.by ≡ 2 → ⊥) → ⊥ = λ other same differs. differs (ap (λ (d : Deed). d.by) same ∙ by) in
     let one : (◌≡◌ {A = ℕ} 1 2 → ⊥) = λ (e : ◌≡◌ {A = ℕ} 1 2). omega arith in

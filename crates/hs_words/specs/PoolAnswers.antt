@@ -4,10 +4,10 @@ use Rattle.hs_words.specs.declared.token.Drawn.{Drawn}
 use Rattle.hs_words.specs.declared.token.Drawn.TheVariants as drawn
 use Rattle.hs_words.specs.declared.token.Given.{Given as Answer}
 use Rattle.hs_words.specs.declared.token.Given.TheVariants as given
-use Rattle.hs_words.specs.PoolHistory.{Event, Got, Empty, Given, Missed}
+use Rattle.hs_words.specs.PoolHistory.{PoolEvent, Got, Empty, Given, Missed}
 
 -- a draw that got a chunk got the buffer of its number
-abbrev pub event_drawn : {L : Type 0} {g : _} → Drawn L g → Event
+abbrev pub event_drawn : {L : Type 0} {g : _} → Drawn L g → PoolEvent
 event_drawn (drawn.Got held stamp) = Got held.chunk.number
 event_drawn (drawn.Empty stamp) = Empty
 
@@ -16,7 +16,7 @@ stamp_drawn (drawn.Got held stamp) = stamp
 stamp_drawn (drawn.Empty stamp) = stamp
 
 -- what giving the buffer of this number answered
-abbrev pub event_given : {L : Type 0} {g : _} → ℕ → Answer L g → Option Event
+abbrev pub event_given : {L : Type 0} {g : _} → ℕ → Answer L g → Option PoolEvent
 event_given number (given.Given stamp) = Some (Given number)
 event_given number (given.Missed held stamp) = Some Missed
 event_given number (given.Unread held) = None

@@ -5,31 +5,31 @@ use Rattle.std.specs.Prelude.{◌≡◌, ℕ, zero, ◌<◌, Bool, true, false, 
 use Rattle.std.specs.List.{range_with_len}
 use Rattle.std.proofs.Common.{lit<, arith}
 
-pub data Event : Type 0 where
-  Got : ℕ → Event
-  Empty : Event
-  Given : ℕ → Event
-  Missed : Event
+pub data PoolEvent : Type 0 where
+  Got : ℕ → PoolEvent
+  Empty : PoolEvent
+  Given : ℕ → PoolEvent
+  Missed : PoolEvent
 
-abbrev pub is_got : ℕ → Event → Bool
+abbrev pub is_got : ℕ → PoolEvent → Bool
 is_got buffer (Got other) = other == buffer
 is_got buffer Empty = false
 is_got buffer (Given other) = false
 is_got buffer Missed = false
 
-abbrev pub is_empty : Event → Bool
+abbrev pub is_empty : PoolEvent → Bool
 is_empty (Got other) = false
 is_empty Empty = true
 is_empty (Given other) = false
 is_empty Missed = false
 
-abbrev pub is_given : ℕ → Event → Bool
+abbrev pub is_given : ℕ → PoolEvent → Bool
 is_given buffer (Got other) = false
 is_given buffer Empty = false
 is_given buffer (Given other) = other == buffer
 is_given buffer Missed = false
 
-abbrev pub is_missed : Event → Bool
+abbrev pub is_missed : PoolEvent → Bool
 is_missed (Got other) = false
 is_missed Empty = false
 is_missed (Given other) = false
@@ -37,7 +37,7 @@ is_missed Missed = true
 
 -- The queue after these events, of which the last stands first: what was got left at its front, and what was
 -- given joined at its back.
-abbrev pub queue_after : ℕ → List Event → List ℕ
+abbrev pub queue_after : ℕ → List PoolEvent → List ℕ
 queue_after n [] = range_with_len 0 n
 queue_after n (Got buffer ∷ earlier) = drop 1 (queue_after n earlier)
 queue_after n (Empty ∷ earlier) = queue_after n earlier
@@ -45,7 +45,7 @@ queue_after n (Given buffer ∷ earlier) = queue_after n earlier ++ buffer ∷ [
 queue_after n (Missed ∷ earlier) = queue_after n earlier
 
 -- Whether an event may come after the earlier ones, of which the last stands first.
-abbrev pub MayFollow : ℕ → List Event → Event → Type 0
+abbrev pub MayFollow : ℕ → List PoolEvent → PoolEvent → Type 0
 -- a draw gets the front of the queue
 MayFollow n earlier (Got buffer) = slice_get (queue_after n earlier) 0 ≡ Some buffer
 -- it gets none only where the queue is empty
@@ -56,12 +56,12 @@ MayFollow n earlier (Given buffer) = count_by (is_given buffer) earlier < count_
 MayFollow n earlier Missed = (queue_after n earlier ≡ []) × (count_by is_missed earlier < count_by is_empty earlier)
 
 -- each event may follow those before it; the last stands first
-abbrev pub IsHistoryBack : ℕ → List Event → Type 0
+abbrev pub IsHistoryBack : ℕ → List PoolEvent → Type 0
 IsHistoryBack n [] = Unit {0}
 IsHistoryBack n (event ∷ earlier) = IsHistoryBack n earlier × MayFollow n earlier event
 
 -- The events are a history of the pool, in their order.
-abbrev pub IsPoolHistory : ℕ → List Event → Type 0
+abbrev pub IsPoolHistory : ℕ → List PoolEvent → Type 0
 IsPoolHistory n events = IsHistoryBack n (reverse events)
 
 -- ---- examples

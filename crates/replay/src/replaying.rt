@@ -15,7 +15,7 @@ ghost use Rattle.replay.specs.Endings.{IsAnswer, Ends, Wrote, WroteFront};
 use hs_base::{Bytes, Memory, Sink, Source};
 use hs_law_lockstep::laws::schedule_is_lawful;
 use hs_replay::{replay, write_lines};
-use hs_streams::{Input, Status, finish, read_all, refusal_line, refuse_too_long};
+use hs_streams::{ReadInput, Status, finish, read_all, refusal_line, refuse_too_long};
 use hs_workload::{ReadError, Workload, one_workload_a_text, read_workload};
 use std::alloc::Global;
 
@@ -60,13 +60,13 @@ fn call<S: Source, K: Sink>(alloc: Global, source: &mut S, sink: &mut K) -> Stat
         (S.faults source.old) (S.faults source.new) (K.faults sink.old) (K.faults sink.new) result }
 {
     match read_all(alloc, source) {
-        Input::Whole(input) => match answer_for(alloc, &input) {
+        ReadInput::Whole(input) => match answer_for(alloc, &input) {
             Ok(answer) => finish(sink, answer.text.as_slice(), answer.status),
             Err(_) => Status::Memory,
         },
-        Input::TooLong => refuse_too_long(sink),
-        Input::Fault => Status::ReadFault,
-        Input::NoMemory => Status::Memory,
+        ReadInput::TooLong => refuse_too_long(sink),
+        ReadInput::Fault => Status::ReadFault,
+        ReadInput::NoMemory => Status::Memory,
     }
 }
 

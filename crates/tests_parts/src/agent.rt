@@ -2,19 +2,12 @@
 
 ghost use Rattle.std.specs.Prelude.{◌≤◌};
 
-use tests_with::Act;
-use tests_with::Answer;
-use tests_with::Ending;
-use tests_with::Limits;
-use tests_with::Seen;
-use tests_with::Site;
-use tests_with::end;
-use tests_with::play;
 use hs_base::limits::{MAX_BURST, MAX_PINS, MAX_RATE, MAX_THRESHOLD, MAX_TRACES};
 use hs_base::{Fate, Laterals, Memory, Rank, TraceId, TriggerId, Why};
 use hs_journal::Step;
 use std::alloc::Global;
 use std::test::Fail;
+use tests_with::{Act, Answer, Ending, Limits, Seen, Site, end, play};
 
 /// Leads whose ranks rise otherwise than they do: that of twice this is the least, and that of 0 the greatest.
 const G: u128 = 0x9e37_79b9_7f4a_7c15;

@@ -1,13 +1,11 @@
 //! Pages are collected.
 
-use tests_with::add_page;
-use tests_with::fill_page;
-use tests_with::no_pages;
 use hs_base::limits::{MAX_SIZE, MAX_TRACES, MIN_SIZE};
 use hs_base::{ClientId, RecordId, TraceId};
 use hs_collect::{Collector, TraceRecord};
 use hs_words::Stock;
 use std::test::Fail;
+use tests_with::{add_page, fill_page, no_pages};
 
 /// Trace 9, client 0 of node 0, page 0: the record 0, at moment 4, with the payload 1.
 const TRACE_9: [u8; 43] = [

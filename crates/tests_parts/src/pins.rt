@@ -4,21 +4,6 @@ ghost use Rattle.std.specs.Prelude.{◌≤◌, IfOk};
 ghost use Rattle.hs_base.specs.Rules.{AreRules};
 ghost use Rattle.tests_with.specs.Claims.{IsReady, HasClaimed};
 
-use tests_with::CLAIMED;
-use tests_with::admits;
-use tests_with::arrives;
-use tests_with::claimed_pins;
-use tests_with::claims;
-use tests_with::claims_pages;
-use tests_with::fresh_pins;
-use tests_with::greatest_rules;
-use tests_with::group_of;
-use tests_with::is_new_crumb;
-use tests_with::lets_go;
-use tests_with::page_of;
-use tests_with::pages_of;
-use tests_with::takes;
-use tests_with::went;
 use hs_base::limits::{
     MAX_BUFFERS, MAX_PINS, MAX_SIZE, MAX_STRIDE, MAX_THRESHOLD, MAX_TRACES, MAX_TRIGGER,
 };
@@ -26,6 +11,10 @@ use hs_base::{Group, Laterals, List, Memory, NodeId, NodeSet, Settings, TraceId,
 use hs_pins::{Admitted, Attempt, Bucket, Dropped, Pins};
 use std::alloc::Global;
 use std::test::Fail;
+use tests_with::{
+    CLAIMED, admits, arrives, claimed_pins, claims, claims_pages, fresh_pins, greatest_rules,
+    group_of, is_new_crumb, lets_go, page_of, pages_of, takes, went,
+};
 
 /// Leads whose ranks rise otherwise than they do: that of twice this is the least, and that of 0 the greatest.
 const G: u128 = 0x9e37_79b9_7f4a_7c15;

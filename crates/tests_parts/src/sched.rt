@@ -4,15 +4,13 @@ ghost use Rattle.std.specs.Prelude.{◌≡◌, ◌+◌, ◌≤◌, ℕ, [], repl
 ghost use Rattle.hs_base.specs.Rules.{AreRules};
 ghost use Rattle.hs_sched.specs.Turns.{IsSchedule, share_of, shares_of};
 
-use tests_with::Shelf;
-use tests_with::greatest_rules;
-use tests_with::turn_shelf;
 use hs_base::limits::{MAX_SIZE, MAX_TRIGGER, MIN_SIZE};
 use hs_base::{List, Memory, TriggerId, TriggerRule};
 use hs_sched::{Queues, Scheduler, visits_are_fair};
 use std::alloc::{AllocError, Global};
 use std::collections::VecDeque;
 use std::test::Fail;
+use tests_with::{Shelf, greatest_rules, turn_shelf};
 
 const COST: u32 = 44;
 

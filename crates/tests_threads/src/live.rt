@@ -5,16 +5,6 @@ ghost use Rattle.tests_with.specs.Pairs.{CanCall, KeepsClient, KeepsPort, IsOnly
 
 use crate::live_calls::{Call, FULL, do_calls, is_closed};
 use crate::live_sheets::{Sheet, take_sheet};
-use tests_with::CLIENT;
-use tests_with::ID;
-use tests_with::Making;
-use tests_with::client_and_port;
-use tests_with::close_all;
-use tests_with::flush;
-use tests_with::meet;
-use tests_with::next_crumb;
-use tests_with::next_trigger;
-use tests_with::nothing_comes;
 use hs_base::limits::MIN_SIZE;
 use hs_base::{Crumb, Laterals, NodeId, TraceId, Trigger};
 use hs_journal::{ClientBook, Draw, PageNote};
@@ -22,6 +12,10 @@ use hs_live::{AgentPort, Called, Client};
 use hs_words::Tally;
 use std::alloc::Global;
 use std::test::Fail;
+use tests_with::{
+    CLIENT, ID, Making, client_and_port, close_all, flush, meet, next_crumb, next_trigger,
+    nothing_comes,
+};
 
 /// Two chunks of the least size.
 const TWO: Making = Making {

@@ -4,9 +4,9 @@ ghost use Rattle.std.specs.Prelude.{◌≡◌, ℕ, ◌+◌, ◌*◌, ◌≤◌,
 ghost use Rattle.hs_base.specs.declared.limits.TheConstants.{MIN_SIZE};
 ghost use Rattle.tests_with.specs.Pairs.{CanCall, KeepsClient};
 
-use tests_with::ID;
 use hs_base::{Laterals, NodeId, TraceId, Trigger};
 use hs_live::{Called, Client};
+use tests_with::ID;
 
 /// What fills a page of 64 bytes, and what needs a byte more.
 pub const FULL: [u8; 30] = [7; 30];

@@ -3,15 +3,13 @@
 ghost use Rattle.std.specs.Prelude.{IsSome};
 ghost use Rattle.tests_with.specs.Pairs.{KeepsPort, HasClient};
 
-use tests_with::CLIENT;
-use tests_with::give_back;
-use tests_with::next_chunk;
 use hs_base::TraceId;
 use hs_live::AgentPort;
 use hs_ring::Lease;
 use hs_words::{Header, Held, PageFault, read_page};
 use std::alloc::Global;
 use std::test::Fail;
+use tests_with::{CLIENT, give_back, next_chunk};
 
 /// What stands on a page: its number, its trace, the number of its first record, and of each piece the moment and the
 /// payload.

@@ -4,12 +4,6 @@ ghost use Rattle.std.specs.Prelude.{◌≡◌, ℕ, ◌+◌, ◌*◌, ◌≤◌,
 ghost use Rattle.hs_records.specs.Records.{piece_count};
 ghost use Rattle.tests_with.specs.Pairs.{CanCall, KeepsPort, HasClient};
 
-use tests_with::Making;
-use tests_with::client_and_port;
-use tests_with::flush;
-use tests_with::give_back;
-use tests_with::next_chunk;
-use tests_with::nothing_comes;
 use hs_base::TraceId;
 use hs_base::limits::{MAX_BUFFERS, MAX_PAYLOAD, MAX_SIZE};
 use hs_live::{AgentPort, Called, Client};
@@ -17,6 +11,7 @@ use hs_ring::Lease;
 use hs_words::Held;
 use std::alloc::{AllocError, Global};
 use std::test::Fail;
+use tests_with::{Making, client_and_port, flush, give_back, next_chunk, nothing_comes};
 
 /// How many entries each link has.
 const CAPACITY: u32 = 64;

@@ -4,15 +4,6 @@ ghost use Rattle.std.specs.Thread.{IsSync};
 ghost use Rattle.tests_with.specs.Pairs.{CanCall, KeepsClient, KeepsPort, IsOnly, HasClient};
 
 use crate::live_calls::{Call, do_calls, is_closed};
-use tests_with::Making;
-use tests_with::client_and_port;
-use tests_with::close_all;
-use tests_with::flush;
-use tests_with::give_back;
-use tests_with::meet;
-use tests_with::next_chunk;
-use tests_with::next_crumb;
-use tests_with::next_trigger;
 use hs_base::limits::MIN_SIZE;
 use hs_live::{AgentPort, Called, Client};
 use hs_ring::Lease;
@@ -20,6 +11,10 @@ use hs_words::Held;
 use std::test::Fail;
 use std::thread;
 use std::thread::{Threads, join};
+use tests_with::{
+    Making, client_and_port, close_all, flush, give_back, meet, next_chunk, next_crumb,
+    next_trigger,
+};
 
 /// Eight chunks, and links of eight entries.
 const EIGHT: Making = Making {

@@ -1,7 +1,7 @@
 //! A gate that lets nobody pass a first step before all actors have come to theirs.
 
-use crate::gated::called;
 use crate::crowded::segments;
+use crate::gated::called;
 use crate::inputs::TWO_NODES;
 use hs_base::Gate;
 use std::sync::atomic::{AtomicU32, Ordering};

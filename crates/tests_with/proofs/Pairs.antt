@@ -9,7 +9,7 @@ use Rattle.hs_auto.specs.Watching.{Watch}
 use Rattle.hs_link.specs.Contents.{Outgoing, Incoming}
 use Rattle.hs_ring.specs.Parts.{Leased, Giving, Drawing}
 use Rattle.hs_live.specs.Keys.{Key}
-use Rattle.hs_live.specs.Live.{Live, Port, outgoing, incoming, is_told, ReceivesAt, MeetAt}
+use Rattle.hs_live.specs.Live.{PlainClient, Port, outgoing, incoming, is_told, ReceivesAt, MeetAt}
 use Rattle.hs_live.specs.Calls.{IsOf, AreOf, AreMates, MeetsAt}
 use Rattle.tests_with.specs.Pairs.{id, watched, links, CanCall, KeepsClient, KeepsPort, IsOnly, HasClient}
 
@@ -55,14 +55,14 @@ links_incoming : {g : _} (receivers : List (Incoming (Held Leased g) Key)) → l
 links_incoming [] = refl
 links_incoming (r ∷ rs) = ap (λ l. r.link ∷ l) (links_incoming rs)
 
-pub chunk_links : {g h : _} (receivers : List (Incoming (Held Leased g) Key)) (s : Outgoing (Held Leased h) Key) (port : Port) (client : Live) → map incoming receivers ≡ port.chunks → outgoing s ≡ client.chunks
+pub chunk_links : {g h : _} (receivers : List (Incoming (Held Leased g) Key)) (s : Outgoing (Held Leased h) Key) (port : Port) (client : PlainClient) → map incoming receivers ≡ port.chunks → outgoing s ≡ client.chunks
     → links port.chunks ≡ client.chunks.link ∷ [] → links receivers ≡ s.link ∷ []
 chunk_links receivers s port client there here only =
     sym (links_incoming receivers) ∙ ap links there ∙ only ∙ ap (λ (o : Outgoing _ Key). o.link ∷ []) (sym here)
 
 -- ---- calls
 
-pub mates_of : (port : Port) (client : Live) → IsOnly port client → AreMates 0 port client
+pub mates_of : (port : Port) (client : PlainClient) → IsOnly port client → AreMates 0 port client
 mates_of port client only =
     record {
       chunks = mate_of port.chunks client.chunks.link only.chunks;
@@ -71,7 +71,7 @@ mates_of port client only =
       pool = only.pool;
     }
 
-pub port_met : (port : Port) (client : Live) (port' : Port) (client' : Live) → MeetsAt 0 port client port' client' → KeepsPort port port'
+pub port_met : (port : Port) (client : PlainClient) (port' : Port) (client' : PlainClient) → MeetsAt 0 port client port' client' → KeepsPort port port'
 port_met port client port' client' met =
     record {
       chunks = links_met port.chunks port'.chunks client.chunks client'.chunks met.chunks;
@@ -82,7 +82,7 @@ port_met port client port' client' met =
       drawers = ap (λ (g : Giving). g.drawers) met.pool.giver_hears;
     }
 
-pub client_met : (port : Port) (client : Live) (port' : Port) (client' : Live) → MeetsAt 0 port client port' client' → KeepsClient client client'
+pub client_met : (port : Port) (client : PlainClient) (port' : Port) (client' : PlainClient) → MeetsAt 0 port client port' client' → KeepsClient client client'
 client_met port client port' client' met =
     record {
       chunks = link_met port.chunks port'.chunks client.chunks client'.chunks met.chunks;

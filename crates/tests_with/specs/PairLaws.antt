@@ -4,7 +4,7 @@ use Rattle.std.specs.Prelude.{slice_get}
 use Rattle.atomic_table.specs.Seated.{TableId}
 use Rattle.hs_base.specs.Rules.{fired_by}
 use Rattle.hs_auto.specs.Watching.{Watch}
-use Rattle.hs_live.specs.Live.{Live, Port}
+use Rattle.hs_live.specs.Live.{PlainClient, Port}
 use Rattle.tests_with.specs.Pairs.{id, watched, CanCall, KeepsClient, KeepsPort, IsOnly}
 
 -- the one autotrigger fires the one trigger id
@@ -14,7 +14,7 @@ auto_of (watch ∷ autos) e =
     let rule : watch.rule ≡ watched = cc in
     (watch, refl, ap fired_by rule)
 
-pub can_fewer : (size m n : ℕ) (client : Live) → m ≤ n → CanCall size n client → CanCall size m client
+pub can_fewer : (size m n : ℕ) (client : PlainClient) → m ≤ n → CanCall size n client → CanCall size m client
 can_fewer size m n client fewer can =
     record {
       size_is = can.size_is;
@@ -28,7 +28,7 @@ can_fewer size m n client fewer can =
       autos = can.autos;
     }
 
-pub keeps_both : (a b c : Live) → KeepsClient a b → KeepsClient b c → KeepsClient a c
+pub keeps_both : (a b c : PlainClient) → KeepsClient a b → KeepsClient b c → KeepsClient a c
 keeps_both a b c k l =
     record {
       chunks = l.chunks ∙ k.chunks;
@@ -49,7 +49,7 @@ ports_both a b c k l =
       drawers = l.drawers ∙ k.drawers;
     }
 
-pub only_kept : (port port' : Port) (client client' : Live) → KeepsPort port port' → KeepsClient client client' → IsOnly port client → IsOnly port' client'
+pub only_kept : (port port' : Port) (client client' : PlainClient) → KeepsPort port port' → KeepsClient client client' → IsOnly port client → IsOnly port' client'
 only_kept port port' client client' p k only =
     record {
       chunks = p.chunks ∙ only.chunks ∙ ap (λ (l : TableId). l ∷ []) (sym k.chunks);

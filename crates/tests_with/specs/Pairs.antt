@@ -15,7 +15,7 @@ use Rattle.hs_client.specs.Core.{Core}
 use Rattle.hs_link.specs.Contents.{Outgoing, Incoming, sent}
 use Rattle.hs_ring.specs.Parts.{Leased, Drawing}
 use Rattle.hs_live.specs.Keys.{Key}
-use Rattle.hs_live.specs.Live.{Live, Port}
+use Rattle.hs_live.specs.Live.{PlainClient, Port}
 
 -- the one trigger id, and the rule of the one autotrigger
 abbrev pub id : TriggerId
@@ -25,7 +25,7 @@ abbrev pub watched : AutoRule
 watched = Queue id 2 5000 2
 
 -- A client of pages of this size may have so many calls counted, make so many draws, and send so many items on each link.
-pub record CanCall (size n : ℕ) (client : Live) : Type 0 where
+pub record CanCall (size n : ℕ) (client : PlainClient) : Type 0 where
   pub size_is : client.core.size ≡ size
   pub calls : client.core.counted + n ≤ client.core.calls
   pub draws : n ≤ client.drawer.left
@@ -45,7 +45,7 @@ pub record IsKeyOf (core : Core Leased) (drawer : Drawing) (key : Key) : Type 0 
   pub declared : is_declared key.rules id ≡ true
 
 -- the client has these parts and the one autotrigger
-pub record HasParts (client : Live) (core : Core Leased) (drawer : Drawing) (chunks : Outgoing (Buffer Leased) Key) (crumbs : Outgoing Crumb Key) (triggers : Outgoing Trigger Key) : Type 0 where
+pub record HasParts (client : PlainClient) (core : Core Leased) (drawer : Drawing) (chunks : Outgoing (Buffer Leased) Key) (crumbs : Outgoing Crumb Key) (triggers : Outgoing Trigger Key) : Type 0 where
   pub parts : client ≡ record { core = core; autos = client.autos; drawer = drawer; chunks = chunks; crumbs = crumbs; triggers = triggers }
   pub autos : map (λ (watch : Watch). watch.rule) client.autos ≡ watched ∷ []
 
@@ -55,7 +55,7 @@ abbrev pub links : {T F : Type 0} → List (Incoming T F) → List TableId
 links receivers = map (λ r. r.link) receivers
 
 -- the client has the same ends as before
-pub record KeepsClient (old new : Live) : Type 0 where
+pub record KeepsClient (old new : PlainClient) : Type 0 where
   pub chunks : new.chunks.link ≡ old.chunks.link
   pub crumbs : new.crumbs.link ≡ old.crumbs.link
   pub triggers : new.triggers.link ≡ old.triggers.link
@@ -72,7 +72,7 @@ pub record KeepsPort (old new : Port) : Type 0 where
   pub drawers : new.giver.drawers ≡ old.giver.drawers
 
 -- The port has the other ends of this client, and of no other.
-pub record IsOnly (port : Port) (client : Live) : Type 0 where
+pub record IsOnly (port : Port) (client : PlainClient) : Type 0 where
   pub chunks : links port.chunks ≡ client.chunks.link ∷ []
   pub crumbs : links port.crumbs ≡ client.crumbs.link ∷ []
   pub triggers : links port.triggers ≡ client.triggers.link ∷ []

@@ -6,7 +6,7 @@ use Rattle.hs_base.specs.declared.ids.TriggerId.{TriggerId}
 use Rattle.hs_words.specs.Buffers.{Buffer, buffer_of}
 use Rattle.hs_agent.specs.declared.input.Input.{Input}
 use Rattle.hs_agent.specs.declared.input.Input.TheVariants as inputs
-use Rattle.hs_agent.specs.Keeping.{Keeping}
+use Rattle.hs_agent.specs.Keeping.{PlainAgent}
 use Rattle.hs_agent.specs.Points.{sheet_in}
 use Rattle.hs_agent.specs.Runs.{Run, Knows}
 
@@ -24,7 +24,7 @@ pub record IsRested {L : Type 0} (events : ℕ) (run : Run L) : Type 0 where
   pub few : length run.events ≤ events
   pub offered : run.offered ≡ None
 
-abbrev pub IsReady : {L : Type 0} → ℕ → Keeping L → Type 0
+abbrev pub IsReady : {L : Type 0} → ℕ → PlainAgent L → Type 0
 IsReady events agent = Knows agent (IsRested events)
 
 -- and with one chunk out

@@ -2,13 +2,13 @@ use Rattle.std.proofs.Common.{◌≡◌, ℕ, ◌+◌, ◌<◌, Bool, true, fals
 use Rattle.std.specs.Prelude.{◌&&◌}
 use Rattle.std.proofs.lemmas.Bool.{OnTrue_at}
 use Rattle.std.proofs.lemmas.List.{drop_more}
-use Rattle.hs_check_clauses.specs.declared.happened.Timed.{Timed}
-use Rattle.hs_check_clauses.specs.declared.happened.Happening.TheVariants as happenings
+use Rattle.hs_check_clauses.specs.declared.happened.StampedEvent.{StampedEvent}
+use Rattle.hs_check_clauses.specs.declared.happened.NotedEvent.TheVariants as happenings
 use Rattle.hs_check_clauses.specs.Answering.{answers_last, answers_through}
 use Rattle.hs_check_clauses.proofs.answers.answer_in_order.Goals as goal
 
 -- one event more
-next : (before timed : List Timed) (i : ℕ) (d : Timed) (whole b : Bool) → i < length timed → answers_last before (get_or timed i d).event ≡ b → answers_through before (drop i timed) ≡ whole
+next : (before timed : List StampedEvent) (i : ℕ) (d : StampedEvent) (whole b : Bool) → i < length timed → answers_last before (get_or timed i d).event ≡ b → answers_through before (drop i timed) ≡ whole
     → (b && answers_through (get_or timed i d ∷ before) (drop (i + 1) timed)) ≡ whole
 next before timed i d whole b less is e =
     sym (ap (λ t. t && answers_through (get_or timed i d ∷ before) (drop (i + 1) timed)) is) ∙ sym (ap (answers_through before) (drop_more timed i d less)) ∙ e
@@ -18,7 +18,7 @@ loop-event-preserved c =
     let (before, at, rest) = c.loop-event.invariant in
     let events = c.args.events.now in
     let i = c.loop-event.event-index in
-    let d : Timed = record { stamp = 0; event = happenings.Got 0 } in
+    let d : StampedEvent = record { stamp = 0; event = happenings.Got 0 } in
     let went = c.in_ok-note.ensures before at in
     (get_or events i d ∷ before, OnTrue_at c.if-not-branch.false went.1, next before events i d _ true c.loop-event-test.true (sym went.0 ∙ c.if-not-branch.false) rest)
 
@@ -27,6 +27,6 @@ returns-then-not-branch c =
     let (before, at, rest) = c.loop-event.invariant in
     let events = c.args.events.now in
     let i = c.loop-event.event-index in
-    let d : Timed = record { stamp = 0; event = happenings.Got 0 } in
+    let d : StampedEvent = record { stamp = 0; event = happenings.Got 0 } in
     let went = c.in_ok-note.ensures before at in
     next before events i d _ false c.loop-event-test.true (sym went.0 ∙ c.if-not-branch.true) rest

@@ -1,7 +1,7 @@
 use Rattle.std.proofs.Common.{◌≡◌, ℕ, List, length, map, ltb, sym, ap, ◌∙◌, arith}
 use Rattle.std.specs.Prelude.{filter}
-use Rattle.hs_law_journal.specs.Pooled.{PoolEvent, is_history, by_stamp}
-use Rattle.hs_check_clauses.specs.declared.happened.Timed.{Timed}
+use Rattle.hs_law_journal.specs.Pooled.{StampedPoolEvent, is_history, by_stamp}
+use Rattle.hs_check_clauses.specs.declared.happened.StampedEvent.{StampedEvent}
 use Rattle.hs_check_clauses.specs.Happening.{pool_event, events_below}
 use Rattle.hs_check_clauses.proofs.Histories.{events_of_pool}
 use Rattle.hs_check_clauses.proofs.history.is_history.Goals as goal
@@ -13,7 +13,7 @@ returns c =
     let new = c.put_in_order.new.events.items in
     let bound : c.len-bound.result ≡ length old = omega (arith, c.len-bound.ensures, c.put_in_order.new.events.ok.0, c.in_ok-put_in_order.ensures.count) in
     c.in_ok-yes.ensures
-    ∙ ap (λ (l : List Timed). is_history n (events_below c.len-bound.result l)) c.as_slice.ensures.value
+    ∙ ap (λ (l : List StampedEvent). is_history n (events_below c.len-bound.result l)) c.as_slice.ensures.value
     ∙ ap (λ k. is_history n (events_below k new)) bound
-    ∙ sym (ap (is_history n) (events_of_pool (filter (λ (t : Timed). ltb t.stamp (length old)) new)))
-    ∙ sym (ap (λ (l : List PoolEvent). is_history n (map (λ (e : PoolEvent). e.event) l)) (c.in_ok-put_in_order.ensures.order (length old)))
+    ∙ sym (ap (is_history n) (events_of_pool (filter (λ (t : StampedEvent). ltb t.stamp (length old)) new)))
+    ∙ sym (ap (λ (l : List StampedPoolEvent). is_history n (map (λ (e : StampedPoolEvent). e.event) l)) (c.in_ok-put_in_order.ensures.order (length old)))

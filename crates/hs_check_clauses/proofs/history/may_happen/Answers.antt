@@ -1,8 +1,8 @@
 use Rattle.std.proofs.Common.{◌≡◌, ℕ, ◌+◌, ◌<◌, ◌≤◌, Bool, true, false, List, [], length, drop, get_or, refl, sym, ap, ◌∙◌, arith}
 use Rattle.std.proofs.lemmas.Bool.{OnTrue_at}
 use Rattle.std.proofs.lemmas.List.{drop_all, get_or_default}
-use Rattle.hs_check_clauses.specs.declared.happened.Timed.{Timed}
-use Rattle.hs_check_clauses.specs.declared.happened.Happening.TheVariants as happenings
+use Rattle.hs_check_clauses.specs.declared.happened.StampedEvent.{StampedEvent}
+use Rattle.hs_check_clauses.specs.declared.happened.NotedEvent.TheVariants as happenings
 use Rattle.hs_check_clauses.specs.Happening.{events_below, earlier_with}
 use Rattle.hs_check_clauses.proofs.Histories.{history_from, history_is, below_more, below_fails, one_longer}
 use Rattle.hs_check_clauses.proofs.history.may_happen.Goals as goal
@@ -22,7 +22,7 @@ loop-event-preserved c =
     let i = c.loop-event.event-index in
     let went = c.in_ok-go_below.ensures c.args.buffers earlier at in
     let may = sym went.0 ∙ c.if-not-branch.false in
-    let t : Timed = get_or events i (record { stamp = 0; event = happenings.Got 0 }) in
+    let t : StampedEvent = get_or events i (record { stamp = 0; event = happenings.Got 0 }) in
     let long = one_longer c.args.buffers c.args.bound events i t c.loop-event-test.true (get_or_default events i _ _ c.loop-event-test.true) earlier in (
       earlier_with c.args.bound t earlier,
       OnTrue_at c.if-not-branch.false went.1,
@@ -42,4 +42,4 @@ returns-then-not-branch c =
 pub returns : goal.returns
 returns c =
     let (earlier, at, rest, few) = c.loop-event.invariant in
-    sym (ap (λ (l : List Timed). history_from c.args.buffers earlier (events_below c.args.bound l)) (drop_all c.loop-event.event-index c.args.events.now c.loop-event-test.false)) ∙ rest
+    sym (ap (λ (l : List StampedEvent). history_from c.args.buffers earlier (events_below c.args.bound l)) (drop_all c.loop-event.event-index c.args.events.now c.loop-event-test.false)) ∙ rest

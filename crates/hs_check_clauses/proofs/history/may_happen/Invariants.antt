@@ -1,6 +1,6 @@
 use Rattle.std.proofs.Common.{◌≡◌, ◌≤◌, List, length, drop}
 use Rattle.hs_law_journal.specs.Pooled.{is_history}
-use Rattle.hs_words.specs.PoolHistory.{Event}
+use Rattle.hs_words.specs.PoolHistory.{PoolEvent}
 use Rattle.hs_check_clauses.specs.Happening.{events_below}
 use Rattle.hs_check_clauses.specs.Replaying.{IsReplayed}
 use Rattle.hs_check_clauses.proofs.Histories.{history_from}
@@ -8,6 +8,6 @@ use Rattle.hs_check_clauses.proofs.history.may_happen.Given as goal
 
 abbrev pub invariant-loop-event : goal.invariant-loop-event
 invariant-loop-event l =
-    (earlier : List Event) × IsReplayed l.buffers earlier l.replay
+    (earlier : List PoolEvent) × IsReplayed l.buffers earlier l.replay
     × (history_from l.buffers earlier (events_below l.bound (drop l.event-index l.events)) ≡ is_history l.buffers (events_below l.bound l.events))
     × (length earlier ≤ l.event-index)

@@ -1,14 +1,14 @@
 use Rattle.std.proofs.Common.{arith, inr, refl, get_or}
 use Rattle.hs_lists.proofs.Lent.{lent_is, lent_from}
-use Rattle.hs_check_follow.specs.declared.sending.Sending.{Sending}
+use Rattle.hs_check_follow.specs.declared.client.FollowedClient.{FollowedClient}
 use Rattle.hs_check_follow.proofs.clients.next_crumb.Goals as goal
 
 pub returns : goal.returns
 returns c =
     let items = c.args.clients.now.items in
     let now = c.as_mut_slice.result.now in
-    let old : Sending = get_or now c.args.client c.index-as_mut_slice-client.result in
-    let new : Sending = record old { crumbs = c.pop_front.new.self } in
+    let old : FollowedClient = get_or now c.args.client c.index-as_mut_slice-client.result in
+    let new : FollowedClient = record old { crumbs = c.pop_front.new.self } in
     inr
     (record {
       before = old;

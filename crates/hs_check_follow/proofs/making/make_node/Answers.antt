@@ -2,7 +2,7 @@ use Rattle.std.proofs.Common.{◌≡◌, ◌+◌, ℕ, [], refl, subst, arith}
 use Rattle.hs_journal.specs.Views.{journal_of}
 use Rattle.hs_workload.specs.Views.{workload_of}
 use Rattle.hs_workload.specs.declared.word.Setting.TheVariants as settings
-use Rattle.hs_check_follow.specs.declared.sending.Sending.{Sending}
+use Rattle.hs_check_follow.specs.declared.client.FollowedClient.{FollowedClient}
 use Rattle.hs_check_follow.specs.Beginning.{AreFirst}
 use Rattle.hs_check_follow.specs.Clients.{ClientStands}
 use Rattle.hs_check_follow.proofs.Beginning.{first_none, first_more, first_all, node_begins}
@@ -16,12 +16,12 @@ make-requires-clause-nodes c = (c.requires.may.valid.head settings.Nodes).1
 
 pub loop-number-init : goal.loop-number-init
 loop-number-init c =
-    let Is : ℕ → Sending → Type 0 = λ number s. ClientStands (workload_of c.args.workload.now) (journal_of c.args.journal.now) c.args.node [] number s in
+    let Is : ℕ → FollowedClient → Type 0 = λ number s. ClientStands (workload_of c.args.workload.now) (journal_of c.args.journal.now) c.args.node [] number s in
     first_all Is 0 [] c.new-clients.result.items c.new-clients.ensures.items (first_none Is)
 
 pub loop-number-preserved : goal.loop-number-preserved
 loop-number-preserved c =
-    let Is : ℕ → Sending → Type 0 = λ number s. ClientStands (workload_of c.args.workload.now) (journal_of c.args.journal.now) c.args.node [] number s in
+    let Is : ℕ → FollowedClient → Type 0 = λ number s. ClientStands (workload_of c.args.workload.now) (journal_of c.args.journal.now) c.args.node [] number s in
     first_all Is (c.loop-number.number + 1) _ c.append.new.self.items c.in_ok-append.ensures.ok (first_more Is c.loop-number.number c.loop-number.clients.items c.in_ok-make_client.field-0 c.loop-number.invariant c.in_ok-make_client.ensures)
 
 pub returns : goal.returns
@@ -29,5 +29,5 @@ returns c =
     let past = c.loop-number-test.false in
     let most = c.loop-number.auto.number-end in
     let all : c.loop-number.number ≡ c.args.workload.now.settings.clients = omega (arith, past, most) in
-    let Is : ℕ → Sending → Type 0 = λ number s. ClientStands (workload_of c.args.workload.now) (journal_of c.args.journal.now) c.args.node [] number s in
+    let Is : ℕ → FollowedClient → Type 0 = λ number s. ClientStands (workload_of c.args.workload.now) (journal_of c.args.journal.now) c.args.node [] number s in
     node_begins (workload_of c.args.workload.now) (journal_of c.args.journal.now) c.requires.may c.args.node _ (subst (λ k. AreFirst Is k c.loop-number.clients.items) all c.loop-number.invariant) c.in_ok-agent.ensures c.new.ensures.items refl c.new-2.ensures.items _ refl refl c.new-3.ensures.items c.new-4.ensures.items

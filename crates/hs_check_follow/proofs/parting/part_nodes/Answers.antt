@@ -5,7 +5,7 @@ use Rattle.std.specs.List.{flat_map}
 use Rattle.hs_lists.proofs.Parts.{nil_behind, map_self}
 use Rattle.hs_check_clauses.specs.Finding.{AreFound}
 use Rattle.hs_check_follow.specs.Parting.{books_left, IsFoundOf}
-use Rattle.hs_check_follow.specs.declared.tracked.Tracked.{Tracked}
+use Rattle.hs_check_follow.specs.declared.node.FollowedNode.{FollowedNode}
 use Rattle.hs_check_follow.proofs.FoundAll.{read_more, flat_more, found_more}
 use Rattle.hs_check_follow.proofs.parting.part_nodes.Goals as goal
 
@@ -22,23 +22,23 @@ loop-tracked-preserved c =
       tt,
       subst (AreFound IsFoundOf (yielded ++ t ∷ [])) (sym c.in_ok-append.ensures.ok) (found_more IsFoundOf yielded c.loop-tracked.found.items t c.in_ok-part_node.field-0 is.2 c.in_ok-part_node.ensures.found),
       flat_more books_left yielded t c.args.ended.now.clients.items c.loop-tracked.ended.clients.items _ c.in_ok-part_node.ensures.clients is.3,
-      read_more (λ (t : Tracked). t.follower.agent) yielded t c.args.ended.now.agents.items c.loop-tracked.ended.agents.items t.follower.agent _ c.in_ok-part_node.ensures.agents is.4 refl,
+      read_more (λ (t : FollowedNode). t.follower.agent) yielded t c.args.ended.now.agents.items c.loop-tracked.ended.agents.items t.follower.agent _ c.in_ok-part_node.ensures.agents is.4 refl,
     )
 
 pub returns-clause-found : goal.returns-clause-found
 returns-clause-found c =
     let all = YieldsList-from_vec {s = c.into_iter-tracked-iterator.result} c.args.nodes.items (cc) (cc) in
     let last = YieldsList-end all c.loop-tracked.yielded c.loop-tracked.tracked-iterator c.loop-tracked.yielded_by c.next.result c.next.new.self c.in-None.is c.next.ensures.steps in
-    subst (λ (l : List Tracked). AreFound IsFoundOf l c.loop-tracked.found.items) (sym (map_self c.loop-tracked.yielded) ∙ last.0) c.loop-tracked.invariant.2
+    subst (λ (l : List FollowedNode). AreFound IsFoundOf l c.loop-tracked.found.items) (sym (map_self c.loop-tracked.yielded) ∙ last.0) c.loop-tracked.invariant.2
 
 pub returns-clause-clients : goal.returns-clause-clients
 returns-clause-clients c =
     let all = YieldsList-from_vec {s = c.into_iter-tracked-iterator.result} c.args.nodes.items (cc) (cc) in
     let last = YieldsList-end all c.loop-tracked.yielded c.loop-tracked.tracked-iterator c.loop-tracked.yielded_by c.next.result c.next.new.self c.in-None.is c.next.ensures.steps in
-    c.loop-tracked.invariant.3 ∙ ap (λ (l : List Tracked). c.args.ended.now.clients.items ++ flat_map books_left l) (sym (map_self c.loop-tracked.yielded) ∙ last.0)
+    c.loop-tracked.invariant.3 ∙ ap (λ (l : List FollowedNode). c.args.ended.now.clients.items ++ flat_map books_left l) (sym (map_self c.loop-tracked.yielded) ∙ last.0)
 
 pub returns-clause-agents : goal.returns-clause-agents
 returns-clause-agents c =
     let all = YieldsList-from_vec {s = c.into_iter-tracked-iterator.result} c.args.nodes.items (cc) (cc) in
     let last = YieldsList-end all c.loop-tracked.yielded c.loop-tracked.tracked-iterator c.loop-tracked.yielded_by c.next.result c.next.new.self c.in-None.is c.next.ensures.steps in
-    c.loop-tracked.invariant.4 ∙ ap (λ (l : List Tracked). c.args.ended.now.agents.items ++ map (λ (t : Tracked). t.follower.agent) l) (sym (map_self c.loop-tracked.yielded) ∙ last.0)
+    c.loop-tracked.invariant.4 ∙ ap (λ (l : List FollowedNode). c.args.ended.now.agents.items ++ map (λ (t : FollowedNode). t.follower.agent) l) (sym (map_self c.loop-tracked.yielded) ∙ last.0)

@@ -8,7 +8,7 @@ use Rattle.hs_workload.proofs.Sizes.{operations_few}
 use Rattle.hs_compare.specs.Points.{IsScriptOf}
 use Rattle.hs_compare.specs.Scripts.{names_of}
 use Rattle.hs_compare.specs.Walking.{AreInTurn}
-use Rattle.hs_compare.specs.declared.happening.Happening.{Happening}
+use Rattle.hs_compare.specs.declared.happening.NumberedEvent.{NumberedEvent}
 use Rattle.hs_compare.proofs.Named.{names_turn}
 use Rattle.hs_compare.proofs.client.client_script.Goals as goal
 
@@ -27,5 +27,5 @@ returns c =
     let ops = map operation_of c.args.operations.now in
     let autos = (settings_of c.args.settings.now).autos in
     IfOk-weaker c.script_of.result (IsScriptOf c.args.client c.as_slice.result.now ops) (IsScriptOf c.args.client (names_of autos ops) ops)
-    (λ script is. subst (λ (names : List Happening). IsScriptOf c.args.client names ops script) (c.as_slice.ensures ∙ c.in_ok-names.ensures) is)
+    (λ script is. subst (λ (names : List NumberedEvent). IsScriptOf c.args.client names ops script) (c.as_slice.ensures ∙ c.in_ok-names.ensures) is)
     c.script_of.ensures

@@ -1,5 +1,5 @@
 use Rattle.std.proofs.Common.{◌<◌, List, [], ◌∷◌, ◌++◌, length, map, take, sym, ap, ◌∙◌, arith, append_assoc}
-use Rattle.hs_compare.specs.declared.happening.Happening.{Happening}
+use Rattle.hs_compare.specs.declared.happening.NumberedEvent.{NumberedEvent}
 use Rattle.hs_compare.specs.Happens.{name_at}
 use Rattle.hs_compare.proofs.Named.{laterals_more, laterals_there}
 use Rattle.hs_compare.proofs.names.add_names.Goals as goal
@@ -16,9 +16,9 @@ loop-place-preserved c =
       | in-Some+in_ok-append-2 w ↦
           rw w.names-is
           (w.in_ok-append-2.ensures.ok
-          ∙ ap (λ (ns : List Happening). ns ++ w.naming-in-Some.result ∷ []) c.loop-place.invariant
-          ∙ ap (λ (h : Happening). (old ++ lead ∷ map (name_at c.args.number) (take place laterals)) ++ h ∷ []) w.naming-in-Some.ensures
+          ∙ ap (λ (ns : List NumberedEvent). ns ++ w.naming-in-Some.result ∷ []) c.loop-place.invariant
+          ∙ ap (λ (h : NumberedEvent). (old ++ lead ∷ map (name_at c.args.number) (take place laterals)) ++ h ∷ []) w.naming-in-Some.ensures
           ∙ append_assoc old (lead ∷ map (name_at c.args.number) (take place laterals)) (name_at c.args.number w.in-Some.trace ∷ [])
-          ∙ ap (λ (ns : List Happening). old ++ lead ∷ ns) (sym (laterals_more c.args.number laterals place w.in-Some.trace w.in-Some.ensures)))
+          ∙ ap (λ (ns : List NumberedEvent). old ++ lead ∷ ns) (sym (laterals_more c.args.number laterals place w.in-Some.trace w.in-Some.ensures)))
       | in_default w ↦ absurd (laterals_there laterals place within (sym (w.in_default.is) ∙ c.get.ensures))
     ]

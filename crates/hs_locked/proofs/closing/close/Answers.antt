@@ -1,13 +1,13 @@
 use Rattle.std.proofs.Common.{ap, length, arith}
 use Rattle.hs_ring.specs.Parts.{Giving}
 use Rattle.hs_ring.proofs.Closings.{answers_length}
-use Rattle.hs_locked.specs.Views.{Post}
+use Rattle.hs_locked.specs.Views.{GiverSeat}
 use Rattle.hs_locked.proofs.closing.close.Goals as goal
 
 pub take_tally-requires-clause-all : goal.take_tally-requires-clause-all
 take_tally-requires-clause-all c =
     let post = c.close_drawers.ensures.closed in
-    let made = ap (λ (p : Post). p.made) post in
-    let closed = ap (λ (p : Post). length p.closed) post in
+    let made = ap (λ (p : GiverSeat). p.made) post in
+    let closed = ap (λ (p : GiverSeat). length p.closed) post in
     let drawers = ap (λ (g : Giving). g.drawers) c.giver.view_is in
     omega (arith, answers_length c.args.drawers.items, c.requires.ends.all)

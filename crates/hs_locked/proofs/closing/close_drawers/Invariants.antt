@@ -1,16 +1,16 @@
 use Rattle.std.proofs.Common.{◌≡◌, ◌++◌, length, List}
 use Rattle.hs_ring.specs.Parts.{Drawing, answers_of_all}
 use Rattle.hs_ring.specs.Seats.{IsSameSeat}
-use Rattle.hs_locked.specs.Views.{post_of}
+use Rattle.hs_locked.specs.Views.{giver_seat_of}
 use Rattle.hs_locked.specs.Seats.{IsFree}
-use Rattle.hs_locked.specs.Making.{closed_post}
+use Rattle.hs_locked.specs.Making.{closed_giver_seat}
 use Rattle.hs_locked.proofs.closing.close_drawers.Given as goal
 
 -- the last of the drawers were closed
 abbrev pub invariant-loop-drawer : goal.invariant-loop-drawer
 invariant-loop-drawer l =
     IsSameSeat l.initial.place l.place × IsFree l.place
-    × ((done : List Drawing) × (l.drawers.items ++ done ≡ l.initial.drawers.items) × (post_of l.place.me.0 ≡ closed_post (post_of l.initial.place.me.0) (answers_of_all done)))
+    × ((done : List Drawing) × (l.drawers.items ++ done ≡ l.initial.drawers.items) × (giver_seat_of l.place.me.0 ≡ closed_giver_seat (giver_seat_of l.initial.place.me.0) (answers_of_all done)))
 
 abbrev pub decreases-loop-drawer : goal.decreases-loop-drawer
 decreases-loop-drawer l = length l.drawers.items

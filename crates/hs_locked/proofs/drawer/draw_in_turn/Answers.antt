@@ -1,9 +1,9 @@
 use Rattle.std.proofs.Common.{◌≡◌, [], sym, ap, ◌∙◌}
-use Rattle.hs_words.specs.PoolHistory.{Event}
+use Rattle.hs_words.specs.PoolHistory.{PoolEvent}
 use Rattle.hs_pool.specs.Pool.{waiting}
 use Rattle.hs_locked.specs.declared.store.Store.{Store}
 use Rattle.hs_locked.specs.Stored.{next_draw}
-use Rattle.hs_locked.specs.Views.{away, drawing, desk_of, desk_after, hand_after, without_lease}
+use Rattle.hs_locked.specs.Views.{away, drawing, drawer_seat_of, drawer_seat_after, hand_after, without_lease}
 use Rattle.hs_locked.proofs.Owed.{Mine}
 use Rattle.hs_locked.proofs.Seating.{same_seat, slot_is, drawer_inside, drawer_event, drawer_left, drawer_seat, floor_there}
 use Rattle.hs_locked.proofs.drawer.draw_in_turn.Goals as goal
@@ -39,4 +39,4 @@ returns-in-Empty-clause-seat g c =
     let same : c.slot_mut-store.result.now ≡ store = slot_is c.enter.new.place.me.1 c.slot_mut-store.result.now store c.slot_mut-store.ensures.value (ap (λ (m : Mine). m.1) there) in
     let empty = c.in-Empty.ensures.event ∙ ap (λ (o : Store). next_draw (waiting o.pool)) same in
     drawer_seat _ s u c.args.left store.pool.events event c.requires.seat (same_seat s c.enter.new.place u c.enter.ensures.same c.leave.ensures.same) (floor_there s store c.requires.seat.idle found.2)
-    (left ∙ ap (λ (e : Event). let m : Mine = (drawing (desk_after (desk_of s.me.0) store.pool.events event) (hand_after e store.pool.events) away, []) in m) (sym empty))
+    (left ∙ ap (λ (e : PoolEvent). let m : Mine = (drawing (drawer_seat_after (drawer_seat_of s.me.0) store.pool.events event) (hand_after e store.pool.events) away, []) in m) (sym empty))

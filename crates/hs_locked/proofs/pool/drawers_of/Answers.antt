@@ -5,7 +5,7 @@ use Rattle.std.specs.Arc.{arc_value}
 use Rattle.hs_ring.specs.Parts.{Drawing, new_drawers}
 use Rattle.hs_ring.specs.Seats.{name_of}
 use Rattle.hs_ring.proofs.Making.{new_drawers_length}
-use Rattle.hs_locked.specs.Views.{post_of}
+use Rattle.hs_locked.specs.Views.{giver_seat_of}
 use Rattle.hs_locked.specs.Making.{IsMaking}
 use Rattle.hs_locked.proofs.Making.{new_drawer_of, new_drawers_and, makes_one, made_one}
 use Rattle.hs_locked.proofs.pool.drawers_of.Goals as goal
@@ -26,7 +26,7 @@ push-requires c =
       ap (λ (l : List Drawing). length l) c.loop-left.invariant.1,
       c.loop-left.invariant.2,
       c.loop-left-test.true,
-      new_drawers_length (name_of (arc_value c.args.lock.now).board.shared.table_id) (post_of c.args.place.now.me.0).buffers (post_of c.args.place.now.me.0).size 0 (take c.loop-left.left-index c.args.allowances.now),
+      new_drawers_length (name_of (arc_value c.args.lock.now).board.shared.table_id) (giver_seat_of c.args.place.now.me.0).buffers (giver_seat_of c.args.place.now.me.0).size 0 (take c.loop-left.left-index c.args.allowances.now),
       length-take c.loop-left.left-index c.args.allowances.now,
     )
 
@@ -36,8 +36,8 @@ loop-left-preserved c =
     let xs = c.args.allowances.now in
     let low = c.loop-left-test.true in
     let table = (arc_value c.args.lock.now).board.shared.table_id in
-    let buffers = (post_of c.args.place.now.me.0).buffers in
-    let size = (post_of c.args.place.now.me.0).size in
+    let buffers = (giver_seat_of c.args.place.now.me.0).buffers in
+    let size = (giver_seat_of c.args.place.now.me.0).size in
     let left : ℕ = get_or xs i 0 in
     let before : IsMaking table c.loop-left.place buffers size i (left ∷ drop (i + 1) xs) = subst (IsMaking table c.loop-left.place buffers size i) (drop_more xs i 0 low) c.loop-left.invariant.0 in
     let e = c.split_seat-seat.ensures in

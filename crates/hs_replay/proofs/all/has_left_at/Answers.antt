@@ -1,7 +1,7 @@
 use Rattle.std.proofs.Common.{◌+◌, ◌-◌, ◌*◌, get_or, arith, sym, ap, ◌∙◌, Some, List}
 use Rattle.std.proofs.lemmas.Option.{slice_get-get_or}
 use Rattle.hs_workload.specs.Views.{workload_of}
-use Rattle.hs_replay.specs.Parts.{Parts}
+use Rattle.hs_replay.specs.Parts.{PlainReplayNode}
 use Rattle.hs_replay.proofs.Others.{first_few}
 use Rattle.hs_replay.proofs.Scheduled.{has_clients}
 use Rattle.hs_replay.proofs.all.has_left_at.Goals as goal
@@ -22,7 +22,7 @@ has_left-requires c =
     let items = c.args.nodes.now.items in
     let node = c.index-as_slice-node.result in
     let first = c.args.node * c.args.workload.now.settings.clients in
-    let there = slice_get-get_or items c.args.node node low ∙ ap Some (sym (c.index-as_slice-node.is ∙ ap (λ (l : List Parts). get_or l c.args.node node) c.as_slice-2.ensures)) in (
+    let there = slice_get-get_or items c.args.node node low ∙ ap Some (sym (c.index-as_slice-node.is ∙ ap (λ (l : List PlainReplayNode). get_or l c.args.node node) c.as_slice-2.ensures)) in (
       workload_of c.args.workload.now,
       m,
       c.args.node,
@@ -37,6 +37,6 @@ returns c = λ m at.
     let items = c.args.nodes.now.items in
     let node = c.index-as_slice-node.result in
     let first = c.args.node * c.args.workload.now.settings.clients in
-    let there = slice_get-get_or items c.args.node node low ∙ ap Some (sym (c.index-as_slice-node.is ∙ ap (λ (l : List Parts). get_or l c.args.node node) c.as_slice-2.ensures)) in
+    let there = slice_get-get_or items c.args.node node low ∙ ap Some (sym (c.index-as_slice-node.is ∙ ap (λ (l : List PlainReplayNode). get_or l c.args.node node) c.as_slice-2.ensures)) in
     c.has_left.ensures (workload_of c.args.workload.now) m c.args.node (at.nodes_are.each c.args.node node there)
     (has_clients c.args.workload.now at.valid c.args.node (omega (arith, count, low)) c.as_slice.result.now c.as_slice.ensures (first + c.args.workload.now.settings.clients - first) (omega arith))

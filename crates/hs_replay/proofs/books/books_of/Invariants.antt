@@ -1,6 +1,6 @@
 use Rattle.std.proofs.Common.{◌≡◌, ◌*◌, length, map, take}
 use Rattle.std.specs.List.{range_with_len}
-use Rattle.hs_coord.specs.Kept.{Kept}
+use Rattle.hs_coord.specs.Kept.{PlainCoordinator}
 use Rattle.hs_journal.specs.Books.{agent_book_of, client_book_of}
 use Rattle.hs_law_journal.specs.Following.{followed}
 use Rattle.hs_law_outcome.specs.Outcomes.{client_book}
@@ -14,6 +14,6 @@ abbrev pub invariant-loop-node : goal.invariant-loop-node
 invariant-loop-node l =
     (goal.iterator-loop-node).can_next l.node-iterator ×
     (goal.iterator-loop-node).is_finite l.node-iterator ×
-    ((W : PlainWorkload) (coordinator : Kept) (closed : AllClosed W l.fn.nodes.items coordinator)
+    ((W : PlainWorkload) (coordinator : PlainCoordinator) (closed : AllClosed W l.fn.nodes.items coordinator)
     → (map client_book_of l.clients.items ≡ map (client_book W closed.last.journal) (range_with_len 0 (length l.yielded * W.settings.clients)))
     × (map agent_book_of l.agents.items ≡ map (λ (node : NodeRun). book_of node.node node.state) (take (length l.yielded) (followed W closed.last.journal).nodes)))

@@ -1,7 +1,7 @@
 use Rattle.std.proofs.Common.{◌≡◌, ◌<◌, ◌+◌, [], ◌∷◌, ◌∙◌, refl, ap, sym, arith, length, map, List, subst, length-append}
 use Rattle.hs_lists.proofs.Lent.{indexed}
 use Rattle.hs_law_sends.specs.Playable.{IsPlayable}
-use Rattle.hs_replay_client.specs.Playing.{Playing}
+use Rattle.hs_replay_client.specs.ReplayClients.{PlainReplayClient}
 use Rattle.hs_records.specs.Plain.{Operation, PlainSettings, PlainWorkload, settings_of}
 use Rattle.hs_law_sends.specs.Sending.{operations_at, place_of}
 use Rattle.hs_workload.specs.declared.word.Setting.TheVariants as settings
@@ -37,7 +37,7 @@ loop-client-preserved c =
     let item = indexed c.args.clients.now c.args.clients.now c.loop-client.client c.index-clients-client.result refl low c.index-clients-client.is in
     let ops : map operation_of c.as_slice-operations.result.now ≡ operations_at W (place_of W.settings.clients c.args.node c.loop-client.client) = ap (map operation_of) c.as_slice-operations.ensures ∙ new.are.each c.loop-client.client c.index-clients-client.result item in
     let at = player_made W c.args.node c.loop-client.client (settings_of c.args.settings.now) (map operation_of c.as_slice-operations.result.now) c.in_ok-player.player new.are.settings_are ops c.in_ok-player.ensures in
-    subst (λ (l : List Playing). AreNew W c.args.node (c.loop-client.client + 1) l) (sym c.push.ensures.items) (one_more_new W c.args.node c.loop-client.client c.loop-client.players.items c.in_ok-player.player (c.loop-client.invariant.2 W new) at)
+    subst (λ (l : List PlainReplayClient). AreNew W c.args.node (c.loop-client.client + 1) l) (sym c.push.ensures.items) (one_more_new W c.args.node c.loop-client.client c.loop-client.players.items c.in_ok-player.player (c.loop-client.invariant.2 W new) at)
     in
     let pushed = ap length c.push.ensures.items in
     let both = length-append c.loop-client.players.items (c.in_ok-player.player ∷ []) in

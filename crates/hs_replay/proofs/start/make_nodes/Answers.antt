@@ -2,7 +2,7 @@ use Rattle.std.proofs.Common.{◌+◌, arith, subst, sym, List}
 use Rattle.hs_law_lockstep.specs.Reaching as reaching
 use Rattle.hs_workload.specs.Views.{workload_of}
 use Rattle.hs_replay.specs.Making.{AreMade}
-use Rattle.hs_replay.specs.Parts.{Parts}
+use Rattle.hs_replay.specs.Parts.{PlainReplayNode}
 use Rattle.hs_replay.proofs.Started.{one_more_made, none_made}
 use Rattle.hs_replay.proofs.start.make_nodes.Goals as goal
 
@@ -16,7 +16,7 @@ loop-node-preserved c =
     let W = workload_of c.args.workload.now in
     let room = c.push.ensures.room in
     let had = c.loop-node.invariant.0 in
-    (omega (arith, room, had), subst (λ (l : List Parts). AreMade W (c.loop-node.node + 1) l) (sym c.push.ensures.items) (one_more_made W c.loop-node.node c.loop-node.nodes.items c.in_ok-made.made c.loop-node.invariant.1 c.in_ok-made.ensures))
+    (omega (arith, room, had), subst (λ (l : List PlainReplayNode). AreMade W (c.loop-node.node + 1) l) (sym c.push.ensures.items) (one_more_made W c.loop-node.node c.loop-node.nodes.items c.in_ok-made.made c.loop-node.invariant.1 c.in_ok-made.ensures))
 
 pub returns : goal.returns
 returns c =

@@ -1,6 +1,6 @@
 use Rattle.std.proofs.Common.{◌++◌, List, sym, ap, ◌∙◌, arith}
 use Rattle.hs_ring.specs.Parts.{Drawing}
-use Rattle.hs_ring.specs.Views.{post_of}
+use Rattle.hs_ring.specs.Views.{giver_seat_of}
 use Rattle.hs_ring.proofs.Owed.{Mine}
 use Rattle.hs_ring.proofs.Closings.{is_last, closes_last}
 use Rattle.hs_ring.proofs.closing.close_drawers.Goals as goal
@@ -10,7 +10,7 @@ join_seat-requires c =
     let inv = c.loop-drawer.invariant in
     let table = c.args.entries.now.table_id in
     let parts = ap (λ (l : List Drawing). l ++ inv.2.0) c.in-Some.ensures.some in
-    let last = is_last table c.drawer.inside.place c.drawer.inside.buffers c.drawer.inside.left c.args.drawers.items c.pop.new.self.items c.in-Some.drawer inv.2.0 (post_of c.loop-drawer.place.me.0) (post_of c.args.place.now.me.0)
+    let last = is_last table c.drawer.inside.place c.drawer.inside.buffers c.drawer.inside.left c.args.drawers.items c.pop.new.self.items c.in-Some.drawer inv.2.0 (giver_seat_of c.loop-drawer.place.me.0) (giver_seat_of c.args.place.now.me.0)
     c.requires.order c.requires.all (sym parts ∙ inv.2.1) inv.2.2 c.drawer.view_is in (
       inv.0.0 ∙ c.requires.at.0,
       last.table_is,

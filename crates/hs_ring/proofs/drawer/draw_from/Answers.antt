@@ -1,7 +1,7 @@
 use Rattle.std.proofs.Common.{◌≡◌, ℕ, ◌%◌, ◌<◌, List, [], ◌∷◌, Some, sym, ap, ap₂, ◌∙◌, arith}
 use Rattle.std.specs.Prelude.{Option}
 use Rattle.hs_words.specs.Chunks.{Contents, clear_chunk}
-use Rattle.hs_ring.specs.Views.{desk_of}
+use Rattle.hs_ring.specs.Views.{drawer_seat_of}
 use Rattle.hs_ring.specs.Steps.{drawn_of, published_of}
 use Rattle.hs_ring.proofs.Owed.{Mine}
 use Rattle.hs_ring.proofs.drawer.draw_from.Goals as goal
@@ -14,5 +14,5 @@ collect-chunk-requires-clause-chunk c =
     let empty : c.args.place.now.me.1 ≡ [] = ap (λ (m : Mine). m.1) c.requires.seat.idle in
     let entry : drawn_of word % c.args.entries.now.table_id.slots ≡ c.entry_of.result =
     ap₂ (λ (h : ℕ) (m : ℕ). h % m) (sym c.of-counts.ensures.drawn) (sym c.requires.seat.halves) ∙ sym c.entry_of.ensures.entry in
-    let chunk = clear_chunk (desk_of c.args.place.now.me.0).size got.0 in
+    let chunk = clear_chunk (drawer_seat_of c.args.place.now.me.0).size got.0 in
     (chunk, ap (λ (m : Mine). m.1) got.1 ∙ ap₂ (λ (e : ℕ) (l : List (ℕ × Option Contents)). (e, Some chunk) ∷ l) entry empty)

@@ -1,6 +1,6 @@
 use Rattle.std.proofs.Common.{◌<◌, ◌+◌, get_or, length, List, sym, subst, arith}
 use Rattle.hs_lists.proofs.Lent.{lent_is, lent_from}
-use Rattle.hs_run_agent.specs.Shut.{Shut}
+use Rattle.hs_run_agent.specs.ClosedAgents.{PlainClosedAgent}
 use Rattle.hs_run.specs.Shutting.{Passing}
 use Rattle.hs_run.proofs.Passed.{passing_none, passing_more, can_pass, passing_so}
 use Rattle.hs_run.proofs.closing.agents_pass.Goals as goal
@@ -15,7 +15,7 @@ bounds-as_mut_slice-number c =
     let len = c.len-count.ensures in
     let many = (c.loop-number.invariant r.workload r.sents r.heard r.works r.stand).many in
     let same = c.as_mut_slice.ensures.value in
-    subst (λ (l : List Shut). c.loop-number.number < length l) (sym same) (omega (arith, low, len, many))
+    subst (λ (l : List PlainClosedAgent). c.loop-number.number < length l) (sym same) (omega (arith, low, len, many))
 
 pub pass-requires : goal.pass-requires
 pass-requires c =
@@ -46,11 +46,11 @@ loop-number-preserved c = λ W sents heard works stand.
     let h = c.loop-number.invariant W sents heard works stand in
     let many = h.many in
     let x = get_or now n c.index-as_mut_slice-number.result in
-    let y : Shut = c.pass.new.node in
+    let y : PlainClosedAgent = c.pass.new.node in
     let there = lent_from items now n c.index-as_mut_slice-number.result c.as_mut_slice.ensures.value (omega (arith, low, len, many)) in
     let can = can_pass W sents heard works n c.args.nodes.now.items items c.args.coordinator.now c.loop-number.coordinator stand h x there (omega (arith, low, len)) in
     let passed = c.in_ok-pass.ensures W sents heard h.works can in
-    subst (λ (l : List Shut). Passing W sents heard works (n + 1) c.args.nodes.now.items l c.pass.new.coordinator) (sym (lent_is items now n y c.as_mut_slice.ensures.value))
+    subst (λ (l : List PlainClosedAgent). Passing W sents heard works (n + 1) c.args.nodes.now.items l c.pass.new.coordinator) (sym (lent_is items now n y c.as_mut_slice.ensures.value))
     (passing_more W sents heard works n c.args.nodes.now.items items c.args.coordinator.now c.loop-number.coordinator stand h x there (omega (arith, low, len)) y c.pass.new.coordinator passed)
 
 pub returns : goal.returns

@@ -1,11 +1,11 @@
 use Rattle.std.proofs.Common.{ℕ}
 use Rattle.hs_coord.specs.Messages.{Messages}
-use Rattle.hs_run_agent.specs.Work.{Work}
+use Rattle.hs_run_agent.specs.Work.{NodeWork}
 use Rattle.hs_records.specs.Plain.{PlainWorkload}
-use Rattle.hs_run.specs.Shutting.{AllSents, Stand, Passing}
+use Rattle.hs_run.specs.Shutting.{AllSents, ClosingStands, Passing}
 use Rattle.hs_run.proofs.closing.agents_pass.Given as goal
 
 abbrev pub invariant-loop-number : goal.invariant-loop-number
 invariant-loop-number l =
-    (W : PlainWorkload) (sents : AllSents) (heard : Messages) (works : ℕ → Work) → Stand W sents heard works l.initial.nodes.items l.initial.coordinator
+    (W : PlainWorkload) (sents : AllSents) (heard : Messages) (works : ℕ → NodeWork) → ClosingStands W sents heard works l.initial.nodes.items l.initial.coordinator
     → Passing W sents heard works l.number l.initial.nodes.items l.nodes.items l.coordinator

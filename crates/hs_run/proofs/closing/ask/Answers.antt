@@ -1,7 +1,7 @@
 use Rattle.std.proofs.Common.{◌<◌, ◌+◌, get_or, length, length-set, List, refl, sym, ap, subst, ◌∙◌, arith}
 use Rattle.hs_lists.proofs.Lent.{lent_is, lent_from}
-use Rattle.hs_run_agent.specs.Shut.{Shut}
-use Rattle.hs_run.specs.Shutting.{AskedFirst}
+use Rattle.hs_run_agent.specs.ClosedAgents.{PlainClosedAgent}
+use Rattle.hs_run.specs.Shutting.{ClosingAskedFirst}
 use Rattle.hs_run.proofs.Asking.{asked_none, asked_more, asked_to_all}
 use Rattle.hs_run.proofs.closing.ask.Goals as goal
 
@@ -11,7 +11,7 @@ bounds-as_mut_slice-number c =
     let len = c.len-count.ensures in
     let many = c.loop-number.invariant.many in
     let same = c.as_mut_slice.ensures.value in
-    subst (λ (l : List Shut). c.loop-number.number < length l) (sym same) (omega (arith, low, len, many))
+    subst (λ (l : List PlainClosedAgent). c.loop-number.number < length l) (sym same) (omega (arith, low, len, many))
 
 pub ask_one-requires : goal.ask_one-requires
 ask_one-requires c =
@@ -33,7 +33,7 @@ loop-number-preserved c =
     let h = c.loop-number.invariant in
     let many = h.many in
     let x = get_or now n c.index-as_mut_slice-number.result in
-    let y : Shut = c.ask_one.new.node in
+    let y : PlainClosedAgent = c.ask_one.new.node in
     let there = lent_from items now n c.index-as_mut_slice-number.result c.as_mut_slice.ensures.value (omega (arith, low, len, many)) in
     let written = lent_is items now n y c.as_mut_slice.ensures.value in
     record {
@@ -41,7 +41,7 @@ loop-number-preserved c =
       by = λ W sents works stand may.
           let first = h.by W sents works stand may in
           let asked = c.in_ok-ask_one.ensures W sents (works n) (first.others n x (omega arith) there) (may n) in
-          subst (AskedFirst W sents c.args.asks.now works (n + 1) c.args.nodes.now.items) (sym written)
+          subst (ClosingAskedFirst W sents c.args.asks.now works (n + 1) c.args.nodes.now.items) (sym written)
           (asked_more W sents c.args.asks.now works n c.args.nodes.now.items items x y first there asked.0 asked.1);
     }
 

@@ -1,15 +1,15 @@
 use Rattle.std.proofs.Common.{◌≡◌, ℕ, length, true}
 use Rattle.hs_base.specs.NodeSets.{has_node}
 use Rattle.hs_run_agent.specs.Agents.{IsAskable}
-use Rattle.hs_run_agent.specs.Work.{Work}
+use Rattle.hs_run_agent.specs.Work.{NodeWork}
 use Rattle.hs_records.specs.Plain.{PlainWorkload}
-use Rattle.hs_run.specs.Shutting.{AllSents, AskedFirst, ShutStand}
+use Rattle.hs_run.specs.Shutting.{AllSents, ClosingAskedFirst, ClosedAgentsStand}
 use Rattle.hs_run.proofs.closing.ask.Given as goal
 
 abbrev pub invariant-loop-number : goal.invariant-loop-number
 invariant-loop-number l =
     record {
       many : length l.nodes.items ≡ length l.initial.nodes.items;
-      by : (W : PlainWorkload) (sents : AllSents) (works : ℕ → Work) → ShutStand W sents works l.initial.nodes.items → ((n : ℕ) → has_node l.asks.to n ≡ true → IsAskable W l.asks.ask)
-          → AskedFirst W sents l.asks works l.number l.initial.nodes.items l.nodes.items;
+      by : (W : PlainWorkload) (sents : AllSents) (works : ℕ → NodeWork) → ClosedAgentsStand W sents works l.initial.nodes.items → ((n : ℕ) → has_node l.asks.to n ≡ true → IsAskable W l.asks.ask)
+          → ClosingAskedFirst W sents l.asks works l.number l.initial.nodes.items l.nodes.items;
     }

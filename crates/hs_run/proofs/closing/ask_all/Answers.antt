@@ -1,6 +1,6 @@
 use Rattle.std.proofs.Common.{◌<◌, length, refl, sym, ap, subst, ◌∙◌, arith}
-use Rattle.hs_run_agent.specs.Coordinators.{Coordinating, asked_all}
-use Rattle.hs_run_story.specs.Standing.{moved_by, asked_by}
+use Rattle.hs_run_agent.specs.Coordinators.{PlainCoordinatorActor, asked_all}
+use Rattle.hs_run_story.specs.RunStates.{moved_by, asked_by}
 use Rattle.hs_run.specs.Shutting.{Asked}
 use Rattle.hs_run.proofs.Asking.{asking_more}
 use Rattle.hs_run.proofs.closing.ask_all.Goals as goal
@@ -22,11 +22,11 @@ asks-preserved c = λ W sents heard works first.
 
 pub asks-smaller : goal.asks-smaller
 asks-smaller c =
-    let e = ap (λ (x : Coordinating). length x.asks) c.in-Some.ensures.some in
+    let e = ap (λ (x : PlainCoordinatorActor). length x.asks) c.in-Some.ensures.some in
     let less : length c.next_asks.new.self.asks < length c.asks.coordinator.asks = omega (arith, e) in
     less
 
 pub returns : goal.returns
 returns c = λ W sents heard works first.
     let none = c.in_default.ensures.none in
-    (subst (Asked W sents heard works c.args.nodes.now.items c.asks.nodes.items) (sym none.1) (c.asks.invariant W sents heard works first), ap (λ (x : Coordinating). x.asks) none.1 ∙ none.0)
+    (subst (Asked W sents heard works c.args.nodes.now.items c.asks.nodes.items) (sym none.1) (c.asks.invariant W sents heard works first), ap (λ (x : PlainCoordinatorActor). x.asks) none.1 ∙ none.0)

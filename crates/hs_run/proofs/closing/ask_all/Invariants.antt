@@ -1,13 +1,13 @@
 use Rattle.std.proofs.Common.{ℕ, length}
 use Rattle.hs_coord.specs.Messages.{Messages}
-use Rattle.hs_run_agent.specs.Work.{Work}
+use Rattle.hs_run_agent.specs.Work.{NodeWork}
 use Rattle.hs_records.specs.Plain.{PlainWorkload}
 use Rattle.hs_run.specs.Shutting.{AllSents, Asked}
 use Rattle.hs_run.proofs.closing.ask_all.Given as goal
 
 abbrev pub invariant-asks : goal.invariant-asks
 invariant-asks l =
-    (W : PlainWorkload) (sents : AllSents) (heard : Messages) (works : ℕ → Work) → Asked W sents heard works l.initial.nodes.items l.initial.nodes.items l.initial.coordinator
+    (W : PlainWorkload) (sents : AllSents) (heard : Messages) (works : ℕ → NodeWork) → Asked W sents heard works l.initial.nodes.items l.initial.nodes.items l.initial.coordinator
     → Asked W sents heard works l.initial.nodes.items l.nodes.items l.coordinator
 
 abbrev pub decreases-asks : goal.decreases-asks

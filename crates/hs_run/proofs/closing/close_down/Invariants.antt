@@ -1,6 +1,6 @@
 use Rattle.std.proofs.Common.{ℕ}
 use Rattle.hs_records.specs.Plain.{PlainWorkload}
-use Rattle.hs_run_story.specs.Standing.{Moment}
+use Rattle.hs_run_story.specs.RunStates.{RunState}
 use Rattle.hs_run.specs.Shutting.{AllSents, ClosingAt, MayClose}
 use Rattle.hs_run.proofs.closing.close_down.Given as goal
 
@@ -8,5 +8,5 @@ abbrev pub invariant-passes : goal.invariant-passes
 invariant-passes l =
     record {
       may : MayClose l.nodes.items l.coordinator;
-      by : (W : PlainWorkload) (rounds : ℕ) (m : Moment) (sents : AllSents) → ClosingAt W rounds m sents l.initial.nodes.items l.initial.coordinator → ClosingAt W rounds m sents l.nodes.items l.coordinator;
+      by : (W : PlainWorkload) (rounds : ℕ) (m : RunState) (sents : AllSents) → ClosingAt W rounds m sents l.initial.nodes.items l.initial.coordinator → ClosingAt W rounds m sents l.nodes.items l.coordinator;
     }

@@ -2,7 +2,7 @@ use Rattle.std.proofs.Common.{◌≡◌, Some, sym, ap, subst, ◌∙◌, inl, i
 use Rattle.std.proofs.lemmas.Option.{slice_get_within}
 use Rattle.hs_lists.proofs.Numbers.{same_or_less}
 use Rattle.hs_lists.proofs.Lent.{indexed}
-use Rattle.hs_run_agent.specs.Shut.{IsShut, IsBare}
+use Rattle.hs_run_agent.specs.ClosedAgents.{IsClosedAgent, IsClosedAgentBare}
 use Rattle.hs_run.proofs.closing.is_bare.Goals as goal
 
 pub loop-number-preserved : goal.loop-number-preserved
@@ -15,7 +15,7 @@ loop-number-preserved c = λ W sents works stand k shut low at.
           let one : Some c.index-as_slice-number.result ≡ Some shut = sym here ∙ ap (slice_get c.args.nodes.now.items) (sym same) ∙ at in
           let is : c.index-as_slice-number.result ≡ shut = cc in
           let stands = (stand.each k shut at).is in
-          subst (IsBare W (works k)) is ((c.is_bare.ensures W (works k) (sents k) (subst (IsShut W (works k) (sents k)) (sym is) stands)).0 c.if-not-is_bare.false)
+          subst (IsClosedAgentBare W (works k)) is ((c.is_bare.ensures W (works k) (sents k) (subst (IsClosedAgent W (works k) (sents k)) (sym is) stands)).0 c.if-not-is_bare.false)
     ]
 
 pub returns : goal.returns

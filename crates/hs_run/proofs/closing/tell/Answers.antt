@@ -1,8 +1,8 @@
 use Rattle.std.proofs.Common.{◌<◌, length, ap, ◌∙◌, sym, subst, arith}
 use Rattle.hs_base.proofs.Updates.{put}
-use Rattle.hs_run_agent.specs.Shut.{Shut}
-use Rattle.hs_run_story.specs.Standing.{moved_by, asked_by}
-use Rattle.hs_run.specs.Shutting.{HasTold}
+use Rattle.hs_run_agent.specs.ClosedAgents.{PlainClosedAgent}
+use Rattle.hs_run_story.specs.RunStates.{moved_by, asked_by}
+use Rattle.hs_run.specs.Shutting.{ClosingHasTold}
 use Rattle.hs_run.proofs.ToldBehind.{told_none, told_one, told_coordinates}
 use Rattle.hs_run.proofs.closing.tell.Goals as goal
 
@@ -20,7 +20,7 @@ messages-preserved c = λ W sents work heard works t.
 
 pub messages-smaller : goal.messages-smaller
 messages-smaller c =
-    let e = ap (λ (a : Shut). length a.said) c.in-Some.ensures.some in
+    let e = ap (λ (a : PlainClosedAgent). length a.said) c.in-Some.ensures.some in
     let less : length c.tell.new.self.said < length c.messages.node.said = omega (arith, e) in
     less
 
@@ -36,4 +36,4 @@ pub returns : goal.returns
 returns c = λ W sents work heard works t.
     let none = c.in_default.ensures.none in
     let h = c.messages.invariant W sents work heard works t in
-    (subst (λ (a : Shut). HasTold W c.args.number sents work heard works c.args.node.now c.args.coordinator.now a c.messages.coordinator) (sym none.1) h, ap (λ (a : Shut). a.said) none.1 ∙ none.0)
+    (subst (λ (a : PlainClosedAgent). ClosingHasTold W c.args.number sents work heard works c.args.node.now c.args.coordinator.now a c.messages.coordinator) (sym none.1) h, ap (λ (a : PlainClosedAgent). a.said) none.1 ∙ none.0)

@@ -1,14 +1,14 @@
 use Rattle.std.proofs.Common.{ℕ, length}
 use Rattle.hs_coord.specs.Messages.{Messages}
-use Rattle.hs_run_agent.specs.Work.{Work}
+use Rattle.hs_run_agent.specs.Work.{NodeWork}
 use Rattle.hs_records.specs.Plain.{PlainWorkload}
-use Rattle.hs_run.specs.Shutting.{AllSents, Tells, HasTold}
+use Rattle.hs_run.specs.Shutting.{AllSents, ClosingTells, ClosingHasTold}
 use Rattle.hs_run.proofs.closing.tell.Given as goal
 
 abbrev pub invariant-messages : goal.invariant-messages
 invariant-messages l =
-    (W : PlainWorkload) (sents : AllSents) (work : Work) (heard : Messages) (works : ℕ → Work) → Tells W l.number sents work heard works l.initial.node l.initial.coordinator
-    → HasTold W l.number sents work heard works l.initial.node l.initial.coordinator l.node l.coordinator
+    (W : PlainWorkload) (sents : AllSents) (work : NodeWork) (heard : Messages) (works : ℕ → NodeWork) → ClosingTells W l.number sents work heard works l.initial.node l.initial.coordinator
+    → ClosingHasTold W l.number sents work heard works l.initial.node l.initial.coordinator l.node l.coordinator
 
 abbrev pub decreases-messages : goal.decreases-messages
 decreases-messages l = length l.node.said

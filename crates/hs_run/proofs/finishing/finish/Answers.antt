@@ -4,7 +4,7 @@ use Rattle.std.proofs.lemmas.Result.{IfOk-weaker}
 use Rattle.hs_journal.specs.Books.{client_book_of, agent_book_of}
 use Rattle.hs_report.specs.declared.outcome.Books.{Books}
 use Rattle.hs_workload.specs.Views.{workload_of}
-use Rattle.hs_run_story.specs.Standing.{moved_by, asked_by}
+use Rattle.hs_run_story.specs.RunStates.{moved_by, asked_by}
 use Rattle.hs_run.specs.Ended.{HaveFinished, items_of}
 use Rattle.hs_run.specs.Finished.{AreBooksBehind, AreGathered}
 use Rattle.hs_run.specs.Over.{RoundsOver}

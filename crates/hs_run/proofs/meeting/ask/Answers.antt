@@ -1,6 +1,6 @@
 use Rattle.std.proofs.Common.{◌+◌, get_or, length, length-set, refl, sym, ap, subst, ◌∙◌, arith}
 use Rattle.hs_lists.proofs.Lent.{lent_is, lent_from}
-use Rattle.hs_run.specs.declared.node.Node.{Node}
+use Rattle.hs_run.specs.declared.node.ActingNode.{ActingNode}
 use Rattle.hs_run.specs.Movings.{AskedFirst}
 use Rattle.hs_run.proofs.Moved.{asked_none, asked_more, asked_to_all}
 use Rattle.hs_run.proofs.meeting.ask.Goals as goal
@@ -25,7 +25,7 @@ loop-number-preserved c =
     let h = c.loop-number.invariant in
     let many = h.many in
     let x = get_or now n c.index-as_mut_slice-number.result in
-    let y : Node = record { site = c.ask.new.self; failed = x.failed } in
+    let y : ActingNode = record { site = c.ask.new.self; failed = x.failed } in
     let there = lent_from items now n c.index-as_mut_slice-number.result c.as_mut_slice.ensures.value (omega (arith, low, len, many)) in
     let written = lent_is items now n y c.as_mut_slice.ensures.value in
     record {

@@ -1,7 +1,7 @@
 use Rattle.std.proofs.Common.{◌≡◌, ℕ, length, true}
 use Rattle.hs_base.specs.NodeSets.{has_node}
 use Rattle.hs_run_agent.specs.Agents.{IsAskable}
-use Rattle.hs_run_agent.specs.Work.{Work}
+use Rattle.hs_run_agent.specs.Work.{NodeWork}
 use Rattle.hs_records.specs.Plain.{PlainWorkload}
 use Rattle.hs_run.specs.Movings.{AskedFirst, SitesStand}
 use Rattle.hs_run.proofs.meeting.ask.Given as goal
@@ -10,6 +10,6 @@ abbrev pub invariant-loop-number : goal.invariant-loop-number
 invariant-loop-number l =
     record {
       many : length l.nodes.items ≡ length l.initial.nodes.items;
-      by : (W : PlainWorkload) (works : ℕ → Work) → SitesStand W works l.initial.nodes.items → ((n : ℕ) → has_node l.asks.to n ≡ true → IsAskable W l.asks.ask)
+      by : (W : PlainWorkload) (works : ℕ → NodeWork) → SitesStand W works l.initial.nodes.items → ((n : ℕ) → has_node l.asks.to n ≡ true → IsAskable W l.asks.ask)
           → AskedFirst W l.asks works l.number l.initial.nodes.items l.nodes.items;
     }

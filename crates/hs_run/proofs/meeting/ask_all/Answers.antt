@@ -1,6 +1,6 @@
 use Rattle.std.proofs.Common.{◌<◌, length, refl, sym, ap, subst, ◌∙◌, arith}
-use Rattle.hs_run_agent.specs.Coordinators.{Coordinating, asked_all}
-use Rattle.hs_run_story.specs.Standing.{moved_by, asked_by}
+use Rattle.hs_run_agent.specs.Coordinators.{PlainCoordinatorActor, asked_all}
+use Rattle.hs_run_story.specs.RunStates.{moved_by, asked_by}
 use Rattle.hs_workload.proofs.Sizes.{few_nodes}
 use Rattle.hs_run.specs.Movings.{Moving}
 use Rattle.hs_run.proofs.Moved.{moving_more}
@@ -20,16 +20,16 @@ asks-preserved c = λ W m before first.
     let some = c.in-Some.ensures in
     let next = some.stands W m.heard (moved_by h.works) (asked_by h.works) h.coordinates in
     let asked = c.in_ok-ask.ensures W h.works h.stands (λ n _. next.0) in
-    moving_more W m before c.asks.nodes.items c.ask.new.nodes.items c.asks.coordinator c.next_asks.new.self c.in-Some.asks h asked.0 asked.1 (sym (ap (λ (x : Coordinating). x.kept) some.some))
+    moving_more W m before c.asks.nodes.items c.ask.new.nodes.items c.asks.coordinator c.next_asks.new.self c.in-Some.asks h asked.0 asked.1 (sym (ap (λ (x : PlainCoordinatorActor). x.kept) some.some))
     (next.1 (asked_by (asked_all c.in-Some.asks h.works)) (λ n low. refl))
 
 pub asks-smaller : goal.asks-smaller
 asks-smaller c =
-    let e = ap (λ (x : Coordinating). length x.asks) c.in-Some.ensures.some in
+    let e = ap (λ (x : PlainCoordinatorActor). length x.asks) c.in-Some.ensures.some in
     let less : length c.next_asks.new.self.asks < length c.asks.coordinator.asks = omega (arith, e) in
     less
 
 pub returns : goal.returns
 returns c = λ W m before first.
     let none = c.in_default.ensures.none in
-    (subst (Moving W m before c.asks.nodes.items) (sym none.1) (c.asks.invariant W m before first), ap (λ (x : Coordinating). x.asks) none.1 ∙ none.0)
+    (subst (Moving W m before c.asks.nodes.items) (sym none.1) (c.asks.invariant W m before first), ap (λ (x : PlainCoordinatorActor). x.asks) none.1 ∙ none.0)

@@ -1,12 +1,12 @@
 use Rattle.std.proofs.Common.{length, List}
 use Rattle.hs_records.specs.Plain.{PlainWorkload}
-use Rattle.hs_run_story.specs.Standing.{Moment}
-use Rattle.hs_run.specs.declared.node.Node.{Node}
+use Rattle.hs_run_story.specs.RunStates.{RunState}
+use Rattle.hs_run.specs.declared.node.ActingNode.{ActingNode}
 use Rattle.hs_run.specs.Movings.{Moving}
 use Rattle.hs_run.proofs.meeting.ask_all.Given as goal
 
 abbrev pub invariant-asks : goal.invariant-asks
-invariant-asks l = (W : PlainWorkload) (m : Moment) (before : List Node) → Moving W m before l.initial.nodes.items l.initial.coordinator → Moving W m before l.nodes.items l.coordinator
+invariant-asks l = (W : PlainWorkload) (m : RunState) (before : List ActingNode) → Moving W m before l.initial.nodes.items l.initial.coordinator → Moving W m before l.nodes.items l.coordinator
 
 abbrev pub decreases-asks : goal.decreases-asks
 decreases-asks l = length l.coordinator.asks

@@ -1,6 +1,6 @@
 use Rattle.std.proofs.Common.{◌+◌, get_or, sym, subst, ◌∙◌, arith}
 use Rattle.hs_lists.proofs.Lent.{lent_is, lent_from}
-use Rattle.hs_run.specs.declared.node.Node.{Node}
+use Rattle.hs_run.specs.declared.node.ActingNode.{ActingNode}
 use Rattle.hs_run.specs.Changing.{FirstChanged}
 use Rattle.hs_run.specs.Movings.{HasMet}
 use Rattle.hs_run.proofs.Changed.{first_none, first_more, first_all}
@@ -29,7 +29,7 @@ loop-number-preserved c =
     let len = c.len-count.ensures in
     let many = c.loop-number.invariant.many in
     let x = get_or now n c.index-as_mut_slice-number.result in
-    let y : Node = record { site = c.meet.new.self; failed = x.failed } in
+    let y : ActingNode = record { site = c.meet.new.self; failed = x.failed } in
     let there = lent_from items now n c.index-as_mut_slice-number.result c.as_mut_slice.ensures.value (omega (arith, low, len, many)) in
     subst (FirstChanged HasMet (n + 1) c.args.nodes.now.items) (sym (lent_is items now n y c.as_mut_slice.ensures.value))
     (first_more HasMet n c.args.nodes.now.items items x y c.loop-number.invariant there c.meet.ensures)

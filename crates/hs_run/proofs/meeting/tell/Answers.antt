@@ -1,7 +1,7 @@
 use Rattle.std.proofs.Common.{◌<◌, length, ap, ◌∙◌, sym, subst, arith}
 use Rattle.hs_base.proofs.Updates.{put}
-use Rattle.hs_run_agent.specs.Manned.{Manned}
-use Rattle.hs_run_story.specs.Standing.{moved_by, asked_by}
+use Rattle.hs_run_agent.specs.AgentActors.{PlainAgentActor}
+use Rattle.hs_run_story.specs.RunStates.{moved_by, asked_by}
 use Rattle.hs_run.specs.Movings.{HasTold}
 use Rattle.hs_run.proofs.Telling.{told_none, told_one, told_coordinates}
 use Rattle.hs_run.proofs.meeting.tell.Goals as goal
@@ -21,7 +21,7 @@ messages-preserved c = λ W work heard works t.
 
 pub messages-smaller : goal.messages-smaller
 messages-smaller c =
-    let e = ap (λ (a : Manned). length a.said) c.in-Some.ensures.some in
+    let e = ap (λ (a : PlainAgentActor). length a.said) c.in-Some.ensures.some in
     let less : length c.tell.new.self.said < length c.messages.agent.said = omega (arith, e) in
     less
 
@@ -37,4 +37,4 @@ pub returns : goal.returns
 returns c = λ W work heard works t.
     let none = c.in_default.ensures.none in
     let h = c.messages.invariant W work heard works t in
-    (subst (λ (a : Manned). HasTold W c.args.number work heard works c.args.agent.now c.args.coordinator.now a c.messages.coordinator) (sym none.1) h, ap (λ (a : Manned). a.said) none.1 ∙ none.0)
+    (subst (λ (a : PlainAgentActor). HasTold W c.args.number work heard works c.args.agent.now c.args.coordinator.now a c.messages.coordinator) (sym none.1) h, ap (λ (a : PlainAgentActor). a.said) none.1 ∙ none.0)

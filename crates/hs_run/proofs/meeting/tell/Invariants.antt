@@ -1,13 +1,13 @@
 use Rattle.std.proofs.Common.{ℕ, length}
 use Rattle.hs_coord.specs.Messages.{Messages}
-use Rattle.hs_run_agent.specs.Work.{Work}
+use Rattle.hs_run_agent.specs.Work.{NodeWork}
 use Rattle.hs_records.specs.Plain.{PlainWorkload}
 use Rattle.hs_run.specs.Movings.{Tells, HasTold}
 use Rattle.hs_run.proofs.meeting.tell.Given as goal
 
 abbrev pub invariant-messages : goal.invariant-messages
 invariant-messages l =
-    (W : PlainWorkload) (work : Work) (heard : Messages) (works : ℕ → Work) → Tells W l.number work heard works l.initial.agent l.initial.coordinator
+    (W : PlainWorkload) (work : NodeWork) (heard : Messages) (works : ℕ → NodeWork) → Tells W l.number work heard works l.initial.agent l.initial.coordinator
     → HasTold W l.number work heard works l.initial.agent l.initial.coordinator l.agent l.coordinator
 
 abbrev pub decreases-messages : goal.decreases-messages

@@ -1,6 +1,6 @@
 use Rattle.std.proofs.Common.{◌<◌, ◌+◌, get_or, length, List, sym, subst, arith}
 use Rattle.hs_lists.proofs.Lent.{lent_is, lent_from}
-use Rattle.hs_run.specs.declared.node.Node.{Node}
+use Rattle.hs_run.specs.declared.node.ActingNode.{ActingNode}
 use Rattle.hs_run.specs.Movings.{Telling}
 use Rattle.hs_run.proofs.Moments.{node_count}
 use Rattle.hs_run.proofs.Moved.{telling_none, telling_more, telling_all, tells_at}
@@ -16,7 +16,7 @@ bounds-as_mut_slice-number c =
     let len = c.len-count.ensures in
     let many = (c.loop-number.invariant W m here).moved.many in
     let same = c.as_mut_slice.ensures.value in
-    subst (λ (l : List Node). c.loop-number.number < length l) (sym same) (omega (arith, low, len, many))
+    subst (λ (l : List ActingNode). c.loop-number.number < length l) (sym same) (omega (arith, low, len, many))
 
 pub tell-requires : goal.tell-requires
 tell-requires c =
@@ -49,10 +49,10 @@ loop-number-preserved c = λ W m here.
     let many = h.moved.many in
     let count = node_count W m c.args.nodes.now.items c.args.coordinator.now here in
     let x = get_or now n c.index-as_mut_slice-number.result in
-    let y : Node = record { site = c.tell.new.self; failed = x.failed } in
+    let y : ActingNode = record { site = c.tell.new.self; failed = x.failed } in
     let there = lent_from items now n c.index-as_mut_slice-number.result c.as_mut_slice.ensures.value (omega (arith, low, len, many)) in
     let told = c.in_ok-tell.ensures W (h.works n) m.heard h.works (tells_at W m n c.args.nodes.now.items items c.loop-number.coordinator h x there (omega (arith, low, len, count))) in
-    subst (λ (l : List Node). Telling W m (n + 1) c.args.nodes.now.items l c.tell.new.coordinator) (sym (lent_is items now n y c.as_mut_slice.ensures.value))
+    subst (λ (l : List ActingNode). Telling W m (n + 1) c.args.nodes.now.items l c.tell.new.coordinator) (sym (lent_is items now n y c.as_mut_slice.ensures.value))
     (telling_more W m n c.args.nodes.now.items items c.loop-number.coordinator c.tell.new.coordinator x y h there told.1 told.0 told.2)
 
 pub returns : goal.returns

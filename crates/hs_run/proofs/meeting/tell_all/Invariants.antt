@@ -1,8 +1,8 @@
 use Rattle.hs_records.specs.Plain.{PlainWorkload}
-use Rattle.hs_run_story.specs.Standing.{Moment}
+use Rattle.hs_run_story.specs.RunStates.{RunState}
 use Rattle.hs_run.specs.Moments.{IsHere}
 use Rattle.hs_run.specs.Movings.{Telling}
 use Rattle.hs_run.proofs.meeting.tell_all.Given as goal
 
 abbrev pub invariant-loop-number : goal.invariant-loop-number
-invariant-loop-number l = (W : PlainWorkload) (m : Moment) → IsHere W m l.initial.nodes.items l.initial.coordinator → Telling W m l.number l.initial.nodes.items l.nodes.items l.coordinator
+invariant-loop-number l = (W : PlainWorkload) (m : RunState) → IsHere W m l.initial.nodes.items l.initial.coordinator → Telling W m l.number l.initial.nodes.items l.nodes.items l.coordinator

@@ -6,7 +6,7 @@ use Rattle.std.proofs.lemmas.List.{map-append}
 use Rattle.hs_base.specs.Listing.{Listing}
 use Rattle.hs_journal.specs.Books.{PlainAgentBook, agent_book_of}
 use Rattle.hs_ring.specs.Parts.{Drawing}
-use Rattle.hs_run_agent.specs.Shut.{Shut}
+use Rattle.hs_run_agent.specs.ClosedAgents.{PlainClosedAgent}
 use Rattle.hs_run.specs.Ended.{HasFinished, HaveFinished}
 use Rattle.hs_run.proofs.Taken.{can_finish, finished_more, all_finished}
 use Rattle.hs_run.proofs.pools.close_pools.Goals as goal
@@ -34,14 +34,14 @@ loop-node-preserved c =
     let book = agent_book_of c.in_ok-book.book in
     let has : HasFinished c.in-Some.node c.in-Some.ends.items book = record { book_is = c.in_ok-book.ensures.book; tally = c.in_ok-book.ensures.closes.0; closes = c.in_ok-book.ensures.closes.1 } in
     let l = c.loop-node.yielded in
-    let x : Shut × Listing Drawing = (c.in-Some.node, c.in-Some.ends) in
+    let x : PlainClosedAgent × Listing Drawing = (c.in-Some.node, c.in-Some.ends) in
     let more = finished_more (map (λ p. p.0) l) (map (λ p. p.1.items) l) (map agent_book_of c.loop-node.books.items) c.in-Some.node c.in-Some.ends.items book c.loop-node.invariant.2 has in
     let books : map agent_book_of c.append.new.self.items ≡ map agent_book_of c.loop-node.books.items ++ book ∷ [] = ap (map agent_book_of) c.in_ok-append.ensures.ok ∙ map-append agent_book_of c.loop-node.books.items (c.in_ok-book.book ∷ []) in
-    let firsts : map (λ p. p.0) (l ++ x ∷ []) ≡ map (λ p. p.0) l ++ c.in-Some.node ∷ [] = map-append (λ (p : Shut × Listing Drawing). p.0) l (x ∷ []) in
-    let seconds : map (λ p. p.1.items) (l ++ x ∷ []) ≡ map (λ p. p.1.items) l ++ c.in-Some.ends.items ∷ [] = map-append (λ (p : Shut × Listing Drawing). p.1.items) l (x ∷ []) in (
+    let firsts : map (λ p. p.0) (l ++ x ∷ []) ≡ map (λ p. p.0) l ++ c.in-Some.node ∷ [] = map-append (λ (p : PlainClosedAgent × Listing Drawing). p.0) l (x ∷ []) in
+    let seconds : map (λ p. p.1.items) (l ++ x ∷ []) ≡ map (λ p. p.1.items) l ++ c.in-Some.ends.items ∷ [] = map-append (λ (p : PlainClosedAgent × Listing Drawing). p.1.items) l (x ∷ []) in (
       (tt, tt),
       tt,
-      subst (λ (a : List Shut). HaveFinished a (map (λ p. p.1.items) (l ++ x ∷ [])) (map agent_book_of c.append.new.self.items)) (sym firsts)
+      subst (λ (a : List PlainClosedAgent). HaveFinished a (map (λ p. p.1.items) (l ++ x ∷ [])) (map agent_book_of c.append.new.self.items)) (sym firsts)
           (subst (λ (b : List (List Drawing)). HaveFinished (map (λ p. p.0) l ++ c.in-Some.node ∷ []) b (map agent_book_of c.append.new.self.items)) (sym seconds)
           (subst (λ (b : List PlainAgentBook). HaveFinished (map (λ p. p.0) l ++ c.in-Some.node ∷ []) (map (λ p. p.1.items) l ++ c.in-Some.ends.items ∷ []) b) (sym books) more)),
     )

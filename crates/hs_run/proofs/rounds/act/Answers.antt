@@ -1,7 +1,7 @@
 use Rattle.std.proofs.Common.{◌≡◌, List, sym, subst}
 use Rattle.hs_lists.proofs.Lent.{lent_whole, lent_whole_is}
 use Rattle.hs_workload.specs.Views.{workload_of}
-use Rattle.hs_run.specs.declared.node.Node.{Node}
+use Rattle.hs_run.specs.declared.node.ActingNode.{ActingNode}
 use Rattle.hs_run.specs.Moments.{ActedTo}
 use Rattle.hs_run.specs.Nodes.{AllMayAct, AllHaveActed, NoneFailed}
 use Rattle.hs_run.proofs.Moments.{node_stands, node_low, coordinates, acted_to}
@@ -29,8 +29,8 @@ returns g c = λ m here few.
     let w = c.args.workload.now in
     let items = c.args.nodes.now.items in
     let new = c.act_and_hear.new.nodes in
-    let acted : AllHaveActed w items new = subst (λ (l : List Node). AllHaveActed w l new) c.as_mut_slice.ensures.value c.in_ok-act_and_hear.ensures.acted in
+    let acted : AllHaveActed w items new = subst (λ (l : List ActingNode). AllHaveActed w l new) c.as_mut_slice.ensures.value c.in_ok-act_and_hear.ensures.acted in
     let kept : lent_whole items new ≡ new = lent_whole_is items new acted.count in
     let none : NoneFailed new = subst NoneFailed kept (c.has_failed.ensures c.if-has_failed.false) in
-    subst (λ (l : List Node). ActedTo (workload_of w) m l c.act_and_hear.new.coordinator) (sym kept)
+    subst (λ (l : List ActingNode). ActedTo (workload_of w) m l c.act_and_hear.new.coordinator) (sym kept)
     (acted_to w m items new c.args.coordinator.now c.act_and_hear.new.coordinator here few acted c.in_ok-act_and_hear.ensures.heard none)

@@ -1,13 +1,13 @@
 use Rattle.std.proofs.Common.{◌≡◌, Some, sym, ap, subst, ◌∙◌, arith, rules}
 use Rattle.std.proofs.lemmas.Option.{slice_get-get_or, get_or_from_slice_get, slice_get_within}
 use Rattle.std.proofs.iter.Serving.{serving}
-use Rattle.hs_run.specs.declared.node.Node.{Node}
+use Rattle.hs_run.specs.declared.node.ActingNode.{ActingNode}
 use Rattle.hs_run.specs.Nodes.{HasActedAt}
 use Rattle.hs_run.proofs.rounds.act_all.Goals as goal
 
 pub for_each_mut-requires-clause-accepts : goal.for_each_mut-requires-clause-accepts
 for_each_mut-requires-clause-accepts g c κs inner = λ i p low at. (
-  c.requires.each i p.now (slice_get-get_or c.args.nodes.now i p.now low ∙ ap (λ (x : Node). Some x) (sym at)),
+  c.requires.each i p.now (slice_get-get_or c.args.nodes.now i p.now low ∙ ap (λ (x : ActingNode). Some x) (sym at)),
   (first_of (search rules, grind serving), first_of (search rules, grind serving)),
 )
 
@@ -22,5 +22,5 @@ returns g c =
           let h = (c.for_each_mut.ensures place x (slice_get_within old place x at)).1 in
           let a : h.argument.now ≡ x = h.argument_is ∙ get_or_from_slice_get old place x x at in
           let b : h.after_call.now ≡ y = h.left ∙ get_or_from_slice_get new place y x at' in
-          subst (λ (z : Node). HasActedAt w place x z) b (subst (λ (z : Node). HasActedAt w place z h.after_call.now) a h.call);
+          subst (λ (z : ActingNode). HasActedAt w place x z) b (subst (λ (z : ActingNode). HasActedAt w place z h.after_call.now) a h.call);
     }

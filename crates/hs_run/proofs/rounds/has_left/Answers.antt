@@ -3,7 +3,7 @@ use Rattle.std.proofs.lemmas.Option.{same_Some, slice_get_within}
 use Rattle.hs_lists.proofs.Numbers.{same_or_less}
 use Rattle.hs_lists.proofs.Lent.{lent_from}
 use Rattle.hs_workload.specs.Views.{workload_of}
-use Rattle.hs_run.specs.declared.node.Node.{Node}
+use Rattle.hs_run.specs.declared.node.ActingNode.{ActingNode}
 use Rattle.hs_run.specs.Nodes.{TellsNodeLeft}
 use Rattle.hs_run.proofs.rounds.has_left.Goals as goal
 
@@ -27,7 +27,7 @@ loop-number-preserved c = λ k node low at.
       | inl less ↦ c.loop-number.invariant k node less at
       | inr same ↦
           subst (λ (n : ℕ). TellsNodeLeft (workload_of c.args.workload.now) n node.site false) (sym same)
-          (subst (λ (x : Node). TellsNodeLeft (workload_of c.args.workload.now) c.loop-number.number x.site false) (same_Some (get_or c.as_slice.result.now c.loop-number.number c.index-as_slice-number.result) node (sym there ∙ ap (slice_get c.args.nodes.now.items) (sym same) ∙ at))
+          (subst (λ (x : ActingNode). TellsNodeLeft (workload_of c.args.workload.now) c.loop-number.number x.site false) (same_Some (get_or c.as_slice.result.now c.loop-number.number c.index-as_slice-number.result) node (sym there ∙ ap (slice_get c.args.nodes.now.items) (sym same) ∙ at))
           (subst (TellsNodeLeft (workload_of c.args.workload.now) c.loop-number.number (get_or c.as_slice.result.now c.loop-number.number c.index-as_slice-number.result).site) c.if-has_left_at.false c.has_left_at.ensures))
     ]
 

@@ -1,9 +1,9 @@
 use Rattle.std.proofs.Common.{◌≡◌, ℕ, ◌<◌, Some, false}
 use Rattle.std.specs.Prelude.{slice_get}
 use Rattle.hs_workload.specs.Views.{workload_of}
-use Rattle.hs_run.specs.declared.node.Node.{Node}
+use Rattle.hs_run.specs.declared.node.ActingNode.{ActingNode}
 use Rattle.hs_run.specs.Nodes.{TellsNodeLeft}
 use Rattle.hs_run.proofs.rounds.has_left.Given as goal
 
 abbrev pub invariant-loop-number : goal.invariant-loop-number
-invariant-loop-number l = (k : ℕ) (node : Node) → k < l.number → slice_get l.nodes.items k ≡ Some node → TellsNodeLeft (workload_of l.workload) k node.site false
+invariant-loop-number l = (k : ℕ) (node : ActingNode) → k < l.number → slice_get l.nodes.items k ≡ Some node → TellsNodeLeft (workload_of l.workload) k node.site false

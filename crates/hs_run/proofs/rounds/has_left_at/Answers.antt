@@ -5,7 +5,7 @@ use Rattle.hs_lists.proofs.Places.{get_there}
 use Rattle.hs_base.specs.Listing.{Listing}
 use Rattle.hs_base.specs.declared.settings.Settings.{Settings}
 use Rattle.hs_records.specs.Plain.{PlainWorkload}
-use Rattle.hs_run_story.specs.Standing.{Site}
+use Rattle.hs_run_story.specs.RunStates.{PlainNodeActors}
 use Rattle.hs_law_sends.specs.Sending.{operations_at, place_of}
 use Rattle.hs_workload.specs.Views.{workload_of, operation_of}
 use Rattle.hs_workload.specs.declared.operation.Op.{Op}
@@ -21,7 +21,7 @@ count_of : (W : PlainWorkload) (n number : ℕ) (settings : Settings) (lists : L
     → length ops.items ≡ length (operations_at W (place_of W.settings.clients n number))
 count_of W n number settings lists are ops at = sym (length-map ops.items operation_of) ∙ ap length (are.each number ops at)
 
-tells : (W : PlainWorkload) (n : ℕ) (settings : Settings) (lists : List (Listing Op)) → AreClients W n settings lists → (site : Site) → length site.callers ≡ W.settings.clients → (b : Bool) → TellsSiteLeft lists site b → TellsNodeLeft W n site b
+tells : (W : PlainWorkload) (n : ℕ) (settings : Settings) (lists : List (Listing Op)) → AreClients W n settings lists → (site : PlainNodeActors) → length site.callers ≡ W.settings.clients → (b : Bool) → TellsSiteLeft lists site b → TellsNodeLeft W n site b
 tells W n settings lists are site count true (number, caller, ops, at, found, less) =
     let same = count_of W n number settings lists are ops found in (number, caller, at, omega (arith, less, same))
 tells W n settings lists are site count false none = λ number caller at.

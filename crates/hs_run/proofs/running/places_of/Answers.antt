@@ -3,25 +3,25 @@ use Rattle.std.proofs.lemmas.Iterator.Adapters.{YieldsList-from_vec}
 use Rattle.std.proofs.lemmas.Iterator.Consumers.{YieldsList-end}
 use Rattle.std.proofs.lemmas.List.{map-append}
 use Rattle.hs_lists.proofs.Parts.{map_self}
-use Rattle.hs_run.specs.Over.{place_site}
-use Rattle.hs_run.specs.declared.place.Place.{Place}
-use Rattle.hs_run_story.specs.Standing.{Site}
-use Rattle.hs_run.specs.declared.node.Node.{Node}
+use Rattle.hs_run.specs.Over.{done_node_actors}
+use Rattle.hs_run.specs.declared.done_node.DoneNode.{DoneNode}
+use Rattle.hs_run_story.specs.RunStates.{PlainNodeActors}
+use Rattle.hs_run.specs.declared.node.ActingNode.{ActingNode}
 use Rattle.hs_run.specs.Nodes.{sites_of}
 use Rattle.hs_run.proofs.running.places_of.Goals as goal
 
-site_in : Node → Site
+site_in : ActingNode → PlainNodeActors
 site_in node = node.site
 
 pub loop-node-preserved : goal.loop-node-preserved
 unfolding site_in
 loop-node-preserved c =
-    let placed : Place = record { callers = c.site.inside.callers; agent = c.site.inside.agent } in
-    let more : map place_site c.append.new.self.items ≡ sites_of (c.loop-node.yielded ++ c.in-Some.node ∷ []) =
-    ap (λ (l : List Place). map place_site l) c.in_ok-append.ensures.ok
-    ∙ map-append place_site c.loop-node.places.items (placed ∷ [])
-    ∙ ap (λ (l : List Site). l ++ place_site placed ∷ []) c.loop-node.invariant.2
-    ∙ ap (λ (s : Site). sites_of c.loop-node.yielded ++ s ∷ []) c.site.view_is
+    let placed : DoneNode = record { callers = c.site.inside.callers; agent = c.site.inside.agent } in
+    let more : map done_node_actors c.append.new.self.items ≡ sites_of (c.loop-node.yielded ++ c.in-Some.node ∷ []) =
+    ap (λ (l : List DoneNode). map done_node_actors l) c.in_ok-append.ensures.ok
+    ∙ map-append done_node_actors c.loop-node.places.items (placed ∷ [])
+    ∙ ap (λ (l : List PlainNodeActors). l ++ done_node_actors placed ∷ []) c.loop-node.invariant.2
+    ∙ ap (λ (s : PlainNodeActors). sites_of c.loop-node.yielded ++ s ∷ []) c.site.view_is
     ∙ sym (map-append site_in c.loop-node.yielded (c.in-Some.node ∷ [])) in
     (tt, tt, more)
 
@@ -29,4 +29,4 @@ pub returns : goal.returns
 returns c =
     let all = YieldsList-from_vec {s = c.into_iter-node-iterator.result} c.args.nodes.items (cc) (cc) in
     let last = YieldsList-end all c.loop-node.yielded c.loop-node.node-iterator c.loop-node.yielded_by c.next.result c.next.new.self c.in-None.is c.next.ensures.steps in
-    c.loop-node.invariant.2 ∙ ap (λ (l : List Node). sites_of l) (sym (map_self c.loop-node.yielded) ∙ last.0)
+    c.loop-node.invariant.2 ∙ ap (λ (l : List ActingNode). sites_of l) (sym (map_self c.loop-node.yielded) ∙ last.0)

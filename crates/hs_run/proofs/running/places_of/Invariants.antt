@@ -1,8 +1,8 @@
 use Rattle.std.proofs.Common.{◌≡◌, map}
-use Rattle.hs_run.specs.Over.{place_site}
+use Rattle.hs_run.specs.Over.{done_node_actors}
 use Rattle.hs_run.specs.Nodes.{sites_of}
 use Rattle.hs_run.proofs.running.places_of.Given as goal
 
 abbrev pub invariant-loop-node : goal.invariant-loop-node
 invariant-loop-node l =
-    (goal.iterator-loop-node).can_next l.node-iterator × (goal.iterator-loop-node).is_finite l.node-iterator × (map place_site l.places.items ≡ sites_of l.yielded)
+    (goal.iterator-loop-node).can_next l.node-iterator × (goal.iterator-loop-node).is_finite l.node-iterator × (map done_node_actors l.places.items ≡ sites_of l.yielded)

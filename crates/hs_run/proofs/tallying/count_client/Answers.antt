@@ -2,7 +2,7 @@ use Rattle.std.proofs.Common.{◌≡◌, ℕ, ◌<◌, List, Some, get_or, lengt
 use Rattle.std.proofs.lemmas.List.{length-map}
 use Rattle.hs_lists.proofs.Lent.{lent_is, lent_from, indexed}
 use Rattle.hs_base.specs.Listing.{Listing}
-use Rattle.hs_run_client.specs.Calling.{Calling}
+use Rattle.hs_run_client.specs.ClientActors.{PlainClientActor}
 use Rattle.hs_run.specs.declared.client.ClientCount.{ClientCount}
 use Rattle.hs_run.specs.Counts.{client_count}
 use Rattle.hs_records.specs.Plain.{Operation}
@@ -23,7 +23,7 @@ read_there w place now ops list low same is listed =
     ap (map operation_of) listed ∙ sym (operations_here w place ops there)
 
 -- the count that is read can be counted on over them
-ready : (items now : List ClientCount) (place : ℕ) (ops : List Operation) (list : List Op) (caller : Calling) → now ≡ items → place < length items → map operation_of list ≡ ops
+ready : (items now : List ClientCount) (place : ℕ) (ops : List Operation) (list : List Op) (caller : PlainClientActor) → now ≡ items → place < length items → map operation_of list ≡ ops
     → ((count : ClientCount) → slice_get items place ≡ Some count → MayCountClient ops caller count) → MayCountClient (map operation_of list) caller (get_or now place no_operations)
 ready items now place ops list caller same low read may =
     subst (λ (l : List Operation). MayCountClient l caller (get_or now place no_operations)) (sym read) (may (get_or now place no_operations) (lent_from items now place no_operations same low))

@@ -2,7 +2,7 @@ use Rattle.std.proofs.Common.{◌≡◌, ℕ, ◌<◌, List, Some, get_or, lengt
 use Rattle.hs_lists.proofs.Lent.{lent_from}
 use Rattle.hs_run.specs.declared.log.LogCount.{LogCount}
 use Rattle.hs_journal.specs.declared.journal.Step.{Step}
-use Rattle.hs_run_story.specs.Standing.{Site}
+use Rattle.hs_run_story.specs.RunStates.{PlainNodeActors}
 use Rattle.hs_run.specs.TallyingNodes.{no_steps, MayCountLog}
 use Rattle.hs_run.proofs.tallying.count_log.Goals as goal
 
@@ -13,12 +13,12 @@ ready items now place log read same low is may = subst (λ (l : List Step). MayC
 
 pub count-counted-requires-clause-within : goal.count-counted-requires-clause-within
 count-counted-requires-clause-within c =
-    (ready c.args.counts.now.items c.as_slice.result.now c.args.number c.args.site.now.agent.agent.log c.log.result.now c.as_slice.ensures c.requires.counted (c.log.ensures ∙ ap (λ (s : Site). s.agent.agent.log) c.site.view_is) c.requires.may).within
+    (ready c.args.counts.now.items c.as_slice.result.now c.args.number c.args.site.now.agent.agent.log c.log.result.now c.as_slice.ensures c.requires.counted (c.log.ensures ∙ ap (λ (s : PlainNodeActors). s.agent.agent.log) c.site.view_is) c.requires.may).within
 
 pub count-counted-requires-clause-counted : goal.count-counted-requires-clause-counted
 count-counted-requires-clause-counted c =
-    (ready c.args.counts.now.items c.as_slice.result.now c.args.number c.args.site.now.agent.agent.log c.log.result.now c.as_slice.ensures c.requires.counted (c.log.ensures ∙ ap (λ (s : Site). s.agent.agent.log) c.site.view_is) c.requires.may).counted
+    (ready c.args.counts.now.items c.as_slice.result.now c.args.number c.args.site.now.agent.agent.log c.log.result.now c.as_slice.ensures c.requires.counted (c.log.ensures ∙ ap (λ (s : PlainNodeActors). s.agent.agent.log) c.site.view_is) c.requires.may).counted
 
 pub count-counted-requires-clause-few : goal.count-counted-requires-clause-few
 count-counted-requires-clause-few c =
-    (ready c.args.counts.now.items c.as_slice.result.now c.args.number c.args.site.now.agent.agent.log c.log.result.now c.as_slice.ensures c.requires.counted (c.log.ensures ∙ ap (λ (s : Site). s.agent.agent.log) c.site.view_is) c.requires.may).few
+    (ready c.args.counts.now.items c.as_slice.result.now c.args.number c.args.site.now.agent.agent.log c.log.result.now c.as_slice.ensures c.requires.counted (c.log.ensures ∙ ap (λ (s : PlainNodeActors). s.agent.agent.log) c.site.view_is) c.requires.may).few

@@ -3,7 +3,7 @@ use Rattle.std.proofs.lemmas.Option.{same_Some}
 use Rattle.hs_lists.proofs.Lent.{lent_from}
 use Rattle.hs_lists.proofs.Places.{get_there}
 use Rattle.hs_run.specs.Counts.{log_count}
-use Rattle.hs_run.specs.declared.node.Node.{Node}
+use Rattle.hs_run.specs.declared.node.ActingNode.{ActingNode}
 use Rattle.hs_run.specs.Changing.{FirstChanged}
 use Rattle.hs_run.specs.TallyingNodes.{LogCounted}
 use Rattle.hs_run.proofs.Changed.{first_none, first_more, first_all}
@@ -45,7 +45,7 @@ loop-number-preserved c =
     let (x, stood) = get_there mid n (omega (arith, low, len, many, as_many)) in
     let y = log_count node.site.agent.agent.log in
     subst (FirstChanged (LogCounted nodes) (n + 1) old) (sym c.count_log.ensures)
-    (first_more (LogCounted nodes) n old mid x y c.loop-number.invariant stood (λ at there'. ap (λ (z : Node). log_count z.site.agent.agent.log) (same_Some node at (sym there ∙ there'))))
+    (first_more (LogCounted nodes) n old mid x y c.loop-number.invariant stood (λ at there'. ap (λ (z : ActingNode). log_count z.site.agent.agent.log) (same_Some node at (sym there ∙ there'))))
 
 pub returns : goal.returns
 returns c =

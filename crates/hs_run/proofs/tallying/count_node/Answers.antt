@@ -2,7 +2,7 @@ use Rattle.std.proofs.Common.{◌≡◌, ℕ, length, Some, sym, ap, subst, ◌�
 use Rattle.hs_lists.proofs.Lent.{indexed}
 use Rattle.hs_lists.proofs.Places.{get_there}
 use Rattle.hs_run_agent.proofs.Few.{few_clients}
-use Rattle.hs_run_story.specs.Standing.{Site}
+use Rattle.hs_run_story.specs.RunStates.{PlainNodeActors}
 use Rattle.hs_law_sends.specs.Sending.{place_of}
 use Rattle.hs_workload.specs.Views.{workload_of}
 use Rattle.hs_workload.proofs.Sizes.{product_few, few_nodes, last_low}
@@ -27,7 +27,7 @@ overflow_add-first c =
     let few = product_few c.args.node W.settings.clients (omega (arith, nodes, node)) clients in
     let low = c.loop-number-test.true in
     let len = c.len-number-end.ensures in
-    let view = ap (λ (s : Site). length s.callers) c.site.view_is in
+    let view = ap (λ (s : PlainNodeActors). length s.callers) c.site.view_is in
     let callers = c.requires.many in
     omega (arith, few, clients, low, len, view, callers)
 
@@ -41,7 +41,7 @@ count_client-requires-clause-counted c =
     let last = last_low W r.valid c.args.node r.low in
     let low = c.loop-number-test.true in
     let len = c.len-number-end.ensures in
-    let view = ap (λ (s : Site). length s.callers) c.site.view_is in
+    let view = ap (λ (s : PlainNodeActors). length s.callers) c.site.view_is in
     let callers = r.many in
     let many = c.loop-number.invariant.many in
     let were = r.counts_are in
@@ -54,7 +54,7 @@ count_client-requires-clause-there c =
     let last = last_low W r.valid c.args.node r.low in
     let low = c.loop-number-test.true in
     let len = c.len-number-end.ensures in
-    let view = ap (λ (s : Site). length s.callers) c.site.view_is in
+    let view = ap (λ (s : PlainNodeActors). length s.callers) c.site.view_is in
     let callers = r.many in
     omega (arith, last, low, len, view, callers)
 
@@ -67,7 +67,7 @@ count_client-requires-clause-may c = λ count stood.
     let len = c.len-number-end.ensures in
     let caller = c.index-as_slice-number.result in
     let there = indexed items now n caller c.as_slice.ensures (omega (arith, low, len)) c.index-as_slice-number.is in
-    let found : slice_get c.args.site.now.callers n ≡ Some caller = sym (ap (λ (s : Site). slice_get s.callers n) c.site.view_is) ∙ there in
+    let found : slice_get c.args.site.now.callers n ≡ Some caller = sym (ap (λ (s : PlainNodeActors). slice_get s.callers n) c.site.view_is) ∙ there in
     c.requires.each n caller count found (sym (c.loop-number.invariant.behind (place_of (workload_of c.args.workload.now).settings.clients c.args.node n) (omega arith)) ∙ stood)
 
 pub loop-number-preserved : goal.loop-number-preserved
@@ -80,14 +80,14 @@ loop-number-preserved c =
     let mid = c.loop-number.counts.items in
     let low = c.loop-number-test.true in
     let len = c.len-number-end.ensures in
-    let view = ap (λ (s : Site). length s.callers) c.site.view_is in
+    let view = ap (λ (s : PlainNodeActors). length s.callers) c.site.view_is in
     let callers = r.many in
     let many = c.loop-number.invariant.many in
     let were = r.counts_are in
     let last = last_low W r.valid c.args.node r.low in
     let caller = c.index-as_slice-number.result in
     let there = indexed items now n caller c.as_slice.ensures (omega (arith, low, len)) c.index-as_slice-number.is in
-    let found : slice_get c.args.site.now.callers n ≡ Some caller = sym (ap (λ (s : Site). slice_get s.callers n) c.site.view_is) ∙ there in
+    let found : slice_get c.args.site.now.callers n ≡ Some caller = sym (ap (λ (s : PlainNodeActors). slice_get s.callers n) c.site.view_is) ∙ there in
     let (count, stood) = get_there mid (place_of W.settings.clients c.args.node n) (omega (arith, last, low, len, view, callers, many, were)) in
     one_first W c.args.node c.args.site.now.callers c.args.counts.now.items n mid c.count_client.new.counts.items count caller c.loop-number.invariant found stood c.count_client.ensures
 
@@ -96,7 +96,7 @@ returns c =
     let W = workload_of c.args.workload.now in
     let high = c.loop-number-test.false in
     let len = c.len-number-end.ensures in
-    let view = ap (λ (s : Site). length s.callers) c.site.view_is in
+    let view = ap (λ (s : PlainNodeActors). length s.callers) c.site.view_is in
     let callers = c.requires.many in
     let same : c.loop-number.number ≡ W.settings.clients = omega (arith, high, len, view, callers) in
     subst (λ (n : ℕ). CountedFirst W c.args.node n c.args.site.now.callers c.args.counts.now.items c.loop-number.counts.items) same c.loop-number.invariant

@@ -9,7 +9,7 @@ use Rattle.hs_records.specs.Plain.{Operation}
 use Rattle.hs_law_sends.specs.Sending.{place_of, ops_of}
 use Rattle.hs_workload.specs.Views.{operation_of, workload_of}
 use Rattle.hs_ring.proofs.Making.{new_drawers_length}
-use Rattle.hs_run_client.specs.Calling.{Calling}
+use Rattle.hs_run_client.specs.ClientActors.{PlainClientActor}
 use Rattle.hs_run_client.specs.Making.{IsConnected}
 use Rattle.hs_run_client.specs.Nodes.{AreBegun, Receiving, lefts_of}
 use Rattle.hs_run_client.specs.Standing.{IsDrawerFor}
@@ -118,7 +118,7 @@ loop-drawer-preserved c =
       omega (arith, is.5, added.crumbs.1),
       omega (arith, is.6, added.triggers.1),
       subst (λ n. AreBegun W c.args.node giver n c.add.new.self.callers.items new) count
-          (subst (λ (l : List Calling). AreBegun W c.args.node giver (number + 1) l new) (sym added.callers.0)
+          (subst (λ (l : List PlainClientActor). AreBegun W c.args.node giver (number + 1) l new) (sym added.callers.0)
           (subst (λ (r : Receiving). AreBegun W c.args.node giver (number + 1) (ends.callers.items ++ made.caller ∷ []) r) (sym same) more)),
     )
 

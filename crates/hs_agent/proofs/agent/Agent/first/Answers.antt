@@ -3,7 +3,7 @@ use Rattle.std.specs.List.{AllByRecursion}
 use Rattle.std.proofs.lemmas.Result.{on_ok_weaker}
 use Rattle.hs_lists.proofs.Alls.{all_weaker, all_back}
 use Rattle.hs_agent.specs.Placing.{Placed, IsPledged}
-use Rattle.hs_agent.specs.Keeping.{Kept, Keeping, Holds, Point, IsKept, waiting_chunks}
+use Rattle.hs_agent.specs.Keeping.{Kept, PlainAgent, Holds, Point, IsKept, waiting_chunks}
 use Rattle.hs_agent.specs.Runs.{Run, Follows, point_of, state_of, after_offer}
 use Rattle.hs_agent.proofs.Offered.{offers-first, offers-empty, offers-holds}
 use Rattle.hs_agent.proofs.Following.{follows-offered}
@@ -15,29 +15,29 @@ offer-requires-clause-pledged g c =
     let kept = c.args.self.now.kept in
     let h : Holds kept (point_of run) = c.requires.1.stands.chunks in
     let each = all_back (IsKept kept.leases run.buffers) (waiting_chunks kept h.memory.pinned) kept.hand h.each in
-    subst (λ (k : Keeping g.row.L.Denot). AllByRecursion (IsPledged k.kept.leases) k.kept.hand) (sym c.self.view_is)
+    subst (λ (k : PlainAgent g.row.L.Denot). AllByRecursion (IsPledged k.kept.leases) k.kept.hand) (sym c.self.view_is)
     (all_weaker (IsKept kept.leases run.buffers) (IsPledged kept.leases) (λ (placed : Placed) (k : IsKept kept.leases run.buffers placed). record { lease = k.lease; is = k.kept }) kept.hand each)
 
 pub returns-clause-first : goal.returns-clause-first
 returns-clause-first g c = λ run follows.
     let kept = c.self.inside.holdings in
-    let h : Holds kept (point_of run) = subst (λ (k : Keeping g.row.L.Denot). Holds k.kept (point_of run)) (sym c.self.view_is) follows.stands.chunks in
+    let h : Holds kept (point_of run) = subst (λ (k : PlainAgent g.row.L.Denot). Holds k.kept (point_of run)) (sym c.self.view_is) follows.stands.chunks in
     let none : run.offered ≡ None = sym follows.stands.chunks.offered ∙ c.requires.1.stands.chunks.offered ∙ c.requires.2 in
     offers-first kept c.offer.new.self (point_of run) h (c.standings_partition.ensures run.settings run.node run.events) none {g = g.L.Token} c.offer.result c.offer.ensures.some c.offer.ensures.none
 
 pub returns-clause-empty : goal.returns-clause-empty
 returns-clause-empty g c = λ run follows.
     let kept = c.self.inside.holdings in
-    let h : Holds kept (point_of run) = subst (λ (k : Keeping g.row.L.Denot). Holds k.kept (point_of run)) (sym c.self.view_is) follows.stands.chunks in
+    let h : Holds kept (point_of run) = subst (λ (k : PlainAgent g.row.L.Denot). Holds k.kept (point_of run)) (sym c.self.view_is) follows.stands.chunks in
     let none : run.offered ≡ None = sym follows.stands.chunks.offered ∙ c.requires.1.stands.chunks.offered ∙ c.requires.2 in
     offers-empty kept c.offer.new.self (point_of run) h (c.standings_partition.ensures run.settings run.node run.events) none {g = g.L.Token} c.offer.result c.offer.ensures.none
 
 pub returns-clause-after : goal.returns-clause-after
 returns-clause-after g c = λ run follows.
     let kept = c.self.inside.holdings in
-    let h : Holds kept (point_of run) = subst (λ (k : Keeping g.row.L.Denot). Holds k.kept (point_of run)) (sym c.self.view_is) follows.stands.chunks in
+    let h : Holds kept (point_of run) = subst (λ (k : PlainAgent g.row.L.Denot). Holds k.kept (point_of run)) (sym c.self.view_is) follows.stands.chunks in
     let none : run.offered ≡ None = sym follows.stands.chunks.offered ∙ c.requires.1.stands.chunks.offered ∙ c.requires.2 in
-    let next : Keeping g.row.L.Denot = record { kept = c.offer.new.self; schedule = c.self.inside.scheduler; log = c.reserve.new.self.items; spent = c.self.inside.spent } in
+    let next : PlainAgent g.row.L.Denot = record { kept = c.offer.new.self; schedule = c.self.inside.scheduler; log = c.reserve.new.self.items; spent = c.self.inside.spent } in
     on_ok_weaker c.offer.result
-    (follows-offered c.args.self.now next run follows (ap (λ (k : Keeping g.row.L.Denot). k.schedule) c.self.view_is) (c.in_ok-reserve.ensures.items ∙ ap (λ (k : Keeping g.row.L.Denot). k.log) c.self.view_is) (ap (λ (k : Keeping g.row.L.Denot). k.spent) c.self.view_is))
+    (follows-offered c.args.self.now next run follows (ap (λ (k : PlainAgent g.row.L.Denot). k.schedule) c.self.view_is) (c.in_ok-reserve.ensures.items ∙ ap (λ (k : PlainAgent g.row.L.Denot). k.log) c.self.view_is) (ap (λ (k : PlainAgent g.row.L.Denot). k.spent) c.self.view_is))
     (offers-holds kept c.offer.new.self (point_of run) h (c.standings_partition.ensures run.settings run.node run.events) none {g = g.L.Token} c.offer.result c.offer.ensures.some c.offer.ensures.none)

@@ -1,9 +1,9 @@
 use Rattle.std.proofs.Common.{◌≡◌, length, ap, sym, ◌∙◌}
-use Rattle.hs_agent.specs.Keeping.{Keeping}
+use Rattle.hs_agent.specs.Keeping.{PlainAgent}
 use Rattle.hs_agent.proofs.Offered.{hand_counts}
 use Rattle.hs_agent.specs.Runs.{point_of}
 use Rattle.hs_agent.proofs.agent.Agent.in_hand.Goals as goal
 
 pub returns : goal.returns
 returns g c = λ run follows none.
-    c.in_hand.ensures ∙ ap (λ (k : Keeping g.row.L.Denot). length k.kept.hand) c.self.view_is ∙ hand_counts c.args.self.now.kept (point_of run) follows.stands.chunks none
+    c.in_hand.ensures ∙ ap (λ (k : PlainAgent g.row.L.Denot). length k.kept.hand) c.self.view_is ∙ hand_counts c.args.self.now.kept (point_of run) follows.stands.chunks none

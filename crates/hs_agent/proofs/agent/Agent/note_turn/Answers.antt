@@ -3,7 +3,7 @@ use Rattle.hs_journal.specs.declared.journal.Step.TheVariants as steps
 use Rattle.hs_law_agent.specs.Turning as model
 use Rattle.hs_agent.specs.declared.input.Input.{Input}
 use Rattle.hs_agent.specs.declared.input.Input.TheVariants as inputs
-use Rattle.hs_agent.specs.Keeping.{Keeping, with_state}
+use Rattle.hs_agent.specs.Keeping.{PlainAgent, with_state}
 use Rattle.hs_agent.specs.Runs.{Run, Follows, StandsAt, after_turn, point_of, state_of}
 use Rattle.hs_agent.proofs.Following.{follows-taken, nothing-came}
 use Rattle.hs_agent.proofs.agent.Agent.note_turn.Goals as goal
@@ -11,17 +11,17 @@ use Rattle.hs_agent.proofs.agent.Agent.note_turn.Goals as goal
 pub turn-requires : goal.turn-requires
 turn-requires g c =
     let run = c.requires.0 in
-    let stands : StandsAt c.self.inside.holdings c.self.inside.scheduler (point_of run) = subst (λ (k : Keeping g.row.L.Denot). StandsAt k.kept k.schedule (point_of run)) (sym c.self.view_is) c.requires.1.stands in
+    let stands : StandsAt c.self.inside.holdings c.self.inside.scheduler (point_of run) = subst (λ (k : PlainAgent g.row.L.Denot). StandsAt k.kept k.schedule (point_of run)) (sym c.self.view_is) c.requires.1.stands in
     (point_of run, stands, c.lists_have_their_chunks.ensures run.settings run.node run.events)
 
 pub returns : goal.returns
 returns g c = λ run follows.
-    let stands : StandsAt c.self.inside.holdings c.self.inside.scheduler (point_of run) = subst (λ (k : Keeping g.row.L.Denot). StandsAt k.kept k.schedule (point_of run)) (sym c.self.view_is) follows.stands in
-    let next : Keeping g.row.L.Denot = record { kept = c.turn.new.holdings; schedule = c.turn.new.scheduler; log = c.push.new.self.items; spent = c.self.inside.spent } in
+    let stands : StandsAt c.self.inside.holdings c.self.inside.scheduler (point_of run) = subst (λ (k : PlainAgent g.row.L.Denot). StandsAt k.kept k.schedule (point_of run)) (sym c.self.view_is) follows.stands in
+    let next : PlainAgent g.row.L.Denot = record { kept = c.turn.new.holdings; schedule = c.turn.new.scheduler; log = c.push.new.self.items; spent = c.self.inside.spent } in
     let input : Input g.row.L.Denot g.L.Token = inputs.Turn in
     subst (λ buffers. Follows next (record (after_turn run) { buffers = buffers })) (append-nil run.buffers)
     (follows-taken c.args.self.now next run follows c.events_go_on.ensures {g = g.L.Token} input
     (nothing-came c.turn.new.holdings c.turn.new.scheduler (with_state (model.turn run.settings (state_of run)) (point_of run))
     (c.in_ok-turn.ensures (point_of run) stands (c.lists_have_their_chunks.ensures run.settings run.node run.events)))
-    (c.push.ensures.items ∙ (λ i. (c.in_ok-reserve.ensures.items ∙ ap (λ (k : Keeping g.row.L.Denot). k.log) c.self.view_is) i ++ steps.Turn ∷ []))
-    (ap (λ (k : Keeping g.row.L.Denot). k.spent) c.self.view_is))
+    (c.push.ensures.items ∙ (λ i. (c.in_ok-reserve.ensures.items ∙ ap (λ (k : PlainAgent g.row.L.Denot). k.log) c.self.view_is) i ++ steps.Turn ∷ []))
+    (ap (λ (k : PlainAgent g.row.L.Denot). k.spent) c.self.view_is))

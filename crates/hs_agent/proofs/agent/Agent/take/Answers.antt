@@ -1,6 +1,6 @@
 use Rattle.std.proofs.Common.{◌≡◌, [], ◌∷◌, ◌++◌, List, sym, ap, subst, ◌∙◌}
 use Rattle.hs_law_agent.specs.Laws.{PlacesMatch}
-use Rattle.hs_agent.specs.Keeping.{Kept, Keeping, Holds, Point}
+use Rattle.hs_agent.specs.Keeping.{Kept, PlainAgent, Holds, Point}
 use Rattle.hs_agent.specs.Runs.{Run, Follows, StandsAt, IsTakable, point_of, state_of, taken_in}
 use Rattle.hs_agent.proofs.Following.{follows-taken}
 use Rattle.hs_agent.proofs.agent.Agent.take.Goals as goal
@@ -8,19 +8,19 @@ use Rattle.hs_agent.proofs.agent.Agent.take.Goals as goal
 pub take_input-requires : goal.take_input-requires
 take_input-requires g c =
     let run = c.requires.0 in
-    let stands : StandsAt c.self.inside.holdings c.self.inside.scheduler (point_of run) = subst (λ (k : Keeping g.row.L.Denot). StandsAt k.kept k.schedule (point_of run)) (sym c.self.view_is) c.requires.1.stands in
+    let stands : StandsAt c.self.inside.holdings c.self.inside.scheduler (point_of run) = subst (λ (k : PlainAgent g.row.L.Denot). StandsAt k.kept k.schedule (point_of run)) (sym c.self.view_is) c.requires.1.stands in
     (point_of run, stands, c.requires.2, c.lists_have_their_chunks.ensures run.settings run.node run.events)
 
 pub returns-clause-told : goal.returns-clause-told
 returns-clause-told g c = λ run follows.
-    let h : Holds c.self.inside.holdings (point_of run) = subst (λ (k : Keeping g.row.L.Denot). Holds k.kept (point_of run)) (sym c.self.view_is) follows.stands.chunks in
+    let h : Holds c.self.inside.holdings (point_of run) = subst (λ (k : PlainAgent g.row.L.Denot). Holds k.kept (point_of run)) (sym c.self.view_is) follows.stands.chunks in
     c.in_ok-told.ensures.told (point_of run) h
 
 pub returns-clause-after : goal.returns-clause-after
 returns-clause-after g c = λ run follows.
-    let stands : StandsAt c.self.inside.holdings c.self.inside.scheduler (point_of run) = subst (λ (k : Keeping g.row.L.Denot). StandsAt k.kept k.schedule (point_of run)) (sym c.self.view_is) follows.stands in
-    let next : Keeping g.row.L.Denot = record { kept = c.take_input.new.holdings; schedule = c.take_input.new.scheduler; log = c.push.new.self.items; spent = c.self.inside.spent } in
+    let stands : StandsAt c.self.inside.holdings c.self.inside.scheduler (point_of run) = subst (λ (k : PlainAgent g.row.L.Denot). StandsAt k.kept k.schedule (point_of run)) (sym c.self.view_is) follows.stands in
+    let next : PlainAgent g.row.L.Denot = record { kept = c.take_input.new.holdings; schedule = c.take_input.new.scheduler; log = c.push.new.self.items; spent = c.self.inside.spent } in
     follows-taken c.args.self.now next run follows c.events_go_on.ensures {g = g.L.Token} c.args.input
     (c.in_ok-told.ensures.after (point_of run) stands (c.lists_have_their_chunks.ensures run.settings run.node run.events))
-    (c.push.ensures.items ∙ (λ i. (c.in_ok-reserve.ensures.items ∙ ap (λ (k : Keeping g.row.L.Denot). k.log) c.self.view_is) i ++ c.step_of-step.ensures i ∷ []))
-    (ap (λ (k : Keeping g.row.L.Denot). k.spent) c.self.view_is)
+    (c.push.ensures.items ∙ (λ i. (c.in_ok-reserve.ensures.items ∙ ap (λ (k : PlainAgent g.row.L.Denot). k.log) c.self.view_is) i ++ c.step_of-step.ensures i ∷ []))
+    (ap (λ (k : PlainAgent g.row.L.Denot). k.spent) c.self.view_is)

@@ -6,7 +6,7 @@ use Rattle.hs_pins.specs.Remembered.{Remembered, pin_of}
 use Rattle.hs_pins.specs.Abandoning.{leaving, relieved, drops}
 use Rattle.hs_pins.specs.PinsLayout.{Remembers}
 use Rattle.hs_pins.proofs.Sound.{staying_few}
-use Rattle.hs_agent.specs.declared.placed.Place.{Place}
+use Rattle.hs_agent.specs.declared.placed.ArrivalPlace.{ArrivalPlace}
 use Rattle.hs_agent.specs.Keeping.{Kept}
 use Rattle.hs_agent.specs.KeptLayout.{kept_in}
 use Rattle.hs_agent.specs.LettingGo.{let_go_all, abandoned_going}

@@ -7,7 +7,7 @@ use Rattle.hs_pins.specs.PinsLayout.{Pinning, Remembers}
 use Rattle.hs_index.specs.Index.{Index, noted_of}
 use Rattle.hs_words.specs.Buffers.{buffer_of}
 use Rattle.hs_law_agent.specs.Claiming.{claim_trace, claim_unclaimed}
-use Rattle.hs_agent.specs.declared.placed.Place.{Place}
+use Rattle.hs_agent.specs.declared.placed.ArrivalPlace.{ArrivalPlace}
 use Rattle.hs_agent.specs.Keeping.{Kept, Point, Holds, with_state}
 use Rattle.hs_agent.specs.KeptLayout.{kept_in}
 use Rattle.hs_agent.proofs.Outcomes.{none_mapped, some_mapped}

@@ -6,7 +6,7 @@ use Rattle.hs_pins.specs.Remembered.{Remembered, arrived, comes_back, pin_of}
 use Rattle.hs_pins.specs.PinsLayout.{Remembers}
 use Rattle.hs_pins.specs.Abandoning.{drops, relieved}
 use Rattle.hs_pins.proofs.Remembering.{arrived-back}
-use Rattle.hs_agent.specs.declared.placed.Place.{Place}
+use Rattle.hs_agent.specs.declared.placed.ArrivalPlace.{ArrivalPlace}
 use Rattle.hs_agent.specs.Keeping.{Kept}
 use Rattle.hs_agent.specs.KeptLayout.{kept_in}
 use Rattle.hs_agent.specs.LettingGo.{Going, let_go, let_go_all, abandoned_going, abandoned_fate}

@@ -2,7 +2,7 @@ use Rattle.std.proofs.Common.{◌≡◌, ◌∷◌, ◌++◌, [], List, ℕ, map
 use Rattle.std.proofs.lemmas.List.{map-append}
 use Rattle.std.proofs.lemmas.List.Elements.{All-head, All-tail}
 use Rattle.hs_pins.specs.Remembered.{Pin, pin_of}
-use Rattle.hs_agent.specs.declared.placed.Place.{Place}
+use Rattle.hs_agent.specs.declared.placed.ArrivalPlace.{ArrivalPlace}
 use Rattle.hs_agent.specs.Keeping.{Kept}
 use Rattle.hs_agent.specs.KeptLayout.{kept_in}
 use Rattle.hs_agent.specs.LettingGo.{let_go, page_in, reported_going}
@@ -12,13 +12,13 @@ use Rattle.hs_agent.proofs.holdings.Holdings.report.Goals as goal
 pub page_of-requires : goal.page_of-requires
 page_of-requires g c =
     let sent : c.loop-dropped.self.sent ≡ pin_of c.in-Some.dropped ∷ map pin_of c.pop_front.new.self.items = sym (ap (λ (k : Kept g.row.L.Denot). k.sent) c.self.view_is) ∙ ap (map pin_of) c.in-Some.ensures.items in
-    All-head (λ (pin : Pin Place). IsSome pin.chunk.chunk.page) (pin_of c.in-Some.dropped) (map pin_of c.pop_front.new.self.items)
-    (subst (All (λ (pin : Pin Place). IsSome pin.chunk.chunk.page)) sent c.loop-dropped.invariant.1)
+    All-head (λ (pin : Pin ArrivalPlace). IsSome pin.chunk.chunk.page) (pin_of c.in-Some.dropped) (map pin_of c.pop_front.new.self.items)
+    (subst (All (λ (pin : Pin ArrivalPlace). IsSome pin.chunk.chunk.page)) sent c.loop-dropped.invariant.1)
 
 pub loop-dropped-preserved : goal.loop-dropped-preserved
 loop-dropped-preserved g c =
-    let pin : Pin Place = pin_of c.in-Some.dropped in
-    let rest : List (Pin Place) = map pin_of c.pop_front.new.self.items in
+    let pin : Pin ArrivalPlace = pin_of c.in-Some.dropped in
+    let rest : List (Pin ArrivalPlace) = map pin_of c.pop_front.new.self.items in
     let sent : c.loop-dropped.self.sent ≡ pin ∷ rest = sym (ap (λ (k : Kept g.row.L.Denot). k.sent) c.self.view_is) ∙ ap (map pin_of) c.in-Some.ensures.items in
     let pages : map (λ page. page.items) c.append.new.self.items ≡ map (λ page. page.items) c.self.inside.pages.items ++ page_in pin ∷ [] =
     ap (map (λ page. page.items)) c.in_ok-append.ensures.ok
@@ -29,6 +29,6 @@ loop-dropped-preserved g c =
     ∙ ap (λ (ps : List (List ℕ)). let_go (record (kept_in {L = g.row.L.Denot} {g = g.L.Token} c.self.inside) { sent = rest; pages = ps }) (reported_going pin)) pages
     ∙ ap (λ (k : Kept g.row.L.Denot). let_go (record k { sent = rest; pages = k.pages ++ page_in pin ∷ [] }) (reported_going pin)) c.self.view_is in (
       reported_first c.loop-dropped.self pin rest c.let_go.new.self sent next ∙ c.loop-dropped.invariant.0,
-      subst (All (λ (p : Pin Place). IsSome p.chunk.chunk.page)) (sym (ap (λ (k : Kept g.row.L.Denot). k.sent) next))
-          (All-tail (λ (p : Pin Place). IsSome p.chunk.chunk.page) pin rest (subst (All (λ (p : Pin Place). IsSome p.chunk.chunk.page)) sent c.loop-dropped.invariant.1)),
+      subst (All (λ (p : Pin ArrivalPlace). IsSome p.chunk.chunk.page)) (sym (ap (λ (k : Kept g.row.L.Denot). k.sent) next))
+          (All-tail (λ (p : Pin ArrivalPlace). IsSome p.chunk.chunk.page) pin rest (subst (All (λ (p : Pin ArrivalPlace). IsSome p.chunk.chunk.page)) sent c.loop-dropped.invariant.1)),
     )

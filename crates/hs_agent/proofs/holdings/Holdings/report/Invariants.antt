@@ -1,12 +1,12 @@
 use Rattle.std.proofs.Common.{◌≡◌, length, All, IsSome}
 use Rattle.hs_pins.specs.Remembered.{Pin}
-use Rattle.hs_agent.specs.declared.placed.Place.{Place}
+use Rattle.hs_agent.specs.declared.placed.ArrivalPlace.{ArrivalPlace}
 use Rattle.hs_agent.specs.LettingGo.{reported}
 use Rattle.hs_agent.proofs.holdings.Holdings.report.Given as goal
 
 -- what is left to report leads to the same
 abbrev pub invariant-loop-dropped : goal.invariant-loop-dropped
-invariant-loop-dropped g l = (reported l.self ≡ reported l.fn.self) × All (λ (pin : Pin Place). IsSome pin.chunk.chunk.page) l.self.sent
+invariant-loop-dropped g l = (reported l.self ≡ reported l.fn.self) × All (λ (pin : Pin ArrivalPlace). IsSome pin.chunk.chunk.page) l.self.sent
 
 abbrev pub decreases-loop-dropped : goal.decreases-loop-dropped
 decreases-loop-dropped g l = length l.self.sent

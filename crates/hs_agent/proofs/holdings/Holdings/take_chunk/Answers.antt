@@ -9,7 +9,7 @@ use Rattle.hs_words.specs.Buffers.{buffer_of}
 use Rattle.hs_pins.specs.Remembered.{Claim, claim_of, claim_for}
 use Rattle.hs_pins.specs.PinsLayout.{Remembers}
 use Rattle.hs_law_agent.specs.Books.{page_standing}
-use Rattle.hs_agent.specs.declared.placed.Place.{Place}
+use Rattle.hs_agent.specs.declared.placed.ArrivalPlace.{ArrivalPlace}
 use Rattle.hs_agent.specs.Placing.{Placed, placed_at}
 use Rattle.hs_agent.specs.Keeping.{Kept, Point, Holds}
 use Rattle.hs_agent.specs.KeptLayout.{kept_in}

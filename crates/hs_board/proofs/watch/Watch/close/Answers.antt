@@ -6,14 +6,14 @@ use Rattle.hs_base.specs.Listing.{Listing}
 use Rattle.hs_board.specs.Looking.{Looking}
 use Rattle.hs_board.specs.Shown.{IsFront}
 use Rattle.hs_board.specs.declared.progress.Progress.{Progress}
-use Rattle.hs_board.specs.Watching.{Showing, Stands, KnowLast, EndsAtLatest, IsSeenOf}
+use Rattle.hs_board.specs.Watching.{Showing, WatchStands, KnowLast, EndsAtLatest, IsSeenOf}
 use Rattle.hs_board.proofs.Kept.{seen_of}
 use Rattle.hs_board.proofs.watch.Watch.close.Goals as goal
 
 pub returns-clause-seen : goal.returns-clause-seen
 returns-clause-seen g c =
     subst
-    (λ (v : Showing). Stands v → KnowLast v → EndsAtLatest v.one × EndsAtLatest v.other → IfOk c.two_lists.result (λ seen. AllByRecursion (λ (list : Listing Progress). IsSeenOf v.shown list.items) seen.items))
+    (λ (v : Showing). WatchStands v → KnowLast v → EndsAtLatest v.one × EndsAtLatest v.other → IfOk c.two_lists.result (λ seen. AllByRecursion (λ (list : Listing Progress). IsSeenOf v.shown list.items) seen.items))
     c.self.view_is
     (λ stands knows ends.
     let shown = c.self.inside.writer in

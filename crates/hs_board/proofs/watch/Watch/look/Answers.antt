@@ -1,7 +1,7 @@
 use Rattle.std.proofs.Common.{refl, sym, subst}
-use Rattle.hs_board.specs.Watching.{Showing, Stands}
+use Rattle.hs_board.specs.Watching.{Showing, WatchStands}
 use Rattle.hs_board.proofs.Kept.{both}
 use Rattle.hs_board.proofs.watch.Watch.look.Goals as goal
 
 pub returns-clause-stands : goal.returns-clause-stands
-returns-clause-stands g c = λ h. both (record { shown = c.self.inside.writer; one = c.self.inside.one; other = c.self.inside.other }) (record { shown = c.self.inside.writer; one = c.look_both.new.one; other = c.look_both.new.other }) refl c.look_both.ensures.0 c.look_both.ensures.1 (subst (λ (v : Showing). Stands v) (sym c.self.view_is) h)
+returns-clause-stands g c = λ h. both (record { shown = c.self.inside.writer; one = c.self.inside.one; other = c.self.inside.other }) (record { shown = c.self.inside.writer; one = c.look_both.new.one; other = c.look_both.new.other }) refl c.look_both.ensures.0 c.look_both.ensures.1 (subst (λ (v : Showing). WatchStands v) (sym c.self.view_is) h)

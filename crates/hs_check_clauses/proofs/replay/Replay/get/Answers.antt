@@ -2,7 +2,7 @@ use Rattle.std.proofs.Common.{◌≡◌, ℕ, ◌+◌, ◌<◌, ◌≤◌, List,
 use Rattle.std.proofs.lemmas.Bool.{eq-eqb}
 use Rattle.std.proofs.lemmas.List.{get_or_default}
 use Rattle.hs_words.specs.PoolHistory.{Got}
-use Rattle.hs_check_clauses.specs.Replaying.{Stands}
+use Rattle.hs_check_clauses.specs.Replaying.{ReplayStands}
 use Rattle.hs_check_clauses.proofs.Replayed.{front_low, out_few, got_is, got}
 use Rattle.hs_check_clauses.proofs.replay.Replay.get.Goals as goal
 
@@ -29,5 +29,5 @@ returns c = λ n earlier at.
     let within : b < n = omega (arith, low, is) in
     let now : c.index_mut.result.now ≡ get_or r.out.items b 0 = c.index_mut.ensures.value ∙ sym (get_or_default r.out.items b 0 c.index_mut.result.now (omega (arith, within, at.many))) in (
       sym (eq-eqb (get_or r.waiting.items r.gone 0) b is) ∙ got_is n earlier r.waiting.items r.gone r.out.items r.owed at b less,
-      subst (λ v. Stands n (Got b ∷ earlier) r.waiting.items (r.gone + 1) (set r.out.items b (v + 1)) r.owed) (sym now) (got n earlier r.waiting.items r.gone r.out.items r.owed at b less is),
+      subst (λ v. ReplayStands n (Got b ∷ earlier) r.waiting.items (r.gone + 1) (set r.out.items b (v + 1)) r.owed) (sym now) (got n earlier r.waiting.items r.gone r.out.items r.owed at b less is),
     )

@@ -1,7 +1,7 @@
 use Rattle.std.proofs.Common.{◌≡◌, ℕ, ◌+◌, ◌-◌, ◌<◌, ◌≤◌, ◌++◌, List, [], ◌∷◌, length, get_or, set, subst, sym, ap, ◌∙◌, arith}
 use Rattle.std.proofs.lemmas.List.{get_or_default}
 use Rattle.hs_words.specs.PoolHistory.{Given as Gave}
-use Rattle.hs_check_clauses.specs.Replaying.{Stands}
+use Rattle.hs_check_clauses.specs.Replaying.{ReplayStands}
 use Rattle.hs_check_clauses.proofs.Replayed.{give_strange, give_again, may_give, given}
 use Rattle.hs_check_clauses.proofs.replay.Replay.give.Goals as goal
 
@@ -20,6 +20,6 @@ returns c = λ n earlier at.
     let now : c.index_mut.result.now ≡ get_or r.out.items b 0 = c.index_mut.ensures.value ∙ sym (get_or_default r.out.items b 0 c.index_mut.result.now here) in
     let joined : c.push.new.self.items ≡ r.waiting.items ++ b ∷ [] = c.in_ok-push.ensures.items in (
       may_give n earlier r.waiting.items r.gone r.out.items r.owed at b within some,
-      subst (λ (l : List ℕ). Stands n (Gave b ∷ earlier) l r.gone (set r.out.items b (c.index_mut.result.now - 1)) r.owed) (sym joined)
-          (subst (λ v. Stands n (Gave b ∷ earlier) (r.waiting.items ++ b ∷ []) r.gone (set r.out.items b (v - 1)) r.owed) (sym now) (given n earlier r.waiting.items r.gone r.out.items r.owed at b within some)),
+      subst (λ (l : List ℕ). ReplayStands n (Gave b ∷ earlier) l r.gone (set r.out.items b (c.index_mut.result.now - 1)) r.owed) (sym joined)
+          (subst (λ v. ReplayStands n (Gave b ∷ earlier) (r.waiting.items ++ b ∷ []) r.gone (set r.out.items b (v - 1)) r.owed) (sym now) (given n earlier r.waiting.items r.gone r.out.items r.owed at b within some)),
     )

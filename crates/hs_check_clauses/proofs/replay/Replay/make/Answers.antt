@@ -1,7 +1,7 @@
 use Rattle.std.proofs.Common.{◌≡◌, ℕ, ◌++◌, List, [], ◌∷◌, replicate, subst, sym, ap, ◌∙◌, arith}
 use Rattle.std.specs.List.{range_with_len}
 use Rattle.std.proofs.lemmas.List.{replicate_more}
-use Rattle.hs_check_clauses.specs.Replaying.{Stands}
+use Rattle.hs_check_clauses.specs.Replaying.{ReplayStands}
 use Rattle.hs_check_clauses.proofs.Replayed.{stands_first, range_push}
 use Rattle.hs_check_clauses.proofs.replay.Replay.make.Goals as goal
 
@@ -17,5 +17,5 @@ pub returns : goal.returns
 returns c =
     let n = c.args.buffers in
     let all : c.loop-buffer.buffer ≡ n = omega arith in
-    subst (λ (l : List ℕ). Stands n [] l 0 c.loop-buffer.out.items 0) (sym (c.loop-buffer.invariant.waiting ∙ ap (range_with_len 0) all))
-    (subst (λ (l : List ℕ). Stands n [] (range_with_len 0 n) 0 l 0) (sym (c.loop-buffer.invariant.out ∙ ap (λ k. replicate k 0) all)) (stands_first n))
+    subst (λ (l : List ℕ). ReplayStands n [] l 0 c.loop-buffer.out.items 0) (sym (c.loop-buffer.invariant.waiting ∙ ap (range_with_len 0) all))
+    (subst (λ (l : List ℕ). ReplayStands n [] (range_with_len 0 n) 0 l 0) (sym (c.loop-buffer.invariant.out ∙ ap (λ k. replicate k 0) all)) (stands_first n))

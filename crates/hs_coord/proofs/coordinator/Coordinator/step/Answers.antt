@@ -1,7 +1,7 @@
 use Rattle.std.proofs.Common.{◌≡◌, ◌≤◌, ◌∷◌, ◌++◌, [], arith, refl, ap, subst, ◌∙◌}
 use Rattle.hs_lists.proofs.Counts.{one_if, from_bool_one, one_few}
 use Rattle.hs_coord.specs.Following.{message}
-use Rattle.hs_coord.specs.Kept.{Kept}
+use Rattle.hs_coord.specs.Kept.{PlainCoordinator}
 use Rattle.hs_coord.specs.Leading.{Leads}
 use Rattle.hs_coord.proofs.KeptLemmas.{taken, asked_for}
 use Rattle.hs_coord.proofs.OpenLemmas.{counted_led, no_less, few}
@@ -9,14 +9,14 @@ use Rattle.hs_coord.proofs.coordinator.Coordinator.step.Goals as goal
 
 pub returns-clause-taken : goal.returns-clause-taken
 returns-clause-taken c = λ messages h.
-    let l = subst (λ (s : Kept). Leads s.groups c.follow.new.groups.entries (message c.args.node c.args.told) c.in_ok-led.led) c.self.view_is c.in_ok-led.ensures.led in
+    let l = subst (λ (s : PlainCoordinator). Leads s.groups c.follow.new.groups.entries (message c.args.node c.args.told) c.in_ok-led.led) c.self.view_is c.in_ok-led.ensures.led in
     taken c.args.self.now messages (message c.args.node c.args.told) l.begun l.next c.in_ok-led.led.asks.to h l.begins l.takes
-    (c.push.ensures.items ∙ ap (λ x. x ++ c.args.node ∷ []) (c.in_ok-reserve.ensures.items ∙ ap (λ (s : Kept). s.log) c.self.view_is))
+    (c.push.ensures.items ∙ ap (λ x. x ++ c.args.node ∷ []) (c.in_ok-reserve.ensures.items ∙ ap (λ (s : PlainCoordinator). s.log) c.self.view_is))
     l.writes
 
 pub returns-clause-asks : goal.returns-clause-asks
 returns-clause-asks c = λ messages h.
-    let l = subst (λ (s : Kept). Leads s.groups c.follow.new.groups.entries (message c.args.node c.args.told) c.in_ok-led.led) c.self.view_is c.in_ok-led.ensures.led in
+    let l = subst (λ (s : PlainCoordinator). Leads s.groups c.follow.new.groups.entries (message c.args.node c.args.told) c.in_ok-led.led) c.self.view_is c.in_ok-led.ensures.led in
     asked_for c.args.self.now messages (message c.args.node c.args.told) l.begun l.next c.in_ok-led.led.asks.to h l.begins l.takes c.in_ok-led.led.asks l.ask refl
 
 pub overflow_sub-self : goal.overflow_sub-self

@@ -1,7 +1,7 @@
 use Rattle.std.proofs.Common.{sym, ◌∙◌, subst}
 use Rattle.hs_records.specs.Plain.{Crumb as LeaveCrumb}
 use Rattle.hs_live.specs.declared.called.Called.TheVariants.{Done}
-use Rattle.hs_live.specs.Live.{Live}
+use Rattle.hs_live.specs.Live.{PlainClient}
 use Rattle.hs_live.specs.Done.{Does}
 use Rattle.hs_live.specs.ClientInside.{live_of}
 use Rattle.hs_live.proofs.Doing.{crumb_done}
@@ -10,7 +10,7 @@ use Rattle.hs_live.proofs.client.Client.crumb.Goals as goal
 pub returns-clause-does : goal.returns-clause-does
 returns-clause-does c =
     let s = c.self.inside in
-    let new : Live = live_of (record { writer = s.writer; autos = s.autos; crumbs = c.send.new.self; triggers = s.triggers }) in
-    subst (λ (old : Live). Does (LeaveCrumb c.args.node) Done old new) c.self.view_is
+    let new : PlainClient = live_of (record { writer = s.writer; autos = s.autos; crumbs = c.send.new.self; triggers = s.triggers }) in
+    subst (λ (old : PlainClient). Does (LeaveCrumb c.args.node) Done old new) c.self.view_is
     (crumb_done (record { numbered = c.one_operation_more.ensures.numbered; crumbs = c.one_operation_more.ensures.crumbs; triggers = c.one_operation_more.ensures.triggers })
     c.args.node c.in-Some.trace (live_of s) c.send.new.self (sym c.trace.ensures ∙ c.in-Some.is) c.send.ensures.sent)

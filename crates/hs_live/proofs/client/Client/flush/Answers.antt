@@ -5,7 +5,7 @@ use Rattle.std.specs.List.{AllByRecursion}
 use Rattle.hs_base.specs.Rules.{fired_by, is_declared}
 use Rattle.hs_auto.specs.Watching.{Watch}
 use Rattle.hs_live.specs.Keys.{Key}
-use Rattle.hs_live.specs.Live.{Live, Flushes, outgoing}
+use Rattle.hs_live.specs.Live.{PlainClient, Flushes, outgoing}
 use Rattle.hs_live.specs.Inside.{writing_in}
 use Rattle.hs_live.proofs.Sound.{sound_kept}
 use Rattle.hs_live.specs.Done.{DoesNothing}
@@ -56,11 +56,11 @@ pub returns-clause-chunks : goal.returns-clause-chunks
 returns-clause-chunks c =
     let s = c.self.inside in
     let flushed = c.flush-chunks.ensures in
-    subst (λ (old : Live). Flushes old.chunks (outgoing c.flush-chunks.new.self)) c.self.view_is (flushes_buffers s.writer.chunks c.flush-chunks.new.self flushed.same flushed.sent flushed.put (λ some. flushed.kept (omega (arith, some, flushed.left))))
+    subst (λ (old : PlainClient). Flushes old.chunks (outgoing c.flush-chunks.new.self)) c.self.view_is (flushes_buffers s.writer.chunks c.flush-chunks.new.self flushed.same flushed.sent flushed.put (λ some. flushed.kept (omega (arith, some, flushed.left))))
 
 pub returns-clause-does : goal.returns-clause-does
 returns-clause-does c =
     let s = c.self.inside in
-    let new : Live = live_of (record { writer = record { core = s.writer.core; drawer = s.writer.drawer; chunks = c.flush-chunks.new.self }; autos = s.autos; crumbs = c.flush-crumbs.new.self; triggers = c.flush-triggers.new.self }) in
-    subst (λ (old : Live). DoesNothing old new) c.self.view_is
+    let new : PlainClient = live_of (record { writer = record { core = s.writer.core; drawer = s.writer.drawer; chunks = c.flush-chunks.new.self }; autos = s.autos; crumbs = c.flush-crumbs.new.self; triggers = c.flush-triggers.new.self }) in
+    subst (λ (old : PlainClient). DoesNothing old new) c.self.view_is
     (nothing_done (live_of s) new refl refl refl refl refl (keeps_buffers s.writer.chunks c.flush-chunks.new.self c.flush-chunks.ensures.sent) c.flush-crumbs.ensures.sent c.flush-triggers.ensures.sent)

@@ -6,7 +6,7 @@ use Rattle.hs_base.specs.declared.told.Trigger.{Trigger}
 use Rattle.hs_auto.specs.Watching.{Watch}
 use Rattle.hs_link.specs.Contents.{Outgoing, sent}
 use Rattle.hs_live.specs.Keys.{Key}
-use Rattle.hs_live.specs.Live.{Live, Port, IsMate, outgoing, incoming}
+use Rattle.hs_live.specs.Live.{PlainClient, Port, IsMate, outgoing, incoming}
 use Rattle.hs_live.specs.Calls.{MeetsAt}
 use Rattle.hs_live.specs.ClientInside.{live_of}
 use Rattle.hs_live.specs.Inside.{writing_in}
@@ -17,7 +17,7 @@ use Rattle.hs_live.proofs.client.Client.meet.Goals as goal
 pub meet_at-requires : goal.meet_at-requires
 meet_at-requires c =
     let items = c.args.chunks.now.items in
-    mate_of_buffers items c.args.number c.self.inside.writer.chunks (subst (λ (l : Live). IsMate c.args.number (map incoming items) l.chunks) (sym c.self.view_is) c.requires.chunks)
+    mate_of_buffers items c.args.number c.self.inside.writer.chunks (subst (λ (l : PlainClient). IsMate c.args.number (map incoming items) l.chunks) (sym c.self.view_is) c.requires.chunks)
 
 pub invariant_of-self : goal.invariant_of-self
 invariant_of-self c =
@@ -44,9 +44,9 @@ returns-clause-met c =
     let number = c.args.number in
     let old : Port = record { giver = c.args.giver.now; chunks = map incoming c.args.chunks.now.items; crumbs = c.args.crumbs.now.items; triggers = c.args.triggers.now.items } in
     let new : Port = record { giver = c.meet.new.self; chunks = map incoming c.meet_at.new.receivers.items; crumbs = c.meet_at-2.new.receivers.items; triggers = c.meet_at-3.new.receivers.items } in
-    let client : Live =
+    let client : PlainClient =
     live_of (record { writer = record { core = s.writer.core; drawer = c.meet.new.drawer; chunks = c.meet_at.new.sender }; autos = s.autos; crumbs = c.meet_at-2.new.sender; triggers = c.meet_at-3.new.sender }) in
-    subst (λ (l : Live). MeetsAt number old l new client) c.self.view_is
+    subst (λ (l : PlainClient). MeetsAt number old l new client) c.self.view_is
     (record {
       chunks = met_buffers c.args.chunks.now.items c.meet_at.new.receivers.items number s.writer.chunks c.meet_at.new.sender c.meet_at.ensures;
       crumbs = c.meet_at-2.ensures;

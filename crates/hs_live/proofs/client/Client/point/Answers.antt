@@ -2,7 +2,7 @@ use Rattle.std.proofs.Common.{IsSome, refl, subst, rules}
 use Rattle.hs_records.specs.Plain.{Point}
 use Rattle.hs_live.specs.declared.called.Called.TheVariants.{Done}
 use Rattle.hs_live.specs.declared.writer.Writer.{Writer}
-use Rattle.hs_live.specs.Live.{Live}
+use Rattle.hs_live.specs.Live.{PlainClient}
 use Rattle.hs_live.specs.Done.{Does}
 use Rattle.hs_live.specs.ClientInside.{live_of}
 use Rattle.hs_live.proofs.Doing.{point_done}
@@ -12,8 +12,8 @@ pub returns-clause-does : goal.returns-clause-does
 returns-clause-does c =
     let s = c.self.inside in
     let p = c.point.ensures in
-    let with : Writer → Live = λ w. live_of (record { writer = w; autos = s.autos; crumbs = s.crumbs; triggers = s.triggers }) in
+    let with : Writer → PlainClient = λ w. live_of (record { writer = w; autos = s.autos; crumbs = s.crumbs; triggers = s.triggers }) in
     let some : IsSome s.writer.core.trace = search rules in
-    subst (λ (old : Live). Does (Point c.args.moment c.args.payload.now) Done old (with c.point.new.self)) c.self.view_is
+    subst (λ (old : PlainClient). Does (Point c.args.moment c.args.payload.now) Done old (with c.point.new.self)) c.self.view_is
     (point_done (record { numbered = c.one_operation_more.ensures.numbered; crumbs = c.one_operation_more.ensures.crumbs; triggers = c.one_operation_more.ensures.triggers })
     c.args.moment c.args.payload.now (live_of s) (with c.point.new.self) some p.trace p.number p.page p.written (record { autos = refl; crumbs = refl; triggers = refl }))

@@ -7,7 +7,7 @@ use Rattle.hs_auto.specs.declared.sampled.Sampled.TheVariants.{Quiet, Fired}
 use Rattle.hs_link.specs.Contents.{sent}
 use Rattle.hs_law_sends.proofs.Sampling.{rules_set}
 use Rattle.hs_live.specs.declared.called.Called.TheVariants.{Done}
-use Rattle.hs_live.specs.Live.{Live}
+use Rattle.hs_live.specs.Live.{PlainClient}
 use Rattle.hs_live.specs.Done.{Does}
 use Rattle.hs_live.specs.Calls.{IsAutoOf}
 use Rattle.hs_live.specs.ClientInside.{live_of}
@@ -22,10 +22,10 @@ returns-in-Quiet-clause-does c =
     let place = c.args.auto in
     let default = c.index-autos-auto.result in
     let x = get_or now place default in
-    let f = is_found items now place default c.args.trigger (subst (λ (l : Live). IsAutoOf l place c.args.trigger) (sym c.self.view_is) c.requires.auto) c.as_mut_slice-autos.ensures.value in
+    let f = is_found items now place default c.args.trigger (subst (λ (l : PlainClient). IsAutoOf l place c.args.trigger) (sym c.self.view_is) c.requires.auto) c.as_mut_slice-autos.ensures.value in
     let autos = lent items now place c.sample.new.self in
-    let new : Live = live_of (record { writer = s.writer; autos = record { items = autos; room = s.autos.room }; crumbs = s.crumbs; triggers = s.triggers }) in
-    subst (λ (old : Live). Does (Sample c.args.moment place c.args.value) Done old new) c.self.view_is
+    let new : PlainClient = live_of (record { writer = s.writer; autos = record { items = autos; room = s.autos.room }; crumbs = s.crumbs; triggers = s.triggers }) in
+    subst (λ (old : PlainClient). Does (Sample c.args.moment place c.args.value) Done old new) c.self.view_is
     (sample_done (record { numbered = c.one_operation_more.ensures.numbered; crumbs = c.one_operation_more.ensures.crumbs; triggers = c.one_operation_more.ensures.triggers })
     c.args.moment place c.args.value c.args.trigger c.in-Some.lead (live_of s) x c.sample.new.self Quiet autos s.triggers (sym c.trace.ensures ∙ c.in-Some.is) f.found f.fires
     c.in-Quiet.ensures.answer c.sample.ensures.after c.sample.ensures.rule (lent_is items now place c.sample.new.self c.as_mut_slice-autos.ensures.value) (sym (append-nil (sent s.triggers))))
@@ -37,8 +37,8 @@ returns-in-Quiet-clause-rules c =
     let place = c.args.auto in
     let default = c.index-autos-auto.result in
     let x = get_or now place default in
-    let f = is_found items now place default c.args.trigger (subst (λ (l : Live). IsAutoOf l place c.args.trigger) (sym c.self.view_is) c.requires.auto) c.as_mut_slice-autos.ensures.value in
-    subst (λ (old : Live). map (λ (w : Watch). w.rule) (lent items now place c.sample.new.self) ≡ map (λ (w : Watch). w.rule) old.autos) c.self.view_is
+    let f = is_found items now place default c.args.trigger (subst (λ (l : PlainClient). IsAutoOf l place c.args.trigger) (sym c.self.view_is) c.requires.auto) c.as_mut_slice-autos.ensures.value in
+    subst (λ (old : PlainClient). map (λ (w : Watch). w.rule) (lent items now place c.sample.new.self) ≡ map (λ (w : Watch). w.rule) old.autos) c.self.view_is
     (ap (λ (l : List Watch). map (λ (w : Watch). w.rule) l) (lent_is items now place c.sample.new.self c.as_mut_slice-autos.ensures.value) ∙ rules_set items place x c.sample.new.self f.found c.sample.ensures.rule)
 
 pub returns-in-Fired-clause-does : goal.returns-in-Fired-clause-does
@@ -49,10 +49,10 @@ returns-in-Fired-clause-does c =
     let place = c.args.auto in
     let default = c.index-autos-auto.result in
     let x = get_or now place default in
-    let f = is_found items now place default c.args.trigger (subst (λ (l : Live). IsAutoOf l place c.args.trigger) (sym c.self.view_is) c.requires.auto) c.as_mut_slice-autos.ensures.value in
+    let f = is_found items now place default c.args.trigger (subst (λ (l : PlainClient). IsAutoOf l place c.args.trigger) (sym c.self.view_is) c.requires.auto) c.as_mut_slice-autos.ensures.value in
     let autos = lent items now place c.sample.new.self in
-    let new : Live = live_of (record { writer = s.writer; autos = record { items = autos; room = s.autos.room }; crumbs = s.crumbs; triggers = c.send.new.self }) in
-    subst (λ (old : Live). Does (Sample c.args.moment place c.args.value) Done old new) c.self.view_is
+    let new : PlainClient = live_of (record { writer = s.writer; autos = record { items = autos; room = s.autos.room }; crumbs = s.crumbs; triggers = c.send.new.self }) in
+    subst (λ (old : PlainClient). Does (Sample c.args.moment place c.args.value) Done old new) c.self.view_is
     (sample_done (record { numbered = c.one_operation_more.ensures.numbered; crumbs = c.one_operation_more.ensures.crumbs; triggers = c.one_operation_more.ensures.triggers })
     c.args.moment place c.args.value c.args.trigger c.in-Some.lead (live_of s) x c.sample.new.self (Fired c.in-Fired.laterals) autos c.send.new.self (sym c.trace.ensures ∙ c.in-Some.is) f.found f.fires
     c.in-Fired.ensures.answer c.sample.ensures.after c.sample.ensures.rule (lent_is items now place c.sample.new.self c.as_mut_slice-autos.ensures.value) c.send.ensures.sent)
@@ -64,6 +64,6 @@ returns-in-Fired-clause-rules c =
     let place = c.args.auto in
     let default = c.index-autos-auto.result in
     let x = get_or now place default in
-    let f = is_found items now place default c.args.trigger (subst (λ (l : Live). IsAutoOf l place c.args.trigger) (sym c.self.view_is) c.requires.auto) c.as_mut_slice-autos.ensures.value in
-    subst (λ (old : Live). map (λ (w : Watch). w.rule) (lent items now place c.sample.new.self) ≡ map (λ (w : Watch). w.rule) old.autos) c.self.view_is
+    let f = is_found items now place default c.args.trigger (subst (λ (l : PlainClient). IsAutoOf l place c.args.trigger) (sym c.self.view_is) c.requires.auto) c.as_mut_slice-autos.ensures.value in
+    subst (λ (old : PlainClient). map (λ (w : Watch). w.rule) (lent items now place c.sample.new.self) ≡ map (λ (w : Watch). w.rule) old.autos) c.self.view_is
     (ap (λ (l : List Watch). map (λ (w : Watch). w.rule) l) (lent_is items now place c.sample.new.self c.as_mut_slice-autos.ensures.value) ∙ rules_set items place x c.sample.new.self f.found c.sample.ensures.rule)

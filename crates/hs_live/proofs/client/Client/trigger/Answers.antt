@@ -1,7 +1,7 @@
 use Rattle.std.proofs.Common.{subst}
 use Rattle.hs_records.specs.Plain.{Fire}
 use Rattle.hs_live.specs.declared.called.Called.TheVariants.{Done}
-use Rattle.hs_live.specs.Live.{Live}
+use Rattle.hs_live.specs.Live.{PlainClient}
 use Rattle.hs_live.specs.Done.{Does}
 use Rattle.hs_live.specs.ClientInside.{live_of}
 use Rattle.hs_live.proofs.Doing.{trigger_done}
@@ -10,7 +10,7 @@ use Rattle.hs_live.proofs.client.Client.trigger.Goals as goal
 pub returns-clause-does : goal.returns-clause-does
 returns-clause-does c =
     let s = c.self.inside in
-    let new : Live = live_of (record { writer = s.writer; autos = s.autos; crumbs = s.crumbs; triggers = c.send.new.self }) in
-    subst (λ (old : Live). Does (Fire c.args.trigger) Done old new) c.self.view_is
+    let new : PlainClient = live_of (record { writer = s.writer; autos = s.autos; crumbs = s.crumbs; triggers = c.send.new.self }) in
+    subst (λ (old : PlainClient). Does (Fire c.args.trigger) Done old new) c.self.view_is
     (trigger_done (record { numbered = c.one_operation_more.ensures.numbered; crumbs = c.one_operation_more.ensures.crumbs; triggers = c.one_operation_more.ensures.triggers })
     c.args.trigger (live_of s) c.send.new.self c.send.ensures.sent)

@@ -1,7 +1,7 @@
 use Rattle.std.proofs.Common.{◌≡◌, [], ◌∷◌, ◌++◌, map, sym, ap, subst, ◌∙◌}
 use Rattle.indexmap.proofs.CallerLemmas.{insert_entry-new}
 use Rattle.hs_base.specs.Ids.{same_trace}
-use Rattle.hs_pins.specs.declared.claims.Note.{Note}
+use Rattle.hs_pins.specs.declared.claims.ClaimNote.{ClaimNote}
 use Rattle.hs_pins.specs.ClaimsLayout.{ClaimList, claim_from, AreNoted}
 use Rattle.hs_pins.proofs.Noted.{Notes, unclaimed_note, are_noted-more, place_within, note_added}
 use Rattle.hs_pins.proofs.claims.Claims.add.Goals as goal
@@ -9,7 +9,7 @@ use Rattle.hs_pins.proofs.claims.Claims.add.Goals as goal
 pub invariant_of-self : goal.invariant_of-self
 invariant_of-self c =
     let same = ap (λ (l : ClaimList). l.claims) c.self.view_is in
-    let note : Note = record { party = c.place_of-party.result; crumbs = c.args.crumbs } in
+    let note : ClaimNote = record { party = c.place_of-party.result; crumbs = c.args.crumbs } in
     let none = unclaimed_note c.self.inside.parties.items c.self.inside.notes.entries c.args.self.now.claims c.args.trace same c.requires.unclaimed in
     let entries : c.insert.new.self.entries ≡ c.self.inside.notes.entries ++ (c.args.trace, note) ∷ [] = c.in-Ok.ensures.entries ∙ insert_entry-new same_trace c.self.inside.notes c.args.trace note none in
     subst (λ (ns : Notes). AreNoted c.place_of-party.new.parties.items ns) (sym entries)
@@ -19,7 +19,7 @@ invariant_of-self c =
 pub returns : goal.returns
 returns c =
     let same = ap (λ (l : ClaimList). l.claims) c.self.view_is in
-    let note : Note = record { party = c.place_of-party.result; crumbs = c.args.crumbs } in
+    let note : ClaimNote = record { party = c.place_of-party.result; crumbs = c.args.crumbs } in
     let none = unclaimed_note c.self.inside.parties.items c.self.inside.notes.entries c.args.self.now.claims c.args.trace same c.requires.unclaimed in
     let entries : c.insert.new.self.entries ≡ c.self.inside.notes.entries ++ (c.args.trace, note) ∷ [] = c.in-Ok.ensures.entries ∙ insert_entry-new same_trace c.self.inside.notes c.args.trace note none in
     ap (map (claim_from c.place_of-party.new.parties.items)) entries

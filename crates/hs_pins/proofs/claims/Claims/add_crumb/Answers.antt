@@ -2,7 +2,7 @@ use Rattle.std.proofs.Common.{map, refl, sym, ap, subst, ◌∙◌}
 use Rattle.std.specs.Prelude.{not}
 use Rattle.std.specs.Map.{set_value}
 use Rattle.hs_base.specs.Ids.{same_trace}
-use Rattle.hs_pins.specs.declared.claims.Note.{Note}
+use Rattle.hs_pins.specs.declared.claims.ClaimNote.{ClaimNote}
 use Rattle.hs_pins.specs.ClaimsLayout.{ClaimList, claim_from, AreNoted}
 use Rattle.hs_pins.proofs.Noted.{Notes, claimed_note, are_noted-set, crumb_there, crumb_noted}
 use Rattle.hs_pins.proofs.claims.Claims.add_crumb.Goals as goal
@@ -13,7 +13,7 @@ unreachable-requires c =
 
 pub invariant_of-self : goal.invariant_of-self
 invariant_of-self c =
-    let new : Note = record { party = c.in-Some.note.now.party; crumbs = c.with-note.result } in
+    let new : ClaimNote = record { party = c.in-Some.note.now.party; crumbs = c.with-note.result } in
     subst (λ (ns : Notes). AreNoted c.self.inside.parties.items ns) (sym (c.get_mut.follows.holds new).0)
     (are_noted-set c.self.inside.parties.items c.self.inside.notes.entries c.args.crumb.trace c.in-Some.note.now new c.self.invariant (sym c.in-Some.ensures.value) refl)
 
@@ -24,7 +24,7 @@ returns-clause-fresh c =
 
 pub returns-clause-adds : goal.returns-clause-adds
 returns-clause-adds c =
-    let new : Note = record { party = c.in-Some.note.now.party; crumbs = c.with-note.result } in
+    let new : ClaimNote = record { party = c.in-Some.note.now.party; crumbs = c.with-note.result } in
     ap (map (claim_from c.self.inside.parties.items)) (c.get_mut.follows.holds new).0
     ∙ ap (λ crumbs. map (claim_from c.self.inside.parties.items) (set_value (same_trace c.args.crumb.trace) c.self.inside.notes.entries (record { party = c.in-Some.note.now.party; crumbs = crumbs }))) c.with-note.ensures.value
     ∙ crumb_noted c.self.inside.parties.items c.self.inside.notes.entries c.args.self.now.claims c.args.crumb.trace c.args.crumb.node c.in-Some.note.now (ap (λ (l : ClaimList). l.claims) c.self.view_is) (sym c.in-Some.ensures.value)

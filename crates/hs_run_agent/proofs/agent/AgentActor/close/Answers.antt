@@ -6,9 +6,9 @@ use Rattle.hs_live.specs.Keys.{Key}
 use Rattle.hs_live.specs.Live.{incoming, outgoing}
 use Rattle.hs_ring.specs.Parts.{Leased}
 use Rattle.hs_words.specs.Buffers.{Buffer}
-use Rattle.hs_run_agent.specs.Manned.{desk_of}
+use Rattle.hs_run_agent.specs.AgentActors.{working_agent_of}
 use Rattle.hs_run_agent.specs.Resting.{AreRests}
-use Rattle.hs_run_agent.specs.Shut.{Shut, AreMatesOf}
+use Rattle.hs_run_agent.specs.ClosedAgents.{PlainClosedAgent, AreMatesOf}
 use Rattle.hs_run_agent.proofs.Resting.{buffered, held_ends, rests_buffered}
 use Rattle.hs_run_agent.proofs.Shutting.{ends_of, shut_so}
 use Rattle.hs_run_agent.proofs.agent.AgentActor.close.Goals as goal
@@ -38,7 +38,7 @@ returns-clause-shut c = λ W work manned.
     let a = c.in_ok-rests_of.field-0.items in
     let b = c.in_ok-rests_of-2.field-0.items in
     let d = c.in_ok-rests_of-3.field-0.items in
-    let shut : Shut = record {
+    let shut : PlainClosedAgent = record {
       agent = c.self.inside.desk.agent;
       giver = parts.giver;
       chunks = buffered a;
@@ -51,4 +51,4 @@ returns-clause-shut c = λ W work manned.
     shut_so W work c.args.self shut (map outgoing c.args.chunks.items) c.args.crumbs.items c.args.triggers.items manned
     (subst (λ (l : List (Incoming (Buffer Leased) Key)). AreRests (map outgoing c.args.chunks.items) l (buffered a)) chunks (rests_buffered c.args.chunks.items parts.chunks.items a c.in_ok-rests_of.ensures))
     (subst (λ (l : List (Incoming Crumb Key)). AreRests c.args.crumbs.items l b) crumbs c.in_ok-rests_of-2.ensures)
-    (subst (λ (l : List (Incoming Trigger Key)). AreRests c.args.triggers.items l d) triggers c.in_ok-rests_of-3.ensures) (ap desk_of c.self.view_is) (ap (λ p. p.giver) c.parts-giver.ensures ∙ ap (λ m. m.port.giver) c.self.view_is) (ap (λ m. m.clients) c.self.view_is)
+    (subst (λ (l : List (Incoming Trigger Key)). AreRests c.args.triggers.items l d) triggers c.in_ok-rests_of-3.ensures) (ap working_agent_of c.self.view_is) (ap (λ p. p.giver) c.parts-giver.ensures ∙ ap (λ m. m.port.giver) c.self.view_is) (ap (λ m. m.clients) c.self.view_is)

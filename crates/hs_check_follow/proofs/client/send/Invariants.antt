@@ -1,0 +1,8 @@
+use Rattle.std.proofs.Common.{map}
+use Rattle.hs_records.specs.Plain.{settings_of}
+use Rattle.hs_workload.specs.Views.{operation_of}
+use Rattle.hs_check_follow.specs.Gathering.{IsSentBy}
+use Rattle.hs_check_follow.proofs.client.send.Given as goal
+
+abbrev pub invariant-loop-number : goal.invariant-loop-number
+invariant-loop-number l = IsSentBy (settings_of l.settings) l.fn.client (map operation_of l.operations) l.draws l.number l.script l.player l.gathering

@@ -1,0 +1,11 @@
+use Rattle.hs_journal.specs.Views.{journal_of}
+use Rattle.hs_law_journal.specs.Following.{Run}
+use Rattle.hs_workload.specs.Views.{workload_of}
+use Rattle.hs_check_follow.specs.Whole.{AllAt, left_of}
+use Rattle.hs_check_follow.proofs.run.FollowedRun.follow.Given as goal
+
+abbrev pub invariant-steps : goal.invariant-steps
+invariant-steps l = (run : Run) → AllAt (workload_of l.workload) (journal_of l.journal) run l.initial.self.nodes.items l.initial.self.hearing → (now : Run) × AllAt (workload_of l.workload) (journal_of l.journal) now l.self.nodes.items l.self.hearing
+
+abbrev pub decreases-steps : goal.decreases-steps
+decreases-steps l = left_of (journal_of l.journal) l.self

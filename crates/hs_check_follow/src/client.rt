@@ -1,0 +1,78 @@
+//! What a client sends.
+
+ghost use Rattle.std.specs.Prelude.{◌≡◌, length, map, IfOk};
+ghost use Rattle.hs_records.specs.Pages.{pages_of};
+ghost use Rattle.hs_records.specs.Plain.{settings_of};
+ghost use Rattle.hs_law_sends.specs.Playable.{IsPlayable};
+ghost use Rattle.hs_workload.specs.Views.{operation_of};
+ghost use Rattle.hs_check_follow.specs.Sendings.{IsFollowedClient};
+
+use crate::filling::Filling;
+use crate::gathering::Gathering;
+use crate::script::Script;
+use hs_base::{ClientId, Crumb, List, Memory, Settings, Trigger};
+use hs_check_clauses::FoundClient;
+use hs_journal::{ClientBook, Draw};
+use hs_law_sends::laws::{
+    all_is_sent_in_the_end, timed_pages_are_the_pages, timed_pages_are_timely,
+};
+use hs_replay_client::ReplayClient;
+use hs_workload::Op;
+use std::alloc::Global;
+use std::collections::VecDeque;
+
+/// What a client sends at the draws of a journal: its chunks, which are filled one by one when they are asked for, its crumbs and triggers,
+/// all in order and with the number of the operation that sends them, and what it notes. The buffers of the chunks have numbers of their
+/// own, and not those of the draws.
+#[derive(Drop)]
+pub struct FollowedClient {
+    pub chunks: Filling,
+    pub crumbs: VecDeque<Crumb>,
+    pub triggers: VecDeque<Trigger>,
+    pub found: FoundClient,
+    pub book: ClientBook,
+}
+
+/// What a client of a valid workload with these settings and operations sends at these draws, one for each of its pages.
+pub fn send(
+    alloc: Global,
+    client: ClientId,
+    settings: &Settings,
+    operations: &[Op],
+    draws: &[Draw],
+) -> Result<FollowedClient, Memory>
+    requires playable { IsPlayable (settings_of settings.now) (map operation_of operations.now) }
+    requires each { length draws.now ≡ length (pages_of settings.now.size (map operation_of operations.now)) }
+    ensures { IfOk result (IsFollowedClient (settings_of settings.now) client (map operation_of operations.now) draws.now) }
+{
+    all_is_sent_in_the_end();
+    timed_pages_are_the_pages();
+    timed_pages_are_timely();
+    let rules = settings.autos.as_slice();
+    let mut script = Script::make(alloc, settings.size, draws)?;
+    let mut player = ReplayClient::make(alloc, client, settings, operations)?;
+    let mut gathering = Gathering::new(alloc);
+    for number in 0..operations.len() {
+        gathering.go(number, rules, operations, &mut script, &mut player)?;
+    }
+    let noted = player.finish();
+    let mut draws_noted = List::new(alloc);
+    draws_noted.append_slice(draws)?;
+    let chunks = Filling::make(alloc, client, settings, operations, draws)?;
+    let Gathering {
+        crumbs,
+        triggers,
+        found,
+    } = gathering;
+    Ok(FollowedClient {
+        chunks,
+        crumbs,
+        triggers,
+        found,
+        book: ClientBook {
+            client: noted.client,
+            draws: draws_noted,
+            pages: noted.pages,
+        },
+    })
+}

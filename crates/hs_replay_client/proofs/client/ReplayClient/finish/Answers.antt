@@ -1,0 +1,15 @@
+use Rattle.std.proofs.Common.{length, sym, subst}
+use Rattle.hs_journal.specs.Books.{client_book_of}
+use Rattle.hs_replay_client.specs.ReplayClients.{PlainReplayClient}
+use Rattle.hs_replay_client.specs.ReplayClientInside.{replay_client_in}
+use Rattle.hs_replay_client.specs.Places.{IsDone, ReplayClientIsAt}
+use Rattle.hs_replay_client.proofs.Finishing.{is_closed, noted}
+use Rattle.hs_replay_client.proofs.client.ReplayClient.finish.Goals as goal
+
+pub finish-requires : goal.finish-requires
+finish-requires c = is_closed (replay_client_in c.self.inside) (subst IsDone (sym c.self.view_is) c.requires)
+
+pub returns : goal.returns
+returns c = λ settings client ops drawn k l m at.
+    noted c.any_steps_make_the_book.ensures settings client ops drawn k l m (replay_client_in c.self.inside)
+    (subst (λ (p : PlainReplayClient). ReplayClientIsAt settings client ops drawn (length ops) k l m p) (sym c.self.view_is) at) (client_book_of c.finish.result) c.finish.ensures.client c.finish.ensures.draws c.finish.ensures.pages

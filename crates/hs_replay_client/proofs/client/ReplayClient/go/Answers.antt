@@ -1,0 +1,37 @@
+use Rattle.std.proofs.Common.{map, arith}
+use Rattle.std.proofs.lemmas.Result.{on_ok_weaker}
+use Rattle.hs_law_sends.specs.SoFar.{done_behind}
+use Rattle.hs_workload.specs.Views.{operation_of}
+use Rattle.hs_replay_client.proofs.Pooling.{drew, went_pooled}
+use Rattle.hs_replay_client.proofs.client.ReplayClient.go.Goals as goal
+
+pub go_on-requires : goal.go_on-requires
+go_on-requires c =
+    let w = c.requires.within in
+    record {
+      settings = w.settings;
+      client = w.client;
+      drawn = w.drawn;
+      done = w.done;
+      k = w.k;
+      l = w.l;
+      m = w.m;
+      at = w.at;
+      rules_are = w.rules_are;
+      ready = λ fewer few. let stamps = c.requires.stamps in (w.sized, omega (arith, few, stamps));
+    }
+
+pub returns-clause-goes : goal.returns-clause-goes
+returns-clause-goes c =
+    on_ok_weaker c.go_on.result
+    (λ goes. λ settings client drawn done k l m history at after.
+    let ops = map operation_of c.args.operations.now in
+    went_pooled settings client ops drawn done (done_behind c.args.stride done ops) k l m history c.args.self.now c.go_on.new.self c.args.pool.now c.go_on.new.well at after (goes settings client drawn done k l m at))
+    c.go_on.ensures
+
+pub returns-clause-pool : goal.returns-clause-pool
+returns-clause-pool c =
+    let w = c.requires.within in
+    on_ok_weaker c.go_on.result
+    (λ goes. let went = goes w.settings w.client w.drawn w.done w.k w.l w.m w.at in let d = drew went.more c.args.pool.now c.go_on.new.well went.draws in (d.buffers, d.sized))
+    c.go_on.ensures

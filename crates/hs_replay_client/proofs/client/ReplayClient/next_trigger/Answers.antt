@@ -1,0 +1,13 @@
+use Rattle.std.proofs.Common.{subst}
+use Rattle.hs_replay_client.specs.ReplayClients.{PlainReplayClient}
+use Rattle.hs_replay_client.specs.ReplayClientInside.{replay_client_in}
+use Rattle.hs_replay_client.specs.Places.{TakesTrigger}
+use Rattle.hs_replay_client.proofs.Taking.{takes_trigger}
+use Rattle.hs_replay_client.proofs.client.ReplayClient.next_trigger.Goals as goal
+
+pub returns : goal.returns
+returns c =
+    let s = c.self.inside in
+    let new : PlainReplayClient = replay_client_in (record { doing = record { writer = s.doing.writer; autos = s.doing.autos; crumbs = s.doing.crumbs; triggers = c.pop_front.new.self }; done = s.done }) in
+    subst (λ (old : PlainReplayClient). TakesTrigger old c.pop_front.result new) c.self.view_is
+    (takes_trigger (replay_client_in s) c.pop_front.result c.pop_front.new.self.items c.items_are_sent_in_order.ensures.triggers c.pop_front.ensures.items c.pop_front.ensures.rest)

@@ -1,0 +1,10 @@
+use Rattle.hs_records.specs.Plain.{PlainWorkload}
+use Rattle.hs_run_agent.specs.WorkingAgents.{plain_working_agent}
+use Rattle.hs_run_agent.specs.Intakes.{Intakes}
+use Rattle.hs_run_agent.specs.Stages.{WorkingAgentStands}
+use Rattle.hs_run_agent.specs.Work.{NodeWork}
+use Rattle.hs_run_agent.proofs.Loops.{AsksSoFar}
+use Rattle.hs_run_agent.proofs.working.WorkingAgent.take_asks.Given as goal
+
+abbrev pub invariant-loop-count : goal.invariant-loop-count
+invariant-loop-count g l = (W : PlainWorkload) (work : NodeWork) (lines : Intakes) → WorkingAgentStands W work (plain_working_agent l.initial.self) lines → AsksSoFar W work (plain_working_agent l.initial.self) lines l.count (plain_working_agent l.self)

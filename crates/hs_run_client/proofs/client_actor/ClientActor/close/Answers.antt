@@ -1,0 +1,16 @@
+use Rattle.std.proofs.Common.{sym, subst}
+use Rattle.hs_journal.specs.Books.{client_book_of}
+use Rattle.hs_run_client.specs.ClientActors.{PlainClientActor}
+use Rattle.hs_run_client.specs.ClientActorInside.{client_actor_of}
+use Rattle.hs_run_client.specs.Standing.{IsDone, Notes}
+use Rattle.hs_run_client.proofs.Closing.{is_closed, notes}
+use Rattle.hs_run_client.proofs.client_actor.ClientActor.close.Goals as goal
+
+pub close-requires : goal.close-requires
+close-requires c = is_closed (client_actor_of c.self.inside) (subst IsDone (sym c.self.view_is) c.requires)
+
+pub returns-clause-book : goal.returns-clause-book
+returns-clause-book c =
+    let book = c.close.ensures.book in
+    subst (λ (caller : PlainClientActor). Notes caller (client_book_of c.close.result.book)) c.self.view_is
+    (notes c.what_was_done_was_sent.ensures (client_actor_of c.self.inside) (client_book_of c.close.result.book) (record { owner = book.0; draws = book.1; pages = book.2 }))
